@@ -1,0 +1,5 @@
+pub mod Packed
+pub mod Pixels
+pub mod Runs
+pub mod Changes
+pub mod Faults

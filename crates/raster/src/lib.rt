@@ -1,0 +1,10 @@
+//! Black and white pages as lists of pixels: rows of 1 to 2,432 pixels, pages of rows, documents
+//! of pages, and their PBM and text forms. Stands on nothing else of this repository.
+#![tactic(auto)]
+
+mod fault;
+pub mod packed;
+mod row;
+
+pub use crate::fault::RasterFault;
+pub use crate::row::{Color, Row, WIDEST};

@@ -1,0 +1,176 @@
+//! Bits that are kept eight an octet, in either order. Rows and bit writers stand on it.
+
+ghost use Rattle.raster.specs.Packed.{bit_in, bits_in, bits_of, place_in, IsPacked, Bits, FillsOctets};
+ghost use Rattle.std.specs.Prelude.{false, ◌≢◌, ℕ, ◌≡◌, ◌≤◌, ◌<◌, ◌+◌, ◌-◌, ◌*◌, ◌^◌, ◌||◌, ◌++◌, ◌∷◌, [], nat_eq, length, take, slice_get, OnOk, OnErr};
+
+use std::alloc::{AllocError, Global};
+use std::marker::Model;
+
+/// Which bit of an octet comes first.
+#[derive(Clone, Copy, Debug, PartialEq, Eq)]
+pub enum Order {
+    /// The least significant bit first, as a call sends them.
+    LsbFirst,
+    /// The most significant bit first, as a PBM row holds them.
+    MsbFirst,
+}
+
+/// How far the bit at a place lies above its octet's lowest bit.
+fn shift_of(order: Order, place: u128) -> u32
+    ensures value { result ≡ place_in order place }
+    ensures below { result < 8 }
+{
+    let within = (place % 8) as u32;
+    match order {
+        Order::LsbFirst => within,
+        Order::MsbFirst => 7 - within,
+    }
+}
+
+/// The bit at a place of the octets; places count from 0, eight an octet.
+pub fn bit_of(order: Order, octets: &[u8], place: u128) -> bool
+    requires { place < 8 * length octets.now }
+    ensures { result ≡ bit_in order octets.now place }
+{
+    (octets[(place / 8) as usize] >> shift_of(order, place)) & 1 == 1
+}
+
+fn set_bit(order: Order, octets: &mut Vec<u8>, place: u128)
+    requires { place < 8 * length octets.old.items }
+    ensures length { length octets.new.items ≡ length octets.old.items }
+    ensures set { (k : ℕ) → bit_in order octets.new.items k ≡ (nat_eq k place || bit_in order octets.old.items k) }
+{
+    octets[(place / 8) as usize] |= 1 << shift_of(order, place);
+}
+
+fn clear_bit(order: Order, octets: &mut Vec<u8>, place: u128)
+    requires { place < 8 * length octets.old.items }
+    ensures length { length octets.new.items ≡ length octets.old.items }
+    ensures cleared { bit_in order octets.new.items place ≡ false }
+    ensures others { (k : ℕ) → k ≢ place → bit_in order octets.new.items k ≡ bit_in order octets.old.items k }
+{
+    octets[(place / 8) as usize] &= !(1 << shift_of(order, place));
+}
+
+/// Room for one more bit, which is 0.
+#[tactic(auto, using(crate::proofs::PackedLemmas::push_zeros))]
+fn make_room(order: Order, octets: &mut Vec<u8>, count: u128) -> Result<(), AllocError>
+    requires { IsPacked order octets.old.items count }
+    ensures room { OnOk result (count < 8 * length octets.new.items) }
+    ensures tight { OnOk result (8 * length octets.new.items < count + 9) }
+    ensures same { (k : ℕ) → bit_in order octets.new.items k ≡ bit_in order octets.old.items k }
+    ensures err { OnErr result (octets.new.items ≡ octets.old.items) }
+{
+    if (count / 8) as usize == octets.len() {
+        octets.push(0)?;
+    }
+    Ok(())
+}
+
+fn push_bit(order: Order, octets: &mut Vec<u8>, count: u128, bit: bool) -> Result<(), AllocError>
+    requires { IsPacked order octets.old.items count }
+    ensures packed { OnOk result (IsPacked order octets.new.items (count + 1)) }
+    ensures ok { OnOk result (bits_in order octets.new.items (count + 1) ≡ bits_in order octets.old.items count ++ bit ∷ []) }
+    ensures err { OnErr result (octets.new.items ≡ octets.old.items) }
+{
+    make_room(order, octets, count)?;
+    if bit {
+        set_bit(order, octets, count);
+    }
+    Ok(())
+}
+
+/// Keeps the first bits, and clears the others of the last octet.
+fn cut(order: Order, octets: &mut Vec<u8>, count: u128)
+    requires { count ≤ 8 * length octets.old.items }
+    ensures packed { IsPacked order octets.new.items count }
+    ensures same { (k : ℕ) → k < count → bit_in order octets.new.items k ≡ bit_in order octets.old.items k }
+{
+    octets.truncate(((count + 7) / 8) as usize);
+    let end = 8 * octets.len() as u128;
+    for place in count..end {
+        clear_bit(order, octets, place);
+    }
+}
+
+/// A list of bits that grows at its end, kept eight an octet.
+#[derive(Drop)]
+pub struct PackedBits {
+    octets: Vec<u8>,
+    order: Order,
+    count: u128,
+}
+
+impl Model for PackedBits {
+    ghost use Rattle.raster.specs.Packed.{bits_in, IsPacked, Bits};
+
+    ghost Value = { Bits };
+
+    ghost view = { λ p. record { order = p.order; bits = bits_in p.order p.octets.items p.count } };
+
+    ghost invariant = { λ p. IsPacked p.order p.octets.items p.count };
+}
+
+impl PackedBits {
+    /// No bits.
+    #[tactic(auto, using(crate::proofs::PackedLemmas::views))]
+    pub fn new(alloc: Global, order: Order) -> Self
+        ensures { result ≡ record { order = order; bits = [] } }
+    {
+        PackedBits {
+            octets: Vec::new(alloc),
+            order,
+            count: 0,
+        }
+    }
+
+    /// The number of bits.
+    #[tactic(auto, using(crate::proofs::PackedLemmas::views))]
+    pub fn len(&self) -> u128
+        ensures { result ≡ length self.now.bits }
+    {
+        self.count
+    }
+
+    /// The bit at a place, from 0.
+    #[tactic(auto, using(crate::proofs::PackedLemmas::views))]
+    pub fn bit(&self, place: u128) -> bool
+        requires { place < length self.now.bits }
+        ensures { slice_get self.now.bits place ≡ Some result }
+    {
+        bit_of(self.order, &self.octets, place)
+    }
+
+    /// Appends a bit.
+    #[tactic(auto, using(crate::proofs::PackedLemmas::views))]
+    pub fn push(&mut self, bit: bool) -> Result<(), AllocError>
+        ensures ok { OnOk result (self.new ≡ record self.old { bits = self.old.bits ++ bit ∷ [] }) }
+        ensures err { OnErr result (self.new ≡ self.old) }
+    {
+        push_bit(self.order, &mut self.octets, self.count, bit)?;
+        self.count += 1;
+        Ok(())
+    }
+
+    /// Forgets all bits but the first ones.
+    #[tactic(auto, using(crate::proofs::PackedLemmas::views))]
+    pub fn truncate(&mut self, bits: u128)
+        requires { bits ≤ length self.old.bits }
+        ensures { self.new ≡ record self.old { bits = take bits self.old.bits } }
+    {
+        cut(self.order, &mut self.octets, bits);
+        self.count = bits;
+    }
+
+    /// The octets that hold the bits, the last one filled with 0 bits.
+    pub fn into_octets(self) -> Vec<u8>
+        ensures { FillsOctets self.order self.bits result.items }
+    {
+        let PackedBits {
+            octets,
+            order: _,
+            count: _,
+        } = self;
+        octets
+    }
+}

@@ -1,0 +1,189 @@
+ghost use Rattle.raster.specs.Changes.{IsNextChange};
+ghost use Rattle.raster.specs.Pixels.{other, colors, IsWidth};
+ghost use Rattle.raster.specs.Runs.{colored, FromRuns, AppendsRuns, AreOwnRuns};
+ghost use Rattle.std.specs.Prelude.{◌≡◌, ◌≤◌, ◌<◌, ◌+◌, ◌^◌, ◌↔◌, ℕ, ◌++◌, ◌∷◌, [], replicate, length, slice_get, sum, OnOk, OnErr, IfOk, IfErr, SomeIff, IsOkUnless, IsTrue};
+
+use crate::fault::RasterFault;
+use crate::packed::{Order, PackedBits};
+use std::alloc::{AllocError, Global};
+use std::marker::Model;
+
+/// The color of a pixel.
+#[derive(Clone, Copy, Debug, PartialEq, Eq)]
+pub enum Color {
+    White,
+    Black,
+}
+
+impl Color {
+    /// Whether it is this color.
+    pub fn is(self, color: Color) -> bool
+        ensures { IsTrue result ↔ (self ≡ color) }
+    {
+        self == color
+    }
+
+    /// The other color.
+    pub fn other(self) -> Color
+        ensures { result ≡ other self }
+    {
+        match self {
+            Color::White => Color::Black,
+            Color::Black => Color::White,
+        }
+    }
+}
+
+/// The greatest width of a row, in pixels.
+pub const WIDEST: u32 = 2432;
+
+/// The sum of the runs, where it is a width.
+fn total_width(runs: &[u32]) -> Option<u32>
+    ensures { SomeIff result (IsWidth (sum runs.now)) (sum runs.now) }
+{
+    let mut width: u32 = 0;
+    for run in runs {
+        if *run > WIDEST - width {
+            return None;
+        }
+        width += *run;
+    }
+    if width == 0 { None } else { Some(width) }
+}
+
+/// Appends a run of one color.
+fn push_run(pixels: &mut PackedBits, color: Color, run: u32) -> Result<(), AllocError>
+    ensures ok { OnOk result (colors pixels.new.bits ≡ colors pixels.old.bits ++ replicate run color) }
+    ensures order { pixels.new.order ≡ pixels.old.order }
+{
+    for _ in 0..run {
+        pixels.push(color.is(Color::Black))?;
+    }
+    Ok(())
+}
+
+/// The pixels that alternating runs spell, white first.
+fn painted(alloc: Global, runs: &[u32]) -> Result<PackedBits, AllocError>
+    ensures pixels { IfOk result (λ pixels. colors pixels.bits ≡ colored Color.White runs.now) }
+    ensures order { IfOk result (λ pixels. pixels.order ≡ Order.MsbFirst) }
+{
+    let mut pixels = PackedBits::new(alloc, Order::MsbFirst);
+    let mut color = Color::White;
+    for run in runs {
+        push_run(&mut pixels, color, *run)?;
+        color = color.other();
+    }
+    Ok(pixels)
+}
+
+/// A row of 1 to 2,432 pixels, seen as their list, leftmost first. It is kept packed, eight pixels
+/// an octet, the leftmost in the highest bit.
+#[derive(Drop)]
+pub struct Row {
+    pixels: PackedBits,
+}
+
+impl Model for Row {
+    ghost use Rattle.std.specs.Prelude.{◌≡◌, List, length};
+    ghost use Rattle.raster.specs.declared.row.Color.{Color};
+    ghost use Rattle.raster.specs.declared.packed.Order.TheVariants.{MsbFirst};
+    ghost use Rattle.raster.specs.Pixels.{colors, IsWidth};
+
+    ghost Value = { List Color };
+
+    ghost view = { λ row. colors row.pixels.bits };
+
+    ghost invariant = { λ row. IsWidth (length row.pixels.bits) × (row.pixels.order ≡ MsbFirst) };
+}
+
+impl Row {
+    /// The row of alternating runs, white first; runs of 0 are allowed. Errs with `BadWidth` where
+    /// the runs don't add up to 1 to 2,432 pixels, and with `NoMemory`.
+    #[tactic(auto, using(crate::proofs::RowLemmas::lengths))]
+    pub fn from_runs(alloc: Global, runs: &[u32]) -> Result<Row, RasterFault>
+        ensures { FromRuns runs.now result }
+    {
+        let Some(_) = total_width(runs) else {
+            return Err(RasterFault::BadWidth);
+        };
+        let pixels = painted(alloc, runs)?;
+        Ok(Row { pixels })
+    }
+
+    /// The width in pixels, 1 to 2,432.
+    #[tactic(auto, using(crate::proofs::RowLemmas::lengths))]
+    pub fn width(&self) -> u32
+        ensures width { result ≡ length self.now }
+        ensures range { IsWidth result }
+    {
+        self.pixels.len() as u32
+    }
+
+    /// The pixel at a place, from 0 at the left.
+    #[tactic(auto, using(crate::proofs::RowLemmas::lengths))]
+    pub fn pixel(&self, at: u32) -> Color
+        requires { at < length self.now }
+        ensures { slice_get self.now at ≡ Some result }
+    {
+        if self.pixels.bit(at as u128) {
+            Color::Black
+        } else {
+            Color::White
+        }
+    }
+
+    /// The least changing position at or above `from`, or the width where there is none
+    /// (ITU-T T.6, 2.2.1).
+    pub fn next_change(&self, from: u32) -> u32
+        ensures { IsNextChange self.now from result }
+    {
+        let width = self.width();
+        if from >= width {
+            return width;
+        }
+        let mut before = if from == 0 {
+            Color::White
+        } else {
+            self.pixel(from - 1)
+        };
+        for at in from..width {
+            let color = self.pixel(at);
+            if !color.is(before) {
+                return at;
+            }
+            before = color;
+        }
+        width
+    }
+
+    fn collected_runs(&self, alloc: Global) -> Result<Vec<u32>, AllocError>
+        ensures { IfOk result (λ runs. AreOwnRuns self.now runs.items) }
+    {
+        let mut runs = Vec::new(alloc);
+        let mut color = Color::White;
+        let mut run = 0u32;
+        for at in 0..self.width() {
+            if self.pixel(at).is(color) {
+                run += 1;
+            } else {
+                runs.push(run)?;
+                color = color.other();
+                run = 1;
+            }
+        }
+        runs.push(run)?;
+        Ok(runs)
+    }
+
+    /// Appends the row's own runs in pixels: white first, and the later ones above 0. Errs with
+    /// `NoMemory`, which changes nothing.
+    pub fn runs(&self, alloc: Global, out: &mut Vec<u32>) -> Result<(), RasterFault>
+        ensures ok { OnOk result (AppendsRuns self.now out.old.items out.new.items) }
+        ensures err { OnErr result (out.new.items ≡ out.old.items) }
+        ensures only { IsOkUnless result RasterFault.NoMemory }
+    {
+        let runs = self.collected_runs(alloc)?;
+        out.extend_from_slice(&runs)?;
+        Ok(())
+    }
+}
