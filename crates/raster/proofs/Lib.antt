@@ -1,2 +1,3 @@
 pub mod PackedLemmas
 pub mod RowLemmas
+pub mod TextLemmas

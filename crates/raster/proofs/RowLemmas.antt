@@ -59,7 +59,7 @@ other_from_ne White Black h = refl
 other_from_ne Black White h = refl
 other_from_ne Black Black h = absurd (h refl)
 
-take_next : (row : List Color) (at : ℕ) (color : Color) → at < length row → slice_get row at ≡ Some color → take (at + 1) row ≡ take at row ++ color ∷ []
+pub take_next : (row : List Color) (at : ℕ) (color : Color) → at < length row → slice_get row at ≡ Some color → take (at + 1) row ≡ take at row ++ color ∷ []
 take_next row at color h e = take_more row at color h ∙ ap (λ c. take at row ++ c ∷ []) (get_or_from_slice_get row at color color e)
 
 -- the run goes on

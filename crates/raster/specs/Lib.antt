@@ -3,3 +3,5 @@ pub mod Pixels
 pub mod Runs
 pub mod Changes
 pub mod Faults
+pub mod Pages
+pub mod Text

@@ -4,7 +4,11 @@
 
 mod fault;
 pub mod packed;
+mod page;
 mod row;
+mod text;
 
 pub use crate::fault::RasterFault;
+pub use crate::page::{Document, MOST_ROWS, Page};
 pub use crate::row::{Color, Row, WIDEST};
+pub use crate::text::write_text;
