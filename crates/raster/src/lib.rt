@@ -6,6 +6,8 @@ mod fault;
 pub mod packed;
 mod page;
 mod row;
+#[cfg(test)]
+mod tests;
 mod text;
 
 pub use crate::fault::RasterFault;

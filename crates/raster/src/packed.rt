@@ -129,7 +129,7 @@ impl PackedBits {
     pub fn len(&self) -> u128
         ensures { result ≡ length self.now.bits }
     {
-        self.count
+        self.count // in bits
     }
 
     /// The bit at a place, from 0.
@@ -171,6 +171,6 @@ impl PackedBits {
             order: _,
             count: _,
         } = self;
-        octets
+        octets // filled with 0 bits by the invariant
     }
 }
