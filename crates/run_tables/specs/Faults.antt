@@ -1,0 +1,18 @@
+-- The numbers of the kinds of refusals.
+use Rattle.std.specs.Prelude.{ℕ}
+use Rattle.run_tables.specs.declared.fault.CodeFaultKind.{CodeFaultKind}
+use Rattle.run_tables.specs.declared.fault.CodeFaultKind.TheVariants.{NoRows, NoMemory, BadCode, Truncated, RunTooLong, Backwards, PastEnd, EmptyHorizontal, Extension, MissingEofb, TooManyCodedRows}
+
+-- the number of a kind in the list of all faults
+abbrev pub number_of : CodeFaultKind → ℕ
+number_of NoRows = 4
+number_of NoMemory = 9
+number_of BadCode = 10
+number_of Truncated = 11
+number_of RunTooLong = 12
+number_of Backwards = 13
+number_of PastEnd = 14
+number_of EmptyHorizontal = 15
+number_of Extension = 16
+number_of MissingEofb = 17
+number_of TooManyCodedRows = 18

@@ -1,0 +1,12 @@
+pub mod Codes
+pub mod Faults
+pub mod Tables
+pub mod Texts
+pub mod Reading
+pub mod CodeReading
+pub mod RunTexts
+pub mod Written
+pub mod Fronts
+pub mod Longest
+pub mod RowFronts
+pub mod RowLaws

@@ -1,0 +1,19 @@
+-- What a bit writer appends (ITU-T T.4, 4.1.1 and 4.1.2).
+use Rattle.std.specs.Prelude.{ℕ, ◌≡◌, ◌++◌, Bool, true, false, List, [], ◌∷◌, replicate}
+use Rattle.raster.specs.declared.row.Color.{Color}
+use Rattle.raster.specs.declared.row.Color.TheVariants.{White}
+use Rattle.raster.specs.Packed.{Bits}
+use Rattle.raster.specs.Runs.{AreOwnRuns}
+use Rattle.run_tables.specs.RunTexts.{runs_text}
+
+-- the end of a line, as it is written: eleven 0 bits and a 1
+abbrev pub eol : List Bool
+eol = replicate 11 false ++ true ∷ []
+
+-- new is old with these bits at its end
+abbrev pub Appends : List Bool → Bits → Bits → Type 0
+Appends bits old new = new ≡ record old { bits = old.bits ++ bits }
+
+-- new is old with the texts of the row's own runs at its end
+abbrev pub AppendsRow : List Color → Bits → Bits → Type 0
+AppendsRow row old new = (runs : List ℕ) × AreOwnRuns row runs × Appends (runs_text White runs) old new

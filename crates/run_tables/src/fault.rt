@@ -1,0 +1,73 @@
+use thiserror::Error;
+
+/// Why coded bits were refused.
+#[derive(Clone, Copy, Debug, PartialEq, Eq, Error)]
+pub enum CodeFaultKind {
+    /// No row stands before the page's end.
+    #[error("no row before the page's end")]
+    NoRows,
+    /// Memory was refused.
+    #[error("no memory")]
+    NoMemory,
+    /// No code that may stand there.
+    #[error("no code that may stand there")]
+    BadCode,
+    /// The bits end inside a code that may stand there, or before one.
+    #[error("the bits end inside a code")]
+    Truncated,
+    /// A run code that takes a one-dimensional row past its width.
+    #[error("the run passes the row's width")]
+    RunTooLong,
+    /// A vertical mode that doesn't move to the right.
+    #[error("the mode doesn't move to the right")]
+    Backwards,
+    /// A mode or a run code that moves past the width.
+    #[error("the mode passes the row's width")]
+    PastEnd,
+    /// A horizontal mode with two runs of 0.
+    #[error("the horizontal mode has no pixel")]
+    EmptyHorizontal,
+    /// An extension code.
+    #[error("an extension code")]
+    Extension,
+    /// The bits end before the end of the facsimile block.
+    #[error("the end of the facsimile block is missing")]
+    MissingEofb,
+    /// A 20,001st row.
+    #[error("more than 20000 coded rows")]
+    TooManyCodedRows,
+}
+
+impl CodeFaultKind {
+    ghost use Rattle.std.specs.Prelude.{◌≡◌};
+    ghost use Rattle.run_tables.specs.Faults.{number_of};
+
+    /// The number of the fault: 4, 9, or 10 to 18.
+    pub fn number(self) -> u8
+        ensures { result ≡ number_of self }
+    {
+        match self {
+            CodeFaultKind::NoRows => 4,
+            CodeFaultKind::NoMemory => 9,
+            CodeFaultKind::BadCode => 10,
+            CodeFaultKind::Truncated => 11,
+            CodeFaultKind::RunTooLong => 12,
+            CodeFaultKind::Backwards => 13,
+            CodeFaultKind::PastEnd => 14,
+            CodeFaultKind::EmptyHorizontal => 15,
+            CodeFaultKind::Extension => 16,
+            CodeFaultKind::MissingEofb => 17,
+            CodeFaultKind::TooManyCodedRows => 18,
+        }
+    }
+}
+
+/// Where coded bits were refused, and why.
+#[derive(Clone, Copy, Debug, PartialEq, Eq, Error)]
+#[error("{kind} at bit {place}")]
+pub struct CodeFault {
+    /// The bit, from 0, where the refused item begins.
+    pub place: u128,
+    /// Why it was refused.
+    pub kind: CodeFaultKind,
+}

@@ -1,0 +1,15 @@
+//! Runs and rows of the one-dimensional T.4 code: bits in either order, the run codes of both
+//! colors, and their writing and reading. Stands on `raster`.
+#![tactic(auto)]
+
+mod fault;
+mod reader;
+pub mod row_laws;
+mod table;
+mod writer;
+
+pub use crate::fault::{CodeFault, CodeFaultKind};
+pub use crate::reader::{Among, BitReader, RunCode};
+pub use crate::table::{BLACK, Code, WHITE, code_at, codes};
+pub use crate::writer::BitWriter;
+pub use raster::packed::Order;

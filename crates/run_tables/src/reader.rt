@@ -1,0 +1,268 @@
+ghost use Rattle.raster.specs.Packed.{bits_of};
+ghost use Rattle.run_tables.specs.CodeReading.{PicksCode, ReadsCode, ReadsRun, ReadsRunCode, count_among, first_runs, kind_among};
+ghost use Rattle.run_tables.specs.Codes.{code_text, text};
+ghost use Rattle.run_tables.specs.Reading.{rest_of};
+ghost use Rattle.run_tables.specs.Texts.{begins, is_cut, pick};
+ghost use Rattle.std.specs.Bool.{OnTrue};
+ghost use Rattle.std.specs.Prelude.{None, OnSome, Some, IfNone, IfSome, if◌then◌else◌, is_some, length, slice_get, ◌*◌, ◌+◌, ◌<◌, ◌≡◌, ◌≤◌};
+
+use crate::fault::{CodeFault, CodeFaultKind};
+use crate::table::{Code, code_at};
+use raster::Color;
+use raster::packed::{Order, bit_of};
+use std::marker::Model;
+
+/// Which codes of a color may stand somewhere.
+#[derive(Clone, Copy, Debug, PartialEq, Eq)]
+pub enum Among {
+    /// All 104.
+    AllCodes,
+    /// The 64 terminating codes alone, as behind a make-up code.
+    TerminatingCodes,
+}
+
+impl Among {
+    /// How many codes: the first ones of a color's table.
+    fn count(self) -> usize
+        ensures count { result ≡ count_among self }
+        ensures within { result ≤ 104 }
+    {
+        match self {
+            Among::AllCodes => 104,
+            Among::TerminatingCodes => 64,
+        }
+    }
+}
+
+/// A run code (ITU-T T.4, 4.1.1).
+#[derive(Clone, Copy, Debug, PartialEq, Eq)]
+pub enum RunCode {
+    /// A make-up code: a multiple of 64 pixels, 64 to 2,560, with a terminating code to follow.
+    MakeUp(u32),
+    /// A terminating code: 0 to 63 pixels.
+    Terminating(u32),
+}
+
+/// Reads the bits of octets one after the other.
+#[derive(Drop)]
+pub struct BitReader<'a> {
+    octets: &'a [u8],
+    order: Order,
+    place: u128,
+}
+
+impl<'a> Model for BitReader<'a> {
+    ghost use Rattle.std.specs.Prelude.{◌≤◌, ◌*◌, length};
+    ghost use Rattle.raster.specs.Packed.{bits_of};
+    ghost use Rattle.run_tables.specs.Reading.{Reading};
+
+    ghost Value = { Reading };
+
+    ghost view = { λ reader. record { bits = bits_of reader.order reader.octets.now; place = reader.place } };
+
+    ghost invariant = { λ reader. reader.place ≤ 8 * length reader.octets.now };
+}
+
+impl<'a> BitReader<'a> {
+    /// A reader of the octets' bits, eight an octet, that stands at a place from 0.
+    pub fn at(octets: &'a [u8], order: Order, place: u128) -> Self
+        requires { place ≤ 8 * length octets.now }
+        ensures { result ≡ record { bits = bits_of order octets.now; place = place } }
+    {
+        BitReader {
+            octets,
+            order,
+            place,
+        }
+    }
+
+    /// The place of the next bit, from 0.
+    #[tactic(auto, using(raster::proofs::PackedLemmas::views))]
+    pub fn place(&self) -> u128
+        ensures place { result ≡ self.now.place }
+        ensures within { result ≤ length self.now.bits }
+    {
+        self.place
+    }
+
+    /// A second reader of the same bits, at the same place.
+    pub fn fork(&self) -> BitReader<'a>
+        ensures { result ≡ self.now }
+    {
+        BitReader {
+            octets: self.octets,
+            order: self.order,
+            place: self.place,
+        }
+    }
+
+    /// The bit so many places ahead, or none where the bits end.
+    #[tactic(auto, using(raster::proofs::PackedLemmas::views))]
+    pub fn ahead(&self, by: usize) -> Option<bool>
+        ensures bit { result ≡ slice_get self.now.bits (self.now.place + by) }
+        ensures within { OnSome result (self.now.place + by < length self.now.bits) }
+        ensures past { IfNone result (length self.now.bits ≤ self.now.place + by) }
+    {
+        let place = self.place + by as u128;
+        if place / 8 < self.octets.len() as u128 {
+            Some(bit_of(self.order, self.octets, place))
+        } else {
+            None
+        }
+    }
+
+    /// The next bit, or none where the bits end.
+    #[tactic(auto, using(raster::proofs::PackedLemmas::views))]
+    pub fn bit(&mut self) -> Option<bool>
+        ensures bit { result ≡ slice_get self.old.bits self.old.place }
+        ensures after { self.new ≡ record self.old { place = self.old.place + (if is_some result then 1 else 0) } }
+    {
+        let bit = self.ahead(0)?;
+        self.place += 1;
+        Some(bit)
+    }
+
+    /// Goes so many bits on.
+    #[tactic(auto, using(raster::proofs::PackedLemmas::views))]
+    pub fn skip(&mut self, count: usize)
+        requires { self.old.place + count ≤ length self.old.bits }
+        ensures { self.new ≡ record self.old { place = self.old.place + count } }
+    {
+        self.place += count as u128;
+    }
+
+    /// Whether the text of the digits `0` and `1` begins the bits that are left.
+    pub fn begins_with(&self, digits: &[u8]) -> bool
+        ensures begun { result ≡ begins (text digits.now) (rest_of self.now) }
+        ensures fits { OnTrue result (self.now.place + length digits.now ≤ length self.now.bits) }
+    {
+        let _start = self.place();
+        for (by, digit) in digits.iter().enumerate() {
+            let Some(bit) = self.ahead(by) else {
+                return false;
+            };
+            if bit != (*digit == b'1') {
+                return false;
+            }
+        }
+        true
+    }
+
+    /// Whether the bits that are left are a beginning of the text of the digits `0` and `1`, or that
+    /// whole text.
+    pub fn is_cut_of(&self, digits: &[u8]) -> bool
+        ensures { result ≡ begins (rest_of self.now) (text digits.now) }
+    {
+        for (by, digit) in digits.iter().enumerate() {
+            let Some(bit) = self.ahead(by) else {
+                return true;
+            };
+            if (*digit == b'1') != bit {
+                return false;
+            }
+        }
+        self.ahead(digits.len()).is_none()
+    }
+
+    /// The code among the first ones of a color's table that begins the bits that are left.
+    fn find_code(&self, color: Color, count: usize) -> Option<Code>
+        requires { count ≤ 104 }
+        ensures found { IfSome result (λ code. pick (code_text color) (first_runs count) (rest_of self.now) ≡ Some code.0) }
+        ensures text { IfSome result (λ code. text code.1.now ≡ code_text color code.0) }
+        ensures fits { IfSome result (λ code. self.now.place + length code.1.now ≤ length self.now.bits) }
+        ensures none { IfNone result (pick (code_text color) (first_runs count) (rest_of self.now) ≡ None) }
+    {
+        for at in 0..count {
+            let code = code_at(color, at);
+            if self.begins_with(code.1) {
+                return Some(code);
+            }
+        }
+        None
+    }
+
+    /// Whether the bits that are left are a beginning of one of the first codes of a color's table.
+    fn is_cut_code(&self, color: Color, count: usize) -> bool
+        requires { count ≤ 104 }
+        ensures { result ≡ is_cut (code_text color) (first_runs count) (rest_of self.now) }
+    {
+        for at in 0..count {
+            let code = code_at(color, at);
+            if self.is_cut_of(code.1) {
+                return true;
+            }
+        }
+        false
+    }
+
+    /// The refusal where no code that may stand begins the bits that are left.
+    fn refusal(&self, color: Color, among: Among) -> CodeFault
+        ensures { result ≡ record { place = self.now.place; kind = kind_among color among (rest_of self.now) } }
+    {
+        let kind = if self.is_cut_code(color, among.count()) {
+            CodeFaultKind::Truncated
+        } else {
+            CodeFaultKind::BadCode
+        };
+        CodeFault {
+            place: self.place(),
+            kind,
+        }
+    }
+
+    /// The run of the next code, one of those that may stand (ITU-T T.4, 4.1.1). Errs where none of
+    /// them begins the bits that are left: with `Truncated` where these are a beginning of one, none
+    /// left included, and else with `BadCode`. An error changes nothing.
+    pub fn next_code(&mut self, color: Color, among: Among) -> Result<u32, CodeFault>
+        ensures reads { ReadsCode color among self.old self.new result }
+        ensures picks { PicksCode color among self.old self.new result }
+    {
+        let Some(code) = self.find_code(color, among.count()) else {
+            return Err(self.refusal(color, among));
+        };
+        self.skip(code.1.len());
+        Ok(code.0)
+    }
+
+    /// The next run code of a color (ITU-T T.4, 4.1.1). Errs at the reader's place where none of the
+    /// 104 codes begins the bits that are left: with `Truncated` where these are a beginning of one,
+    /// none left included, and else with `BadCode`. An error changes nothing.
+    pub fn read_code(&mut self, color: Color) -> Result<RunCode, CodeFault>
+        ensures { ReadsRunCode color self.old self.new result }
+    {
+        let run = match self.next_code(color, Among::AllCodes) {
+            Ok(run) => run,
+            Err(fault) => return Err(fault),
+        };
+        if run < 64 {
+            Ok(RunCode::Terminating(run))
+        } else {
+            Ok(RunCode::MakeUp(run))
+        }
+    }
+
+    /// The next run of a color, 0 to 2,623 pixels: one terminating code, or one make-up code and then
+    /// a terminating code (ITU-T T.4, 4.1.1). Errs where no code stands, as `read_code` does, and
+    /// behind a make-up code where no terminating code stands: there with `Truncated` where the bits
+    /// that are left are a beginning of a terminating code, none left included, and else with
+    /// `BadCode`. An error changes nothing.
+    pub fn read_run(&mut self, color: Color) -> Result<u32, CodeFault>
+        ensures { ReadsRun color self.old self.new result }
+    {
+        let mut ahead = self.fork();
+        let high = match ahead.next_code(color, Among::AllCodes) {
+            Ok(run) => run,
+            Err(fault) => return Err(fault),
+        };
+        if high < 64 {
+            *self = ahead;
+            return Ok(high);
+        }
+        let low = match ahead.next_code(color, Among::TerminatingCodes) {
+            Ok(run) => run,
+            Err(fault) => return Err(fault),
+        };
+        *self = ahead;
+        Ok(high + low)
+    }
+}
