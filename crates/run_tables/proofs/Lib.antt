@@ -10,3 +10,4 @@ pub mod CodeLooks
 pub mod RowSpelling
 pub mod RowWays
 pub mod RowReadings
+pub mod RowReads

@@ -10,3 +10,4 @@ pub mod Fronts
 pub mod Longest
 pub mod RowFronts
 pub mod RowLaws
+pub mod RowReading

@@ -5,6 +5,7 @@
 mod fault;
 mod reader;
 pub mod row_laws;
+mod row_reader;
 mod table;
 mod writer;
 

@@ -1,0 +1,9 @@
+pub mod ZeroBits
+pub mod T4Looks
+pub mod OwnRunLaws
+pub mod T4Rows
+pub mod T4ReadsAll
+pub mod T4ReadsOnly
+pub mod T4PageLaws
+pub mod T4WorkedRows
+pub mod T4Readings
