@@ -7,3 +7,5 @@ pub mod T4ReadsOnly
 pub mod T4PageLaws
 pub mod T4WorkedRows
 pub mod T4Readings
+pub mod EolReads
+pub mod OneDimReads

@@ -2,3 +2,4 @@ pub mod T4Pages
 pub mod OwnRuns
 pub mod T4Fronts
 pub mod T4Laws
+pub mod T4Reading

@@ -11,3 +11,5 @@ pub mod RowSpelling
 pub mod RowWays
 pub mod RowReadings
 pub mod RowReads
+mod RowWorkedRows
+pub mod CodeLaws

@@ -11,3 +11,4 @@ pub mod Longest
 pub mod RowFronts
 pub mod RowLaws
 pub mod RowReading
+pub mod Laws

@@ -3,10 +3,13 @@
 #![tactic(auto)]
 
 mod fault;
+pub mod laws;
 mod reader;
 pub mod row_laws;
 mod row_reader;
 mod table;
+#[cfg(test)]
+mod tests;
 mod writer;
 
 pub use crate::fault::{CodeFault, CodeFaultKind};

@@ -82,7 +82,7 @@ impl<'a> BitReader<'a> {
         ensures place { result ≡ self.now.place }
         ensures within { result ≤ length self.now.bits }
     {
-        self.place
+        self.place // in bits
     }
 
     /// A second reader of the same bits, at the same place.

@@ -1,0 +1,46 @@
+-- What the parts of a one-dimensional page's reader and writer answer (ITU-T T.4, 4.1).
+use Rattle.std.specs.Prelude.{ℕ, ◌≡◌, ◌≢◌, ◌+◌, ◌<◌, ◌≤◌, ◌++◌, Bool, List, length, drop, None, Some, Ok, Err}
+use Rattle.raster.specs.declared.packed.Order.{Order}
+use Rattle.raster.specs.declared.row.Color.{Color}
+use Rattle.raster.specs.Packed.{FillsOctets}
+use Rattle.raster.specs.Pages.{PagePixels}
+use Rattle.run_tables.specs.declared.fault.CodeFault.{CodeFault}
+use Rattle.run_tables.specs.declared.fault.CodeFaultKind.{CodeFaultKind}
+use Rattle.page_code.specs.declared.eol.Eol.{Eol}
+use Rattle.page_code.specs.declared.eol.Eol.TheVariants.{Stands, Absent, OnlyZeros}
+use Rattle.page_code.specs.declared.one_dim.Start.{Start}
+use Rattle.page_code.specs.declared.one_dim.Start.TheVariants.{Row, End, Refused}
+use Rattle.page_code.specs.T4Pages.{ReadsAs}
+use Rattle.page_code.specs.T4Fronts.{zeros_before, CodeStands, reading}
+use Rattle.page_code.specs.T4Fronts.PageState.{row_start}
+use Rattle.page_code.specs.T4Laws.{IsLongestFront}
+
+-- what stands where an EOL may stand
+abbrev pub SeesEol : List Bool → Eol → Type 0
+SeesEol x (Stands bits) = (count : ℕ) × (zeros_before x ≡ Some count) × (11 ≤ count) × (bits ≡ count + 1) × (bits ≤ length x)
+SeesEol x Absent = CodeStands x
+SeesEol x OnlyZeros = zeros_before x ≡ None
+
+-- what stands where a row may begin, behind so many rows: a row's first code, or the page's end or a refusal, whatever the rows are
+abbrev pub SeesStart : List Bool → ℕ → ℕ → Start → Type 0
+SeesStart bits place count Row = CodeStands (drop place bits) × (count < 20000)
+SeesStart bits place count (End used) =
+    (width : ℕ) (rows : List (List Color)) → length rows ≡ count → reading width (row_start rows) place (drop place bits) ≡ Ok (rows, used)
+SeesStart bits place count (Refused kind) =
+    (width : ℕ) (rows : List (List Color)) → length rows ≡ count → reading width (row_start rows) place (drop place bits) ≡ Err (place, kind)
+
+-- the octets of a code, filled with 0 bits, at the end of a list
+abbrev pub AppendsCode : Order → List Bool → List ℕ → List ℕ → Type 0
+AppendsCode order code old new = (octets : List ℕ) × (new ≡ old ++ octets) × FillsOctets order code octets
+
+-- a page of this width was read, and so many bits used
+pub record ReadsPage (width : ℕ) (fine : Bool) (bits : List Bool) (page : PagePixels) (used : ℕ) : Type 0 where
+  pub width_is : page.width ≡ width
+  pub fine_is : page.fine ≡ fine
+  pub reads : ReadsAs width bits page.rows used
+
+-- a refusal that isn't one of memory: the bits read as no page, the place is the length of their longest front, and the kind is that of
+-- the bits from there
+pub record RefusesPage (width : ℕ) (bits : List Bool) (fault : CodeFault) : Type 0 where
+  pub longest : IsLongestFront width bits fault.place fault.kind
+  pub none : (rows : List (List Color)) (used : ℕ) → ¬ ReadsAs width bits rows used
