@@ -9,3 +9,4 @@ pub mod T4WorkedRows
 pub mod T4Readings
 pub mod EolReads
 pub mod OneDimReads
+pub mod OneDimWrites

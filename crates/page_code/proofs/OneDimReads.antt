@@ -1,22 +1,27 @@
 -- Reading a one-dimensional page, row by row.
-use Rattle.std.proofs.Common.{ltb, ℕ, ◌≡◌, ◌≢◌, ◌+◌, ◌-◌, ◌*◌, ◌<◌, ◌≤◌, Bool, List, [], ◌∷◌, ◌++◌, length, drop, Some, None, refl, ap, sym, ◌∙◌, arith, subst}
-use Rattle.std.specs.Prelude.{Ok, Err}
+use Rattle.std.proofs.Common.{true, false, cond, inl, inr, ltb, ℕ, ◌≡◌, ◌≢◌, ◌+◌, ◌-◌, ◌*◌, ◌<◌, ◌≤◌, Bool, List, [], ◌∷◌, ◌++◌, length, drop, Some, None, refl, ap, sym, ◌∙◌, arith, subst}
+use Rattle.std.specs.Prelude.{Option, Result, Ok, Err, IfOk, IfErr, MatchResult}
 use Rattle.std.proofs.lemmas.Bool.{lt-ltb}
 use Rattle.raster.specs.declared.row.Color.{Color}
 use Rattle.raster.specs.declared.row.Color.TheVariants.{White}
 use Rattle.raster.specs.Pixels.{IsWidth}
 use Rattle.run_tables.specs.declared.fault.CodeFault.{CodeFault}
 use Rattle.run_tables.specs.declared.fault.CodeFaultKind.{CodeFaultKind}
-use Rattle.run_tables.specs.declared.fault.CodeFaultKind.TheVariants.{NoRows, TooManyCodedRows, NoMemory}
+use Rattle.run_tables.specs.declared.fault.CodeFaultKind.TheVariants.{NoRows, BadCode, TooManyCodedRows, NoMemory}
 use Rattle.run_tables.specs.Reading.{Reading, rest_of}
 use Rattle.run_tables.specs.RowReading.{ReadsRow, RefusesRow}
 use Rattle.run_tables.proofs.RowReadings.{reads_rows_exactly}
+use Rattle.run_tables.proofs.RowReads.{code_memory}
+use Rattle.run_tables.specs.RowFronts.RowState.{inside, whole}
+use Rattle.raster.specs.Pages.{PagePixels}
 use Rattle.page_code.specs.T4Pages.{ReadsAs}
-use Rattle.page_code.specs.T4Fronts.{PageState, zeros_before, bits_of_five, look_in_row, look, reading, read_page, CodeStands}
-use Rattle.page_code.specs.T4Fronts.PageItem.{eol}
+use Rattle.page_code.specs.T4Fronts.{PageState, PageLook, by_eol, put, zeros_before, bits_of_five, look_in_row, ends_with, look, reading, read_page, CodeStands}
+use Rattle.page_code.specs.T4Fronts.PageItem.{eol, coded}
 use Rattle.page_code.specs.T4Fronts.PageState.{first, row_start, in_row, row_end}
 use Rattle.page_code.specs.T4Laws.{IsLongestFront}
-use Rattle.page_code.specs.T4Reading.{RefusesPage}
+use Rattle.page_code.specs.T4Reading.{GivesPage, ReadsPage, RefusesPage, SeesEol}
+use Rattle.page_code.specs.declared.eol.Eol.TheVariants.{Stands}
+use Rattle.run_tables.specs.Fronts.Look.{go, stop, refuse}
 use Rattle.page_code.proofs.T4Looks.{by_eol_other}
 use Rattle.page_code.proofs.T4Rows.{reading_same, reading_row_refused}
 use Rattle.page_code.proofs.T4PageLaws.{reads_pages_exactly, refuses_no_page, refuses_at_longest}
@@ -30,3 +35,90 @@ start_none width place (row ∷ rows) x none is = absurd (omega arith)
 pub start_eol : (width place n : ℕ) (rows : List (List Color)) (x : List Bool) → length rows ≡ 0 → zeros_before x ≡ Some n → 11 ≤ n → reading width (row_start rows) place x ≡ Err (place, NoRows)
 start_eol width place n [] x none is long = reading_start_eol width place n x is long
 start_eol width place n (row ∷ rows) x none is long = absurd (omega arith)
+
+-- behind an EOL before the page
+pub first_stands : (bits : List Bool) (eol_bits : ℕ) → SeesEol bits (Stands eol_bits) → (eol_bits ≤ length bits) × ((width : ℕ) → read_page width bits ≡ reading width (row_start []) eol_bits (drop eol_bits bits))
+first_stands bits eol_bits sees =
+    let same : 0 + (sees.0 + 1) ≡ eol_bits = omega (arith, sees.3) in
+    (sees.4, λ width. reading_at_eol width first (row_start []) bits 0 sees.0 sees.1 (sees.2, refl) ∙ ap (λ (n : ℕ). reading width (row_start []) n (drop n bits)) same)
+
+-- before a page that begins with a row
+pub first_absent : (bits : List Bool) → CodeStands bits → (0 ≤ length bits) × ((width : ℕ) → read_page width bits ≡ reading width (row_start []) 0 bits)
+first_absent bits stands = (
+  omega arith,
+  λ width. reading_same width first (row_start []) 0 bits (by_eol_other bits (refuse NoRows) (λ n. go (eol n) (row_start [])) (look_in_row width [] [] White None bits) stands ∙ sym (by_eol_other bits (ends_with [] 0) (λ n. ends_with [] (bits_of_five bits)) (look_in_row width [] [] White None bits) stands)),
+)
+
+-- a row that was read
+pub row_goes : (width : ℕ) (bits : List Bool) (place : ℕ) (old new : Reading) (rows : List (List Color)) (row : List Color) → IsWidth width → length rows < 20000 → old ≡ record { bits = bits; place = place } → ReadsRow width old new row → reading width (row_start rows) place (drop place bits) ≡ reading width (row_end (rows ++ row ∷ [])) new.place (drop new.place bits)
+row_goes width bits place old new rows row wide room is reads =
+    let here : ReadsRow width (record { bits = bits; place = place }) new row = subst (λ (reader : Reading). ReadsRow width reader new row) is reads in
+    let there = (reads_rows_exactly width (drop place bits) row here.used wide).1 here.reads in
+    let far : new.place ≡ place + here.used = ap (λ (reader : Reading). reader.place) here.behind in
+    reading_at_row width (row_start rows) rows row bits place here.used wide (room, refl) there ∙ ap (λ (n : ℕ). reading width (row_end (rows ++ row ∷ [])) n (drop n bits)) (sym far)
+
+-- a row that is refused
+pub row_stops : (width : ℕ) (bits : List Bool) (place : ℕ) (old : Reading) (rows : List (List Color)) (fault : CodeFault) → length rows < 20000 → CodeStands (drop place bits) → old ≡ record { bits = bits; place = place } → RefusesRow width old fault → reading width (row_start rows) place (drop place bits) ≡ Err (fault.place, fault.kind)
+row_stops width bits place old rows fault room stands is refuses =
+    let here : RefusesRow width (record { bits = bits; place = place }) fault = subst (λ (reader : Reading). RefusesRow width reader fault) is refuses in
+    reading_row_refused width (row_start rows) rows (drop place bits) place here.front fault.kind (room, refl) stands here.longest ∙ ap (λ (n : ℕ). Err (n, fault.kind)) (sym here.place)
+
+-- behind an EOL between two rows
+pub eol_goes : (width : ℕ) (bits : List Bool) (place eol_bits : ℕ) (rows : List (List Color)) → SeesEol (drop place bits) (Stands eol_bits) → reading width (row_end rows) place (drop place bits) ≡ reading width (row_start rows) (place + eol_bits) (drop (place + eol_bits) bits)
+eol_goes width bits place eol_bits rows sees =
+    let same : sees.0 + 1 ≡ eol_bits = sym sees.3 in
+    reading_at_eol width (row_end rows) (row_start rows) bits place sees.0 sees.1 (sees.2, refl) ∙ ap (λ (n : ℕ). reading width (row_start rows) (place + n) (drop (place + n) bits)) same
+
+-- no page is refused for want of memory
+by_eol_memory : (o : Option ℕ) (none : PageLook) (there : ℕ → PageLook) (other : PageLook) → (none ≡ refuse NoMemory → ⊥) → ((n : ℕ) → there n ≡ refuse NoMemory → ⊥) → (other ≡ refuse NoMemory → ⊥) → by_eol o none there other ≡ refuse NoMemory → ⊥
+by_eol_memory None none there other a b c e = a e
+by_eol_memory (Some n) none there other a b c e = seen (ltb n 11) e
+  where
+    seen : (t : Bool) → cond t other (there n) ≡ refuse NoMemory → ⊥
+    seen true e = c e
+    seen false e = b n e
+
+ends_memory : (rows : List (List Color)) (n : ℕ) → ends_with rows n ≡ refuse NoMemory → ⊥
+ends_memory [] n e = cc
+ends_memory (row ∷ rows) n e = cc
+
+row_memory : (width : ℕ) (rows : List (List Color)) (pixels : List Color) (color : Color) (makeup : Option ℕ) (x : List Bool) → look_in_row width rows pixels color makeup x ≡ refuse NoMemory → ⊥
+row_memory width rows pixels color makeup x e = code_memory coded (λ row. put rows (whole row)) (λ more next high. put rows (inside more next high)) width pixels color makeup x e
+
+look_memory : (width : ℕ) (s : PageState) (x : List Bool) → look width s x ≡ refuse NoMemory → ⊥
+look_memory width first x e = by_eol_memory (zeros_before x) (refuse NoRows) (λ n. go (eol n) (row_start [])) (look_in_row width [] [] White None x) (λ h. cc) (λ n h. cc) (row_memory width [] [] White None x) e
+look_memory width (row_start rows) x e = by_eol_memory (zeros_before x) (ends_with rows 0) (λ n. ends_with rows (bits_of_five x)) (cond (ltb (length rows) 20000) (look_in_row width rows [] White None x) (refuse TooManyCodedRows)) (ends_memory rows 0) (λ n. ends_memory rows (bits_of_five x)) (room (ltb (length rows) 20000)) e
+  where
+    room : (b : Bool) → cond b (look_in_row width rows [] White None x) (refuse TooManyCodedRows) ≡ refuse NoMemory → ⊥
+    room true h = row_memory width rows [] White None x h
+    room false h = cc
+look_memory width (in_row rows pixels color makeup) x e = row_memory width rows pixels color makeup x e
+look_memory width (row_end rows) x e = by_eol_memory (zeros_before x) (stop rows 0) (λ n. go (eol n) (row_start rows)) (refuse BadCode) (λ h. cc) (λ n h. cc) (λ h. cc) e
+
+page_memory : (width : ℕ) (bits : List Bool) (place : ℕ) → read_page width bits ≡ Err (place, NoMemory) → ⊥
+page_memory width bits place e =
+    let longest = refuses_at_longest width bits place NoMemory e in
+    look_memory width longest.front.end longest.front.rest longest.kind_is
+
+-- what the reader's answer says of the bits
+pub gives_reads : (width : ℕ) (fine : Bool) (bits : List Bool) (result : Result (PagePixels × ℕ) CodeFault) → IsWidth width → GivesPage width fine bits result → IfOk result (λ read. ReadsPage width fine bits read.0 read.1)
+gives_reads width fine bits (Ok read) wide gives = record { width_is = gives.0; fine_is = gives.1; reads = (reads_pages_exactly width bits read.0.rows read.1 wide).0 gives.2 }
+gives_reads width fine bits (Err fault) wide gives = tt
+
+pub gives_only : (width : ℕ) (fine : Bool) (bits : List Bool) (result : Result (PagePixels × ℕ) CodeFault) → IsWidth width → GivesPage width fine bits result → (rows : List (List Color)) (used : ℕ) → ReadsAs width bits rows used → MatchResult result (λ read. (read.0.rows ≡ rows) × (read.1 ≡ used)) (λ fault. fault.kind ≡ NoMemory)
+gives_only width fine bits (Ok read) wide gives rows used reads =
+    let both : ◌≡◌ {A = Result (List (List Color) × ℕ) (ℕ × CodeFaultKind)} (Ok (read.0.rows, read.1)) (Ok (rows, used)) = sym gives.2 ∙ (reads_pages_exactly width bits rows used wide).1 reads in
+    let pair : ◌≡◌ {A = List (List Color) × ℕ} (read.0.rows, read.1) (rows, used) = cc in
+    (ap (λ (p : List (List Color) × ℕ). p.0) pair, ap (λ (p : List (List Color) × ℕ). p.1) pair)
+gives_only width fine bits (Err fault) wide (inl memory) rows used reads = ap (λ (f : CodeFault). f.kind) memory
+gives_only width fine bits (Err fault) wide (inr e) rows used reads = absurd (refuses_no_page width bits fault.place fault.kind rows used wide e reads)
+
+pub gives_refuses : (width : ℕ) (fine : Bool) (bits : List Bool) (result : Result (PagePixels × ℕ) CodeFault) → IsWidth width → GivesPage width fine bits result → IfErr result (λ fault. fault.kind ≢ NoMemory → RefusesPage width bits fault)
+gives_refuses width fine bits (Ok read) wide gives = tt
+gives_refuses width fine bits (Err fault) wide (inl memory) = λ other. absurd (other (ap (λ (f : CodeFault). f.kind) memory))
+gives_refuses width fine bits (Err fault) wide (inr e) = λ other. record { longest = refuses_at_longest width bits fault.place fault.kind e; none = λ rows used reads. refuses_no_page width bits fault.place fault.kind rows used wide e reads }
+
+pub gives_memory : (width : ℕ) (fine : Bool) (bits : List Bool) (result : Result (PagePixels × ℕ) CodeFault) → GivesPage width fine bits result → IfErr result (λ fault. fault.kind ≡ NoMemory → fault.place ≡ 0)
+gives_memory width fine bits (Ok read) gives = tt
+gives_memory width fine bits (Err fault) (inl memory) = λ same. ap (λ (f : CodeFault). f.place) memory
+gives_memory width fine bits (Err fault) (inr e) = λ same. absurd (page_memory width bits fault.place (e ∙ ap (λ (k : CodeFaultKind). Err (fault.place, k)) same))

@@ -1,18 +1,19 @@
 -- What the parts of a one-dimensional page's reader and writer answer (ITU-T T.4, 4.1).
-use Rattle.std.specs.Prelude.{ℕ, ◌≡◌, ◌≢◌, ◌+◌, ◌<◌, ◌≤◌, ◌++◌, Bool, List, length, drop, None, Some, Ok, Err}
+use Rattle.std.specs.Prelude.{ℕ, ◌≡◌, ◌≢◌, ◌+◌, ◌<◌, ◌≤◌, ◌++◌, Bool, List, length, drop, None, Some, Result, Ok, Err, [], ◌⊎◌}
 use Rattle.raster.specs.declared.packed.Order.{Order}
 use Rattle.raster.specs.declared.row.Color.{Color}
 use Rattle.raster.specs.Packed.{FillsOctets}
 use Rattle.raster.specs.Pages.{PagePixels}
 use Rattle.run_tables.specs.declared.fault.CodeFault.{CodeFault}
 use Rattle.run_tables.specs.declared.fault.CodeFaultKind.{CodeFaultKind}
+use Rattle.run_tables.specs.declared.fault.CodeFaultKind.TheVariants.{NoMemory}
 use Rattle.page_code.specs.declared.eol.Eol.{Eol}
 use Rattle.page_code.specs.declared.eol.Eol.TheVariants.{Stands, Absent, OnlyZeros}
 use Rattle.page_code.specs.declared.one_dim.Start.{Start}
 use Rattle.page_code.specs.declared.one_dim.Start.TheVariants.{Row, End, Refused}
 use Rattle.page_code.specs.T4Pages.{ReadsAs}
-use Rattle.page_code.specs.T4Fronts.{zeros_before, CodeStands, reading}
-use Rattle.page_code.specs.T4Fronts.PageState.{row_start}
+use Rattle.page_code.specs.T4Fronts.{zeros_before, CodeStands, reading, read_page}
+use Rattle.page_code.specs.T4Fronts.PageState.{row_start, row_end}
 use Rattle.page_code.specs.T4Laws.{IsLongestFront}
 
 -- what stands where an EOL may stand
@@ -44,3 +45,19 @@ pub record ReadsPage (width : ℕ) (fine : Bool) (bits : List Bool) (page : Page
 pub record RefusesPage (width : ℕ) (bits : List Bool) (fault : CodeFault) : Type 0 where
   pub longest : IsLongestFront width bits fault.place fault.kind
   pub none : (rows : List (List Color)) (used : ℕ) → ¬ ReadsAs width bits rows used
+
+-- where the first row begins: reading the page is reading on there; or the page is refused
+abbrev pub BeginsPage : List Bool → Result ℕ CodeFault → Type 0
+BeginsPage bits (Ok place) = (place ≤ length bits) × ((width : ℕ) → read_page width bits ≡ reading width (row_start []) place (drop place bits))
+BeginsPage bits (Err fault) = (width : ℕ) → read_page width bits ≡ Err (fault.place, fault.kind)
+
+-- a row was read into the page: reading it from before the row is reading on behind it; or it is refused there, or memory was
+abbrev pub ReadsRowOfPage : List Bool → ℕ → PagePixels → PagePixels → Result ℕ CodeFault → Type 0
+ReadsRowOfPage bits place old new (Ok behind) =
+    (behind ≤ length bits) × (new.width ≡ old.width) × (new.fine ≡ old.fine) × (length new.rows ≡ length old.rows + 1) × (reading old.width (row_start old.rows) place (drop place bits) ≡ reading old.width (row_end new.rows) behind (drop behind bits))
+ReadsRowOfPage bits place old new (Err fault) = (fault ≡ record { place = 0; kind = NoMemory }) ⊎ (reading old.width (row_start old.rows) place (drop place bits) ≡ Err (fault.place, fault.kind))
+
+-- the page and the bits used are what reading the bits gives; or the refusal is, or memory was refused
+abbrev pub GivesPage : ℕ → Bool → List Bool → Result (PagePixels × ℕ) CodeFault → Type 0
+GivesPage width fine bits (Ok read) = (read.0.width ≡ width) × (read.0.fine ≡ fine) × (read_page width bits ≡ Ok (read.0.rows, read.1))
+GivesPage width fine bits (Err fault) = (fault ≡ record { place = 0; kind = NoMemory }) ⊎ (read_page width bits ≡ Err (fault.place, fault.kind))

@@ -1,14 +1,14 @@
-ghost use Rattle.page_code.specs.T4Fronts.{read_page, reading};
-ghost use Rattle.page_code.specs.T4Fronts.PageState.{row_start};
-ghost use Rattle.page_code.specs.T4Pages.{ReadsAs, page_text, eols_text, rtc};
-ghost use Rattle.page_code.specs.T4Reading.{AppendsCode, ReadsPage, RefusesPage, SeesStart};
+ghost use Rattle.page_code.specs.T4Fronts.{CodeStands};
+ghost use Rattle.page_code.specs.T4Pages.{ReadsAs, page_text, rows_text, eols_text, rtc};
+ghost use Rattle.page_code.specs.T4Reading.{AppendsCode, BeginsPage, GivesPage, ReadsPage, ReadsRowOfPage, RefusesPage, SeesStart};
 ghost use Rattle.raster.specs.Packed.{Bits, bits_of};
 ghost use Rattle.raster.specs.Pixels.{IsWidth};
-ghost use Rattle.std.specs.Prelude.{◌≡◌, ◌≢◌, ◌≤◌, ◌<◌, ◌+◌, ◌*◌, ◌++◌, ◌∷◌, [], ℕ, List, length, drop, MatchResult, IfOk, IfErr, OnOk, OnErr, Ok, Err};
+ghost use Rattle.raster.specs.declared.row.Color.{Color};
+ghost use Rattle.std.specs.Prelude.{◌≡◌, ◌≢◌, ◌≤◌, ◌<◌, ◌+◌, ◌*◌, ◌++◌, ◌∷◌, [], ℕ, List, length, drop, MatchResult, IfOk, IfErr, OnOk, OnErr, Ok, Err, IsTrue, ◌↔◌, All};
 
 use crate::eol::{Eol, behind_five_eols, eol_at};
 use raster::packed::Order;
-use raster::{MOST_ROWS, Page};
+use raster::{MOST_ROWS, Page, Row};
 use run_tables::{BitReader, BitWriter, CodeFault, CodeFaultKind};
 use std::alloc::{AllocError, Global};
 
@@ -51,6 +51,161 @@ fn start_at(octets: &[u8], order: Order, place: u128, rows: usize) -> Start
             } else {
                 Start::End(behind_five_eols(octets, order, place))
             }
+        }
+    }
+}
+
+fn refusal(place: u128, kind: CodeFaultKind) -> CodeFault
+    ensures { result ≡ record { place = place; kind = kind } }
+{
+    CodeFault { place, kind }
+}
+
+/// Whether memory was refused.
+fn is_memory(kind: CodeFaultKind) -> bool
+    ensures { IsTrue result ↔ (kind ≡ CodeFaultKind.NoMemory) }
+{
+    kind == CodeFaultKind::NoMemory
+}
+
+/// The place where the first row begins: at the beginning, or behind one EOL.
+fn first_row(octets: &[u8], order: Order) -> Result<u128, CodeFault>
+    ensures { BeginsPage (bits_of order octets.now) result }
+{
+    match eol_at(octets, order, 0) {
+        Eol::Stands(bits) => Ok(bits),
+        Eol::Absent => Ok(0),
+        Eol::OnlyZeros => Err(refusal(0, CodeFaultKind::NoRows)),
+    }
+}
+
+/// Reads the row at a place into the page, and answers the place behind it. An error leaves the page
+/// as it was.
+#[tactic(auto, using(raster::proofs::PackedLemmas::views))]
+fn read_row(
+    alloc: Global,
+    octets: &[u8],
+    order: Order,
+    place: u128,
+    page: &mut Page,
+) -> Result<u128, CodeFault>
+    requires within { place ≤ 8 * length octets.now }
+    requires starts { CodeStands (drop place (bits_of order octets.now)) }
+    requires room { length page.old.rows < 20000 }
+    requires width { IsWidth page.old.width }
+    ensures { ReadsRowOfPage (bits_of order octets.now) place page.old page.new result }
+{
+    let mut reader = BitReader::at(octets, order, place);
+    let row = match reader.read_row_1d(alloc, page.width()) {
+        Ok(row) => row,
+        Err(fault) => {
+            return Err(if is_memory(fault.kind) {
+                refusal(0, CodeFaultKind::NoMemory)
+            } else {
+                fault
+            });
+        }
+    };
+    match page.push_row(row) {
+        Ok(()) => Ok(reader.place()),
+        Err(_) => Err(refusal(0, CodeFaultKind::NoMemory)),
+    }
+}
+
+/// Writes the return to control: six EOLs (ITU-T T.4, 4.1.4).
+fn write_rtc(bits: &mut BitWriter) -> Result<(), AllocError>
+    ensures { OnOk result (bits.new ≡ record bits.old { bits = bits.old.bits ++ eols_text rtc }) }
+{
+    for _ in 0..6u32 {
+        bits.write_eol()?;
+    }
+    Ok(())
+}
+
+/// Writes the rows, each behind an EOL.
+fn write_rows(alloc: Global, rows: &[Row], bits: &mut BitWriter) -> Result<(), AllocError>
+    requires { All (λ row. 0 < length row) rows.now }
+    ensures { OnOk result (bits.new ≡ record bits.old { bits = bits.old.bits ++ rows_text rows.now }) }
+{
+    for row in rows {
+        bits.write_eol()?;
+        bits.write_row_1d(alloc, row)?;
+    }
+    Ok(())
+}
+
+impl OneDim {
+    /// Appends the page's code in one dimension: EOL, the rows by their own runs with one EOL between
+    /// two, and six EOLs (ITU-T T.4, 4.1); the last octet is filled with 0 bits. Errs where memory is
+    /// refused, which changes nothing.
+    pub fn encode(
+        alloc: Global,
+        page: &Page,
+        order: Order,
+        out: &mut Vec<u8>,
+    ) -> Result<(), AllocError>
+        requires { 0 < length page.now.rows }
+        ensures ok { OnOk result (AppendsCode order (page_text page.now.rows) out.old.items out.new.items) }
+        ensures err { OnErr result (out.new.items ≡ out.old.items) }
+    {
+        let mut bits = BitWriter::new(alloc, order);
+        write_rows(alloc, page.rows(), &mut bits)?;
+        write_rtc(&mut bits)?;
+        out.extend_from_slice(&bits.into_octets())
+    }
+
+    /// The page that the octets' bits begin with, in one dimension, and how many bits it uses: no EOL
+    /// or one, the rows with one EOL between two, and an end; what follows is ignored (ITU-T T.4,
+    /// 4.1). The width is in pixels. Errs at the bit where no page's code can go on, with `NoRows`,
+    /// `Truncated`, `BadCode`, `RunTooLong` or `TooManyCodedRows`; and with `NoMemory`, at bit 0.
+    pub fn decode(
+        alloc: Global,
+        octets: &[u8],
+        order: Order,
+        width: u32,
+        fine: bool,
+    ) -> Result<(Page, u128), CodeFault>
+        requires { IsWidth width }
+        ensures reads { IfOk result (λ read. ReadsPage width fine (bits_of order octets.now) read.0 read.1) }
+        ensures only { (rows : List (List Color)) (used : ℕ) → ReadsAs width (bits_of order octets.now) rows used → MatchResult result (λ read. (read.0.rows ≡ rows) × (read.1 ≡ used)) (λ fault. fault.kind ≡ CodeFaultKind.NoMemory) }
+        ensures refuses { IfErr result (λ fault. fault.kind ≢ CodeFaultKind.NoMemory → RefusesPage width (bits_of order octets.now) fault) }
+        ensures memory { IfErr result (λ fault. fault.kind ≡ CodeFaultKind.NoMemory → fault.place ≡ 0) }
+    {
+        read_page(alloc, octets, order, width, fine)
+    }
+}
+
+/// The page and the bits used, as the bits read.
+#[tactic(auto, using(raster::proofs::PackedLemmas::views))]
+fn read_page(
+    alloc: Global,
+    octets: &[u8],
+    order: Order,
+    width: u32,
+    fine: bool,
+) -> Result<(Page, u128), CodeFault>
+    requires { IsWidth width }
+    ensures { GivesPage width fine (bits_of order octets.now) result }
+{
+    let mut page = Page::new(alloc, width, fine).unwrap();
+    let mut place = match first_row(octets, order) {
+        Ok(place) => place,
+        Err(fault) => return Err(fault),
+    };
+    loop {
+        match start_at(octets, order, place, page.rows().len()) {
+            Start::Row => {}
+            Start::End(used) => return Ok((page, used)),
+            Start::Refused(kind) => return Err(refusal(place, kind)),
+        }
+        let behind = match read_row(alloc, octets, order, place, &mut page) {
+            Ok(behind) => behind,
+            Err(fault) => return Err(fault),
+        };
+        match eol_at(octets, order, behind) {
+            Eol::Stands(bits) => place = behind + bits,
+            Eol::OnlyZeros => return Ok((page, behind)),
+            Eol::Absent => return Err(refusal(behind, CodeFaultKind::BadCode)),
         }
     }
 }

@@ -181,30 +181,34 @@ row_read width pixels color reader full =
     ap (λ (s : RowState). reading width s reader.place (rest_of reader)) (full_row width pixels color full) ∙ reading_stop width pixels reader.place (rest_of reader)
 
 -- no bits are refused for want of memory
-after_kind : (width : ℕ) (pixels : List Color) (color : Color) (makeup : Option ℕ) (run : ℕ) → after_code whole inside width pixels color makeup run ≡ Err NoMemory → ⊥
-unfolding after_code
-after_kind width pixels color makeup run e = seen (ltb width (length pixels + (amount makeup + run))) (ltb run 64) e
-  where
-    seen : (a b : Bool) → ◌≡◌ {A = Result RowState CodeFaultKind} (cond a (Err RunTooLong) (cond b (Ok (behind_run whole inside width (pixels ++ replicate (amount makeup + run) color) (other color))) (Ok (inside pixels color (Some run))))) (Err NoMemory) → ⊥
-    seen true b e = cc
-    seen false true e = cc
-    seen false false e = cc
+after_seen : {State : Type 0} (a b : Bool) (s t : State) → ◌≡◌ {A = Result State CodeFaultKind} (cond a (Err RunTooLong) (cond b (Ok s) (Ok t))) (Err NoMemory) → ⊥
+after_seen true b s t e = cc
+after_seen false true s t e = cc
+after_seen false false s t e = cc
 
-code_kind : (width : ℕ) (pixels : List Color) (color : Color) (makeup : Option ℕ) (x : List Bool) (o : Option RunItem) → found_code {Answer = List Color} (λ code. code) whole inside width pixels color makeup x o ≡ refuse NoMemory → ⊥
-code_kind width pixels color makeup x None e = cut (is_cut item_text (standing color makeup) x) e
-  where
-    cut : (b : Bool) → ◌≡◌ {A = Look RowState RunItem (List Color) CodeFaultKind} (refuse (cond b Truncated BadCode)) (refuse NoMemory) → ⊥
-    cut true e = cc
-    cut false e = cc
-code_kind width pixels color makeup x (Some code) e = led (after_code whole inside width pixels color makeup (run_of code)) refl e
-  where
-    led : (r : Result RowState CodeFaultKind) → after_code whole inside width pixels color makeup (run_of code) ≡ r → judged {Answer = List Color} code r ≡ refuse NoMemory → ⊥
-    led (Ok t) is e = cc
-    led (Err k) is e = let same : k ≡ NoMemory = cc in after_kind width pixels color makeup (run_of code) (is ∙ ap (λ (j : CodeFaultKind). Err j) same)
+after_memory : {State : Type 0} (full : List Color → State) (next : List Color → Color → Option ℕ → State) (width : ℕ) (pixels : List Color) (color : Color) (makeup : Option ℕ) (run : ℕ) → after_code full next width pixels color makeup run ≡ Err NoMemory → ⊥
+unfolding after_code
+after_memory full next width pixels color makeup run e = after_seen (ltb width (length pixels + (amount makeup + run))) (ltb run 64) (behind_run full next width (pixels ++ replicate (amount makeup + run) color) (other color)) (next pixels color (Some run)) e
+
+module _ {State Item Answer : Type 0} (item : RunItem → Item) (full : List Color → State) (next : List Color → Color → Option ℕ → State) (width : ℕ) (pixels : List Color) (color : Color) (makeup : Option ℕ) where
+  cut_memory : (b : Bool) → ◌≡◌ {A = Look State Item Answer CodeFaultKind} (refuse (cond b Truncated BadCode)) (refuse NoMemory) → ⊥
+  cut_memory true e = cc
+  cut_memory false e = cc
+
+  judged_memory : (code : RunItem) (r : Result State CodeFaultKind) → after_code full next width pixels color makeup (run_of code) ≡ r → judged {Answer = Answer} (item code) r ≡ refuse NoMemory → ⊥
+  judged_memory code (Ok t) is e = cc
+  judged_memory code (Err k) is e = let same : k ≡ NoMemory = cc in after_memory full next width pixels color makeup (run_of code) (is ∙ ap (λ (j : CodeFaultKind). Err j) same)
+
+  found_memory : (x : List Bool) (o : Option RunItem) → found_code {Answer = Answer} item full next width pixels color makeup x o ≡ refuse NoMemory → ⊥
+  found_memory x None e = cut_memory (is_cut item_text (standing color makeup) x) e
+  found_memory x (Some code) e = judged_memory code (after_code full next width pixels color makeup (run_of code)) refl e
+
+  pub code_memory : (x : List Bool) → look_code {Answer = Answer} item full next width pixels color makeup x ≡ refuse NoMemory → ⊥
+  unfolding look_code
+  code_memory x e = found_memory x (pick item_text (standing color makeup) x) e
 
 look_kind : (width : ℕ) (s : RowState) (x : List Bool) → look width s x ≡ refuse NoMemory → ⊥
-unfolding look_code
-look_kind width (inside pixels color makeup) x e = code_kind width pixels color makeup x (pick item_text (standing color makeup) x) e
+look_kind width (inside pixels color makeup) x e = code_memory (λ code. code) whole inside width pixels color makeup x e
 look_kind width (whole row) x e = cc
 
 -- what reading refuses from a place on is refused behind the longest front there
