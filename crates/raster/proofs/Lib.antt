@@ -1,3 +1,6 @@
 pub mod PackedLemmas
 pub mod RowLemmas
 pub mod TextLemmas
+pub mod PbmParts
+pub mod PbmImages
+pub mod PbmReading

@@ -5,3 +5,4 @@ pub mod Changes
 pub mod Faults
 pub mod Pages
 pub mod Text
+pub mod Pbm

@@ -5,6 +5,7 @@
 mod fault;
 pub mod packed;
 mod page;
+mod pbm;
 mod row;
 #[cfg(test)]
 mod tests;
@@ -12,5 +13,6 @@ mod text;
 
 pub use crate::fault::RasterFault;
 pub use crate::page::{Document, MOST_ROWS, Page};
+pub use crate::pbm::{read_pbm, reads_images_exactly};
 pub use crate::row::{Color, Row, WIDEST};
 pub use crate::text::write_text;

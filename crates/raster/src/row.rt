@@ -1,10 +1,11 @@
 ghost use Rattle.raster.specs.Changes.{IsNextChange};
+ghost use Rattle.raster.specs.Pbm.{row_pixels};
 ghost use Rattle.raster.specs.Pixels.{other, colors, IsWidth};
 ghost use Rattle.raster.specs.Runs.{colored, FromRuns, AppendsRuns, AreOwnRuns};
-ghost use Rattle.std.specs.Prelude.{◌≡◌, ◌≤◌, ◌<◌, ◌+◌, ◌^◌, ◌↔◌, ℕ, ◌++◌, ◌∷◌, [], replicate, length, slice_get, sum, OnOk, OnErr, IfOk, IfErr, SomeIff, IsOkUnless, IsTrue};
+ghost use Rattle.std.specs.Prelude.{◌≡◌, ◌≤◌, ◌<◌, ◌+◌, ◌*◌, ◌^◌, ◌↔◌, ℕ, ◌++◌, ◌∷◌, [], replicate, length, slice_get, sum, OnOk, OnErr, IfOk, IfErr, SomeIff, IsOkUnless, IsTrue};
 
 use crate::fault::RasterFault;
-use crate::packed::{Order, PackedBits};
+use crate::packed::{Order, PackedBits, bit_of};
 use std::alloc::{AllocError, Global};
 use std::marker::Model;
 
@@ -107,6 +108,22 @@ impl Row {
             return Err(RasterFault::BadWidth);
         };
         let pixels = painted(alloc, runs)?;
+        Ok(Row { pixels })
+    }
+
+    /// The row of the first bits of octets: in each octet the highest bit is leftmost, and a 1 is
+    /// black. Later bits are ignored. Errs with `NoMemory`.
+    #[tactic(auto, using(crate::proofs::RowLemmas::lengths, crate::proofs::PackedLemmas::views))]
+    pub fn from_octets(alloc: Global, octets: &[u8], width: u32) -> Result<Row, RasterFault>
+        requires width { IsWidth width }
+        requires octets { width ≤ 8 * length octets.now }
+        ensures ok { IfOk result (λ row. row ≡ row_pixels width octets.now) }
+        ensures only { IsOkUnless result RasterFault.NoMemory }
+    {
+        let mut pixels = PackedBits::new(alloc, Order::MsbFirst);
+        for place in 0..width {
+            pixels.push(bit_of(Order::MsbFirst, octets, place as u128))?;
+        }
         Ok(Row { pixels })
     }
 
