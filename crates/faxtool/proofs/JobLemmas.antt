@@ -1,0 +1,105 @@
+-- What a parse of the program's words says of its width, and of the words themselves.
+use Rattle.std.proofs.Common.{◌≡◌, ◌≤◌, ◌∙◌, ℕ, List, Option, Some, None, Result, Ok, Err, true, ap, subst, sym, codes, slice_index, inl, inr, unwrap_or, arith, refl}
+use Rattle.std.specs.Str.Parse.{ParsesUnsigned, digits_value, without_leading_plus}
+use Rattle.clap.specs.Words.{App, HasKind, IsAmong, ReadsOne, Row, Text, fault_of, is_simple, is_simple_and_free, kind_of, one_text, rows_of, subcommand_of}
+use Rattle.clap.specs.declared.parser.matches.Found.{Found}
+use Rattle.clap.specs.declared.error.Error.{Error}
+use Rattle.clap.specs.declared.builder.value_parser.ValueParser.{ValueParser}
+use Rattle.clap.proofs.OnLiterals.{clap_on_literals}
+use Rattle.clap.proofs.WalkLemmas.{one_text-rows}
+use Rattle.faxtool.specs.declared.words.Job.TheVariants.{Code, Show}
+use Rattle.faxtool.specs.declared.words.Outcome.{Outcome}
+use Rattle.faxtool.specs.declared.words.Outcome.TheVariants.{Done, Fault, Words}
+use Rattle.faxtool.specs.Jobs.{HasNoJob, IsFaxtool, IsOutcomeOf, IsRefusalOf, IsWidthIn, ReadsWidth, faxtool_app}
+
+-- ---- the width
+
+same_text : (a b : Text) → Some a ≡ Some b → a ≡ b
+same_text a b e = ap (λ (o : Option Text). unwrap_or o a) e
+
+pub width_reads : {E : Type 0} (f : Found) (gives : Text → Result ℕ E → Type 0) (r : Option ℕ)
+    → ((text : Text) (x : Result ℕ E) → gives text x → ParsesUnsigned 32 10 text x)
+    → (one_text f (codes "width") ≡ None → r ≡ None)
+    → ((text : Text) → one_text f (codes "width") ≡ Some text → ReadsOne gives text r)
+    → ReadsWidth (rows_of f) r
+width_reads {E} f gives None parses none value =
+    λ text given numeral fits.
+    let read = value text (one_text-rows f (codes "width") ∙ given) in
+    parses text (Err read.0) read.1 (numeral, fits)
+width_reads {E} f gives (Some width) parses none value = go (one_text f (codes "width")) refl
+  where
+    go : (o : Option Text) → one_text f (codes "width") ≡ o → ReadsWidth (rows_of f) (Some width)
+    go None e =
+        let no : Some width ≡ None = none e in
+        cc
+    go (Some text) e =
+        let read = parses text (Ok width) (value text e) in
+        (text, sym (one_text-rows f (codes "width")) ∙ e, (read.0.0, read.1))
+
+pub width_made : (rows : List Row) (width : ℕ) → ReadsWidth rows (Some width) → 1 ≤ width → width ≤ 2432
+    → IsWidthIn rows width
+width_made rows width (text, given, number) least most =
+    record { text = text; given = given; number = number; least = least; most = most }
+
+pub width_outside : (rows : List Row) (width : ℕ) → ReadsWidth rows (Some width) → (1 ≤ width → width ≤ 2432 → ⊥)
+    → (n : ℕ) → IsWidthIn rows n → ⊥
+width_outside rows width (text, given, number) outside n is =
+    let same : text ≡ is.text = same_text text is.text (sym given ∙ is.given) in
+    let one : n ≡ width = is.number.1 ∙ (ap (λ (t : Text). digits_value 10 (without_leading_plus t)) (sym same) ∙ sym number.1) in
+    outside (subst (λ k. 1 ≤ k) one is.least) (subst (λ k. k ≤ 2432) one is.most)
+
+pub width_none : (rows : List Row) → ReadsWidth rows None → (n : ℕ) → IsWidthIn rows n → ⊥
+width_none rows none n is =
+    let most : digits_value 10 (without_leading_plus is.text) ≤ 2432 = subst (λ k. k ≤ 2432) is.number.1 is.most in
+    none is.text is.given is.number.0 (omega (arith, most))
+
+-- ---- the words
+
+pub faxtool_simple : (codings orders : ValueParser) → is_simple (faxtool_app codings orders) ≡ true
+unfolding clap_on_literals
+faxtool_simple codings orders = refl
+
+pub faxtool_free : (codings orders : ValueParser) → is_simple_and_free (faxtool_app codings orders) ≡ true
+unfolding clap_on_literals
+faxtool_free codings orders = refl
+
+pub is_faxtool_simple : (a : App) → IsFaxtool a → is_simple a ≡ true
+is_faxtool_simple a is = ap is_simple is.commands ∙ faxtool_simple is.codings is.orders
+
+pub is_faxtool_free : (a : App) → IsFaxtool a → is_simple_and_free a ≡ true
+is_faxtool_free a is = ap is_simple_and_free is.commands ∙ faxtool_free is.codings is.orders
+
+-- clap's own refusal
+pub refused_by_kind : (words : List Text) (a : App) (error : Error) (outcome : Outcome) → IsFaxtool a
+    → HasKind (fault_of a words) error → IsOutcomeOf error outcome → IsRefusalOf words outcome
+refused_by_kind words a error Done is kinds made = made
+refused_by_kind words a error (Fault fault) is kinds made = made.1
+refused_by_kind words a error (Words given) is (inl memory) made = absurd (made.0 memory)
+refused_by_kind words a error (Words given) is (inr among) made =
+    (a, is, inl (subst (λ (e : Error). IsAmong (kind_of e) (fault_of a words)) (sym made.1) among))
+
+-- the refusal of words that have no job
+pub refused_for_job : (words : List Text) (a : App) (error : Error) (outcome : Outcome) → IsFaxtool a
+    → HasNoJob (subcommand_of a words) → IsOutcomeOf error outcome → IsRefusalOf words outcome
+refused_for_job words a error Done is none made = made
+refused_for_job words a error (Fault fault) is none made = made.1
+refused_for_job words a error (Words given) is none made = (a, is, inr none)
+
+-- ---- the jobs
+
+some_name : (a b : Text) (xs ys : List Row) → ◌≡◌ {A = Option (Text × List Row)} (Some (a, xs)) (Some (b, ys)) → a ≡ b
+some_name a b xs ys e = ap (λ (o : Option (Text × List Row)). (unwrap_or o (a, xs)).0) e
+
+some_rows : (a b : Text) (xs ys : List Row) → ◌≡◌ {A = Option (Text × List Row)} (Some (a, xs)) (Some (b, ys)) → xs ≡ ys
+some_rows a b xs ys e = ap (λ (o : Option (Text × List Row)). (unwrap_or o (a, xs)).1) e
+
+show_is_code : codes "show" ≡ codes "code" → ⊥
+show_is_code e =
+    let bad : 115 ≡ 99 = ap (λ (t : Text). slice_index t 0) e in
+    absurd (omega (arith, bad))
+
+-- without a width there is no job for `show`
+pub no_width : (rows : List Row) → ((n : ℕ) → IsWidthIn rows n → ⊥) → HasNoJob (Some (codes "show", rows))
+no_width rows none (Code coding order input output) (others, e, is) = show_is_code (some_name (codes "show") (codes "code") rows others e)
+no_width rows none (Show coding order width input) (others, e, is) =
+    none width (subst (λ (xs : List Row). IsWidthIn xs width) (sym (some_rows (codes "show") (codes "show") rows others e)) is.width_is)

@@ -1,0 +1,28 @@
+use Rattle.std.proofs.Common.{List, map, rules, subst}
+use Rattle.std.specs.Prelude.{Option}
+use Rattle.clap.specs.Words.{Row, Text, app_of}
+use Rattle.faxtool.specs.Jobs.{HasNoJob, IsFaxtool, IsJobOf}
+use Rattle.faxtool.proofs.JobLemmas.{is_faxtool_free, is_faxtool_simple, refused_by_kind, refused_for_job}
+use Rattle.faxtool.proofs.words.read_words.Goals as goal
+
+pub returns-in-Err : goal.returns-in-Err
+returns-in-Err c =
+    let a = app_of c.in_ok-command.command in
+    let is : IsFaxtool a = c.in_ok-command.ensures in
+    refused_by_kind (map (λ word. word.now) c.args.words.now) a c.in-Err.error c.from.result is
+    (c.in-Err.ensures.kinds (is_faxtool_free a is)) c.from.ensures
+
+pub returns-in-Some : goal.returns-in-Some
+returns-in-Some c =
+    let a = app_of c.in_ok-command.command in
+    let is : IsFaxtool a = c.in_ok-command.ensures in
+    let met = (c.in-Ok.ensures.ok.2 (is_faxtool_simple a is)).1 in
+    (a, is, c.in-Ok.ensures.kinds (is_faxtool_free a is), subst (λ (o : Option (Text × List Row)). IsJobOf o c.in-Some.job) met (search rules))
+
+pub returns : goal.returns
+returns c =
+    let a = app_of c.in_ok-command.command in
+    let is : IsFaxtool a = c.in_ok-command.ensures in
+    let met = (c.in-Ok.ensures.ok.2 (is_faxtool_simple a is)).1 in
+    refused_for_job (map (λ word. word.now) c.args.words.now) a c.in_ok-incomplete-in-None.field-0 c.from-in-None.result is
+    (subst HasNoJob met (search rules)) c.from-in-None.ensures

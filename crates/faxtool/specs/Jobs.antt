@@ -1,0 +1,185 @@
+-- The commands of the program, what each job is of the values that clap reads, and why words are
+-- refused.
+use Rattle.std.specs.Prelude.{◌≡◌, ◌≢◌, ◌≤◌, ◌<◌, ◌^◌, ◌⊎◌, ℕ, true, List, [], ◌∷◌, Option, Some, None}
+use Rattle.std.specs.Prelude.{codes, map, pos, if◌then◌else◌, string_bytes}
+use Rattle.std.specs.Str.{bytes_eq}
+use Rattle.std.specs.Str.Parse.{IsNumeral, digits_value, without_leading_plus}
+use Rattle.clap.specs.Words.{App, IsAmong, Row, Rule, Text, fault_of, first_of, kind_of, new_app}
+use Rattle.clap.specs.Words.{new_rule, one_of, subcommand_of, with_rule, with_subcommand}
+use Rattle.clap.specs.declared.builder.action.ArgAction.TheVariants.{Set}
+use Rattle.clap.specs.declared.builder.value_parser.ValueParser.{ValueParser}
+use Rattle.clap.specs.declared.builder.value_parser.ValueParser.TheVariants as vp
+use Rattle.clap.specs.declared.error.Error.{Error}
+use Rattle.clap.specs.declared.error.kind.ErrorKind.TheVariants.{OutOfMemory}
+use Rattle.page_code.specs.declared.Coding.{Coding}
+use Rattle.page_code.specs.declared.Coding.TheVariants.{OneDim}
+use Rattle.raster.specs.Pixels.{IsWidth}
+use Rattle.raster.specs.declared.packed.Order.{Order}
+use Rattle.raster.specs.declared.packed.Order.TheVariants.{LsbFirst, MsbFirst}
+use Rattle.faxtool.specs.declared.fault.ToolFault.TheVariants.{No}
+use Rattle.faxtool.specs.declared.words.Job.{Job}
+use Rattle.faxtool.specs.declared.words.Job.TheVariants.{Code, Show}
+use Rattle.faxtool.specs.declared.words.Outcome.{Outcome}
+use Rattle.faxtool.specs.declared.words.Outcome.TheVariants.{Done, Fault, Words}
+
+-- ---- the commands
+
+-- an option whose name is its id, with one value
+abbrev pub option_rule : Text → Rule
+option_rule name = record (new_rule name) {
+  long = Some name;
+  value_names = 1;
+  action = Some Set;
+}
+
+-- `--code`, which is required
+abbrev pub coding_rule : ValueParser → Rule
+coding_rule codings =
+    record (option_rule (codes "code")) { required = true; parser = Some codings }
+
+-- `--order`, which is `msb` where it isn't given
+abbrev pub order_rule : ValueParser → Rule
+order_rule orders = record (option_rule (codes "order")) {
+  parser = Some orders;
+  defaults = codes "msb" ∷ [];
+}
+
+-- `--width`, which is required: a number from 1 to 2432
+abbrev pub width_rule : Rule
+width_rule = record (option_rule (codes "width")) {
+  required = true;
+  parser = Some (vp.Signed (pos 1) (pos 2432));
+}
+
+-- the name of a file, which is required
+abbrev pub file_rule : Text → Rule
+file_rule id = record (new_rule id) {
+  value_names = 1;
+  action = Some Set;
+  required = true;
+}
+
+abbrev pub code_app : ValueParser → ValueParser → App
+code_app codings orders = with_rule (with_rule (with_rule (with_rule (new_app (codes "code"))
+    (coding_rule codings)) (order_rule orders)) (file_rule (codes "in"))) (file_rule (codes "out"))
+
+abbrev pub show_app : ValueParser → ValueParser → App
+show_app codings orders = with_rule (with_rule (with_rule (with_rule (new_app (codes "show"))
+    (coding_rule codings)) width_rule) (order_rule orders)) (file_rule (codes "file"))
+
+-- the program, which wants one of its two commands
+abbrev pub empty_app : App
+empty_app = let app = new_app (codes "faxtool") in record app {
+  top = record app.top { arg_required_else_help = true; subcommand_required = true };
+}
+
+abbrev pub faxtool_app : ValueParser → ValueParser → App
+faxtool_app codings orders = with_subcommand (with_subcommand empty_app (code_app codings orders).top)
+    (show_app codings orders).top
+
+-- the parser takes these names and no other text
+abbrev pub TakesNames : ValueParser → List Text → Type 0
+TakesNames parser names =
+    (given : _) × (parser ≡ vp.Names given) × (map (λ name. name.now) given.now ≡ names)
+
+-- the command that the program hands to clap
+pub record IsFaxtool (a : App) : Type 0 where
+  pub codings : ValueParser
+  pub orders : ValueParser
+  pub takes_codings : TakesNames codings (codes "mh" ∷ [])
+  pub takes_orders : TakesNames orders (codes "msb" ∷ codes "lsb" ∷ [])
+  pub commands : a ≡ faxtool_app codings orders
+
+-- ---- the jobs
+
+-- the code that a value of `--code` names
+abbrev pub coding_named : Option Text → Option Coding
+coding_named None = None
+coding_named (Some name) = if bytes_eq name (codes "mh") then Some OneDim else None
+
+-- the order that a value of `--order` names: `msb` but for `lsb`
+abbrev pub order_named : Option Text → Order
+order_named None = MsbFirst
+order_named (Some name) = if bytes_eq name (codes "lsb") then LsbFirst else MsbFirst
+
+-- the text is a number in decimal digits, after a plus or none
+abbrev pub IsNumberText : Text → ℕ → Type 0
+IsNumberText text n = IsNumeral 10 (without_leading_plus text)
+    × (n ≡ digits_value 10 (without_leading_plus text))
+
+-- the number is the width that the values give, and one that a page may have
+pub record IsWidthIn (rows : List Row) (width : ℕ) : Type 0 where
+  pub text : Text
+  pub given : one_of (codes "width") rows ≡ Some text
+  pub number : IsNumberText text width
+  pub least : 1 ≤ width
+  pub most : width ≤ 2432
+
+-- the number that is read of the width, and none where the text is no number below 2 ^ 32
+abbrev pub ReadsWidth : List Row → Option ℕ → Type 0
+ReadsWidth rows (Some n) =
+    (text : Text) × (one_of (codes "width") rows ≡ Some text) × IsNumberText text n
+ReadsWidth rows None = (text : Text) → one_of (codes "width") rows ≡ Some text
+    → IsNumeral 10 (without_leading_plus text)
+    → digits_value 10 (without_leading_plus text) < 2 ^ 32 → ⊥
+
+-- the values of the command `code` are those of the job
+pub record IsCodeOf (rows : List Row) (coding : Coding) (order : Order) (input output : Text)
+    : Type 0 where
+  pub coding_is : coding_named (first_of (codes "code") rows) ≡ Some coding
+  pub order_is : order ≡ order_named (first_of (codes "order") rows)
+  pub input_is : first_of (codes "in") rows ≡ Some input
+  pub output_is : first_of (codes "out") rows ≡ Some output
+
+-- the values of the command `show` are those of the job
+pub record IsShowOf (rows : List Row) (coding : Coding) (order : Order) (width : ℕ) (input : Text)
+    : Type 0 where
+  pub coding_is : coding_named (first_of (codes "code") rows) ≡ Some coding
+  pub order_is : order ≡ order_named (first_of (codes "order") rows)
+  pub width_is : IsWidthIn rows width
+  pub input_is : first_of (codes "file") rows ≡ Some input
+
+-- the job of a command's name and values
+abbrev pub IsJobOf : Option (Text × List Row) → Job → Type 0
+IsJobOf met (Code coding order input output) = (rows : List Row)
+    × (met ≡ Some (codes "code", rows))
+    × IsCodeOf rows coding order (string_bytes input) (string_bytes output)
+IsJobOf met (Show coding order width input) = (rows : List Row)
+    × (met ≡ Some (codes "show", rows))
+    × IsShowOf rows coding order width (string_bytes input)
+
+-- no job is of the command's name and values
+abbrev pub HasNoJob : Option (Text × List Row) → Type 0
+HasNoJob met = (job : Job) → IsJobOf met job → ⊥
+
+-- clap takes the words, and the job is of the command and the values that it states
+abbrev pub ReadsAs : List Text → Job → Type 0
+ReadsAs words job = (a : App) × IsFaxtool a × (fault_of a words ≡ []) × IsJobOf (subcommand_of a words) job
+
+-- ---- refusals
+
+-- memory was refused, or clap refuses the words by this kind of error, or they have no job
+abbrev pub IsRefusalOf : List Text → Outcome → Type 0
+IsRefusalOf words Done = ⊥
+IsRefusalOf words (Fault fault) = fault ≡ No 9
+IsRefusalOf words (Words error) = (a : App) × IsFaxtool a
+    × (IsAmong (kind_of error) (fault_of a words)
+    ⊎ HasNoJob (subcommand_of a words))
+
+-- the outcome where clap gives this error
+abbrev pub IsOutcomeOf : Error → Outcome → Type 0
+IsOutcomeOf error Done = ⊥
+IsOutcomeOf error (Fault fault) = (kind_of error ≡ OutOfMemory) × (fault ≡ No 9)
+IsOutcomeOf error (Words given) = (kind_of error ≢ OutOfMemory) × (given ≡ error)
+
+-- ---- the exit status
+
+abbrev pub status_of : Outcome → ℕ
+status_of Done = 0
+status_of (Fault fault) = 1
+status_of (Words error) = 2
+
+-- the width of a job that shows a page is one that a page may have
+abbrev pub HasWidth : Job → Type 0
+HasWidth (Code coding order input output) = Unit {0}
+HasWidth (Show coding order width input) = IsWidth width

@@ -1,0 +1,137 @@
+//! What the commands do, over any reader and any writer.
+ghost use Rattle.faxtool.specs.Engines.{CodesImage, IsOutside, ReadsIn, RefusesImage, RefusesIn, RefusesShow, ShowsPage, code_text};
+ghost use Rattle.page_code.specs.T4Reading.{AppendsCode};
+ghost use Rattle.raster.specs.Packed.{bits_of};
+ghost use Rattle.raster.specs.Pixels.{IsWidth};
+ghost use Rattle.std.specs.Io.KnownBytes.{Appends};
+ghost use Rattle.std.specs.Prelude.{◌≡◌, ◌≢◌, ◌<◌, IfErr, IfOk, IfSome, OnErr, OnOk, length};
+
+use crate::fault::{NO_MEMORY, ToolFault};
+use page_code::{Coding, OneDim};
+use raster::{Page, read_pbm, write_text};
+use run_tables::{CodeFault, CodeFaultKind, Order};
+use std::alloc::{AllocError, Global};
+use std::io;
+use std::io::{Read, Write};
+
+/// The fault of a reader, a writer or a file.
+pub const FAILED: ToolFault = ToolFault::No(8);
+
+/// The fault of an input of more than one image.
+const SEVERAL_PAGES: ToolFault = ToolFault::No(27);
+
+/// All octets that are left in the reader.
+fn read_octets<R: Read>(alloc: Global, reader: &mut R) -> Result<Vec<u8>, ToolFault>
+    ensures octets { IfOk result (λ octets. IfSome (R.remaining reader.old) (λ left. octets.items ≡ left)) }
+    ensures fault { IfErr result IsOutside }
+{
+    let mut octets = Vec::new(alloc);
+    match reader.read_to_end(&mut octets) {
+        Ok(_) => Ok(octets),
+        Err(error) => {
+            if error.kind() == io::ErrorKind::OutOfMemory {
+                Err(NO_MEMORY)
+            } else {
+                Err(FAILED)
+            }
+        }
+    }
+}
+
+fn write_octets<W: Write>(octets: &[u8], writer: &mut W) -> Result<(), ToolFault>
+    ensures octets { OnOk result (Appends (W.contents writer.old) (W.contents writer.new) octets.now) }
+    ensures fault { IfErr result IsOutside }
+{
+    match writer.write_all(octets) {
+        Ok(()) => Ok(()),
+        Err(_) => Err(FAILED),
+    }
+}
+
+/// Appends the page's code.
+fn encode(
+    alloc: Global,
+    coding: Coding,
+    page: &Page,
+    order: Order,
+    out: &mut Vec<u8>,
+) -> Result<(), AllocError>
+    requires { 0 < length page.now.rows }
+    ensures { OnOk result (AppendsCode order (code_text coding page.now.rows) out.old.items out.new.items) }
+{
+    match coding {
+        Coding::OneDim => OneDim::encode(alloc, page, order, out),
+    }
+}
+
+/// The page that the octets begin with, and the bits used.
+fn decode(
+    alloc: Global,
+    coding: Coding,
+    octets: &[u8],
+    order: Order,
+    width: u32,
+) -> Result<(Page, u128), CodeFault>
+    requires { IsWidth width }
+    ensures reads { IfOk result (λ read. ReadsIn coding width (bits_of order octets.now) read.0.rows read.1) }
+    ensures refuses { IfErr result (λ fault. fault.kind ≢ CodeFaultKind.NoMemory → RefusesIn coding width (bits_of order octets.now) fault) }
+{
+    match coding {
+        Coding::OneDim => OneDim::decode(alloc, octets, order, width, false),
+    }
+}
+
+/// Reads a PBM file of one image and writes the image's code, its last octet filled with 0 bits.
+/// Errs with the first fault of the file, with 27 where it has several images, with 8 where the
+/// reader or the writer fails, and with 9.
+pub fn code_engine<R: Read, W: Write>(
+    alloc: Global,
+    reader: &mut R,
+    writer: &mut W,
+    coding: Coding,
+    order: Order,
+) -> Result<(), ToolFault>
+    ensures coded { OnOk result (IfSome (R.remaining reader.old) (CodesImage coding order (W.contents writer.old) (W.contents writer.new))) }
+    ensures refused { IfErr result (λ fault. IfSome (R.remaining reader.old) (λ octets. RefusesImage octets fault)) }
+{
+    let document = match read_pbm(alloc, reader, false) {
+        Ok(document) => document,
+        Err(fault) => return Err(ToolFault::No(fault.number())),
+    };
+    let [page] = document.pages() else {
+        return Err(SEVERAL_PAGES);
+    };
+    let mut octets = Vec::new(alloc);
+    if encode(alloc, coding, page, order, &mut octets).is_err() {
+        return Err(NO_MEMORY);
+    }
+    write_octets(&octets, writer)
+}
+
+/// Reads octets that begin with the code of a page of this width in pixels, 1 to 2,432, and writes the
+/// page as text. Errs at the bit where they are refused, with 8 where the reader or the writer fails,
+/// and with 9.
+pub fn show_engine<R: Read, W: Write>(
+    alloc: Global,
+    reader: &mut R,
+    writer: &mut W,
+    coding: Coding,
+    order: Order,
+    width: u32,
+) -> Result<(), ToolFault>
+    requires { IsWidth width }
+    ensures shown { OnOk result (IfSome (R.remaining reader.old) (ShowsPage coding order width (W.contents writer.old) (W.contents writer.new))) }
+    ensures refused { IfErr result (λ fault. IfSome (R.remaining reader.old) (λ octets. RefusesShow coding order width octets fault)) }
+{
+    let octets = match read_octets(alloc, reader) {
+        Ok(octets) => octets,
+        Err(fault) => return Err(fault),
+    };
+    match decode(alloc, coding, &octets, order, width) {
+        Ok((page, _used)) => match write_text(&page, writer) {
+            Ok(()) => Ok(()),
+            Err(_) => Err(FAILED),
+        },
+        Err(fault) => Err(ToolFault::from(fault)),
+    }
+}

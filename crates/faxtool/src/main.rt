@@ -1,0 +1,111 @@
+//! A tool on fax pages: it codes images and shows coded pages.
+#![tactic(auto)]
+
+ghost use Rattle.faxtool.specs.Jobs.{HasWidth};
+ghost use Rattle.raster.specs.Pixels.{IsWidth};
+
+mod engine;
+mod fault;
+mod words;
+
+use engine::{FAILED, code_engine, show_engine};
+use fault::{NO_MEMORY, ToolFault};
+use page_code::Coding;
+use run_tables::Order;
+use std::io::{BufWriter, Write};
+use std::process::ExitCode;
+use std::{env, fs, io};
+use words::{Job, Outcome, read_words, status};
+
+fn main(rt: HostRuntime) -> ExitCode {
+    let outcome = run_words(&rt);
+    let _shown = match &outcome {
+        Outcome::Done => Ok(()),
+        Outcome::Fault(fault) => eprintln!(rt; "{fault}"),
+        Outcome::Words(error) => rt.eprint(error),
+    };
+    ExitCode::from(status(&outcome))
+}
+
+fn run_words(rt: &HostRuntime) -> Outcome {
+    let words = match given_words(rt) {
+        Ok(words) => words,
+        Err(error) => return Outcome::Fault(words_fault(&error)),
+    };
+    let mut texts = Vec::new(rt.alloc());
+    for word in &words {
+        if texts.push(word.as_str()).is_err() {
+            return Outcome::Fault(NO_MEMORY);
+        }
+    }
+    match read_words(rt.alloc(), texts.as_slice()) {
+        Ok(job) => run_job(rt, job),
+        Err(outcome) => outcome,
+    }
+}
+
+fn given_words(rt: &HostRuntime) -> io::Result<Vec<String>> {
+    let words = env::args(rt)?.collect(rt.alloc())?;
+    Ok(words)
+}
+
+// A word that is no text names no file that can be opened.
+fn words_fault(error: &io::Error) -> ToolFault {
+    match error.kind() {
+        io::ErrorKind::OutOfMemory => NO_MEMORY,
+        _ => ToolFault::No(8),
+    }
+}
+
+fn run_job(rt: &HostRuntime, job: Job) -> Outcome
+    requires { HasWidth job }
+{
+    let done = match &job {
+        Job::Code {
+            coding,
+            order,
+            input,
+            output,
+        } => code_file(rt, *coding, *order, input, output),
+        Job::Show {
+            coding,
+            order,
+            width,
+            input,
+        } => show_file(rt, *coding, *order, *width, input),
+    };
+    match done {
+        Ok(()) => Outcome::Done,
+        Err(fault) => Outcome::Fault(fault),
+    }
+}
+
+/// Codes an image's file. The output's file is opened only once its whole content is made.
+fn code_file(
+    rt: &HostRuntime,
+    coding: Coding,
+    order: Order,
+    input: &str,
+    output: &str,
+) -> Result<(), ToolFault> {
+    let mut reader = fs::open(rt, input).map_err(|_| FAILED)?;
+    let mut octets = Vec::new(rt.alloc());
+    code_engine(rt.alloc(), &mut reader, &mut octets, coding, order)?;
+    fs::write(rt, output, octets.as_slice()).map_err(|_| FAILED)
+}
+
+/// Shows the page in a file.
+fn show_file(
+    rt: &HostRuntime,
+    coding: Coding,
+    order: Order,
+    width: u32,
+    input: &str,
+) -> Result<(), ToolFault>
+    requires { IsWidth width }
+{
+    let mut reader = fs::open(rt, input).map_err(|_| FAILED)?;
+    let mut writer = BufWriter::new(rt.alloc(), io::writer(rt)).map_err(|_| NO_MEMORY)?;
+    show_engine(rt.alloc(), &mut reader, &mut writer, coding, order, width)?;
+    writer.flush().map_err(|_| FAILED)
+}

@@ -1,0 +1,338 @@
+//! The words that the program is called with.
+ghost use Rattle.std.specs.Prelude.{◌≡◌, ◌≢◌, IfOk, MatchOption, MatchResult, Some, codes, false};
+ghost use Rattle.std.specs.Prelude.{ℕ, map, option_map};
+ghost use Rattle.clap.specs.Words.{app_of, first_of, found_of, kind_of, rows_of, rule_of};
+ghost use Rattle.clap.specs.Words.{subcommand_rows_of};
+ghost use Rattle.clap.specs.declared.builder.command.Command.TheViews.{out-Command as fields_of};
+ghost use Rattle.clap.specs.declared.error.kind.ErrorKind.TheVariants.{OutOfMemory};
+ghost use Rattle.faxtool.specs.Jobs.{HasNoJob, IsFaxtool, IsJobOf, IsOutcomeOf, IsRefusalOf};
+ghost use Rattle.faxtool.specs.Jobs.{IsWidthIn, ReadsAs, ReadsWidth, code_app, coding_named, coding_rule};
+ghost use Rattle.faxtool.specs.Jobs.{empty_app, file_rule, order_named, order_rule, show_app};
+ghost use Rattle.faxtool.specs.Jobs.{status_of, width_rule};
+
+use crate::fault::{NO_MEMORY, ToolFault};
+use clap::builder::ValueParser;
+use clap::error::ErrorKind;
+use clap::{Arg, ArgAction, ArgMatches, Command, Error};
+use page_code::Coding;
+use run_tables::Order;
+use std::alloc::{AllocError, Global};
+
+/// What the program is asked to do.
+#[derive(Debug, PartialEq, Eq, Drop)]
+pub enum Job {
+    /// Writes the code of an image into a file.
+    Code {
+        /// The code.
+        coding: Coding,
+        /// Which bit of an octet of the output comes first.
+        order: Order,
+        /// The name of the image's file.
+        input: String,
+        /// The name of the file that the code goes to.
+        output: String,
+    },
+    /// Prints the first page in a file as text.
+    Show {
+        /// The code of the page.
+        coding: Coding,
+        /// Which bit of an octet of the file comes first.
+        order: Order,
+        /// The page's width in pixels, 1 to 2,432.
+        width: u32,
+        /// The name of the page's file.
+        input: String,
+    },
+}
+
+/// How the program ends.
+#[derive(Debug, Drop)]
+pub enum Outcome {
+    /// The job is done.
+    Done,
+    /// The job failed.
+    Fault(ToolFault),
+    /// The words are no job, or ask for help: the error has the text.
+    Words(Error),
+}
+
+/// The exit status of the program: 0 where the job is done, 1 for a fault and 2 for the words.
+pub fn status(outcome: &Outcome) -> u8
+    ensures { result ≡ status_of outcome.now }
+{
+    match outcome {
+        Outcome::Done => 0,
+        Outcome::Fault(_) => 1,
+        Outcome::Words(_) => 2,
+    }
+}
+
+static CODINGS: [&str; 1] = ["mh"];
+
+static ORDERS: [&str; 2] = ["msb", "lsb"];
+
+impl From<AllocError> for Outcome {
+    ghost use Rattle.std.specs.Prelude.{◌≡◌};
+    ghost use Rattle.faxtool.specs.declared.fault.ToolFault.TheVariants.{No};
+    ghost use Rattle.faxtool.specs.declared.words.Outcome.TheVariants.{Fault};
+
+    ghost from_gives = { λ _ outcome. outcome ≡ Fault (No 9) };
+
+    fn from(_error: AllocError) -> Outcome {
+        Outcome::Fault(NO_MEMORY)
+    }
+}
+
+impl From<Error> for Outcome {
+    ghost use Rattle.faxtool.specs.Jobs.{IsOutcomeOf};
+
+    ghost from_gives = { IsOutcomeOf };
+
+    fn from(error: Error) -> Outcome {
+        match error.kind() {
+            ErrorKind::OutOfMemory => Outcome::Fault(NO_MEMORY),
+            _ => Outcome::Words(error),
+        }
+    }
+}
+
+/// The job that the words name, of which the first is the program's name.
+///
+/// An `Err` is the fault 9 where memory was refused, and else has the text for the user: what is
+/// wrong with the words, or the help that they ask for.
+pub fn read_words(alloc: Global, words: &[&str]) -> Result<Job, Outcome>
+    ensures { let texts = map (λ word. word.now) words.now in
+        MatchResult result (ReadsAs texts) (IsRefusalOf texts) }
+{
+    let mut command = faxtool_command(alloc)?;
+    let matches = match command.try_get_matches_from_mut(words) {
+        Ok(matches) => matches,
+        Err(error) => return Err(Outcome::from(error)),
+    };
+    match job_in(alloc, &matches)? {
+        Some(job) => Ok(job),
+        None => Err(Outcome::from(incomplete(&mut command)?)),
+    }
+}
+
+// The job, where no value of it is missing.
+fn job_in(alloc: Global, matches: &ArgMatches<'_>) -> Result<Option<Job>, AllocError>
+    ensures { let met = subcommand_rows_of matches.now in
+        IfOk result (λ job. MatchOption job (HasNoJob met) (IsJobOf met)) }
+{
+    if let Some(inner) = matches.subcommand_matches("code") {
+        return code_job(alloc, inner);
+    }
+    if let Some(inner) = matches.subcommand_matches("show") {
+        return show_job(alloc, inner);
+    }
+    Ok(None)
+}
+
+fn code_job(alloc: Global, matches: &ArgMatches<'_>) -> Result<Option<Job>, AllocError>
+    ensures { let met = Some (codes "code", rows_of (found_of matches.now)) in
+        IfOk result (λ job. MatchOption job (HasNoJob met) (IsJobOf met)) }
+{
+    let Some(coding) = coding_in(matches) else {
+        return Ok(None);
+    };
+    let Some(input) = text_in(matches, "in") else {
+        return Ok(None);
+    };
+    let Some(output) = text_in(matches, "out") else {
+        return Ok(None);
+    };
+    Ok(Some(Job::Code {
+        coding,
+        order: order_in(matches),
+        input: String::from_str(alloc, input)?,
+        output: String::from_str(alloc, output)?,
+    }))
+}
+
+fn show_job(alloc: Global, matches: &ArgMatches<'_>) -> Result<Option<Job>, AllocError>
+    ensures { let met = Some (codes "show", rows_of (found_of matches.now)) in
+        IfOk result (λ job. MatchOption job (HasNoJob met) (IsJobOf met)) }
+{
+    let Some(coding) = coding_in(matches) else {
+        return Ok(None);
+    };
+    let Some(width) = width_in(matches) else {
+        return Ok(None);
+    };
+    let Some(input) = text_in(matches, "file") else {
+        return Ok(None);
+    };
+    Ok(Some(Job::Show {
+        coding,
+        order: order_in(matches),
+        width,
+        input: String::from_str(alloc, input)?,
+    }))
+}
+
+fn coding_in(matches: &ArgMatches<'_>) -> Option<Coding>
+    ensures { result ≡ coding_named (first_of (codes "code") (rows_of (found_of matches.now))) }
+{
+    coding_named(text_in(matches, "code"))
+}
+
+fn coding_named(name: Option<&str>) -> Option<Coding>
+    ensures { result ≡ coding_named (option_map (λ name. name.now) name.entry) }
+{
+    match name {
+        Some(name) if name == "mh" => Some(Coding::OneDim),
+        _ => None,
+    }
+}
+
+fn order_in(matches: &ArgMatches<'_>) -> Order
+    ensures { result ≡ order_named (first_of (codes "order") (rows_of (found_of matches.now))) }
+{
+    order_named(text_in(matches, "order"))
+}
+
+fn order_named(name: Option<&str>) -> Order
+    ensures { result ≡ order_named (option_map (λ name. name.now) name.entry) }
+{
+    match name {
+        Some(name) if name == "lsb" => Order::LsbFirst,
+        _ => Order::MsbFirst,
+    }
+}
+
+// The first value of an argument.
+fn text_in<'a>(matches: &ArgMatches<'a>, id: &str) -> Option<&'a str>
+    ensures { option_map (λ text. text.now) result
+        ≡ first_of id.now (rows_of (found_of matches.now)) }
+{
+    matches.get_str(id)
+}
+
+fn width_in(matches: &ArgMatches<'_>) -> Option<u32>
+    ensures { let rows = rows_of (found_of matches.now) in
+        MatchOption result ((width : ℕ) → IsWidthIn rows width → ⊥) (IsWidthIn rows) }
+{
+    match number_in(matches) {
+        Some(width) if 1 <= width && width <= 2432 => Some(width),
+        _ => None,
+    }
+}
+
+// The number of the width.
+fn number_in(matches: &ArgMatches<'_>) -> Option<u32>
+    ensures { ReadsWidth (rows_of (found_of matches.now)) result }
+{
+    matches.get_one::<u32>("width")
+}
+
+// The error for words that miss a value, which a parse refuses by itself.
+fn incomplete(command: &mut Command<'_>) -> Result<Error, AllocError>
+    ensures { IfOk result (λ error. kind_of error ≡ ErrorKind.MissingRequiredArgument) }
+{
+    command.error(ErrorKind::MissingRequiredArgument, "a value is missing")
+}
+
+fn faxtool_command<'a>(alloc: Global) -> Result<Command<'a>, AllocError>
+    ensures { IfOk result (λ command. IsFaxtool (app_of command)) }
+{
+    let codings = ValueParser::from(CODINGS.as_slice());
+    let orders = ValueParser::from(ORDERS.as_slice());
+    let code = code_command(alloc, codings, orders)?;
+    let show = show_command(alloc, codings, orders)?;
+    empty_command(alloc).subcommand(code)?.subcommand(show)
+}
+
+fn empty_command<'a>(alloc: Global) -> Command<'a>
+    ensures { app_of result ≡ empty_app }
+{
+    Command::new(alloc, "faxtool")
+        .about("Codes images as fax pages and shows coded pages")
+        .subcommand_required(true)
+        .arg_required_else_help(true)
+}
+
+fn code_command<'a>(
+    alloc: Global,
+    codings: ValueParser<'a>,
+    orders: ValueParser<'a>,
+) -> Result<Command<'a>, AllocError>
+    ensures app { IfOk result (λ command. app_of command ≡ code_app codings.entry orders.entry) }
+    ensures local { IfOk result (λ command. (fields_of command).has_globals ≡ false) }
+{
+    Command::new(alloc, "code")
+        .about("Writes the code of an image into a file")
+        .arg(coding_option(alloc, codings))?
+        .arg(order_option(alloc, orders))?
+        .arg(file_name(alloc, "in", "IN", "The file of the image, a PBM"))?
+        .arg(file_name(alloc, "out", "OUT", "The file that the code is written to"))
+}
+
+fn show_command<'a>(
+    alloc: Global,
+    codings: ValueParser<'a>,
+    orders: ValueParser<'a>,
+) -> Result<Command<'a>, AllocError>
+    ensures app { IfOk result (λ command. app_of command ≡ show_app codings.entry orders.entry) }
+    ensures local { IfOk result (λ command. (fields_of command).has_globals ≡ false) }
+{
+    Command::new(alloc, "show")
+        .about("Prints the first page in a file as text")
+        .arg(coding_option(alloc, codings))?
+        .arg(width_option(alloc))?
+        .arg(order_option(alloc, orders))?
+        .arg(file_name(alloc, "file", "FILE", "The file of the coded page"))
+}
+
+fn coding_option<'a>(alloc: Global, codings: ValueParser<'a>) -> Arg<'a>
+    ensures rule { rule_of result ≡ coding_rule codings.entry }
+    ensures local { result.global ≡ false }
+{
+    Arg::new(alloc, "code")
+        .long("code")
+        .value_name("CODE")
+        .required(true)
+        .action(ArgAction::Set)
+        .value_parser(codings)
+        .help("The code of the page: mh codes each row by its runs alone")
+}
+
+fn order_option<'a>(alloc: Global, orders: ValueParser<'a>) -> Arg<'a>
+    ensures rule { rule_of result ≡ order_rule orders.entry }
+    ensures local { result.global ≡ false }
+{
+    Arg::new(alloc, "order")
+        .long("order")
+        .value_name("ORDER")
+        .action(ArgAction::Set)
+        .value_parser(orders)
+        .default_value("msb")
+        .help("Which bit of an octet of the code comes first, the most or the least significant")
+}
+
+fn width_option<'a>(alloc: Global) -> Arg<'a>
+    ensures rule { rule_of result ≡ width_rule }
+    ensures local { result.global ≡ false }
+{
+    Arg::new(alloc, "width")
+        .long("width")
+        .value_name("N")
+        .required(true)
+        .action(ArgAction::Set)
+        .value_parser(clap::value_parser!(u32).range(1..=2432))
+        .help("The width of the page in pixels, 1 to 2432")
+}
+
+fn file_name<'a>(alloc: Global, id: &'a str, shown: &'a str, help: &'a str) -> Arg<'a>
+    ensures rule { rule_of result ≡ file_rule id.entry.now }
+    ensures local { result.global ≡ false }
+{
+    Arg::new(alloc, id)
+        .value_name(shown)
+        .required(true)
+        .action(ArgAction::Set)
+        .help(help)
+}
+
+#[cfg(test)]
+mod tests;
