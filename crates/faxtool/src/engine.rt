@@ -14,6 +14,9 @@ use std::alloc::{AllocError, Global};
 use std::io;
 use std::io::{Read, Write};
 
+#[cfg(test)]
+mod tests;
+
 /// The fault of a reader, a writer or a file.
 pub const FAILED: ToolFault = ToolFault::No(8);
 
