@@ -23,6 +23,16 @@ pub const FAILED: ToolFault = ToolFault::No(8);
 /// The fault of an input of more than one image.
 const SEVERAL_PAGES: ToolFault = ToolFault::No(27);
 
+/// The fault of a reader or a writer: it failed, or memory was refused in it.
+fn fault_of(error: &io::Error) -> ToolFault
+    ensures { IsOutside result }
+{
+    match error.kind() {
+        io::ErrorKind::OutOfMemory => NO_MEMORY,
+        _ => FAILED,
+    }
+}
+
 /// All octets that are left in the reader.
 fn read_octets<R: Read>(alloc: Global, reader: &mut R) -> Result<Vec<u8>, ToolFault>
     ensures octets { IfOk result (λ octets. IfSome (R.remaining reader.old) (λ left. octets.items ≡ left)) }
@@ -31,13 +41,7 @@ fn read_octets<R: Read>(alloc: Global, reader: &mut R) -> Result<Vec<u8>, ToolFa
     let mut octets = Vec::new(alloc);
     match reader.read_to_end(&mut octets) {
         Ok(_) => Ok(octets),
-        Err(error) => {
-            if error.kind() == io::ErrorKind::OutOfMemory {
-                Err(NO_MEMORY)
-            } else {
-                Err(FAILED)
-            }
-        }
+        Err(error) => Err(fault_of(&error)),
     }
 }
 
@@ -47,7 +51,7 @@ fn write_octets<W: Write>(octets: &[u8], writer: &mut W) -> Result<(), ToolFault
 {
     match writer.write_all(octets) {
         Ok(()) => Ok(()),
-        Err(_) => Err(FAILED),
+        Err(error) => Err(fault_of(&error)),
     }
 }
 

@@ -70,7 +70,7 @@ fn runs_come_back(rt: HostRuntime) -> Result<(), Fail> {
 fn a_page_is_written_as_text(rt: HostRuntime) -> Result<(), Fail> {
     let alloc = rt.alloc();
     let page = page_of_three(alloc)?;
-    let mut text = Vec::new(alloc);
+    let mut text = Vec::with_capacity(alloc, 27)?;
     write_text(&page, &mut text)?;
     assert_eq!(rt; text.as_slice(), THREE_ROWS.as_bytes());
     let mut document = Document::new(alloc, page)?;
@@ -85,7 +85,7 @@ fn a_failing_writer_is_a_fault(rt: HostRuntime) -> Result<(), Fail> {
     let page = page_of_three(alloc)?;
     for room in 0..28 {
         let mut writer = Failing {
-            taken: Vec::new(alloc),
+            taken: Vec::with_capacity(alloc, 27)?,
             room,
         };
         let written = write_text(&page, &mut writer);

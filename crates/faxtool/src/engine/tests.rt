@@ -1,5 +1,5 @@
 use super::{FAILED, code_engine, show_engine};
-use crate::fault::ToolFault;
+use crate::fault::{NO_MEMORY, ToolFault};
 use page_code::Coding;
 use run_tables::Order;
 use std::alloc::{AllocError, Global};
@@ -64,14 +64,14 @@ const CODE: [u8; 12] = [
 const TEXT: &[u8] = b"..##....\n";
 
 fn coded(alloc: Global, image: &[u8], order: Order) -> Result<Vec<u8>, ToolFault> {
-    let mut octets = Vec::new(alloc);
+    let mut octets = Vec::with_capacity(alloc, 100).map_err(|_| NO_MEMORY)?;
     let mut reader = image;
     code_engine(alloc, &mut reader, &mut octets, Coding::OneDim, order)?;
     Ok(octets)
 }
 
 fn shown(alloc: Global, code: &[u8], order: Order) -> Result<Vec<u8>, ToolFault> {
-    let mut text = Vec::new(alloc);
+    let mut text = Vec::with_capacity(alloc, 100).map_err(|_| NO_MEMORY)?;
     let mut reader = code;
     show_engine(alloc, &mut reader, &mut text, Coding::OneDim, order, 8)?;
     Ok(text)
@@ -173,7 +173,7 @@ fn octets_come_and_go_one_by_one(rt: HostRuntime) -> Result<(), Fail> {
         fails: false,
     };
     let mut code = Narrow {
-        taken: Vec::new(alloc),
+        taken: Vec::with_capacity(alloc, 100)?,
         room: 100,
     };
     code_engine(
@@ -189,7 +189,7 @@ fn octets_come_and_go_one_by_one(rt: HostRuntime) -> Result<(), Fail> {
         fails: false,
     };
     let mut text = Narrow {
-        taken: Vec::new(alloc),
+        taken: Vec::with_capacity(alloc, 100)?,
         room: 100,
     };
     show_engine(

@@ -1,0 +1,15 @@
+pub mod BitPlaces
+pub mod Flags
+pub mod LawsOfFlags
+pub mod Gaps
+pub mod Clear
+pub mod Division
+pub mod Assembling
+pub mod Collecting
+pub mod Steps
+pub mod Joined
+pub mod Written
+pub mod Round
+pub mod Extending
+pub mod OneFrame
+pub mod Examples

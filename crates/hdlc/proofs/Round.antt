@@ -1,0 +1,118 @@
+-- The stuffed text of a content and its check sequence between flags is a frame.
+use Rattle.std.proofs.Common.{◌≡◌, ℕ, zero, suc, ◌+◌, ◌-◌, ◌*◌, ◌/◌, ◌%◌, ◌<◌, ◌≤◌, Bool, true, false, List, [], ◌∷◌, ◌++◌, length, take, drop, map, cond, refl, ap, sym, ◌∙◌, arith, nat_eq, nat_lt, append_assoc, get_or}
+use Rattle.std.specs.List.{range_with_len, filter, count_by}
+use Rattle.std.proofs.lemmas.List.{length-append, length-map, drop_at, take_at, drop-drop}
+use Rattle.std.proofs.lemmas.List.FromFn.{length-range_with_len}
+use Rattle.std.proofs.lemmas.List.Sums.{length-filter, count_by-le-length}
+use Rattle.std.proofs.lemmas.Bool.{eq-eqb, le-ltb}
+use Rattle.hdlc.specs.declared.counts.Class.TheVariants.{Good}
+use Rattle.raster.specs.Packed.{bits_of}
+use Rattle.raster.specs.declared.packed.Order.TheVariants.{LsbFirst}
+use Rattle.raster.proofs.PackedLemmas.{length-bits_in, bits_in-none}
+use Rattle.hdlc.specs.Octets.{number, octet_at, octets_of}
+use Rattle.hdlc.specs.Fcs.{check_octets, fcs_of}
+use Rattle.hdlc.specs.Flags.{flag, gaps}
+use Rattle.hdlc.specs.Gaps.{clear, class_of, is_class, content as content_of, checks, same_octets, octets_in, ones_before}
+use Rattle.hdlc.specs.Frames.{IsFrame}
+use Rattle.hdlc.specs.Writing.{Written, IsWriting}
+use Rattle.hdlc.proofs.BitPlaces.{octet_bits, bits_of-cons, bits_of-append, number-octet_bits}
+use Rattle.hdlc.proofs.Division.{check_octets_are}
+use Rattle.hdlc.proofs.Written.{closes_written}
+
+map_shift : {X : Type 0} (f g : ℕ → X) (a n : ℕ) → ((i : ℕ) → f (i + 1) ≡ g i) → map f (range_with_len (a + 1) n) ≡ map g (range_with_len a n)
+map_shift f g a zero same = refl
+map_shift f g a (suc n) same = ap (λ x. x ∷ map f (range_with_len (a + 1 + 1) n)) (same a) ∙ ap (λ xs. g a ∷ xs) (map_shift f g (a + 1) n same)
+
+octets_of-cons : (front rest : List Bool) → length front ≡ 8 → octets_of (front ++ rest) ≡ number front ∷ octets_of rest
+unfolding octets_of
+octets_of-cons front rest h =
+    let size : length (front ++ rest) / 8 ≡ suc (length rest / 8) = rw length-append (omega arith) in
+    let first : take 8 (front ++ rest) ≡ front = take_at front rest 8 h in
+    let shift : (i : ℕ) → octet_at (front ++ rest) (i + 1) ≡ octet_at rest i = λ i.
+    let split : 8 * (i + 1) ≡ 8 + 8 * i = omega arith in
+    ap (λ xs. number (take 8 xs)) (ap (λ n. drop n (front ++ rest)) split ∙ (sym (drop-drop (8 * i) 8 (front ++ rest)) ∙ ap (drop (8 * i)) (drop_at front rest 8 h))) in
+    ap (λ n. map (octet_at (front ++ rest)) (range_with_len 0 n)) size ∙
+    (ap (λ xs. number xs ∷ map (octet_at (front ++ rest)) (range_with_len (0 + 1) (length rest / 8))) first ∙
+    ap (λ xs. number front ∷ xs) (map_shift (octet_at (front ++ rest)) (octet_at rest) 0 (length rest / 8) shift))
+
+abbrev pub AreOctets : List ℕ → Type 0
+AreOctets [] = Unit {0}
+AreOctets (x ∷ xs) = (x < 256) × AreOctets xs
+
+octets_of-none : octets_of [] ≡ []
+unfolding octets_of
+octets_of-none = refl
+
+pub octets_back : (octets : List ℕ) → AreOctets octets → octets_of (bits_of LsbFirst octets) ≡ octets
+octets_back [] small = ap octets_of (bits_in-none LsbFirst []) ∙ octets_of-none
+octets_back (x ∷ xs) small =
+    ap octets_of (bits_of-cons x xs) ∙
+    (octets_of-cons (octet_bits x) (bits_of LsbFirst xs) refl ∙
+    (ap (λ n. n ∷ octets_of (bits_of LsbFirst xs)) (number-octet_bits x small.0) ∙ ap (λ ys. x ∷ ys) (octets_back xs small.1)))
+
+same_itself : (xs : List ℕ) → same_octets xs xs ≡ true
+same_itself [] = refl
+same_itself (x ∷ xs) = rw (eq-eqb x x refl) (same_itself xs)
+
+-- a text of a content with its check sequence, between flags, is a frame
+pub written_frame : (octets sent : List ℕ) (body : List Bool) (count : ℕ) → Written body (bits_of LsbFirst (octets ++ sent)) count → count ≤ 4 → 8 ≤ length body → sent ≡ check_octets octets → length sent ≡ 2 → AreOctets (octets ++ sent) → 3 ≤ length octets → length octets ≤ 300 → IsFrame octets (flag ++ body ++ flag)
+written_frame octets sent body count w few long is two small least most =
+    let all : List ℕ = octets ++ sent in
+    let size : length all ≡ length octets + length sent = length-append octets sent in
+    let bits : octets_in body ≡ all = ap octets_of w.clear ∙ octets_back all small in
+    let n : length all - 2 ≡ length octets = omega arith in
+    let whole : nat_eq (length (clear body) % 8) 0 ≡ true = rw w.clear (eq-eqb (length (bits_of LsbFirst all) % 8) 0 (let e : length (bits_of LsbFirst all) ≡ 8 * length all = length-bits_in LsbFirst all (8 * length all) in omega arith)) in
+    let not_short : nat_lt (length all) 5 ≡ false = le-ltb (length all) 5 (omega arith) in
+    let not_long : nat_lt 302 (length all) ≡ false = le-ltb 302 (length all) (omega arith) in
+    let front : take (length all - 2) all ≡ octets = ap (λ k. take k all) n ∙ take_at octets sent (length octets) refl in
+    let back : drop (length all - 2) all ≡ sent = ap (λ k. drop k all) n ∙ drop_at octets sent (length octets) refl in
+    let right : checks all ≡ true = rw (front, back, ← is) (same_itself sent) in
+    let class : class_of body ≡ Good = rw (w.six, whole, bits, not_short, not_long, right) refl in
+    let content_is : content_of body ≡ octets = rw bits front in
+    let only : gaps (flag ++ body ++ flag) ≡ body ∷ [] = closes_written body (bits_of LsbFirst all) count w few long in
+    record {
+      body = body;
+      is = refl;
+      only = only;
+      holds =
+          ap (λ gs. map content_of (filter (λ gap. is_class Good (class_of gap)) gs)) only ∙
+          (ap (λ c. map content_of (cond (is_class Good c) (body ∷ []) [])) class ∙ ap (λ c. c ∷ []) content_is);
+      sent = rw (← is) w.clear;
+      stuffed = rw w.ends few;
+    }
+
+pub length-clear : (gap : List Bool) → length (clear gap) ≤ length gap
+unfolding clear
+length-clear gap =
+    let places : List ℕ = range_with_len 0 (length gap) in
+    let test : ℕ → Bool = λ place. nat_lt (ones_before gap place) 5 in
+    let few : count_by test places ≤ length places = count_by-le-length test places in
+    let size : length places ≡ length gap = length-range_with_len 0 (length gap) in
+    rw (length-map, length-filter) (omega arith)
+
+pub are_octets : (xs : List ℕ) → ((k : ℕ) → get_or xs k 0 < 256) → AreOctets xs
+are_octets [] small = tt
+are_octets (x ∷ xs) small = (small 0, are_octets xs (λ k. small (suc k)))
+
+pub are_octets-append : (xs ys : List ℕ) → AreOctets xs → AreOctets ys → AreOctets (xs ++ ys)
+are_octets-append [] ys a b = b
+are_octets-append (x ∷ xs) ys a b = (a.0, are_octets-append xs ys a.1 b)
+
+-- what a writer has once the closing flag stands
+pub whole_frame : (old all new : List Bool) (octets sent : List ℕ) (count f : ℕ) → IsWriting all old (bits_of LsbFirst octets ++ bits_of LsbFirst sent) count → new ≡ all ++ flag → f ≡ fcs_of octets → f < 65536 → sent ≡ f % 256 ∷ f / 256 ∷ [] → AreOctets octets → 3 ≤ length octets → length octets ≤ 300 → (frame : List Bool) × IsFrame octets frame × (new ≡ old ++ frame)
+whole_frame old all new octets sent count f w is fcs fits two small least most =
+    let body : List Bool = w.pre in
+    let text : Written body (bits_of LsbFirst (octets ++ sent)) count = rw (bits_of-append octets sent) w.text in
+    let check : sent ≡ check_octets octets = two ∙ (ap (λ n. n % 256 ∷ n / 256 ∷ []) fcs ∙ sym (check_octets_are octets)) in
+    let size : length sent ≡ 2 = ap length two in
+    let low : f % 256 < 256 = omega arith in
+    let high : f / 256 < 256 = omega arith in
+    let pair : AreOctets (f % 256 ∷ f / 256 ∷ []) = (low, (high, tt)) in
+    let few_octets : AreOctets (octets ++ sent) = are_octets-append octets sent small (rw two pair) in
+    let kept : length (clear body) ≤ length body = length-clear body in
+    let bits : length (clear body) ≡ 8 * length (octets ++ sent) = ap length text.clear ∙ length-bits_in LsbFirst (octets ++ sent) (8 * length (octets ++ sent)) in
+    let both : length (octets ++ sent) ≡ length octets + length sent = length-append octets sent in
+    (flag ++ body ++ flag, written_frame octets sent body count text w.few (omega arith) check size few_octets least most, is ∙ (ap (λ xs. xs ++ flag) w.is ∙ three old flag body flag))
+  where
+    three : (a b c d : List Bool) → (a ++ b ++ c) ++ d ≡ a ++ (b ++ c ++ d)
+    three a b c d = simp append_assoc

@@ -1,0 +1,6 @@
+use Rattle.std.proofs.Common.{refl}
+use Rattle.hdlc.proofs.Steps.{cuts_none}
+use Rattle.hdlc.proofs.cutter.Cutter.new.Goals as goal
+
+pub returns : goal.returns
+returns c = cuts_none _ refl refl refl c.new.ensures

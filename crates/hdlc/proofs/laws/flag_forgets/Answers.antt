@@ -1,0 +1,5 @@
+use Rattle.hdlc.proofs.Joined.{gaps_split as law}
+use Rattle.hdlc.proofs.laws.flag_forgets.Goals as goal
+
+pub returns : goal.returns
+returns c = law

@@ -1,0 +1,5 @@
+use Rattle.hdlc.proofs.Joined.{frame_grows as law}
+use Rattle.hdlc.proofs.laws.frame_grows.Goals as goal
+
+pub returns : goal.returns
+returns c = law

@@ -1,0 +1,5 @@
+use Rattle.hdlc.proofs.BitPlaces.{bits_of-append as law}
+use Rattle.hdlc.proofs.laws.pieces_join.Goals as goal
+
+pub returns : goal.returns
+returns c = law

@@ -1,0 +1,40 @@
+-- Flags and the gaps between them, by places in the whole list of bits (ISO/IEC 13239, flag sequence; ITU-T T.30, 5.3).
+use Rattle.std.specs.Prelude.{ℕ, ◌+◌, ◌-◌, Bool, true, false, ◌&&◌, List, [], ◌∷◌, length, map, take, drop, nat_lt}
+use Rattle.std.specs.Bool.{beq}
+use Rattle.std.specs.List.{range_with_len, filter}
+
+-- the first bits begin the second
+abbrev pub begins : List Bool → List Bool → Bool
+begins [] bits = true
+begins (x ∷ xs) [] = false
+begins (x ∷ xs) (y ∷ ys) = beq y x && begins xs ys
+
+-- the flag sequence, 01111110
+abbrev pub flag : List Bool
+flag = false ∷ true ∷ true ∷ true ∷ true ∷ true ∷ true ∷ false ∷ []
+
+-- a flag stands at a place
+abbrev pub flag_at : List Bool → ℕ → Bool
+flag_at bits place = begins flag (drop place bits)
+
+-- the places of the flags, in order; the last place where eight bits are left is the last that can have one
+unfoldable pub flags : List Bool → List ℕ
+flags bits = filter (flag_at bits) (range_with_len 0 (length bits - 7))
+
+-- a place with the first of those behind it, that one with the next, and so on
+abbrev pub pairs_from : ℕ → List ℕ → List (ℕ × ℕ)
+pairs_from p [] = []
+pairs_from p (q ∷ qs) = (p, q) ∷ pairs_from q qs
+
+-- each two places that follow one another
+abbrev pub neighbours : List ℕ → List (ℕ × ℕ)
+neighbours [] = []
+neighbours (p ∷ ps) = pairs_from p ps
+
+-- the bits after the flag at the first place and before the flag at the second: none where the two touch or share a 0
+abbrev pub between : List Bool → ℕ × ℕ → List Bool
+between bits pair = drop (pair.0 + 8) (take pair.1 bits)
+
+-- the gaps of neighbouring flags, in order; fewer than eight bits are fill and no gap
+unfoldable pub gaps : List Bool → List (List Bool)
+gaps bits = filter (λ gap. nat_lt 7 (length gap)) (map (between bits) (neighbours (flags bits)))

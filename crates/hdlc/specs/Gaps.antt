@@ -1,0 +1,70 @@
+-- What a gap is: its bits without the stuffed ones, its class, its content (ISO/IEC 13239, transparency and invalid
+-- frames; ITU-T T.30, 5.3).
+use Rattle.std.specs.Prelude.{ℕ, ◌+◌, ◌-◌, ◌%◌, Bool, true, false, not, ◌&&◌, List, [], ◌∷◌, length, map, take, drop, get_or, nat_eq, nat_lt, if◌then◌else◌}
+use Rattle.std.specs.List.{range_with_len, filter, count_by, suffix_len, list_any}
+use Rattle.hdlc.specs.declared.counts.Class.{Class}
+use Rattle.hdlc.specs.declared.counts.Class.TheVariants.{Good, Aborted, Ragged, Short, Long, Damaged}
+use Rattle.hdlc.specs.Octets.{octets_of}
+use Rattle.hdlc.specs.Fcs.{check_octets}
+use Rattle.hdlc.specs.Flags.{gaps}
+
+-- how many 1 bits in a row stand directly before a place
+abbrev pub ones_before : List Bool → ℕ → ℕ
+ones_before gap place = suffix_len (λ bit. bit) (take place gap)
+
+-- the clear bits: those that don't stand directly after five 1 bits in a row (such a one is stuffed)
+unfoldable pub clear : List Bool → List Bool
+clear gap = map (λ place. get_or gap place false) (filter (λ place. nat_lt (ones_before gap place) 5) (range_with_len 0 (length gap)))
+
+-- six 1 bits in a row stand somewhere
+unfoldable pub has_six : List Bool → Bool
+has_six gap = list_any (λ place. nat_lt 5 (ones_before gap place)) (range_with_len 0 (length gap + 1))
+
+-- the octets of the clear bits
+abbrev pub octets_in : List Bool → List ℕ
+octets_in gap = octets_of (clear gap)
+
+-- the octets before the last two
+abbrev pub content : List Bool → List ℕ
+content gap = take (length (octets_in gap) - 2) (octets_in gap)
+
+-- the same octets in the same order
+abbrev pub same_octets : List ℕ → List ℕ → Bool
+same_octets [] [] = true
+same_octets (x ∷ xs) (y ∷ ys) = nat_eq x y && same_octets xs ys
+same_octets xs ys = false
+
+-- the last two octets are the check sequence of the others
+abbrev pub checks : List ℕ → Bool
+checks octets = same_octets (drop (length octets - 2) octets) (check_octets (take (length octets - 2) octets))
+
+-- the class of a gap is the first that fits
+abbrev pub class_of : List Bool → Class
+class_of gap =
+    if has_six gap then Aborted
+    else if not (nat_eq (length (clear gap) % 8) 0) then Ragged
+    else if nat_lt (length (octets_in gap)) 5 then Short
+    else if nat_lt 302 (length (octets_in gap)) then Long
+    else if not (checks (octets_in gap)) then Damaged
+    else Good
+
+-- the classes told apart
+abbrev pub number_of : Class → ℕ
+number_of Good = 0
+number_of Aborted = 1
+number_of Ragged = 2
+number_of Short = 3
+number_of Long = 4
+number_of Damaged = 5
+
+-- the same class
+abbrev pub is_class : Class → Class → Bool
+is_class a b = nat_eq (number_of a) (number_of b)
+
+-- the contents of the good gaps, in order
+abbrev pub good : List Bool → List (List ℕ)
+good bits = map content (filter (λ gap. is_class Good (class_of gap)) (gaps bits))
+
+-- how many gaps are of a class
+abbrev pub count_of : Class → List Bool → ℕ
+count_of class bits = count_by (λ gap. is_class class (class_of gap)) (gaps bits)

@@ -1,0 +1,41 @@
+-- Laws of flags, gaps and frames, which the functions of `laws` prove.
+use Rattle.std.specs.Prelude.{ℕ, ◌≡◌, ◌+◌, ◌<◌, ◌≤◌, ◌↔◌, Bool, true, false, List, [], ◌∷◌, ◌++◌, length, drop, slice_get, replicate}
+use Rattle.std.specs.List.{Contains}
+use Rattle.raster.specs.Packed.{bits_of}
+use Rattle.raster.specs.declared.packed.Order.TheVariants.{LsbFirst}
+use Rattle.hdlc.specs.Flags.{flag, flag_at, flags, gaps}
+use Rattle.hdlc.specs.Gaps.{good}
+use Rattle.hdlc.specs.Framing.{Framing, StandsAfter}
+use Rattle.hdlc.specs.Frames.{IsFrame, IsReady}
+
+-- the flags are the places where a flag stands, and no other
+abbrev pub FlagsStand : Type 0
+FlagsStand = (bits : List Bool) (place : ℕ) → Contains (flags bits) place ↔ (flag_at bits place ≡ true)
+
+-- after a flag all else is forgotten: the gaps behind it don't depend on what stood before
+abbrev pub FlagForgets : Type 0
+FlagForgets = (before behind : List Bool) → gaps ((before ++ flag) ++ behind) ≡ gaps (before ++ flag) ++ gaps (flag ++ behind)
+
+-- A frame and 0 bits to an octet, behind bits that are empty or end with a flag and at most seven 0 bits, leave them so; the
+-- gaps grow by the frame's only gap, and so the good contents by its content alone.
+abbrev pub FrameGrows : Type 0
+FrameGrows = (bits : List Bool) (content : List ℕ) (frame : List Bool) (zeros : ℕ) → IsReady bits → IsFrame content frame → zeros ≤ 7
+    → IsReady (bits ++ (frame ++ replicate zeros false)) × (gaps (bits ++ (frame ++ replicate zeros false)) ≡ gaps bits ++ gaps frame)
+    × (good (bits ++ (frame ++ replicate zeros false)) ≡ good bits ++ content ∷ [])
+
+-- a content has one frame alone
+abbrev pub OneFrame : Type 0
+OneFrame = (content : List ℕ) (one other : List Bool) → IsFrame content one → IsFrame content other → one ≡ other
+
+-- the bits of two pieces together are those of one and then of the other
+abbrev pub PiecesJoin : Type 0
+PiecesJoin = (first second : List ℕ) → bits_of LsbFirst (first ++ second) ≡ bits_of LsbFirst first ++ bits_of LsbFirst second
+
+-- a deframer's queue begins with the first good content that was not handed out
+abbrev pub NextWaits : Type 0
+NextWaits = (framing : Framing) (bits : List Bool) (handed : ℕ) → StandsAfter framing bits handed → slice_get framing.queue 0 ≡ slice_get (good bits) handed
+
+-- without the first of its queue it stands after the same bits, with one content more handed out
+abbrev pub NextStands : Type 0
+NextStands = (framing : Framing) (bits : List Bool) (handed : ℕ) → StandsAfter framing bits handed → handed < length (good bits)
+    → StandsAfter (record framing { queue = drop 1 framing.queue }) bits (handed + 1)

@@ -1,0 +1,15 @@
+pub mod Octets
+pub mod Fcs
+pub mod Flags
+pub mod Gaps
+pub mod Frames
+pub mod Laws
+pub mod Standing
+pub mod Stands
+pub mod Framing
+pub mod Register
+pub mod Assembles
+pub mod Collects
+pub mod Contents
+pub mod Writing
+pub mod Examples

@@ -1,0 +1,39 @@
+-- What a deframer keeps of the bits so far.
+use Rattle.std.specs.Prelude.{ℕ, ◌≡◌, ◌-◌, ◌^◌, ◌≤◌, Bool, true, List, ◌++◌, length, min, drop}
+use Rattle.hdlc.specs.declared.counts.Class.{Class}
+use Rattle.hdlc.specs.declared.counts.Class.TheVariants.{Good, Aborted, Ragged, Short, Long, Damaged}
+use Rattle.hdlc.specs.declared.counts.Counts.{Counts}
+use Rattle.hdlc.specs.declared.cutter.Cutter.{Cutter}
+use Rattle.hdlc.specs.Octets.{number}
+use Rattle.hdlc.specs.Gaps.{good, count_of}
+use Rattle.hdlc.specs.Standing.{begun, held, recent, unclosed}
+use Rattle.hdlc.specs.Collects.{Collects}
+
+-- the count of a class
+abbrev pub count_in : Counts → Class → ℕ
+count_in counts Good = counts.good
+count_in counts Aborted = counts.aborted
+count_in counts Ragged = counts.ragged
+count_in counts Short = counts.short
+count_in counts Long = counts.long
+count_in counts Damaged = counts.damaged
+
+-- what a cutter keeps of the bits so far
+pub record Cuts (cutter : Cutter) (bits : List Bool) : Type 0 where
+  pub begun : cutter.begun ≡ begun bits
+  pub held : cutter.held ≡ held bits
+  pub window : cutter.window ≡ number (recent true bits)
+  pub gap : Collects cutter.gap (unclosed bits)
+
+-- After these bits, of whose good contents so many were handed out, this is kept, these are the counts, and these
+-- contents wait.
+pub record Stands (cutter : Cutter) (counts : Counts) (queue : List (List ℕ)) (bits : List Bool) (handed : ℕ) : Type 0 where
+  pub cuts : Cuts cutter bits
+  pub counted : (class : Class) → count_in counts class ≡ min (2 ^ 64 - 1) (count_of class bits)
+  pub within : handed ≤ length (good bits)
+  pub queued : queue ≡ drop handed (good bits)
+
+-- the new list begins with the old one
+pub record Grows {A : Type 0} (old new : List A) : Type 0 where
+  pub rest : List A
+  pub is : new ≡ old ++ rest

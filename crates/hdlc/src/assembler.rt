@@ -1,0 +1,77 @@
+//! Bits put together to octets.
+
+ghost use Rattle.hdlc.specs.Assembles.{Assembles};
+ghost use Rattle.std.specs.Prelude.{◌≡◌, ◌+◌, ◌/◌, ◌++◌, ◌∷◌, [], List, Bool, cond};
+
+use arrayvec::ArrayVec;
+
+/// A register of eight bits takes one more as its most significant, and its least significant goes.
+pub fn shifted(register: u8, bit: bool) -> u8
+    ensures { result ≡ register / 2 + cond bit 128 0 }
+{
+    if bit {
+        (register >> 1) + 128
+    } else {
+        register >> 1
+    }
+}
+
+/// Puts bits together to octets, the least significant bit first, and keeps the first 302 of them:
+/// as many as a frame may have with its check sequence.
+#[derive(Drop)]
+pub struct Assembler {
+    /// How many bits came after the last whole octet.
+    pub(crate) part: u8,
+    /// The last eight bits, the newest the most significant.
+    pub(crate) window: u8,
+    /// The first whole octets.
+    pub(crate) whole: ArrayVec<u8, 302>,
+    /// There were more whole octets than are kept.
+    pub(crate) long: bool,
+}
+
+impl Assembler {
+    /// No bits yet.
+    #[tactic(auto, unfolding(crate::specs::Octets::octets_of))]
+    pub fn new() -> Self
+        ensures { Assembles result [] }
+    {
+        Assembler {
+            part: 0,
+            window: 0,
+            whole: ArrayVec::new(),
+            long: false,
+        }
+    }
+
+    /// The same, of its own.
+    pub fn fork(&self) -> Self
+        ensures { result ≡ self.now }
+    {
+        let mut whole = ArrayVec::new();
+        let _copied = whole.try_extend_from_slice(self.whole.as_slice());
+        Assembler {
+            part: self.part,
+            window: self.window,
+            whole,
+            long: self.long,
+        }
+    }
+
+    /// One bit more.
+    pub fn push(&mut self, bit: bool)
+        ensures { (bits : List Bool) → Assembles self.old bits → Assembles self.new (bits ++ bit ∷ []) }
+    {
+        self.window = shifted(self.window, bit);
+        if self.part < 7 {
+            self.part += 1;
+            return;
+        }
+        self.part = 0;
+        if self.whole.is_full() {
+            self.long = true;
+            return;
+        }
+        self.whole.push(self.window);
+    }
+}

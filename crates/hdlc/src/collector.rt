@@ -1,0 +1,124 @@
+//! The bits of one gap, as they come.
+
+ghost use Rattle.hdlc.specs.Collects.{Collects};
+ghost use Rattle.hdlc.specs.Gaps.{class_of, checks, content};
+ghost use Rattle.hdlc.specs.declared.counts.Class.TheVariants.{Good};
+ghost use Rattle.std.specs.Prelude.{◌≡◌, ◌≤◌, ◌+◌, ◌++◌, ◌∷◌, ◌||◌, [], List, Bool, cond, min, length};
+
+use crate::assembler::Assembler;
+use crate::check_sequence::fcs;
+use crate::counts::Class;
+use byteorder::{ByteOrder, LittleEndian};
+
+/// Whether the last two octets are the check sequence of the others, its low octet first.
+fn checked(octets: &[u8]) -> bool
+    requires { 2 ≤ length octets.now }
+    ensures { result ≡ checks octets.now }
+{
+    let (covered, sent) = octets.split_at(octets.len() - 2);
+    LittleEndian::read_u16(sent) == fcs(covered)
+}
+
+/// One more, up to a bound.
+pub fn more(count: u8, most: u8) -> u8
+    ensures { count ≤ most → result ≡ min most (count + 1) }
+{
+    if count < most { count + 1 } else { most }
+}
+
+/// How many 1 bits in a row there are after one bit more, up to six.
+fn ones_after(ones: u8, bit: bool) -> u8
+    ensures { ones ≤ 6 → result ≡ cond bit (min 6 (ones + 1)) 0 }
+{
+    if bit { more(ones, 6) } else { 0 }
+}
+
+/// Whether one of the two is so.
+fn either(a: bool, b: bool) -> bool
+    ensures { result ≡ (a || b) }
+{
+    a || b
+}
+
+/// What is kept of the bits of a gap whose end has not come.
+#[derive(Drop)]
+pub struct Collector {
+    /// How many bits there are, up to eight.
+    pub(crate) seen: u8,
+    /// How many 1 bits in a row end them, up to six.
+    pub(crate) ones: u8,
+    /// Six 1 bits in a row have come.
+    pub(crate) aborted: bool,
+    /// The bits without the stuffed ones.
+    pub(crate) clear: Assembler,
+}
+
+impl Collector {
+    /// No bits yet.
+    pub fn new() -> Self
+        ensures { Collects result [] }
+    {
+        Collector {
+            seen: 0,
+            ones: 0,
+            aborted: false,
+            clear: Assembler::new(),
+        }
+    }
+
+    /// The same, of its own.
+    pub fn fork(&self) -> Self
+        ensures { result ≡ self.now }
+    {
+        Collector {
+            seen: self.seen,
+            ones: self.ones,
+            aborted: self.aborted,
+            clear: self.clear.fork(),
+        }
+    }
+
+    /// One bit more: stuffed where it stands directly after five 1 bits in a row.
+    pub fn push(&mut self, bit: bool)
+        ensures { (gap : List Bool) → Collects self.old gap → Collects self.new (gap ++ bit ∷ []) }
+    {
+        let stuffed = self.ones >= 5;
+        self.seen = more(self.seen, 8);
+        self.ones = ones_after(self.ones, bit);
+        self.aborted = either(self.aborted, self.ones == 6);
+        if stuffed {
+            return;
+        }
+        self.clear.push(bit);
+    }
+
+    /// The class of the gap, if it ends here.
+    pub fn class(&self) -> Class
+        ensures { (gap : List Bool) → Collects self.now gap → result ≡ class_of gap }
+    {
+        if self.aborted {
+            return Class::Aborted;
+        }
+        if self.clear.part != 0 {
+            return Class::Ragged;
+        }
+        if self.clear.whole.len() < 5 {
+            return Class::Short;
+        }
+        if self.clear.long {
+            return Class::Long;
+        }
+        if !checked(self.clear.whole.as_slice()) {
+            return Class::Damaged;
+        }
+        Class::Good
+    }
+
+    /// The octets but the check sequence.
+    pub fn content(&self) -> &[u8]
+        ensures { (gap : List Bool) → Collects self.now gap → class_of gap ≡ Good → result.now ≡ content gap }
+    {
+        let count = self.clear.whole.len();
+        &self.clear.whole.as_slice()[..count.saturating_sub(2)]
+    }
+}

@@ -1,0 +1,127 @@
+//! Bits cut into gaps at the flags, one bit after the other.
+
+ghost use Rattle.hdlc.specs.Collects.{Collects};
+ghost use Rattle.hdlc.specs.Contents.{contents_of};
+ghost use Rattle.hdlc.specs.Gaps.{class_of, is_class, content};
+ghost use Rattle.hdlc.specs.Standing.{settled};
+ghost use Rattle.hdlc.specs.Stands.{Cuts, Stands, Grows, count_in};
+ghost use Rattle.hdlc.specs.declared.counts.Class.{Class as AnyClass};
+ghost use Rattle.std.specs.Prelude.{ℕ, ◌≡◌, ◌+◌, ◌/◌, ◌≤◌, ◌++◌, ◌∷◌, ◌&&◌, [], List, Bool, cond, min, nat_lt, length, OnOk};
+
+use crate::assembler::shifted;
+use crate::collector::{Collector, more};
+use crate::counts::{Class, Counts};
+use std::alloc::{AllocError, Global};
+use std::collections::VecDeque;
+
+/// What is kept of the bits: the last eight, and what the open gap has of those before them.
+#[derive(Drop)]
+pub struct Cutter {
+    /// A flag has come.
+    pub(crate) begun: bool,
+    /// How many of the last eight bits came after the last flag.
+    pub(crate) held: u8,
+    /// The last eight bits, the newest the most significant; 1 bits stand before the first.
+    pub(crate) window: u8,
+    /// The bits after the last flag that left the window.
+    pub(crate) gap: Collector,
+}
+
+/// How many bits of the window came after the last flag, with one bit more.
+fn held_after(begun: bool, held: u8) -> u8
+    ensures { held ≤ 8 → result ≡ cond begun (min 8 (held + 1)) 0 }
+{
+    if begun { more(held, 8) } else { 0 }
+}
+
+impl Cutter {
+    /// No bits yet.
+    pub fn new() -> Self
+        ensures { Cuts result [] }
+    {
+        Cutter {
+            begun: false,
+            held: 0,
+            window: 0xFF,
+            gap: Collector::new(),
+        }
+    }
+
+    /// The same, of its own.
+    pub fn fork(&self) -> Self
+        ensures { result ≡ self.now }
+    {
+        Cutter {
+            begun: self.begun,
+            held: self.held,
+            window: self.window,
+            gap: self.gap.fork(),
+        }
+    }
+
+    /// A bit comes into the window, and the oldest leaves it.
+    fn shift(&mut self, bit: bool)
+        ensures begun { self.new.begun ≡ self.old.begun }
+        ensures held { self.new.held ≡ self.old.held }
+        ensures window { self.new.window ≡ self.old.window / 2 + cond bit 128 0 }
+        ensures gap { (bits : List Bool) → Cuts self.old bits → Collects self.new.gap (settled bits) }
+    {
+        let oldest = self.window % 2 == 1;
+        self.window = shifted(self.window, bit);
+        if self.held != 8 {
+            return;
+        }
+        self.gap.push(oldest);
+    }
+}
+
+/// Counts a gap that a flag has ended, and keeps the content of a good one.
+fn close(
+    gap: &Collector,
+    counts: &mut Counts,
+    queue: &mut VecDeque<Vec<u8>>,
+    alloc: Global,
+) -> Result<(), AllocError>
+    ensures counted { (bits : List Bool) → Collects gap.now bits → (class : AnyClass) → count_in counts.old class ≤ u64.MAX
+        → count_in counts.new class ≡ min u64.MAX (count_in counts.old class + cond (nat_lt 7 (length bits) && is_class class (class_of bits)) 1 0) }
+    ensures ok { OnOk result ((bits : List Bool) → Collects gap.now bits
+        → contents_of queue.new.items ≡ contents_of queue.old.items ++ cond (nat_lt 7 (length bits) && is_class Class.Good (class_of bits)) (content bits ∷ []) []) }
+    ensures keeps { Grows queue.old.items queue.new.items }
+{
+    if gap.seen < 8 {
+        return Ok(()); // fill between flags
+    }
+    let class = gap.class();
+    counts.add(class);
+    if !class.is_good() {
+        return Ok(());
+    }
+    let mut octets = Vec::new(alloc);
+    octets.extend_from_slice(gap.content())?;
+    queue.push_back(octets)?;
+    Ok(())
+}
+
+/// Takes one bit more. An `Err` leaves the queue longer or as it was, and the rest in any state.
+pub fn take_bit(
+    cutter: &mut Cutter,
+    counts: &mut Counts,
+    queue: &mut VecDeque<Vec<u8>>,
+    alloc: Global,
+    bit: bool,
+) -> Result<(), AllocError>
+    ensures ok { OnOk result ((bits : List Bool) (handed : ℕ) → Stands cutter.old counts.old (contents_of queue.old.items) bits handed
+        → Stands cutter.new counts.new (contents_of queue.new.items) (bits ++ bit ∷ []) handed) }
+    ensures keeps { Grows queue.old.items queue.new.items }
+{
+    cutter.shift(bit);
+    if cutter.window != 0x7E {
+        cutter.held = held_after(cutter.begun, cutter.held);
+        return Ok(());
+    }
+    close(&cutter.gap, counts, queue, alloc)?;
+    cutter.begun = true;
+    cutter.held = 0;
+    cutter.gap = Collector::new();
+    Ok(())
+}

@@ -1,0 +1,104 @@
+//! The deframer: bits in any pieces, and the contents of the good frames in them.
+
+ghost use Rattle.raster.specs.Packed.{bits_of};
+ghost use Rattle.raster.specs.declared.packed.Order.TheVariants.{LsbFirst};
+ghost use Rattle.hdlc.specs.Framing.{StandsAfter};
+ghost use Rattle.hdlc.specs.Gaps.{good, count_of};
+ghost use Rattle.hdlc.specs.Stands.{count_in};
+ghost use Rattle.hdlc.specs.contracts.deframer.Deframer.{the_row};
+ghost use Rattle.hdlc.specs.declared.counts.Class.{Class as AnyClass};
+ghost use Rattle.std.specs.Borrow.{sem};
+ghost use Rattle.std.specs.Io.BufRead.{Rests};
+ghost use Rattle.std.specs.Prelude.{ℕ, ◌≡◌, ◌++◌, [], List, Bool, min, length, OnOk, OnErr, IfSome, IfNone, slice_get, drop};
+
+use crate::counts::Counts;
+use crate::cutter::{Cutter, take_bit};
+use raster::packed::{Order, bit_of};
+use std::alloc::{AllocError, Global};
+use std::collections::VecDeque;
+use std::marker::Model;
+
+/// Finds frames in bits that come in any pieces, and hands out the contents of the good ones, the
+/// oldest first (ISO/IEC 13239, frame structure). What it gives depends on all bits together alone,
+/// not on where the pieces are cut.
+#[derive(Drop)]
+pub struct Deframer {
+    alloc: Global,
+    cutter: Cutter,
+    counts: Counts,
+    queue: VecDeque<Vec<u8>>,
+    lent: Option<Vec<u8>>,
+}
+
+impl Model for Deframer {
+    ghost use Rattle.hdlc.specs.Framing.{Framing};
+
+    ghost Value = { Framing };
+
+    ghost use Rattle.hdlc.specs.Contents.{contents_of};
+
+    ghost view = { λ d. record { cutter = d.cutter; counts = d.counts; queue = contents_of d.queue.items } };
+}
+
+impl Deframer {
+    /// A deframer that has taken no bits. Takes no memory; what it keeps later comes from `alloc`.
+    pub fn new(alloc: Global) -> Self
+        ensures { StandsAfter result [] 0 }
+    {
+        Deframer {
+            alloc,
+            cutter: Cutter::new(),
+            counts: Counts::zero(),
+            queue: VecDeque::new(alloc),
+            lent: None,
+        }
+    }
+
+    /// Takes the next bits: those of the octets, the least significant of each first. Errs where
+    /// memory is refused for a content, which changes nothing.
+    pub fn feed(&mut self, piece: &[u8]) -> Result<(), AllocError>
+        ensures ok { OnOk result ((bits : List Bool) (handed : ℕ) → StandsAfter self.old bits handed → StandsAfter self.new (bits ++ bits_of LsbFirst piece.now) handed) }
+        ensures err { OnErr result (self.new ≡ self.old) }
+    {
+        let mut cutter = self.cutter.fork();
+        let mut counts = self.counts;
+        let before = self.queue.len();
+        for place in 0..8 * piece.len() as u128 {
+            let bit = bit_of(Order::LsbFirst, piece, place);
+            if let Err(refused) = take_bit(
+                &mut cutter,
+                &mut counts,
+                &mut self.queue,
+                self.alloc,
+                bit,
+            ) {
+                self.queue.truncate(before);
+                return Err(refused);
+            }
+        }
+        self.cutter = cutter;
+        self.counts = counts;
+        Ok(())
+    }
+
+    /// Hands out the oldest content that was not yet handed out: the octets of a good frame but its
+    /// check sequence, 3 to 300. Takes no memory; the content goes at the next call.
+    pub fn next(&mut self) -> Option<&[u8]>
+        ensures* after { sem 𝓛 (Rests the_row self.entry (λ new. new ≡ record self.old { queue = drop 1 self.old.queue })) }
+        ensures some { IfSome result (λ content. slice_get self.old.queue 0 ≡ Some content.now) }
+        ensures none { IfNone result (slice_get self.old.queue 0 ≡ None) }
+        ensures content { (bits : List Bool) (handed : ℕ) → StandsAfter self.old bits handed → IfSome result (λ content. slice_get (good bits) handed ≡ Some content.now) }
+        ensures end { (bits : List Bool) (handed : ℕ) → StandsAfter self.old bits handed → IfNone result (handed ≡ length (good bits)) }
+    {
+        self.lent = self.queue.pop_front();
+        self.lent.as_deref()
+    }
+
+    /// How many gaps of eight bits or more there were of each class; bits before the first flag and
+    /// after the last one are no gap. Each count stays at 2^64 - 1 once it is there.
+    pub fn counts(&self) -> Counts
+        ensures { (bits : List Bool) (handed : ℕ) → StandsAfter self.now bits handed → (class : AnyClass) → count_in result class ≡ min u64.MAX (count_of class bits) }
+    {
+        self.counts // as they stand after all bits so far
+    }
+}

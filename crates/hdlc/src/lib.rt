@@ -1,0 +1,20 @@
+//! Frames of HDLC as facsimile stations send them (ISO/IEC 13239; ITU-T T.30, 5.3): contents written
+//! as bits between flags, and found again in bits that come in any pieces. Stands on `raster` and
+//! `run_tables`.
+#![tactic(auto)]
+
+mod assembler;
+mod check_sequence;
+mod collector;
+mod counts;
+mod cutter;
+mod deframer;
+mod frame;
+pub mod laws;
+#[cfg(test)]
+mod tests;
+
+pub use crate::check_sequence::fcs;
+pub use crate::counts::{Class, Counts};
+pub use crate::deframer::Deframer;
+pub use crate::frame::write_frame;
