@@ -15,13 +15,14 @@ use Rattle.run_tables.specs.Faults.{number_of as kind_number}
 use Rattle.page_code.specs.declared.Coding.{Coding}
 use Rattle.page_code.specs.declared.Coding.TheVariants.{OneDim}
 use Rattle.page_code.specs.T4Pages.{ReadsAs, page_text as one_dimensional_text}
-use Rattle.page_code.specs.T4Reading.{RefusesPage}
+use Rattle.page_code.specs.PageCodes.{RefusesPage}
+use Rattle.page_code.specs.T4Laws.{IsLongestFront}
 use Rattle.faxtool.specs.declared.fault.ToolFault.{ToolFault}
 use Rattle.faxtool.specs.declared.fault.ToolFault.TheVariants.{No, AtBit}
 
--- the bits that are a page's code
-abbrev pub code_text : Coding → List (List Color) → List Bool
-code_text OneDim rows = one_dimensional_text rows
+-- the bits that are the code of rows of a width
+abbrev pub code_text : Coding → ℕ → List (List Color) → List Bool
+code_text OneDim width rows = one_dimensional_text rows
 
 -- the bits read as a page of this width, with so many of them used
 abbrev pub ReadsIn : Coding → ℕ → List Bool → List (List Color) → ℕ → Type 0
@@ -29,14 +30,14 @@ ReadsIn OneDim width bits rows used = ReadsAs width bits rows used
 
 -- the refusal is that of the bits
 abbrev pub RefusesIn : Coding → ℕ → List Bool → CodeFault → Type 0
-RefusesIn OneDim width bits fault = RefusesPage width bits fault
+RefusesIn OneDim width bits fault = RefusesPage ReadsAs IsLongestFront width bits fault
 
 -- the octets read are one image, and its code with 0 bits to an octet is written
 pub record CodesImage (coding : Coding) (order : Order) (before after : Option (List ℕ)) (octets : List ℕ) : Type 0 where
   pub page : PagePixels
   pub image : AreImages false octets (page ∷ [])
   pub code : List ℕ
-  pub coded : FillsOctets order (code_text coding page.rows) code
+  pub coded : FillsOctets order (code_text coding page.width page.rows) code
   pub written : Appends before after code
 
 -- a fault of reading or writing, or memory that was refused

@@ -1,13 +1,13 @@
 //! What the commands do, over any reader and any writer.
 ghost use Rattle.faxtool.specs.Engines.{CodesImage, IsOutside, ReadsIn, RefusesImage, RefusesIn, RefusesShow, ShowsPage, code_text};
-ghost use Rattle.page_code.specs.T4Reading.{AppendsCode};
+ghost use Rattle.page_code.specs.PageCodes.{AppendsCode};
 ghost use Rattle.raster.specs.Packed.{bits_of};
 ghost use Rattle.raster.specs.Pixels.{IsWidth};
 ghost use Rattle.std.specs.Io.KnownBytes.{Appends};
 ghost use Rattle.std.specs.Prelude.{◌≡◌, ◌≢◌, ◌<◌, IfErr, IfOk, IfSome, OnErr, OnOk, length};
 
 use crate::fault::{NO_MEMORY, ToolFault};
-use page_code::{Coding, OneDim};
+use page_code::{Coding, OneDim, PageCode};
 use raster::{Page, read_pbm, write_text};
 use run_tables::{CodeFault, CodeFaultKind, Order};
 use std::alloc::{AllocError, Global};
@@ -64,7 +64,7 @@ fn encode(
     out: &mut Vec<u8>,
 ) -> Result<(), AllocError>
     requires { 0 < length page.now.rows }
-    ensures { OnOk result (AppendsCode order (code_text coding page.now.rows) out.old.items out.new.items) }
+    ensures { OnOk result (AppendsCode order (code_text coding page.now.width page.now.rows) out.old.items out.new.items) }
 {
     match coding {
         Coding::OneDim => OneDim::encode(alloc, page, order, out),

@@ -14,17 +14,18 @@ use Rattle.run_tables.proofs.RowReadings.{reads_rows_exactly}
 use Rattle.run_tables.proofs.RowReads.{code_memory}
 use Rattle.run_tables.specs.RowFronts.RowState.{inside, whole}
 use Rattle.raster.specs.Pages.{PagePixels}
-use Rattle.page_code.specs.T4Pages.{ReadsAs}
+use Rattle.page_code.specs.T4Pages.{ReadsAs, page_text}
 use Rattle.page_code.specs.T4Fronts.{PageState, PageLook, by_eol, put, zeros_before, bits_of_five, look_in_row, ends_with, look, reading, read_page, CodeStands}
 use Rattle.page_code.specs.T4Fronts.PageItem.{eol, coded}
 use Rattle.page_code.specs.T4Fronts.PageState.{first, row_start, in_row, row_end}
 use Rattle.page_code.specs.T4Laws.{IsLongestFront}
-use Rattle.page_code.specs.T4Reading.{GivesPage, ReadsPage, RefusesPage, SeesEol}
+use Rattle.page_code.specs.T4Reading.{GivesPage, SeesEol}
+use Rattle.page_code.specs.PageCodes.{IsOnlyAnswer, ReadsItsCode, ReadsPage, RefusesPage}
 use Rattle.page_code.specs.declared.eol.Eol.TheVariants.{Stands}
 use Rattle.run_tables.specs.Fronts.Look.{go, stop, refuse}
 use Rattle.page_code.proofs.T4Looks.{by_eol_other}
 use Rattle.page_code.proofs.T4Rows.{reading_same, reading_row_refused}
-use Rattle.page_code.proofs.T4PageLaws.{reads_pages_exactly, refuses_no_page, refuses_at_longest}
+use Rattle.page_code.proofs.T4PageLaws.{reads_pages_exactly, refuses_no_page, refuses_at_longest, reads_code}
 use Rattle.page_code.proofs.T4Readings.{reading_at_row, reading_at_eol, reading_first_none, reading_start_none, reading_start_eol, reading_again_none, reading_again_eol, reading_again_full}
 
 -- no row before the page's end, where only 0 bits are left or an EOL stands
@@ -101,11 +102,11 @@ page_memory width bits place e =
     look_memory width longest.front.end longest.front.rest longest.kind_is
 
 -- what the reader's answer says of the bits
-pub gives_reads : (width : ℕ) (fine : Bool) (bits : List Bool) (result : Result (PagePixels × ℕ) CodeFault) → IsWidth width → GivesPage width fine bits result → IfOk result (λ read. ReadsPage width fine bits read.0 read.1)
+pub gives_reads : (width : ℕ) (fine : Bool) (bits : List Bool) (result : Result (PagePixels × ℕ) CodeFault) → IsWidth width → GivesPage width fine bits result → IfOk result (λ read. ReadsPage ReadsAs width fine bits read.0 read.1)
 gives_reads width fine bits (Ok read) wide gives = record { width_is = gives.0; fine_is = gives.1; reads = (reads_pages_exactly width bits read.0.rows read.1 wide).0 gives.2 }
 gives_reads width fine bits (Err fault) wide gives = tt
 
-pub gives_only : (width : ℕ) (fine : Bool) (bits : List Bool) (result : Result (PagePixels × ℕ) CodeFault) → IsWidth width → GivesPage width fine bits result → (rows : List (List Color)) (used : ℕ) → ReadsAs width bits rows used → MatchResult result (λ read. (read.0.rows ≡ rows) × (read.1 ≡ used)) (λ fault. fault.kind ≡ NoMemory)
+pub gives_only : (width : ℕ) (fine : Bool) (bits : List Bool) (result : Result (PagePixels × ℕ) CodeFault) → IsWidth width → GivesPage width fine bits result → IsOnlyAnswer ReadsAs width bits result
 gives_only width fine bits (Ok read) wide gives rows used reads =
     let both : ◌≡◌ {A = Result (List (List Color) × ℕ) (ℕ × CodeFaultKind)} (Ok (read.0.rows, read.1)) (Ok (rows, used)) = sym gives.2 ∙ (reads_pages_exactly width bits rows used wide).1 reads in
     let pair : ◌≡◌ {A = List (List Color) × ℕ} (read.0.rows, read.1) (rows, used) = cc in
@@ -113,7 +114,7 @@ gives_only width fine bits (Ok read) wide gives rows used reads =
 gives_only width fine bits (Err fault) wide (inl memory) rows used reads = ap (λ (f : CodeFault). f.kind) memory
 gives_only width fine bits (Err fault) wide (inr e) rows used reads = absurd (refuses_no_page width bits fault.place fault.kind rows used wide e reads)
 
-pub gives_refuses : (width : ℕ) (fine : Bool) (bits : List Bool) (result : Result (PagePixels × ℕ) CodeFault) → IsWidth width → GivesPage width fine bits result → IfErr result (λ fault. fault.kind ≢ NoMemory → RefusesPage width bits fault)
+pub gives_refuses : (width : ℕ) (fine : Bool) (bits : List Bool) (result : Result (PagePixels × ℕ) CodeFault) → IsWidth width → GivesPage width fine bits result → IfErr result (λ fault. fault.kind ≢ NoMemory → RefusesPage ReadsAs IsLongestFront width bits fault)
 gives_refuses width fine bits (Ok read) wide gives = tt
 gives_refuses width fine bits (Err fault) wide (inl memory) = λ other. absurd (other (ap (λ (f : CodeFault). f.kind) memory))
 gives_refuses width fine bits (Err fault) wide (inr e) = λ other. record { longest = refuses_at_longest width bits fault.place fault.kind e; none = λ rows used reads. refuses_no_page width bits fault.place fault.kind rows used wide e reads }
@@ -122,3 +123,7 @@ pub gives_memory : (width : ℕ) (fine : Bool) (bits : List Bool) (result : Resu
 gives_memory width fine bits (Ok read) gives = tt
 gives_memory width fine bits (Err fault) (inl memory) = λ same. ap (λ (f : CodeFault). f.place) memory
 gives_memory width fine bits (Err fault) (inr e) = λ same. absurd (page_memory width bits fault.place (e ∙ ap (λ (k : CodeFaultKind). Err (fault.place, k)) same))
+
+-- the law of the code
+pub reads_its_code : ReadsItsCode (λ width rows. page_text rows) ReadsAs
+reads_its_code width rows rest wide some few all = (reads_pages_exactly width (page_text rows ++ rest) rows (length (page_text rows)) wide).0 (reads_code width rows rest wide some few all)

@@ -30,22 +30,6 @@ SeesStart bits place count (End used) =
 SeesStart bits place count (Refused kind) =
     (width : ℕ) (rows : List (List Color)) → length rows ≡ count → reading width (row_start rows) place (drop place bits) ≡ Err (place, kind)
 
--- the octets of a code, filled with 0 bits, at the end of a list
-abbrev pub AppendsCode : Order → List Bool → List ℕ → List ℕ → Type 0
-AppendsCode order code old new = (octets : List ℕ) × (new ≡ old ++ octets) × FillsOctets order code octets
-
--- a page of this width was read, and so many bits used
-pub record ReadsPage (width : ℕ) (fine : Bool) (bits : List Bool) (page : PagePixels) (used : ℕ) : Type 0 where
-  pub width_is : page.width ≡ width
-  pub fine_is : page.fine ≡ fine
-  pub reads : ReadsAs width bits page.rows used
-
--- a refusal that isn't one of memory: the bits read as no page, the place is the length of their longest front, and the kind is that of
--- the bits from there
-pub record RefusesPage (width : ℕ) (bits : List Bool) (fault : CodeFault) : Type 0 where
-  pub longest : IsLongestFront width bits fault.place fault.kind
-  pub none : (rows : List (List Color)) (used : ℕ) → ¬ ReadsAs width bits rows used
-
 -- where the first row begins: reading the page is reading on there; or the page is refused
 abbrev pub BeginsPage : List Bool → Result ℕ CodeFault → Type 0
 BeginsPage bits (Ok place) = (place ≤ length bits) × ((width : ℕ) → read_page width bits ≡ reading width (row_start []) place (drop place bits))

@@ -1,18 +1,21 @@
 ghost use Rattle.page_code.specs.T4Fronts.{CodeStands};
-ghost use Rattle.page_code.specs.T4Pages.{ReadsAs, page_text, rows_text, eols_text, rtc};
-ghost use Rattle.page_code.specs.T4Reading.{AppendsCode, BeginsPage, GivesPage, ReadsPage, ReadsRowOfPage, RefusesPage, SeesStart};
+ghost use Rattle.page_code.specs.T4Pages.{rows_text, eols_text, rtc};
+ghost use Rattle.page_code.specs.T4Reading.{BeginsPage, GivesPage, ReadsRowOfPage, SeesStart};
 ghost use Rattle.raster.specs.Packed.{Bits, bits_of};
 ghost use Rattle.raster.specs.Pixels.{IsWidth};
 ghost use Rattle.raster.specs.declared.row.Color.{Color};
 ghost use Rattle.std.specs.Prelude.{◌≡◌, ◌≢◌, ◌≤◌, ◌<◌, ◌+◌, ◌*◌, ◌++◌, ◌∷◌, [], ℕ, List, length, drop, MatchResult, IfOk, IfErr, OnOk, OnErr, Ok, Err, IsTrue, ◌↔◌, All};
 
+use crate::coding::PageCode;
 use crate::eol::{Eol, behind_five_eols, eol_at};
 use raster::packed::Order;
 use raster::{MOST_ROWS, Page, Row};
 use run_tables::{BitReader, BitWriter, CodeFault, CodeFaultKind};
 use std::alloc::{AllocError, Global};
 
-/// The one-dimensional code of ITU-T T.4, 4.1.
+/// The one-dimensional code of ITU-T T.4, 4.1. A page is written as EOL, the rows by their own runs
+/// with one EOL between two, and six EOLs; and read as no EOL or one, rows with one EOL between two,
+/// and an end. Refusals are `NoRows`, `Truncated`, `BadCode`, `RunTooLong` and `TooManyCodedRows`.
 pub struct OneDim;
 
 /// What stands where a row may begin.
@@ -134,45 +137,39 @@ fn write_rows(alloc: Global, rows: &[Row], bits: &mut BitWriter) -> Result<(), A
     Ok(())
 }
 
-impl OneDim {
-    /// Appends the page's code in one dimension: EOL, the rows by their own runs with one EOL between
-    /// two, and six EOLs (ITU-T T.4, 4.1); the last octet is filled with 0 bits. Errs where memory is
-    /// refused, which changes nothing.
-    pub fn encode(
+impl PageCode for OneDim {
+    ghost use Rattle.page_code.specs.T4Pages.{ReadsAs, page_text};
+    ghost use Rattle.page_code.specs.T4Laws.{IsLongestFront};
+
+    ghost code = { λ width rows. page_text rows };
+
+    ghost Reads = { ReadsAs };
+
+    ghost Longest = { IsLongestFront };
+
+    fn encode(
         alloc: Global,
         page: &Page,
         order: Order,
         out: &mut Vec<u8>,
-    ) -> Result<(), AllocError>
-        requires { 0 < length page.now.rows }
-        ensures ok { OnOk result (AppendsCode order (page_text page.now.rows) out.old.items out.new.items) }
-        ensures err { OnErr result (out.new.items ≡ out.old.items) }
-    {
+    ) -> Result<(), AllocError> {
         let mut bits = BitWriter::new(alloc, order);
         write_rows(alloc, page.rows(), &mut bits)?;
         write_rtc(&mut bits)?;
         out.extend_from_slice(&bits.into_octets())
     }
 
-    /// The page that the octets' bits begin with, in one dimension, and how many bits it uses: no EOL
-    /// or one, the rows with one EOL between two, and an end; what follows is ignored (ITU-T T.4,
-    /// 4.1). The width is in pixels. Errs at the bit where no page's code can go on, with `NoRows`,
-    /// `Truncated`, `BadCode`, `RunTooLong` or `TooManyCodedRows`; and with `NoMemory`, at bit 0.
-    pub fn decode(
+    fn decode(
         alloc: Global,
         octets: &[u8],
         order: Order,
         width: u32,
         fine: bool,
-    ) -> Result<(Page, u128), CodeFault>
-        requires { IsWidth width }
-        ensures reads { IfOk result (λ read. ReadsPage width fine (bits_of order octets.now) read.0 read.1) }
-        ensures only { (rows : List (List Color)) (used : ℕ) → ReadsAs width (bits_of order octets.now) rows used → MatchResult result (λ read. (read.0.rows ≡ rows) × (read.1 ≡ used)) (λ fault. fault.kind ≡ CodeFaultKind.NoMemory) }
-        ensures refuses { IfErr result (λ fault. fault.kind ≢ CodeFaultKind.NoMemory → RefusesPage width (bits_of order octets.now) fault) }
-        ensures memory { IfErr result (λ fault. fault.kind ≡ CodeFaultKind.NoMemory → fault.place ≡ 0) }
-    {
+    ) -> Result<(Page, u128), CodeFault> {
         read_page(alloc, octets, order, width, fine)
     }
+
+    fn reads_its_code() {}
 }
 
 /// The page and the bits used, as the bits read.

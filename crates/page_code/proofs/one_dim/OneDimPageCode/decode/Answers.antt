@@ -1,6 +1,6 @@
 use Rattle.raster.specs.Packed.{bits_of}
 use Rattle.page_code.proofs.OneDimReads.{gives_reads, gives_only, gives_refuses, gives_memory}
-use Rattle.page_code.proofs.one_dim.OneDim.decode.Goals as goal
+use Rattle.page_code.proofs.one_dim.OneDimPageCode.decode.Goals as goal
 
 pub returns-clause-reads : goal.returns-clause-reads
 returns-clause-reads c = gives_reads c.args.width c.args.fine (bits_of c.args.order c.args.octets.now) c.read_page.result c.requires c.read_page.ensures

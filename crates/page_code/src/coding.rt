@@ -1,0 +1,59 @@
+ghost use Rattle.page_code.specs.PageCodes.{AppendsCode, IsOnlyAnswer, ReadsItsCode, ReadsPage, RefusesPage};
+ghost use Rattle.raster.specs.Packed.{bits_of};
+ghost use Rattle.raster.specs.Pixels.{IsWidth};
+ghost use Rattle.raster.specs.declared.row.Color.{Color};
+ghost use Rattle.run_tables.specs.declared.fault.CodeFaultKind.{CodeFaultKind as Kind};
+ghost use Rattle.run_tables.specs.declared.fault.CodeFaultKind.TheVariants.{NoMemory};
+ghost use Rattle.std.specs.Prelude.{◌≡◌, ◌≢◌, ◌<◌, ℕ, List, Bool, length, IfOk, IfErr, OnOk, OnErr};
+
+use raster::Page;
+use raster::packed::Order;
+use run_tables::CodeFault;
+use std::alloc::{AllocError, Global};
+
+/// A code of pages.
+#[derive(Clone, Copy, Debug, PartialEq, Eq)]
+pub enum Coding {
+    /// The one-dimensional code of T.4.
+    OneDim,
+}
+
+/// Writing and reading of pages in one code.
+pub trait PageCode {
+    // the prescribed code of rows of a width
+    ghost code: { ℕ → List (List Color) → List Bool };
+
+    // bits read as rows of a width, with so many of them used
+    ghost Reads: { ℕ → List Bool → List (List Color) → ℕ → Type 0 };
+
+    // bits are refused at a place, behind their longest front, and with the kind of the bits there
+    ghost Longest: { ℕ → List Bool → ℕ → Kind → Type 0 };
+
+    /// Appends the page's code, its last octet filled with 0 bits. Errs where memory is refused, which
+    /// changes nothing.
+    fn encode(alloc: Global, page: &Page, order: Order, out: &mut Vec<u8>) -> Result<(), AllocError>
+        requires { 0 < length page.now.rows }
+        ensures ok { OnOk result (AppendsCode order (code page.now.width page.now.rows) out.old.items out.new.items) }
+        ensures err { OnErr result (out.new.items ≡ out.old.items) };
+
+    /// The page of this width in pixels that the octets' bits begin with, and how many bits it uses;
+    /// what follows is ignored. Errs at the bit where no page's code can go on; and with `NoMemory`, at
+    /// bit 0.
+    fn decode(
+        alloc: Global,
+        octets: &[u8],
+        order: Order,
+        width: u32,
+        fine: bool,
+    ) -> Result<(Page, u128), CodeFault>
+        requires { IsWidth width }
+        ensures reads { IfOk result (λ read. ReadsPage Reads width fine (bits_of order octets.now) read.0 read.1) }
+        ensures only { IsOnlyAnswer Reads width (bits_of order octets.now) result }
+        ensures refuses { IfErr result (λ fault. fault.kind ≢ NoMemory → RefusesPage Reads Longest width (bits_of order octets.now) fault) }
+        ensures memory { IfErr result (λ fault. fault.kind ≡ NoMemory → fault.place ≡ 0) };
+
+    /// The law of the code: the code of a page, followed by any bits, reads as the page with the code's
+    /// length. Nothing runs.
+    fn reads_its_code()
+        ensures { ReadsItsCode code Reads };
+}
