@@ -255,12 +255,8 @@ fn a_fault_as_text(rt: HostRuntime) -> Result<(), Fail> {
 fn rows_are_read_back(rt: HostRuntime) -> Result<(), Fail> {
     let alloc = rt.alloc();
     let ones = vec![in alloc; 1; 2432]?;
-    for (width, runs) in [
-        (1728, [1728].as_slice()),
-        (8, &[0, 8]),
-        (2432, &[0, 2432]),
-        (2432, &ones),
-    ] {
+    for runs in [[1728].as_slice(), &[0, 8], &[0, 2432], &ones] {
+        let width = Row::from_runs(alloc, runs)?.width();
         let (bits, octets) = written_row(alloc, runs)?;
         let mut reader = BitReader::at(&octets, Order::MsbFirst, 0);
         let row = reader.read_row_1d(alloc, width)?;
