@@ -10,3 +10,15 @@ pub mod T4Readings
 pub mod EolReads
 pub mod OneDimReads
 pub mod OneDimWrites
+pub mod T6WorkedRows
+pub mod T6Places
+pub mod T6Looks
+pub mod T6Left
+pub mod T6ReadsOnly
+pub mod T6ReadsAll
+pub mod T6PageLaws
+pub mod T6Prescribed
+pub mod T6Readings
+pub mod T6Writes
+pub mod T6Steps
+pub mod T6Gives

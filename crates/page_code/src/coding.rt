@@ -16,6 +16,8 @@ use std::alloc::{AllocError, Global};
 pub enum Coding {
     /// The one-dimensional code of T.4.
     OneDim,
+    /// The two-dimensional code of T.6.
+    T6,
 }
 
 /// Writing and reading of pages in one code.

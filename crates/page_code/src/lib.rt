@@ -1,10 +1,24 @@
-//! Codes of pages. Stands on `raster` and `run_tables`.
+//! Codes of pages: the one-dimensional code of ITU-T T.4 and the two-dimensional code of ITU-T T.6,
+//! behind one trait. Stands on `raster` and `run_tables`.
 #![tactic(auto)]
 
 mod coding;
 mod eol;
 mod one_dim;
+#[cfg(test)]
+mod one_dim_tests;
 pub mod t4_laws;
+mod t6;
+pub mod t6_laws;
+mod t6_line;
+mod t6_mode;
+mod t6_position;
+mod t6_read;
+#[cfg(test)]
+mod t6_tests;
+mod t6_write;
 
 pub use crate::coding::{Coding, PageCode};
 pub use crate::one_dim::OneDim;
+pub use crate::t6::T6;
+pub use crate::t6_mode::{ModeCode, Shift};

@@ -131,7 +131,7 @@ fn write_rows(alloc: Global, rows: &[Row], bits: &mut BitWriter) -> Result<(), A
     ensures { OnOk result (bits.new ≡ record bits.old { bits = bits.old.bits ++ rows_text rows.now }) }
 {
     for row in rows {
-        bits.write_eol()?;
+        bits.write_eol()?; // before each row
         bits.write_row_1d(alloc, row)?;
     }
     Ok(())

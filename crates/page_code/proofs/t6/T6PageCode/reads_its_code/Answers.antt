@@ -1,0 +1,5 @@
+use Rattle.page_code.proofs.T6Gives.{reads_its_code}
+use Rattle.page_code.proofs.t6.T6PageCode.reads_its_code.Goals as goal
+
+pub returns : goal.returns
+returns c = reads_its_code

@@ -1,0 +1,9 @@
+use Rattle.page_code.specs.T6Modes.{eofb}
+use Rattle.page_code.specs.T6Code.{page_code}
+use Rattle.run_tables.specs.Written.{Appends}
+use Rattle.page_code.proofs.T6Writes.{wrote_page, on_ok_map}
+use Rattle.page_code.proofs.t6_write.write_page.Goals as goal
+
+pub returns : goal.returns
+returns c =
+    on_ok_map c.write_text.result (Appends eofb c.write_rows.new.writer c.write_text.new.writer) (Appends (page_code c.args.page.now.width c.args.page.now.rows) c.args.writer.now c.write_text.new.writer) (λ two. wrote_page c.args.page.now.width c.width.result c.in-Ok.white c.args.page.now.rows c.rows.result.now c.args.writer.now c.write_rows.new.writer c.write_text.new.writer c.width.ensures c.in-Ok.ensures.1 c.rows.ensures.rows c.in_ok-write_rows.ensures two) c.write_text.ensures

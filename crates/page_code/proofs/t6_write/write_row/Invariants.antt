@@ -1,0 +1,15 @@
+use Rattle.std.proofs.Common.{◌≡◌, ◌++◌, ◌+◌, ◌-◌, length, List, Bool}
+use Rattle.page_code.specs.T6Positions.{right_of_a0}
+use Rattle.page_code.specs.T6Code.{line_code, row_code}
+use Rattle.page_code.specs.T6Writing.{IsCodedTo, line_to}
+use Rattle.page_code.proofs.t6_write.write_row.Given as goal
+
+-- the code of the rest completes the row's code
+abbrev pub invariant-loop-to : goal.invariant-loop-to
+invariant-loop-to l = record {
+  coded : IsCodedTo l.row l.to;
+  writes : (so_far : List Bool) × (l.writer ≡ record l.fn.writer { bits = l.fn.writer.bits ++ so_far }) × (so_far ++ line_code (length l.row + 1) l.reference l.row (line_to l.row l.to) ≡ row_code l.reference l.row);
+}
+
+abbrev pub decreases-loop-to : goal.decreases-loop-to
+decreases-loop-to l = length l.row + 1 - right_of_a0 (line_to l.row l.to)
