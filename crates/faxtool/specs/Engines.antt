@@ -13,24 +13,30 @@ use Rattle.run_tables.specs.declared.fault.CodeFault.{CodeFault}
 use Rattle.run_tables.specs.declared.fault.CodeFaultKind.TheVariants.{NoMemory}
 use Rattle.run_tables.specs.Faults.{number_of as kind_number}
 use Rattle.page_code.specs.declared.Coding.{Coding}
-use Rattle.page_code.specs.declared.Coding.TheVariants.{OneDim}
+use Rattle.page_code.specs.declared.Coding.TheVariants.{OneDim, T6}
 use Rattle.page_code.specs.T4Pages.{ReadsAs, page_text as one_dimensional_text}
 use Rattle.page_code.specs.PageCodes.{RefusesPage}
 use Rattle.page_code.specs.T4Laws.{IsLongestFront}
+use Rattle.page_code.specs.T6Code.{page_code as two_dimensional_text}
+use Rattle.page_code.specs.T6Laws.{IsLongestFront as IsLongestFrontOfT6}
+use Rattle.page_code.specs.T6Modes.{ReadsAsPage}
 use Rattle.faxtool.specs.declared.fault.ToolFault.{ToolFault}
 use Rattle.faxtool.specs.declared.fault.ToolFault.TheVariants.{No, AtBit}
 
 -- the bits that are the code of rows of a width
 abbrev pub code_text : Coding → ℕ → List (List Color) → List Bool
 code_text OneDim width rows = one_dimensional_text rows
+code_text T6 width rows = two_dimensional_text width rows
 
 -- the bits read as a page of this width, with so many of them used
 abbrev pub ReadsIn : Coding → ℕ → List Bool → List (List Color) → ℕ → Type 0
 ReadsIn OneDim width bits rows used = ReadsAs width bits rows used
+ReadsIn T6 width bits rows used = ReadsAsPage width bits rows used
 
 -- the refusal is that of the bits
 abbrev pub RefusesIn : Coding → ℕ → List Bool → CodeFault → Type 0
 RefusesIn OneDim width bits fault = RefusesPage ReadsAs IsLongestFront width bits fault
+RefusesIn T6 width bits fault = RefusesPage ReadsAsPage IsLongestFrontOfT6 width bits fault
 
 -- the octets read are one image, and its code with 0 bits to an octet is written
 pub record CodesImage (coding : Coding) (order : Order) (before after : Option (List ℕ)) (octets : List ℕ) : Type 0 where

@@ -12,7 +12,7 @@ use Rattle.clap.specs.declared.builder.value_parser.ValueParser.TheVariants as v
 use Rattle.clap.specs.declared.error.Error.{Error}
 use Rattle.clap.specs.declared.error.kind.ErrorKind.TheVariants.{OutOfMemory}
 use Rattle.page_code.specs.declared.Coding.{Coding}
-use Rattle.page_code.specs.declared.Coding.TheVariants.{OneDim}
+use Rattle.page_code.specs.declared.Coding.TheVariants.{OneDim, T6}
 use Rattle.raster.specs.Pixels.{IsWidth}
 use Rattle.raster.specs.declared.packed.Order.{Order}
 use Rattle.raster.specs.declared.packed.Order.TheVariants.{LsbFirst, MsbFirst}
@@ -86,7 +86,7 @@ TakesNames parser names =
 pub record IsFaxtool (a : App) : Type 0 where
   pub codings : ValueParser
   pub orders : ValueParser
-  pub takes_codings : TakesNames codings (codes "mh" ∷ [])
+  pub takes_codings : TakesNames codings (codes "mh" ∷ codes "mmr" ∷ [])
   pub takes_orders : TakesNames orders (codes "msb" ∷ codes "lsb" ∷ [])
   pub commands : a ≡ faxtool_app codings orders
 
@@ -95,7 +95,7 @@ pub record IsFaxtool (a : App) : Type 0 where
 -- the code that a value of `--code` names
 abbrev pub coding_named : Option Text → Option Coding
 coding_named None = None
-coding_named (Some name) = if bytes_eq name (codes "mh") then Some OneDim else None
+coding_named (Some name) = if bytes_eq name (codes "mh") then Some OneDim else if bytes_eq name (codes "mmr") then Some T6 else None
 
 -- the order that a value of `--order` names: `msb` but for `lsb`
 abbrev pub order_named : Option Text → Order

@@ -7,7 +7,7 @@ ghost use Rattle.std.specs.Io.KnownBytes.{Appends};
 ghost use Rattle.std.specs.Prelude.{◌≡◌, ◌≢◌, ◌<◌, IfErr, IfOk, IfSome, OnErr, OnOk, length};
 
 use crate::fault::{NO_MEMORY, ToolFault};
-use page_code::{Coding, OneDim, PageCode};
+use page_code::{Coding, OneDim, PageCode, T6};
 use raster::{Page, read_pbm, write_text};
 use run_tables::{CodeFault, CodeFaultKind, Order};
 use std::alloc::{AllocError, Global};
@@ -68,6 +68,7 @@ fn encode(
 {
     match coding {
         Coding::OneDim => OneDim::encode(alloc, page, order, out),
+        Coding::T6 => T6::encode(alloc, page, order, out),
     }
 }
 
@@ -85,6 +86,7 @@ fn decode(
 {
     match coding {
         Coding::OneDim => OneDim::decode(alloc, octets, order, width, false),
+        Coding::T6 => T6::decode(alloc, octets, order, width, false),
     }
 }
 

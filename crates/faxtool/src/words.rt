@@ -67,7 +67,7 @@ pub fn status(outcome: &Outcome) -> u8
     }
 }
 
-static CODINGS: [&str; 1] = ["mh"];
+static CODINGS: [&str; 2] = ["mh", "mmr"];
 
 static ORDERS: [&str; 2] = ["msb", "lsb"];
 
@@ -182,6 +182,7 @@ fn coding_named(name: Option<&str>) -> Option<Coding>
 {
     match name {
         Some(name) if name == "mh" => Some(Coding::OneDim),
+        Some(name) if name == "mmr" => Some(Coding::T6),
         _ => None,
     }
 }
@@ -294,7 +295,7 @@ fn coding_option<'a>(alloc: Global, codings: ValueParser<'a>) -> Arg<'a>
         .required(true)
         .action(ArgAction::Set)
         .value_parser(codings)
-        .help("The code of the page: mh codes each row by its runs alone")
+        .help("The code of the page: mh codes each row by its runs alone, mmr after the row above")
 }
 
 fn order_option<'a>(alloc: Global, orders: ValueParser<'a>) -> Arg<'a>

@@ -203,3 +203,54 @@ fn octets_come_and_go_one_by_one(rt: HostRuntime) -> Result<(), Fail> {
     assert_eq!(rt; text.taken.as_slice(), TEXT);
     Ok(())
 }
+
+#[test]
+fn an_image_is_coded_and_shown_in_two_dimensions(rt: HostRuntime) -> Result<(), Fail> {
+    let alloc = rt.alloc();
+    let image = [0x50, 0x34, 0x0A, 0x38, 0x20, 0x33, 0x0A, 0x30, 0x30, 0x00];
+    let code = [0x2F, 0xF8, 0xC0, 0x04, 0x00, 0x40];
+    let mut octets = Vec::with_capacity(alloc, 100)?;
+    code_engine(
+        alloc,
+        &mut image.as_slice(),
+        &mut octets,
+        Coding::T6,
+        Order::MsbFirst,
+    )?;
+    assert_eq!(rt; octets.as_slice(), code.as_slice());
+    let mut text = Vec::with_capacity(alloc, 100)?;
+    show_engine(
+        alloc,
+        &mut code.as_slice(),
+        &mut text,
+        Coding::T6,
+        Order::MsbFirst,
+        8,
+    )?;
+    assert_eq!(rt;
+        text.as_slice(),
+        b"..##....\n..##....\n........\n".as_slice()
+    );
+    for (refused, no, place) in [
+        ([].as_slice(), 17, 0),
+        (&[0x02], 16, 0),
+        (&[0x80, 0x08, 0x00], 11, 1),
+        (&[0x60], 14, 0),
+        (&[0x26, 0xAA, 0x80], 13, 15),
+        (&[0x26, 0xA1, 0xB8], 15, 11),
+        (&[0x00, 0x10, 0x01], 4, 0),
+    ] {
+        let mut text = Vec::new(alloc);
+        let mut reader = refused;
+        let done = show_engine(
+            alloc,
+            &mut reader,
+            &mut text,
+            Coding::T6,
+            Order::MsbFirst,
+            8,
+        );
+        assert_eq!(rt; done, Err(ToolFault::AtBit { no, place }), "{refused:?}");
+    }
+    Ok(())
+}

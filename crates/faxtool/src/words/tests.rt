@@ -128,7 +128,7 @@ fn refuses_words(rt: HostRuntime) {
         "faxtool", "code", "--code", "mh", "--code", "mh", "one.pbm", "out.mh",
     ];
     assert_refused(&rt, &twice, ErrorKind::ArgumentConflict);
-    let other = ["faxtool", "code", "--code", "mmr", "one.pbm", "out.mh"];
+    let other = ["faxtool", "code", "--code", "mr", "one.pbm", "out.mh"];
     assert_refused(&rt, &other, ErrorKind::InvalidValue);
     let order = [
         "faxtool", "code", "--code", "mh", "--order", "MSB", "one.pbm", "out.mh",
