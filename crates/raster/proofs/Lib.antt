@@ -4,3 +4,4 @@ pub mod TextLemmas
 pub mod PbmParts
 pub mod PbmImages
 pub mod PbmReading
+pub mod PbmWriting

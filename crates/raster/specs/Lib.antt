@@ -6,3 +6,4 @@ pub mod Faults
 pub mod Pages
 pub mod Text
 pub mod Pbm
+pub mod PbmText

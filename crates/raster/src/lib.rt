@@ -6,6 +6,7 @@ mod fault;
 pub mod packed;
 mod page;
 mod pbm;
+mod pbm_writer;
 mod row;
 #[cfg(test)]
 mod tests;
@@ -14,5 +15,6 @@ mod text;
 pub use crate::fault::RasterFault;
 pub use crate::page::{Document, MOST_ROWS, Page};
 pub use crate::pbm::{read_pbm, reads_images_exactly};
+pub use crate::pbm_writer::{reads_what_is_written, write_pbm};
 pub use crate::row::{Color, Row, WIDEST};
 pub use crate::text::write_text;

@@ -162,6 +162,13 @@ impl PackedBits {
         self.count = bits;
     }
 
+    /// The octets that hold the bits, lent, the last one filled with 0 bits.
+    pub fn octets(&self) -> &[u8]
+        ensures { FillsOctets self.now.order self.now.bits result.now }
+    {
+        &self.octets // lent as they are
+    }
+
     /// The octets that hold the bits, the last one filled with 0 bits.
     pub fn into_octets(self) -> Vec<u8>
         ensures { FillsOctets self.order self.bits result.items }

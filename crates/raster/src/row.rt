@@ -1,5 +1,6 @@
 ghost use Rattle.raster.specs.Changes.{IsNextChange};
 ghost use Rattle.raster.specs.Pbm.{row_pixels};
+ghost use Rattle.raster.specs.PbmText.{HoldsRow};
 ghost use Rattle.raster.specs.Pixels.{other, colors, IsWidth};
 ghost use Rattle.raster.specs.Runs.{colored, FromRuns, AppendsRuns, AreOwnRuns};
 ghost use Rattle.std.specs.Prelude.{◌≡◌, ◌≤◌, ◌<◌, ◌+◌, ◌*◌, ◌^◌, ◌↔◌, ℕ, ◌++◌, ◌∷◌, [], replicate, length, slice_get, sum, OnOk, OnErr, IfOk, IfErr, SomeIff, IsOkUnless, IsTrue};
@@ -147,6 +148,15 @@ impl Row {
         } else {
             Color::White
         }
+    }
+
+    /// The row's octets as Netpbm's raw PBM format has them: eight pixels an octet, the leftmost in the
+    /// highest bit, 1 for black, and the last octet filled with 0 bits.
+    pub fn octets(&self) -> &[u8]
+        ensures { HoldsRow self.now result.now }
+    {
+        let octets = self.pixels.octets();
+        octets // as many as the width needs
     }
 
     /// The least changing position at or above `from`, or the width where there is none
