@@ -111,6 +111,47 @@ fn refusals(rt: HostRuntime) -> Result<(), Fail> {
     Ok(())
 }
 
+// A row of which b2 isn't left of a1, and one whose first run ends by a vertical mode.
+#[test]
+fn rows_without_a_pass(rt: HostRuntime) -> Result<(), Fail> {
+    let alloc = rt.alloc();
+    let msb = Order::MsbFirst;
+    let page = page_of(alloc, 8, &[&[2, 6], &[8]])?;
+    let code = code_of(alloc, &page, msb)?;
+    assert_eq!(rt;
+        code.as_slice(),
+        [0x2E, 0x46, 0x61, 0xB8, 0x00, 0x80, 0x08].as_slice()
+    );
+    assert_eq!(rt; read(alloc, &code, msb, 8), Ok((2, 53)));
+    let page = page_of(alloc, 8, &[&[5, 3]])?;
+    let code = code_of(alloc, &page, msb)?;
+    assert_eq!(rt; code.as_slice(), [0x05, 0x00, 0x10, 0x01].as_slice());
+    assert_eq!(rt; read(alloc, &code, msb, 8), Ok((1, 32)));
+    Ok(())
+}
+
+#[test]
+fn refusals_inside_a_row(rt: HostRuntime) -> Result<(), Fail> {
+    let alloc = rt.alloc();
+    let msb = Order::MsbFirst;
+    // Six 0 bits behind a mode.
+    assert_eq!(rt;
+        read(alloc, &[0xE0, 0x80], msb, 8),
+        refused(10, CodeFaultKind::BadCode)
+    );
+    // A terminating code that passes the width.
+    assert_eq!(rt;
+        read(alloc, &[0x33, 0x40], msb, 8),
+        refused(8, CodeFaultKind::PastEnd)
+    );
+    // Seven 0 bits behind a make-up code.
+    assert_eq!(rt;
+        read(alloc, &[0x3B, 0x00], msb, 1728),
+        refused(8, CodeFaultKind::BadCode)
+    );
+    Ok(())
+}
+
 #[test]
 fn rows_at_most(rt: HostRuntime) -> Result<(), Fail> {
     let alloc = rt.alloc();
