@@ -1,0 +1,63 @@
+-- A coded page as blocks of frames.
+use Rattle.std.specs.Prelude.{ℕ, ◌≡◌, ◌≤◌, ◌<◌, ◌+◌, ◌-◌, ◌*◌, ◌/◌, ◌++◌, ◌∷◌, [], suc, zero, Bool, true, false, List, length, take, drop, replicate, All, slice_index_or, Result, Ok, Err}
+use Rattle.std.specs.List.{flat_map}
+use Rattle.partial_page.specs.declared.fault.BlockFault.{BlockFault}
+use Rattle.partial_page.specs.declared.fault.BlockFault.TheVariants.{NoMemory, PageTooLong}
+
+-- the octets of a frame: 64 where the small frames are agreed, else 256
+abbrev pub frame_size : Bool → ℕ
+frame_size true = 64
+frame_size false = 256
+
+-- how many pieces of a length a list of another length needs
+abbrev pub pieces_for : Bool → ℕ → ℕ
+pieces_for true octets = (octets + 63) / 64
+pieces_for false octets = (octets + 255) / 256
+
+-- so many pieces of one length, one after the other, from the front of a list; the last may be shorter
+unfoldable pub pieces : {X : Type 0} → ℕ → ℕ → List X → List (List X)
+pieces size zero xs = []
+pieces size (suc count) xs = take size xs ∷ pieces size count (drop size xs)
+
+-- octets in frames of one size, 256 frames to a block, the last block the rest
+unfoldable pub blocks_of : ℕ → ℕ → List ℕ → List (List (List ℕ))
+blocks_of size count octets = pieces 256 ((count + 255) / 256) (pieces size count octets)
+
+-- the octets, filled with octets 00 to whole frames
+abbrev pub filled : Bool → List ℕ → List ℕ
+filled small octets = octets ++ replicate (pieces_for small (length octets) * frame_size small - length octets) 0
+
+-- the list of blocks of frames that octets are cut into
+abbrev pub cut : Bool → List ℕ → List (List (List ℕ))
+cut small octets = blocks_of (frame_size small) (pieces_for small (length octets)) (filled small octets)
+
+-- the frames of all blocks, one after the other
+abbrev pub joined : List (List (List ℕ)) → List ℕ
+joined blocks = flat_map (λ frame. frame) (flat_map (λ block. block) blocks)
+
+-- a block has 1 to 256 frames, each of exactly the agreed size
+pub record IsBlock (size : ℕ) (block : List (List ℕ)) : Type 0 where
+  pub some : 0 < length block
+  pub few : length block ≤ 256
+  pub sizes : All (λ frame. length frame ≡ size) block
+
+-- the blocks are full frames, 256 to each block but the last, and joined they are the octets and then fewer than a frame of octets 00
+pub record IsCut (size : ℕ) (octets : List ℕ) (blocks : List (List (List ℕ))) : Type 0 where
+  pub each : (k : ℕ) → k < length blocks → IsBlock size (slice_index_or blocks k [])
+  pub full : (k : ℕ) → k + 1 < length blocks → length (slice_index_or blocks k []) ≡ 256
+  pub octets_then_zeros : (padding : ℕ) × (padding < size) × (joined blocks ≡ octets ++ replicate padding 0)
+
+-- what cutting a coded page answers
+abbrev pub CutsPage : Bool → List ℕ → Result (List (List (List ℕ))) BlockFault → Type 0
+CutsPage small coded (Ok blocks) = (length coded ≤ 8388608) × (blocks ≡ cut small coded)
+CutsPage small coded (Err PageTooLong) = 8388608 < length coded
+CutsPage small coded (Err NoMemory) = length coded ≤ 8388608
+CutsPage small coded (Err fault) = ⊥
+
+-- what octets are cut into are blocks of full frames that join to them
+abbrev pub CutIsFullFrames : Type 0
+CutIsFullFrames = (small : Bool) (octets : List ℕ) → IsCut (frame_size small) octets (cut small octets)
+
+-- since the page limit is a multiple of both frame sizes, each beginning of the joined frames of a page within the limit is within it
+abbrev pub JoinedPageIsWithinLimit : Type 0
+JoinedPageIsWithinLimit = (small : Bool) (octets front rest : List ℕ) → length octets ≤ 8388608 → joined (cut small octets) ≡ front ++ rest → length front ≤ 8388608

@@ -1,0 +1,126 @@
+ghost use Rattle.partial_page.specs.Frames.{frame_size, pieces_for, blocks_of, cut, CutsPage, CutIsFullFrames, JoinedPageIsWithinLimit};
+ghost use Rattle.std.specs.Prelude.{◌≡◌, ◌≤◌, ◌<◌, ◌+◌, ◌-◌, ◌*◌, List, [], length, take, drop, slice_index_or};
+
+use crate::fault::BlockFault;
+use std::alloc::Global;
+use std::marker::Model;
+
+/// The greatest number of octets of a coded page.
+pub const PAGE_LIMIT: usize = 8_388_608;
+
+/// How many frames so many octets need.
+fn frames_for(octets: usize, small: bool) -> usize
+    requires { octets ≤ 8388608 }
+    ensures { result ≡ pieces_for small octets }
+{
+    if small {
+        (octets + 63) / 64
+    } else {
+        (octets + 255) / 256
+    }
+}
+
+/// The octets of so many frames.
+fn octets_of(frames: usize, small: bool) -> usize
+    requires { frames ≤ 8388608 }
+    ensures { result ≡ frames * frame_size small }
+{
+    if small { frames * 64 } else { frames * 256 }
+}
+
+/// The frame at a place among frames that stand one after the other.
+fn frame_at(octets: &[u8], place: usize, small: bool) -> &[u8]
+    requires few { place < 8388608 }
+    requires within { (place + 1) * frame_size small ≤ length octets.now }
+    ensures { result.now ≡ take (frame_size small) (drop (place * frame_size small) octets.now) }
+{
+    if small {
+        &octets[place * 64..place * 64 + 64]
+    } else {
+        &octets[place * 256..place * 256 + 256]
+    }
+}
+
+/// A coded page, cut into the frames of ITU-T T.30 Annex A: blocks of 256 frames, the last block with
+/// the rest, and each frame of the agreed size.
+#[derive(Drop)]
+pub struct Blocks {
+    octets: Vec<u8>,
+    frames: usize,
+    small: bool,
+}
+
+impl Model for Blocks {
+    ghost use Rattle.std.specs.Prelude.{ℕ, ◌≡◌, ◌≤◌, ◌*◌, List, length};
+    ghost use Rattle.partial_page.specs.Frames.{frame_size, blocks_of};
+
+    ghost Value = { List (List (List ℕ)) };
+
+    ghost view = { λ b. blocks_of (frame_size b.small) b.frames b.octets.items };
+
+    ghost invariant = { λ b. (length b.octets.items ≡ b.frames * frame_size b.small) × (b.frames ≤ 131072) };
+}
+
+impl Blocks {
+    /// Cuts a coded page into frames of 64 octets where `small`, else of 256, and fills the last frame
+    /// with octets 00. No octets give no block. Errs with `PageTooLong` where there are more than
+    /// 8,388,608 octets, and with `NoMemory`. The frames stay in the memory of `coded`, which grows.
+    pub fn cut(_alloc: Global, coded: Vec<u8>, small: bool) -> Result<Blocks, BlockFault>
+        ensures { CutsPage small coded.items result }
+    {
+        if coded.len() > PAGE_LIMIT {
+            return Err(BlockFault::PageTooLong);
+        }
+        let mut octets = coded;
+        let frames = frames_for(octets.len(), small);
+        octets.resize(octets_of(frames, small), 0)?;
+        Ok(Blocks {
+            octets,
+            frames,
+            small,
+        })
+    }
+
+    /// How many blocks there are.
+    #[tactic(auto, using(crate::proofs::BlockLemmas::views))]
+    pub fn count(&self) -> usize
+        ensures { result ≡ length self.now }
+    {
+        (self.frames + 255) / 256
+    }
+
+    /// The frames of a block less 1: the number of its last frame.
+    #[tactic(auto, using(crate::proofs::BlockLemmas::views))]
+    pub fn last(&self, block: usize) -> u8
+        requires { block < length self.now }
+        ensures { result + 1 ≡ length (slice_index_or self.now block []) }
+    {
+        let rest = self.frames - block * 256;
+        if rest > 256 { 255 } else { (rest - 1) as u8 }
+    }
+
+    /// The octets of a frame of a block; both are counted from 0.
+    #[tactic(auto, using(crate::proofs::BlockLemmas::views))]
+    pub fn frame(&self, block: usize, n: u8) -> &[u8]
+        requires block { block < length self.now }
+        requires frame { n < length (slice_index_or self.now block []) }
+        ensures { result.now ≡ slice_index_or (slice_index_or self.now block []) n [] }
+    {
+        let octets = &self.octets;
+        let place = block * 256 + n as usize;
+        frame_at(octets, place, self.small)
+    }
+}
+
+/// A law of the frames that a page is cut into, which does nothing when it is called: each block has 1
+/// to 256 frames of exactly the agreed size, 256 in each block but the last, and joined they are the
+/// page and then fewer octets 00 than a frame has.
+pub fn page_is_cut_into_full_frames()
+    ensures { CutIsFullFrames }
+{}
+
+/// A law of the page limit, which does nothing when it is called: since the limit is a multiple of both
+/// frame sizes, each beginning of the joined frames of a page within the limit is within the limit.
+pub fn page_stays_within_limit()
+    ensures { JoinedPageIsWithinLimit }
+{}

@@ -1,0 +1,43 @@
+use std::alloc::AllocError;
+use thiserror::Error;
+
+/// Why a page was not cut, or a frame was not stored or joined.
+#[derive(Clone, Copy, Debug, PartialEq, Eq, Error)]
+pub enum BlockFault {
+    /// Memory was refused.
+    #[error("no memory")]
+    NoMemory,
+    /// Data that is longer than a frame.
+    #[error("the data is longer than a frame")]
+    TooLong,
+    /// A coded page of more than 8,388,608 octets.
+    #[error("the coded page has more than 8388608 octets")]
+    PageTooLong,
+}
+
+impl BlockFault {
+    ghost use Rattle.std.specs.Prelude.{◌≡◌};
+    ghost use Rattle.partial_page.specs.Faults.{number_of};
+
+    /// The number of the fault: 9, 23 or 24.
+    pub fn number(self) -> u8
+        ensures { result ≡ number_of self }
+    {
+        match self {
+            BlockFault::NoMemory => 9,
+            BlockFault::TooLong => 23,
+            BlockFault::PageTooLong => 24,
+        }
+    }
+}
+
+impl From<AllocError> for BlockFault {
+    ghost use Rattle.std.specs.Prelude.{◌≡◌};
+    ghost use Rattle.partial_page.specs.declared.fault.BlockFault.TheVariants.{NoMemory};
+
+    ghost from_gives = { λ _ e. e ≡ NoMemory };
+
+    fn from(_refused: AllocError) -> BlockFault {
+        BlockFault::NoMemory
+    }
+}
