@@ -1,0 +1,96 @@
+-- Lemmas on speeds and agreement.
+use Rattle.std.proofs.Common.{◌≡◌, ℕ, Bool, true, false, cond, not, ◌&&◌, ◌||◌, nat_eq, nat_le, List, [], ◌∷◌, Option, Some, None, Err, IfOk, get_or, refl, sym, ◌∙◌, ap, inl, inr}
+use Rattle.std.proofs.lemmas.Bool.{cases_Bool, eqb-true}
+use Rattle.std.specs.List.{filter}
+use Rattle.page_code.specs.declared.coding.Coding.{Coding}
+use Rattle.page_code.specs.declared.coding.Coding.TheVariants.{OneDim, T6}
+use Rattle.signals.specs.Agreement.{place_of_speed, pixels_of, supports_speed, common_speed, tried_speeds, speed_order, first_of, after_speed, lower_speed, wished_coding, agreed_coding, takes_pages, at_first, agreed, offers_coding, allowed}
+use Rattle.signals.specs.declared.params.Caps.{Caps}
+use Rattle.signals.specs.declared.params.PageWidth.{PageWidth}
+use Rattle.signals.specs.declared.params.Speed.{Speed}
+use Rattle.signals.specs.declared.params.Speed.TheVariants.{V27At2400, V27At4800, V29At7200, V29At9600, V17At7200, V17At9600, V17At12000, V17At14400}
+use Rattle.signals.specs.declared.params.Wish.{Wish}
+
+-- the speed at a place
+abbrev pub speed_at : ℕ → Speed
+speed_at n = get_or (V27At2400 ∷ V27At4800 ∷ V29At7200 ∷ V29At9600 ∷ V17At7200 ∷ V17At9600 ∷ V17At12000 ∷ V17At14400 ∷ []) n V27At2400
+
+pub place_tells : (speed : Speed) → speed_at (place_of_speed speed) ≡ speed
+place_tells V27At2400 = refl
+place_tells V27At4800 = refl
+place_tells V29At7200 = refl
+place_tells V29At9600 = refl
+place_tells V17At7200 = refl
+place_tells V17At9600 = refl
+place_tells V17At12000 = refl
+place_tells V17At14400 = refl
+
+pub same_speed : (a b : Speed) → nat_eq (place_of_speed a) (place_of_speed b) ≡ true → a ≡ b
+same_speed a b same =
+    sym (place_tells a) ∙ ap speed_at (eqb-true (place_of_speed a) (place_of_speed b) same) ∙ place_tells b
+
+pub after-filter : (p : Speed → Bool) (speed : Speed) (xs : List Speed) → p speed ≡ true → after_speed speed (filter p xs) ≡ filter p (after_speed speed xs)
+after-filter p speed [] tried = refl
+after-filter p speed (x ∷ xs) tried =
+    elim (cases_Bool (nat_eq (place_of_speed x) (place_of_speed speed))) [
+      | inl same ↦ rw (ap p (same_speed x speed same) ∙ tried, same) refl
+      | inr other ↦
+          elim (cases_Bool (p x)) [
+            | inl kept ↦ rw (kept, other) (after-filter p speed xs tried)
+            | inr left ↦ rw (left, other) (after-filter p speed xs tried)
+          ]
+    ]
+
+pub after-filtered : (p : Speed → Bool) (speed : Speed) (xs : List Speed) → p speed ≡ false → after_speed speed (filter p xs) ≡ []
+after-filtered p speed [] untried = refl
+after-filtered p speed (x ∷ xs) untried =
+    elim (cases_Bool (p x)) [
+      | inr left ↦ rw left (after-filtered p speed xs untried)
+      | inl kept ↦
+          elim (cases_Bool (nat_eq (place_of_speed x) (place_of_speed speed))) [
+            | inl same ↦ let e : true ≡ false = sym kept ∙ ap p (same_speed x speed same) ∙ untried in cc
+            | inr other ↦ rw (kept, other) (after-filtered p speed xs untried)
+          ]
+    ]
+
+pub lower-tried : (caps : Caps) (wish : Wish) (speed : Speed) → common_speed wish.modems caps.modems speed ≡ true →
+    lower_speed caps wish speed ≡ first_of (filter (common_speed wish.modems caps.modems) (after_speed speed (speed_order wish.modems caps.modems)))
+unfolding lower_speed
+lower-tried caps wish speed tried = ap first_of (after-filter (common_speed wish.modems caps.modems) speed (speed_order wish.modems caps.modems) tried)
+
+pub lower-untried : (caps : Caps) (wish : Wish) (speed : Speed) → common_speed wish.modems caps.modems speed ≡ false → lower_speed caps wish speed ≡ None
+unfolding lower_speed
+lower-untried caps wish speed untried = ap first_of (after-filtered (common_speed wish.modems caps.modems) speed (speed_order wish.modems caps.modems) untried)
+
+pub first-passes : (p : Speed → Bool) (xs : List Speed) (speed : Speed) → first_of (filter p xs) ≡ Some speed → p speed ≡ true
+first-passes p [] speed first = cc
+first-passes p (x ∷ xs) speed first =
+    elim (cases_Bool (p x)) [
+      | inl kept ↦ let e : Some x ≡ Some speed = rw kept at first in let same : x ≡ speed = cc in ap p (sym same) ∙ kept
+      | inr left ↦ first-passes p xs speed (rw left at first)
+    ]
+
+pub offers-wished : (caps : Caps) (wish : Wish) → offers_coding caps (agreed_coding caps wish) ≡ true
+offers-wished caps wish = offers caps wish.coding caps.t6 refl
+  where
+    offers : (caps : Caps) (coding : Coding) (t6 : Bool) → caps.t6 ≡ t6 → offers_coding caps (wished_coding coding t6) ≡ true
+    offers caps OneDim t6 e = refl
+    offers caps T6 true e = e
+    offers caps T6 false e = refl
+
+pub both-true : (a b : Bool) → (a && b) ≡ true → (a ≡ true) × (b ≡ true)
+both-true true b e = (refl, e)
+both-true false b e = cc
+
+pub agreed-allowed : (caps : Caps) (wish : Wish) (width : PageWidth) (fine : Bool) → IfOk (agreed caps wish width fine) (λ params. allowed caps params ≡ true)
+agreed-allowed caps wish width fine = decided (takes_pages caps width fine) (first_of (tried_speeds wish.modems caps.modems)) refl refl
+  where
+    decided : (takes : Bool) (first : Option Speed) → takes_pages caps width fine ≡ takes → first_of (tried_speeds wish.modems caps.modems) ≡ first →
+        IfOk (cond takes (at_first first caps wish width fine) (Err (record {}))) (λ params. allowed caps params ≡ true)
+    decided true None e f = tt
+    decided true (Some speed) e f =
+        let fineness = both-true ((caps.receiver && caps.ecm) && nat_le (pixels_of width) (pixels_of caps.widest)) (not fine || caps.fine) e in
+        let widths = both-true (caps.receiver && caps.ecm) (nat_le (pixels_of width) (pixels_of caps.widest)) fineness.0 in
+        let common = both-true (supports_speed wish.modems speed) (supports_speed caps.modems speed) (first-passes (common_speed wish.modems caps.modems) (speed_order wish.modems caps.modems) speed f) in
+        rw (common.1, widths.1, fineness.1, offers-wished caps wish) refl
+    decided false first e f = tt

@@ -1,0 +1,6 @@
+pub mod AgreementLemmas
+pub mod TrainingLemmas
+pub mod RoundTrip
+pub mod SayingLemmas
+pub mod TextLemmas
+pub mod LowerLemmas

@@ -1,0 +1,5 @@
+use Rattle.signals.proofs.TextLemmas.{controls-have-texts}
+use Rattle.signals.proofs.laws.controls_have_texts.Goals as goal
+
+pub returns : goal.returns
+returns c = controls-have-texts

@@ -1,0 +1,127 @@
+-- What two stations agree on.
+use Rattle.std.specs.Prelude.{ℕ, ◌≡◌, ◌≤◌, Bool, true, false, not, cond, ◌&&◌, ◌||◌, List, [], ◌∷◌, Option, Some, None, Result, Ok, Err, nat_eq, nat_le, ◌+◌, length, IfOk}
+use Rattle.std.specs.List.{filter}
+use Rattle.page_code.specs.declared.coding.Coding.{Coding}
+use Rattle.page_code.specs.declared.coding.Coding.TheVariants.{OneDim, T6}
+use Rattle.signals.specs.declared.agreement.NotCompatible.{NotCompatible}
+use Rattle.signals.specs.declared.params.Caps.{Caps}
+use Rattle.signals.specs.declared.params.Modems.{Modems}
+use Rattle.signals.specs.declared.params.Modems.TheVariants.{Fallback, V27, V29, V27V29, V17}
+use Rattle.signals.specs.declared.params.PageWidth.{PageWidth}
+use Rattle.signals.specs.declared.params.PageWidth.TheVariants.{W1728, W2048, W2432}
+use Rattle.signals.specs.declared.params.Params.{Params}
+use Rattle.signals.specs.declared.params.Speed.{Speed}
+use Rattle.signals.specs.declared.params.Speed.TheVariants.{V27At2400, V27At4800, V29At7200, V29At9600, V17At7200, V17At9600, V17At12000, V17At14400}
+use Rattle.signals.specs.declared.params.Wish.{Wish}
+
+-- a speed's place among the eight, which tells speeds apart
+abbrev pub place_of_speed : Speed → ℕ
+place_of_speed V27At2400 = 0
+place_of_speed V27At4800 = 1
+place_of_speed V29At7200 = 2
+place_of_speed V29At9600 = 3
+place_of_speed V17At7200 = 4
+place_of_speed V17At9600 = 5
+place_of_speed V17At12000 = 6
+place_of_speed V17At14400 = 7
+
+-- the pixels of a width
+abbrev pub pixels_of : PageWidth → ℕ
+pixels_of W1728 = 1728
+pixels_of W2048 = 2048
+pixels_of W2432 = 2432
+
+-- the speeds that modems have
+abbrev pub supports_speed : Modems → Speed → Bool
+supports_speed Fallback V27At2400 = true
+supports_speed Fallback _ = false
+supports_speed V27 V27At2400 = true
+supports_speed V27 V27At4800 = true
+supports_speed V27 _ = false
+supports_speed V29 V29At7200 = true
+supports_speed V29 V29At9600 = true
+supports_speed V29 _ = false
+supports_speed V27V29 V27At2400 = true
+supports_speed V27V29 V27At4800 = true
+supports_speed V27V29 V29At7200 = true
+supports_speed V27V29 V29At9600 = true
+supports_speed V27V29 _ = false
+supports_speed V17 _ = true
+
+-- the order of the speeds where both have V.17
+abbrev pub v17_order : List Speed
+v17_order = V17At14400 ∷ V17At12000 ∷ V17At9600 ∷ V17At7200 ∷ V27At4800 ∷ V27At2400 ∷ []
+
+-- the order of the speeds where one lacks V.17
+abbrev pub other_order : List Speed
+other_order = V29At9600 ∷ V29At7200 ∷ V27At4800 ∷ V27At2400 ∷ []
+
+-- the order of the speeds of two stations
+abbrev pub speed_order : Modems → Modems → List Speed
+speed_order V17 V17 = v17_order
+speed_order _ _ = other_order
+
+-- both modems have a speed
+abbrev pub common_speed : Modems → Modems → Speed → Bool
+common_speed ours theirs speed = supports_speed ours speed && supports_speed theirs speed
+
+-- the list of the speeds that two stations try
+abbrev pub tried_speeds : Modems → Modems → List Speed
+tried_speeds ours theirs = filter (common_speed ours theirs) (speed_order ours theirs)
+
+-- the first of a list
+abbrev pub first_of : List Speed → Option Speed
+first_of [] = None
+first_of (speed ∷ _) = Some speed
+
+-- what stands behind a speed in a list
+abbrev pub after_speed : Speed → List Speed → List Speed
+after_speed speed [] = []
+after_speed speed (x ∷ xs) = cond (nat_eq (place_of_speed x) (place_of_speed speed)) xs (after_speed speed xs)
+
+-- the speed below a speed in the list of those that the caps and the wish try
+unfoldable pub lower_speed : Caps → Wish → Speed → Option Speed
+lower_speed caps wish speed = first_of (after_speed speed (tried_speeds wish.modems caps.modems))
+
+-- T.6 where it is wished and offered, otherwise one-dimensional
+abbrev pub wished_coding : Coding → Bool → Coding
+wished_coding T6 true = T6
+wished_coding _ _ = OneDim
+
+-- the code of the pages
+abbrev pub agreed_coding : Caps → Wish → Coding
+agreed_coding caps wish = wished_coding wish.coding caps.t6
+
+-- the caps can take pages of a width, fine or not, with error correction
+abbrev pub takes_pages : Caps → PageWidth → Bool → Bool
+takes_pages caps width fine = caps.receiver && caps.ecm && nat_le (pixels_of width) (pixels_of caps.widest) && (not fine || caps.fine)
+
+-- how pages are sent at the first speed of a list, if it has one
+abbrev pub at_first : Option Speed → Caps → Wish → PageWidth → Bool → Result Params NotCompatible
+at_first None caps wish width fine = Err (record {})
+at_first (Some speed) caps wish width fine = Ok (record { speed = speed; fine = fine; width = width; coding = agreed_coding caps wish; small = wish.small })
+
+-- what a caller of a wish and a station of some caps agree on for pages
+abbrev pub agreed : Caps → Wish → PageWidth → Bool → Result Params NotCompatible
+agreed caps wish width fine = cond (takes_pages caps width fine) (at_first (first_of (tried_speeds wish.modems caps.modems)) caps wish width fine) (Err (record {}))
+
+-- the caps offer a code
+abbrev pub offers_coding : Caps → Coding → Bool
+offers_coding caps OneDim = true
+offers_coding caps T6 = caps.t6
+
+-- the caps allow parameters
+abbrev pub allowed : Caps → Params → Bool
+allowed caps params = supports_speed caps.modems params.speed && nat_le (pixels_of params.width) (pixels_of caps.widest) && (not params.fine || caps.fine) && offers_coding caps params.coding
+
+-- how many speeds of the list tried stand below a speed
+abbrev pub speeds_below : Modems → Modems → Speed → ℕ
+speeds_below ours theirs speed = length (after_speed speed (tried_speeds ours theirs))
+
+-- two stations begin at most five speeds above the last of those that they try
+abbrev pub BeginsAtMostFiveAbove : Type 0
+BeginsAtMostFiveAbove = (caps : Caps) (wish : Wish) (width : PageWidth) (fine : Bool) → IfOk (agreed caps wish width fine) (λ params. speeds_below wish.modems caps.modems params.speed ≤ 5)
+
+-- the next lower speed has one speed less below it
+abbrev pub GoesDownByOne : Type 0
+GoesDownByOne = (caps : Caps) (wish : Wish) (speed next : Speed) → lower_speed caps wish speed ≡ Some next → speeds_below wish.modems caps.modems next + 1 ≡ speeds_below wish.modems caps.modems speed

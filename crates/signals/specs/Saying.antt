@@ -1,0 +1,65 @@
+-- What contents say, as a relation.
+use Rattle.std.specs.Prelude.{ℕ, ◌≡◌, ◌≤◌, ◌<◌, ◌+◌, ◌/◌, ◌%◌, ◌⊎◌, ◌↔◌, Bool, true, ◌&&◌, ◌||◌, List, [], ◌∷◌, Option, Some, None, Ok, length, drop, take, slice_index, nat_eq, codes}
+use Rattle.signals.specs.Reading.{control_of, page_end_of, caps_of, params_of, read_content}
+use Rattle.signals.specs.Signals.{PlainSignal, dis, dcs, cfr, ftt, fcd, rcp, pps, ppr, mcf, rnr, rr, dcn, other}
+use Rattle.signals.specs.declared.reading.Control.{Control}
+use Rattle.signals.specs.declared.reading.Control.TheVariants.{Dis, Dcs, Cfr, Ftt, Fcd, Rcp, Pps, Ppr, Mcf, Rnr, Rr, Dcn}
+
+-- the texts of the facsimile control fields in order of sending, X for the first bit of either station
+abbrev pub control_text : Control → List ℕ
+control_text Dis = codes "00000001"
+control_text Dcs = codes "X1000001"
+control_text Cfr = codes "X0100001"
+control_text Ftt = codes "X0100010"
+control_text Fcd = codes "01100000"
+control_text Rcp = codes "01100001"
+control_text Pps = codes "X1111101"
+control_text Ppr = codes "X0111101"
+control_text Mcf = codes "X0110001"
+control_text Rnr = codes "X0110111"
+control_text Rr = codes "X1110110"
+control_text Dcn = codes "X1011111"
+
+-- an octet's bits, the least significant first, are those of a text, and any bit where the text has an X
+abbrev pub has_text : List ℕ → ℕ → Bool
+has_text [] octet = true
+has_text (letter ∷ letters) octet = (nat_eq letter 88 || nat_eq letter (48 + octet % 2)) && has_text letters (octet / 2)
+
+-- each octet is read as the control field whose text it has
+abbrev pub ControlsHaveTexts : Type 0
+ControlsHaveTexts = (octet : ℕ) (control : Control) → octet < 256 → (control_of octet ≡ Some control) ↔ (has_text (control_text control) octet ≡ true)
+
+-- a DCS whose fields lie outside, or a PPS with another second field
+abbrev pub IsOutside : Option Control → List ℕ → Type 0
+IsOutside None fields = Unit {0}
+IsOutside (Some Dcs) fields = (3 ≤ length fields) × (params_of fields ≡ None)
+IsOutside (Some Pps) fields = (4 ≤ length fields) × (page_end_of (slice_index fields 0) ≡ None)
+IsOutside (Some _) fields = ⊥
+
+-- a control field, the one of an octet if it has one, and the fields behind it say a signal
+abbrev pub FieldsSay : Option Control → ℕ → List ℕ → PlainSignal → Type 0
+FieldsSay control octet fields (dis caps) = (control ≡ Some Dis) × (3 ≤ length fields) × (caps_of fields ≡ caps)
+FieldsSay control octet fields (dcs params) = (control ≡ Some Dcs) × (3 ≤ length fields) × (params_of fields ≡ Some params)
+FieldsSay control octet fields cfr = control ≡ Some Cfr
+FieldsSay control octet fields ftt = control ≡ Some Ftt
+FieldsSay control octet fields (fcd number octets) = (control ≡ Some Fcd) × (2 ≤ length fields) × (slice_index fields 0 ≡ number) × (drop 1 fields ≡ octets)
+FieldsSay control octet fields rcp = control ≡ Some Rcp
+FieldsSay control octet fields (pps ends page block last) =
+    (control ≡ Some Pps) × (4 ≤ length fields) × (page_end_of (slice_index fields 0) ≡ Some ends) × (slice_index fields 1 ≡ page) × (slice_index fields 2 ≡ block) × (slice_index fields 3 ≡ last)
+FieldsSay control octet fields (ppr map) = (control ≡ Some Ppr) × (32 ≤ length fields) × (take 32 fields ≡ map)
+FieldsSay control octet fields mcf = control ≡ Some Mcf
+FieldsSay control octet fields rnr = control ≡ Some Rnr
+FieldsSay control octet fields rr = control ≡ Some Rr
+FieldsSay control octet fields dcn = control ≡ Some Dcn
+FieldsSay control octet fields (other at) = (octet ≡ at) × IsOutside control fields
+
+-- a content says a signal
+pub record Says (content : List ℕ) (signal : PlainSignal) : Type 0 where
+  pub long : 3 ≤ length content
+  pub address : slice_index content 0 ≡ 0xFF
+  pub control : (slice_index content 1 ≡ 0x03) ⊎ (slice_index content 1 ≡ 0x13)
+  pub fields : FieldsSay (control_of (slice_index content 2)) (slice_index content 2) (drop 3 content) signal
+
+-- a content is read as a signal exactly where it says the signal
+abbrev pub ReadsWhatIsSaid : Type 0
+ReadsWhatIsSaid = (content : List ℕ) (signal : PlainSignal) → (read_content content ≡ Ok signal) ↔ Says content signal

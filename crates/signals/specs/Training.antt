@@ -1,0 +1,33 @@
+-- The training check.
+use Rattle.std.specs.Prelude.{ℕ, ◌+◌, ◌*◌, ◌≤◌, replicate, max, cond, nat_eq, List, [], ◌∷◌}
+use Rattle.signals.specs.declared.params.Speed.{Speed}
+use Rattle.signals.specs.declared.params.Speed.TheVariants.{V27At2400, V27At4800, V29At7200, V29At9600, V17At7200, V17At9600, V17At12000, V17At14400}
+
+-- the octets of the training check: 1.5 s of 0 bits
+abbrev pub training_octets : Speed → ℕ
+training_octets V27At2400 = 450
+training_octets V27At4800 = 900
+training_octets V29At7200 = 1350
+training_octets V29At9600 = 1800
+training_octets V17At7200 = 1350
+training_octets V17At9600 = 1800
+training_octets V17At12000 = 2250
+training_octets V17At14400 = 2700
+
+-- how many octets 00 stand at a list's front
+abbrev pub zeros_in_front : List ℕ → ℕ
+zeros_in_front [] = 0
+zeros_in_front (x ∷ xs) = cond (nat_eq x 0) (zeros_in_front xs + 1) 0
+
+-- the length of the longest run of octets 00
+abbrev pub longest_zeros : List ℕ → ℕ
+longest_zeros [] = 0
+longest_zeros (x ∷ xs) = max (zeros_in_front (x ∷ xs)) (longest_zeros xs)
+
+-- a training check is good where twice its longest run of octets 00 is at least its length
+abbrev pub IsGoodTraining : List ℕ → Speed → Type 0
+IsGoodTraining octets speed = training_octets speed ≤ 2 * longest_zeros octets
+
+-- each training check as it is sent is good
+abbrev pub TrainingChecksAreGood : Type 0
+TrainingChecksAreGood = (speed : Speed) → IsGoodTraining (replicate (training_octets speed) 0) speed

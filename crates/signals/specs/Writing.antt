@@ -1,0 +1,117 @@
+-- The content of the frame that says a signal.
+use Rattle.std.specs.Prelude.{ℕ, ◌≡◌, ◌≤◌, ◌+◌, Bool, cond, List, [], ◌∷◌, ◌++◌, Ok, length}
+use Rattle.page_code.specs.declared.coding.Coding.{Coding}
+use Rattle.page_code.specs.declared.coding.Coding.TheVariants.{OneDim, T6}
+use Rattle.signals.specs.Reading.{read_content}
+use Rattle.signals.specs.Signals.{PlainSignal, dis, dcs, cfr, ftt, fcd, rcp, pps, ppr, mcf, rnr, rr, dcn, other}
+use Rattle.signals.specs.declared.params.Caps.{Caps}
+use Rattle.signals.specs.declared.params.Modems.{Modems}
+use Rattle.signals.specs.declared.params.Modems.TheVariants.{Fallback, V27, V29, V27V29, V17}
+use Rattle.signals.specs.declared.params.PageWidth.{PageWidth}
+use Rattle.signals.specs.declared.params.PageWidth.TheVariants.{W1728, W2048, W2432}
+use Rattle.signals.specs.declared.params.Params.{Params}
+use Rattle.signals.specs.declared.params.Speed.{Speed}
+use Rattle.signals.specs.declared.params.Speed.TheVariants.{V27At2400, V27At4800, V29At7200, V29At9600, V17At7200, V17At9600, V17At12000, V17At14400}
+use Rattle.signals.specs.declared.signal.PageEnd.{PageEnd}
+use Rattle.signals.specs.declared.signal.PageEnd.TheVariants.{Null, Mps, Eop}
+use Rattle.signals.specs.declared.signal.Side.{Side}
+use Rattle.signals.specs.declared.signal.Side.TheVariants.{Caller, Answerer}
+
+-- the first bit X of the station that sends
+abbrev pub x_of : Side → ℕ
+x_of Caller = 1
+x_of Answerer = 0
+
+-- a bit in its place
+abbrev pub written_or : Bool → ℕ → ℕ
+written_or bit value = cond bit value 0
+
+-- bits 11 to 14 of a DIS, in their places
+abbrev pub modems_octet : Modems → ℕ
+modems_octet Fallback = 0x00
+modems_octet V27 = 0x08
+modems_octet V29 = 0x04
+modems_octet V27V29 = 0x0C
+modems_octet V17 = 0x2C
+
+-- bits 11 to 14 of a DCS, in their places
+abbrev pub speed_octet : Speed → ℕ
+speed_octet V27At2400 = 0x00
+speed_octet V27At4800 = 0x08
+speed_octet V29At7200 = 0x0C
+speed_octet V29At9600 = 0x04
+speed_octet V17At7200 = 0x2C
+speed_octet V17At9600 = 0x24
+speed_octet V17At12000 = 0x28
+speed_octet V17At14400 = 0x20
+
+-- bits 17 to 24: a width, and 011111 as each DIS and DCS has there
+abbrev pub width_octet : PageWidth → ℕ
+width_octet W1728 = 0xF8
+width_octet W2048 = 0xF9
+width_octet W2432 = 0xFA
+
+-- the octet of T.6
+abbrev pub coding_octet : Coding → ℕ
+coding_octet OneDim = 0
+coding_octet T6 = 0x40
+
+-- the second field of PPS
+abbrev pub page_end_octet : PageEnd → ℕ
+page_end_octet Null = 0x00
+page_end_octet Mps = 0x4F
+page_end_octet Eop = 0x2F
+
+-- the fields of a DIS
+unfoldable pub dis_fields : Caps → List ℕ
+dis_fields caps =
+    0 ∷ (written_or caps.receiver 0x02 + modems_octet caps.modems + written_or caps.fine 0x40) ∷ width_octet caps.widest ∷ (written_or caps.ecm 0x04 + written_or caps.t6 0x40) ∷ []
+
+-- the fields of a DCS
+unfoldable pub dcs_fields : Params → List ℕ
+dcs_fields params =
+    0 ∷ (0x02 + speed_octet params.speed + written_or params.fine 0x40) ∷ width_octet params.width ∷ (0x04 + written_or params.small 0x08 + coding_octet params.coding) ∷ []
+
+-- the facsimile control field of a signal, with the first bit X of the station where the text has an X
+abbrev pub control_octet : PlainSignal → ℕ → ℕ
+control_octet (dis _) x = 0x80
+control_octet (dcs _) x = 0x82 + x
+control_octet cfr x = 0x84 + x
+control_octet ftt x = 0x44 + x
+control_octet (fcd _ _) x = 0x06
+control_octet rcp x = 0x86
+control_octet (pps _ _ _ _) x = 0xBE + x
+control_octet (ppr _) x = 0xBC + x
+control_octet mcf x = 0x8C + x
+control_octet rnr x = 0xEC + x
+control_octet rr x = 0x6E + x
+control_octet dcn x = 0xFA + x
+control_octet (other octet) x = octet
+
+-- the fields behind the facsimile control field of a signal
+abbrev pub fields_of : PlainSignal → List ℕ
+fields_of (dis caps) = dis_fields caps
+fields_of (dcs params) = dcs_fields params
+fields_of (fcd number octets) = number ∷ octets
+fields_of (pps ends page block last) = page_end_octet ends ∷ page ∷ block ∷ last ∷ []
+fields_of (ppr map) = map
+fields_of _ = []
+
+-- address, control field and facsimile control field
+abbrev pub head_of : Bool → ℕ → List ℕ
+head_of last control = 0xFF ∷ cond last 0x13 0x03 ∷ control ∷ []
+
+-- the content of the frame that says a signal, from a side, in the last frame of a transmission or not
+unfoldable pub content_of : PlainSignal → Side → Bool → List ℕ
+content_of signal side last = head_of last (control_octet signal (x_of side)) ++ fields_of signal
+
+-- a signal that can be written: FCD with 1 to 256 octets of data, PPR with 32 octets, no other signal
+abbrev pub IsWritable : PlainSignal → Type 0
+IsWritable (fcd _ octets) = (1 ≤ length octets) × (length octets ≤ 256)
+IsWritable (ppr map) = length map ≡ 32
+IsWritable (other _) = ⊥
+IsWritable _ = Unit {0}
+
+-- the content of a signal that can be written, of either side, is read as the signal
+abbrev pub ReadsWhatIsWritten : Type 0
+ReadsWhatIsWritten = (signal : PlainSignal) (side : Side) (last : Bool) → IsWritable signal → read_content (content_of signal side last) ≡ Ok signal

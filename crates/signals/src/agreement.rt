@@ -1,0 +1,135 @@
+ghost use Rattle.signals.specs.Agreement.{agreed, lower_speed, allowed, speed_order, common_speed, first_of, after_speed, agreed_coding};
+ghost use Rattle.std.specs.List.{filter};
+ghost use Rattle.std.specs.Prelude.{◌≡◌, IfOk, true, length, List};
+
+use crate::params::{Caps, Modems, PageWidth, Params, Speed, Wish};
+use page_code::Coding;
+use thiserror::Error;
+
+/// Two stations have no way to send the pages.
+#[derive(Clone, Copy, Debug, PartialEq, Eq, Error)]
+#[error("the stations are not compatible")]
+pub struct NotCompatible;
+
+/// The order of the speeds where both stations have V.17.
+const V17_ORDER: [Speed; 6] = [
+    Speed::V17At14400,
+    Speed::V17At12000,
+    Speed::V17At9600,
+    Speed::V17At7200,
+    Speed::V27At4800,
+    Speed::V27At2400,
+];
+
+/// The order of the speeds where a station lacks V.17.
+const OTHER_ORDER: [Speed; 4] = [
+    Speed::V29At9600,
+    Speed::V29At7200,
+    Speed::V27At4800,
+    Speed::V27At2400,
+];
+
+/// The order in which two stations try their speeds.
+fn order(ours: Modems, theirs: Modems) -> &'static [Speed]
+    ensures { result.now ≡ speed_order ours theirs }
+{
+    match (ours, theirs) {
+        (Modems::V17, Modems::V17) => &V17_ORDER,
+        _ => &OTHER_ORDER,
+    }
+}
+
+/// Whether both have the speed.
+fn is_common(ours: Modems, theirs: Modems, speed: Speed) -> bool
+    ensures { result ≡ common_speed ours theirs speed }
+{
+    ours.supports(speed) && theirs.supports(speed)
+}
+
+/// The first speed that both have.
+fn first_common(ours: Modems, theirs: Modems, speeds: &[Speed]) -> Option<Speed>
+    ensures { result ≡ first_of (filter (common_speed ours theirs) speeds.now) }
+{
+    for speed in speeds {
+        if is_common(ours, theirs, *speed) {
+            return Some(*speed);
+        }
+    }
+    None
+}
+
+/// What stands behind a speed; nothing where it isn't there.
+fn after(speeds: &[Speed], speed: Speed) -> &[Speed]
+    ensures { result.now ≡ after_speed speed speeds.now }
+{
+    for (place, candidate) in speeds.iter().enumerate() {
+        if candidate.is(speed) {
+            return &speeds[place + 1..];
+        }
+    }
+    &[]
+}
+
+/// The code of the pages: T.6 where it is wished and offered.
+fn coding(caps: &Caps, wish: &Wish) -> Coding
+    ensures { result ≡ agreed_coding caps.now wish.now }
+{
+    match wish.coding {
+        Coding::T6 if caps.t6 => Coding::T6,
+        _ => Coding::OneDim,
+    }
+}
+
+/// How a caller sends pages of a width to a station, `fine` at 7.7 lines a millimetre: at the first
+/// speed that both try. Errs where the station doesn't receive, has no error correction, takes no such
+/// pages or has no speed in common. ITU-T T.30, 5.3.6.2.
+pub fn agree(
+    caps: &Caps,
+    wish: &Wish,
+    width: PageWidth,
+    fine: bool,
+) -> Result<Params, NotCompatible>
+    ensures agreed { result ≡ agreed caps.now wish.now width fine }
+    ensures allowed { IfOk result (λ params. allowed caps.now params ≡ true) }
+{
+    if !caps.receiver
+        || !caps.ecm
+        || width.pixels() > caps.widest.pixels()
+        || (fine && !caps.fine)
+    {
+        return Err(NotCompatible);
+    }
+    let speeds = order(wish.modems, caps.modems);
+    let Some(speed) = first_common(wish.modems, caps.modems, speeds) else {
+        return Err(NotCompatible);
+    };
+    Ok(Params {
+        speed,
+        fine,
+        width,
+        coding: coding(caps, wish),
+        small: wish.small,
+    })
+}
+
+/// The speed that two stations try below a speed; none below the last, and below one that they don't
+/// try.
+pub fn lower(caps: &Caps, wish: &Wish, speed: Speed) -> Option<Speed>
+    ensures { result ≡ lower_speed caps.now wish.now speed }
+{
+    if !is_common(wish.modems, caps.modems, speed) {
+        return None;
+    }
+    let below = after(order(wish.modems, caps.modems), speed);
+    first_common(wish.modems, caps.modems, below)
+}
+
+/// Whether a station takes pages that are sent so.
+pub fn allows(caps: &Caps, params: &Params) -> bool
+    ensures { result ≡ allowed caps.now params.now }
+{
+    caps.modems.supports(params.speed)
+        && params.width.pixels() <= caps.widest.pixels()
+        && (!params.fine || caps.fine)
+        && (matches!(params.coding, Coding::OneDim) || caps.t6)
+}

@@ -1,0 +1,34 @@
+//! Laws of the definitions. Nothing runs.
+
+ghost use Rattle.signals.specs.Agreement.{BeginsAtMostFiveAbove, GoesDownByOne};
+ghost use Rattle.signals.specs.Saying.{ControlsHaveTexts, ReadsWhatIsSaid};
+ghost use Rattle.signals.specs.Training.{TrainingChecksAreGood};
+ghost use Rattle.signals.specs.Writing.{ReadsWhatIsWritten};
+
+/// A facsimile control field is known exactly where its bits are those of the signal's text, with either
+/// bit where the text has an X. ITU-T T.30, 5.3.6.1.
+pub fn controls_have_texts()
+    ensures { ControlsHaveTexts }
+{}
+
+/// A content is read as a signal exactly where it says the signal.
+pub fn reads_what_is_said()
+    ensures { ReadsWhatIsSaid }
+{}
+
+/// The content that is written of a signal, by either station, is read as the signal.
+pub fn reads_what_is_written()
+    ensures { ReadsWhatIsWritten }
+{}
+
+/// A training check of its length in octets 00 is good.
+pub fn training_checks_are_good()
+    ensures { TrainingChecksAreGood }
+{}
+
+/// What two stations agree on begins at most five speeds above the last that they try, and each next
+/// lower speed has one speed less below it.
+pub fn speeds_go_down()
+    ensures begins { BeginsAtMostFiveAbove }
+    ensures by_one { GoesDownByOne }
+{}

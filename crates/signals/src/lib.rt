@@ -1,0 +1,24 @@
+//! The signals of Group 3 facsimile and what two stations agree on: ITU-T T.30, 5.3. Stands on
+//! `page_code`, for the name of a page's code.
+#![tactic(auto)]
+
+mod agreement;
+#[cfg(test)]
+mod agreement_tests;
+mod fault;
+pub mod laws;
+mod params;
+mod reading;
+mod signal;
+#[cfg(test)]
+mod signal_tests;
+mod training;
+mod writing;
+
+pub use crate::agreement::{NotCompatible, agree, allows, lower};
+pub use crate::fault::SignalFault;
+pub use crate::params::{Caps, Modems, PageWidth, Params, Speed, Wish};
+pub use crate::reading::read;
+pub use crate::signal::{PageEnd, Side, Signal};
+pub use crate::training::{training_good, training_len};
+pub use crate::writing::write;

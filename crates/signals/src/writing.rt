@@ -1,0 +1,175 @@
+ghost use Rattle.signals.specs.Signals.{plain};
+ghost use Rattle.signals.specs.Writing.{IsWritable, content_of, head_of, x_of, modems_octet, speed_octet, width_octet, coding_octet, dis_fields, dcs_fields, page_end_octet, written_or};
+ghost use Rattle.std.specs.Prelude.{◌≡◌, ◌≤◌, ◌<◌, ◌+◌, ◌++◌, length};
+
+use crate::params::{Caps, Modems, PageWidth, Params, Speed};
+use crate::signal::{PageEnd, Side, Signal};
+use arrayvec::ArrayVec;
+use page_code::Coding;
+
+impl Side {
+    /// The first bit X of a facsimile control field that this station sends.
+    fn x(self) -> u8
+        ensures { result ≡ x_of self }
+    {
+        match self {
+            Side::Caller => 1,
+            Side::Answerer => 0,
+        }
+    }
+}
+
+/// A bit in its place.
+fn placed(bit: bool, value: u8) -> u8
+    ensures bit { result ≡ written_or bit value }
+    ensures most { result ≤ value }
+{
+    if bit { value } else { 0 }
+}
+
+/// Bits 11 to 14 of a DIS, in their places.
+fn modems(modems: Modems) -> u8
+    ensures octet { result ≡ modems_octet modems }
+    ensures small { result < 0x40 }
+{
+    match modems {
+        Modems::Fallback => 0x00,
+        Modems::V27 => 0x08,
+        Modems::V29 => 0x04,
+        Modems::V27V29 => 0x0C,
+        Modems::V17 => 0x2C,
+    }
+}
+
+/// Bits 11 to 14 of a DCS, in their places.
+fn speed(speed: Speed) -> u8
+    ensures octet { result ≡ speed_octet speed }
+    ensures small { result < 0x40 }
+{
+    match speed {
+        Speed::V27At2400 => 0x00,
+        Speed::V27At4800 => 0x08,
+        Speed::V29At7200 => 0x0C,
+        Speed::V29At9600 => 0x04,
+        Speed::V17At7200 => 0x2C,
+        Speed::V17At9600 => 0x24,
+        Speed::V17At12000 => 0x28,
+        Speed::V17At14400 => 0x20,
+    }
+}
+
+/// Bit 31 of a DCS, in its place.
+fn coding(coding: Coding) -> u8
+    ensures octet { result ≡ coding_octet coding }
+    ensures small { result ≤ 0x40 }
+{
+    match coding {
+        Coding::OneDim => 0x00,
+        Coding::T6 => 0x40,
+    }
+}
+
+/// Bits 17 to 24 of a DIS or a DCS: a width, any length of a page, no time for a row, and a fourth
+/// octet.
+fn width(width: PageWidth) -> u8
+    ensures { result ≡ width_octet width }
+{
+    match width {
+        PageWidth::W1728 => 0xF8,
+        PageWidth::W2048 => 0xF9,
+        PageWidth::W2432 => 0xFA,
+    }
+}
+
+/// The second field of PPS.
+fn page_end(ends: PageEnd) -> u8
+    ensures { result ≡ page_end_octet ends }
+{
+    match ends {
+        PageEnd::Null => 0x00,
+        PageEnd::Mps => 0x4F,
+        PageEnd::Eop => 0x2F,
+    }
+}
+
+/// The fields of a DIS.
+#[tactic(auto, unfolding(crate::specs::Writing::dis_fields))]
+fn dis(caps: &Caps) -> [u8; 4]
+    ensures { result ≡ dis_fields caps.now }
+{
+    let second = placed(caps.receiver, 0x02) + modems(caps.modems) + placed(caps.fine, 0x40);
+    let fourth = placed(caps.ecm, 0x04) + placed(caps.t6, 0x40);
+    [0, second, width(caps.widest), fourth]
+}
+
+/// The fields of a DCS.
+#[tactic(auto, unfolding(crate::specs::Writing::dcs_fields))]
+fn dcs(params: &Params) -> [u8; 4]
+    ensures { result ≡ dcs_fields params.now }
+{
+    let second = 0x02 + speed(params.speed) + placed(params.fine, 0x40);
+    let fourth = 0x04 + placed(params.small, 0x08) + coding(params.coding);
+    [0, second, width(params.width), fourth]
+}
+
+/// Appends octets.
+fn append(content: &mut ArrayVec<u8, 300>, octets: &[u8])
+    requires { length content.old.items + length octets.now ≤ 300 }
+    ensures { content.new.items ≡ content.old.items ++ octets.now }
+{
+    let _all = content.try_extend_from_slice(octets);
+}
+
+/// The content of a facsimile control field and the fields behind it.
+fn content(last: bool, control: u8, fields: &[u8]) -> ArrayVec<u8, 300>
+    requires { length fields.now ≤ 297 }
+    ensures { result.items ≡ head_of last control ++ fields.now }
+{
+    let mut content = ArrayVec::new();
+    append(
+        &mut content,
+        &[0xFF, if last { 0x13 } else { 0x03 }, control],
+    );
+    append(&mut content, fields);
+    content
+}
+
+/// The content of the frame that says a signal: FF, the control field, 13 in the last frame of a
+/// transmission and 03 in each other, the facsimile control field with the first bit X of the station
+/// that sends it, and the fields. FCD has 1 to 256 octets of data, and `Other` can't be written. Takes no
+/// memory. ITU-T T.30, 5.3.4 to 5.3.6 and A.4.
+#[tactic(auto, unfolding(crate::specs::Writing::content_of))]
+pub fn write(signal: &Signal, side: Side, last: bool) -> ArrayVec<u8, 300>
+    requires { IsWritable (plain signal.now) }
+    ensures { result.items ≡ content_of (plain signal.now) side last }
+{
+    let x = side.x();
+    match signal {
+        Signal::Dis(caps) => content(last, 0x80, &dis(caps)),
+        Signal::Dcs(params) => content(last, 0x82 + x, &dcs(params)),
+        Signal::Cfr => content(last, 0x84 + x, &[]),
+        Signal::Ftt => content(last, 0x44 + x, &[]),
+        Signal::Fcd { number, octets } => {
+            let mut content = content(last, 0x06, &[*number]);
+            append(&mut content, octets);
+            content
+        }
+        Signal::Rcp => content(last, 0x86, &[]),
+        Signal::Pps {
+            ends,
+            page,
+            block,
+            last: last_frame,
+        } => content(
+            last,
+            0xBE + x,
+            &[page_end(*ends), *page, *block, *last_frame],
+        ),
+        Signal::Ppr(map) => content(last, 0xBC + x, map),
+        Signal::Mcf => content(last, 0x8C + x, &[]),
+        Signal::Rnr => content(last, 0xEC + x, &[]),
+        Signal::Rr => content(last, 0x6E + x, &[]),
+        Signal::Dcn => content(last, 0xFA + x, &[]),
+        Signal::Other(octet) => content(last, *octet, &[]),
+    }
+}
