@@ -37,10 +37,11 @@ vertical_text VL1 = text (codes "010")
 vertical_text VL2 = text (codes "000010")
 vertical_text VL3 = text (codes "0000010")
 
--- the code of pass mode, and the flag of horizontal mode
+-- the code of pass mode
 abbrev pub pass_text : List Bool
 pass_text = text (codes "0001")
 
+-- the flag of horizontal mode, which the texts of its two runs follow
 abbrev pub horizontal_text : List Bool
 horizontal_text = text (codes "001")
 

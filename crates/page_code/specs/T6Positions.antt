@@ -52,6 +52,7 @@ abbrev pub first_place : (ℕ → Bool) → ℕ → ℕ → ℕ
 first_place test zero at = at
 first_place test (suc count) at = if test at then at else first_place test count (at + 1)
 
+-- the two colors are the same
 abbrev pub same_color : Color → Color → Bool
 same_color White White = true
 same_color White Black = false

@@ -30,9 +30,10 @@ pub record WritesMode (reference row : List Color) (old new : CodedTo) (before a
   pub moves : line_to row new ≡ moved reference row (line_to row old) (prescribed reference row (line_to row old))
   pub within : new.place ≤ length row
 
--- one of the rows, and the reference line of it
+-- one of the rows
 abbrev pub row_at : List (List Color) → ℕ → List Color
 row_at rows at = slice_index_or rows at []
 
+-- the reference line of one of the rows: the row before it, or the white line
 abbrev pub reference_at : List Color → List (List Color) → ℕ → List Color
 reference_at white rows at = row_at (white ∷ rows) at

@@ -25,6 +25,7 @@ pub record IsFront {State Item : Type 0} (text : Item → List Bool) (Step : Sta
   pub walk : Walk Step s items end
   pub spelled : x ≡ spell text items ++ rest
 
+-- what reading answers that looks at this place: it goes on behind an item, answers at the end, or is refused here
 abbrev pub act : {State Item Answer Kind : Type 0} → Look State Item Answer Kind → ℕ → (Item → State → Result (Answer × ℕ) (ℕ × Kind)) → Result (Answer × ℕ) (ℕ × Kind)
 act (go i t) place next = next i t
 act (stop a n) place next = Ok (a, place + n)

@@ -7,5 +7,6 @@ use Rattle.run_tables.specs.Codes.{text}
 abbrev pub pair_of : Code → ℕ × List Bool
 pair_of code = (code.0, text code.1.now)
 
+-- the runs and the texts of codes
 abbrev pub as_pairs : List Code → List (ℕ × List Bool)
 as_pairs held = map pair_of held

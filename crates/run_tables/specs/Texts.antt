@@ -14,6 +14,7 @@ abbrev pub apart : List (List Bool) → Bool
 apart [] = true
 apart (x ∷ xs) = list_all (λ y. not (begins x y || begins y x)) xs && apart xs
 
+-- the bits are all 0, or there are none
 abbrev pub all_zero : List Bool → Bool
 all_zero [] = true
 all_zero (x ∷ xs) = not x && all_zero xs
