@@ -71,43 +71,23 @@ fn three_rows(rt: HostRuntime) -> Result<(), Fail> {
 #[test]
 fn refusals(rt: HostRuntime) -> Result<(), Fail> {
     let alloc = rt.alloc();
-    let msb = Order::MsbFirst;
-    assert_eq!(rt;
-        read(alloc, &[], msb, 8),
-        refused(0, CodeFaultKind::MissingEofb)
-    );
-    assert_eq!(rt;
-        read(alloc, &[0x02], msb, 8),
-        refused(0, CodeFaultKind::Extension)
-    );
-    assert_eq!(rt;
-        read(alloc, &[0x80], msb, 8),
-        refused(1, CodeFaultKind::MissingEofb)
-    );
-    assert_eq!(rt;
-        read(alloc, &[0x80, 0x08, 0x00], msb, 8),
-        refused(1, CodeFaultKind::Truncated)
-    );
-    assert_eq!(rt;
-        read(alloc, &[0x20], msb, 8),
-        refused(3, CodeFaultKind::Truncated)
-    );
-    assert_eq!(rt;
-        read(alloc, &[0x60], msb, 8),
-        refused(0, CodeFaultKind::PastEnd)
-    );
-    assert_eq!(rt;
-        read(alloc, &[0x26, 0xAA, 0x80], msb, 8),
-        refused(15, CodeFaultKind::Backwards)
-    );
-    assert_eq!(rt;
-        read(alloc, &[0x26, 0xA1, 0xB8], msb, 8),
-        refused(11, CodeFaultKind::EmptyHorizontal)
-    );
-    assert_eq!(rt;
-        read(alloc, &[0x00, 0x10, 0x01], msb, 8),
-        refused(0, CodeFaultKind::NoRows)
-    );
+    for (octets, place, kind) in [
+        ([0x02].as_slice(), 0, CodeFaultKind::Extension),
+        (&[], 0, CodeFaultKind::MissingEofb),
+        (&[0x80], 1, CodeFaultKind::MissingEofb),
+        (&[0x80, 0x08, 0x00], 1, CodeFaultKind::Truncated),
+        (&[0x20], 3, CodeFaultKind::Truncated),
+        (&[0x60], 0, CodeFaultKind::PastEnd),
+        (&[0x26, 0xAA, 0x80], 15, CodeFaultKind::Backwards),
+        (&[0x26, 0xA1, 0xB8], 11, CodeFaultKind::EmptyHorizontal),
+        (&[0x00, 0x10, 0x01], 0, CodeFaultKind::NoRows),
+    ] {
+        assert_eq!(rt;
+            read(alloc, octets, Order::MsbFirst, 8),
+            refused(place, kind),
+            "{octets:?}"
+        );
+    }
     Ok(())
 }
 

@@ -37,6 +37,17 @@ fn run_read_behind(octets: &[u8], first: u32, color: Color) -> (Result<u32, Code
     (read, reader.place())
 }
 
+/// What reading a run behind so many first digits gives, and where the reader then stands.
+fn digits_read_behind(
+    alloc: Global,
+    digits: &str,
+    first: u32,
+    color: Color,
+) -> Result<(Result<u32, CodeFault>, u128), AllocError> {
+    let octets = octets_of(alloc, Order::MsbFirst, digits)?;
+    Ok(run_read_behind(&octets, first, color))
+}
+
 #[test]
 fn rows_are_written_by_the_tables(rt: HostRuntime) -> Result<(), Fail> {
     let alloc = rt.alloc();
@@ -147,61 +158,37 @@ fn the_longest_run(rt: HostRuntime) -> Result<(), Fail> {
 
 // The first digits fill the octets up to where the reader begins.
 #[test]
-fn runs_are_refused(rt: HostRuntime) -> Result<(), Fail> {
-    let alloc = rt.alloc();
-    for (color, digits, first, place, kind) in [
-        (
-            Color::White,
-            "1111 11011 0000000",
-            4,
-            9,
-            CodeFaultKind::BadCode,
-        ),
-        (
-            Color::White,
-            "11111 11011 000000",
-            5,
-            10,
-            CodeFaultKind::Truncated,
-        ),
-        (
-            Color::White,
-            "111111 11011 11011",
-            6,
-            11,
-            CodeFaultKind::BadCode,
-        ),
-        (Color::White, "111 11011", 3, 8, CodeFaultKind::Truncated),
-        (Color::White, "1 0000000", 1, 1, CodeFaultKind::Truncated),
-        (Color::White, "11 000000", 2, 2, CodeFaultKind::Truncated),
-        (Color::White, "00000000", 0, 0, CodeFaultKind::BadCode),
-        (
-            Color::White,
-            "111111 0000000001",
-            6,
-            6,
-            CodeFaultKind::BadCode,
-        ),
-        (Color::White, "", 0, 0, CodeFaultKind::Truncated),
-        (
-            Color::Black,
-            "1111 000000000001",
-            4,
-            4,
-            CodeFaultKind::BadCode,
-        ),
-        (
-            Color::Black,
-            "1111 0000001111 0000001111",
-            4,
-            14,
-            CodeFaultKind::BadCode,
-        ),
-        (Color::Black, "11111111", 8, 8, CodeFaultKind::Truncated),
+fn white_runs_are_refused(rt: HostRuntime) -> Result<(), Fail> {
+    for (digits, first, place, kind) in [
+        ("1111 11011 0000000", 4, 9, CodeFaultKind::BadCode),
+        ("11111 11011 000000", 5, 10, CodeFaultKind::Truncated),
+        ("111111 11011 11011", 6, 11, CodeFaultKind::BadCode),
+        ("111 11011", 3, 8, CodeFaultKind::Truncated),
+        ("1 0000000", 1, 1, CodeFaultKind::Truncated),
+        ("11 000000", 2, 2, CodeFaultKind::Truncated),
+        ("00000000", 0, 0, CodeFaultKind::BadCode),
+        ("111111 0000000001", 6, 6, CodeFaultKind::BadCode),
+        ("", 0, 0, CodeFaultKind::Truncated),
     ] {
-        let octets = octets_of(alloc, Order::MsbFirst, digits)?;
         assert_eq!(rt;
-            run_read_behind(&octets, first, color),
+            digits_read_behind(rt.alloc(), digits, first, Color::White)?,
+            (Err(CodeFault { place, kind }), first as u128),
+            "{digits}"
+        );
+    }
+    Ok(())
+}
+
+// The first digits fill the octets up to where the reader begins.
+#[test]
+fn black_runs_are_refused(rt: HostRuntime) -> Result<(), Fail> {
+    for (digits, first, place, kind) in [
+        ("1111 000000000001", 4, 4, CodeFaultKind::BadCode),
+        ("1111 0000001111 0000001111", 4, 14, CodeFaultKind::BadCode),
+        ("11111111", 8, 8, CodeFaultKind::Truncated),
+    ] {
+        assert_eq!(rt;
+            digits_read_behind(rt.alloc(), digits, first, Color::Black)?,
             (Err(CodeFault { place, kind }), first as u128),
             "{digits}"
         );
