@@ -2,7 +2,7 @@ ghost use Rattle.page_code.specs.T6Code.{page_code, row_code, rows_code, vertica
 ghost use Rattle.page_code.specs.T6Writing.{IsCodedTo, WritesMode, reference_at, row_at};
 ghost use Rattle.run_tables.specs.Codes.{text};
 ghost use Rattle.run_tables.specs.Written.{Appends};
-ghost use Rattle.std.specs.Prelude.{◌≡◌, ◌≤◌, ◌<◌, ◌+◌, All, length, OnOk, if◌then◌else◌};
+ghost use Rattle.std.specs.Prelude.{◌≡◌, ◌≤◌, ◌<◌, ◌+◌, All, length, OnOk, true, if◌then◌else◌};
 
 use crate::t6_mode::{EOFB, ModeCode, Shift};
 use crate::t6_position::next_change_to;
@@ -16,6 +16,19 @@ pub(crate) struct CodedTo {
     pub(crate) place: u32,
     pub(crate) begun: bool,
     pub(crate) color: Color,
+}
+
+impl CodedTo {
+    /// a0 is on the row, at this place and of this color.
+    fn on_row(place: u32, color: Color) -> Self
+        ensures { result ≡ record { place = place; begun = true; color = color } }
+    {
+        CodedTo {
+            place,
+            begun: true,
+            color,
+        }
+    }
 }
 
 /// The least place to the right of a0.
@@ -86,31 +99,19 @@ fn write_mode(
     let b2 = reference.next_change(b1 + 1);
     if b2 < a1 {
         write_text(writer, ModeCode::Pass.digits())?;
-        *to = CodedTo {
-            place: b2,
-            begun: true,
-            color,
-        };
+        *to = CodedTo::on_row(b2, color);
         return Ok(());
     }
     if let Some(shift) = shift_to(b1, a1) {
         write_text(writer, shift.digits())?;
-        *to = CodedTo {
-            place: a1,
-            begun: true,
-            color: color.other(),
-        };
+        *to = CodedTo::on_row(a1, color.other());
         return Ok(());
     }
     let a2 = row.next_change(a1 + 1);
     write_text(writer, ModeCode::Horizontal.digits())?;
     writer.write_run(color, a1 - to.place)?;
     writer.write_run(color.other(), a2 - a1)?;
-    *to = CodedTo {
-        place: a2,
-        begun: true,
-        color,
-    };
+    *to = CodedTo::on_row(a2, color);
     Ok(())
 }
 
