@@ -1,14 +1,13 @@
 -- Reading a one-dimensional page, row by row.
-use Rattle.std.proofs.Common.{true, false, cond, inl, inr, ltb, ℕ, ◌≡◌, ◌≢◌, ◌+◌, ◌-◌, ◌*◌, ◌<◌, ◌≤◌, Bool, List, [], ◌∷◌, ◌++◌, length, drop, Some, None, refl, ap, sym, ◌∙◌, arith, subst}
-use Rattle.std.specs.Prelude.{Option, Result, Ok, Err, IfOk, IfErr, MatchResult}
-use Rattle.std.proofs.lemmas.Bool.{lt-ltb}
+use Rattle.std.proofs.Common.{true, false, cond, inl, inr, ltb, ℕ, ◌≡◌, ◌≢◌, ◌+◌, ◌<◌, ◌≤◌, Bool, List, [], ◌∷◌, ◌++◌, length, drop, Some, None, refl, ap, sym, ◌∙◌, arith, subst}
+use Rattle.std.specs.Prelude.{Option, Result, Ok, Err, IfOk, IfErr}
 use Rattle.raster.specs.declared.row.Color.{Color}
 use Rattle.raster.specs.declared.row.Color.TheVariants.{White}
 use Rattle.raster.specs.Pixels.{IsWidth}
 use Rattle.run_tables.specs.declared.fault.CodeFault.{CodeFault}
 use Rattle.run_tables.specs.declared.fault.CodeFaultKind.{CodeFaultKind}
 use Rattle.run_tables.specs.declared.fault.CodeFaultKind.TheVariants.{NoRows, BadCode, TooManyCodedRows, NoMemory}
-use Rattle.run_tables.specs.Reading.{Reading, rest_of}
+use Rattle.run_tables.specs.Reading.{Reading}
 use Rattle.run_tables.specs.RowReading.{ReadsRow, RefusesRow}
 use Rattle.run_tables.proofs.RowReadings.{reads_rows_exactly}
 use Rattle.run_tables.proofs.RowReads.{code_memory}
@@ -26,7 +25,7 @@ use Rattle.run_tables.specs.Fronts.Look.{go, stop, refuse}
 use Rattle.page_code.proofs.T4Looks.{by_eol_other}
 use Rattle.page_code.proofs.T4Rows.{reading_same, reading_row_refused}
 use Rattle.page_code.proofs.T4PageLaws.{reads_pages_exactly, refuses_no_page, refuses_at_longest, reads_code}
-use Rattle.page_code.proofs.T4Readings.{reading_at_row, reading_at_eol, reading_first_none, reading_start_none, reading_start_eol, reading_again_none, reading_again_eol, reading_again_full}
+use Rattle.page_code.proofs.T4Readings.{reading_at_row, reading_at_eol, reading_start_none, reading_start_eol}
 
 -- no row before the page's end, where only 0 bits are left or an EOL stands
 pub start_none : (width place : ℕ) (rows : List (List Color)) (x : List Bool) → length rows ≡ 0 → zeros_before x ≡ None → reading width (row_start rows) place x ≡ Err (place, NoRows)

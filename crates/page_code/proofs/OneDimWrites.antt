@@ -1,12 +1,11 @@
 -- Writing a one-dimensional page.
-use Rattle.std.proofs.Common.{ℕ, zero, suc, ◌≡◌, ◌+◌, ◌<◌, ◌≤◌, Bool, true, false, List, [], ◌∷◌, ◌++◌, length, take, replicate, get_or, refl, ap, sym, ◌∙◌, arith, append_assoc}
+use Rattle.std.proofs.Common.{ℕ, zero, suc, ◌≡◌, ◌+◌, ◌<◌, Bool, List, [], ◌∷◌, ◌++◌, length, take, replicate, get_or, refl, ap, sym, ◌∙◌, arith, append_assoc}
 use Rattle.std.proofs.lemmas.List.{append-nil, take_more}
 use Rattle.raster.specs.declared.row.Color.{Color}
 use Rattle.raster.specs.declared.row.Color.TheVariants.{White}
 use Rattle.raster.specs.Packed.{Bits}
 use Rattle.raster.specs.Runs.{AreOwnRuns}
 use Rattle.run_tables.specs.RunTexts.{runs_text}
-use Rattle.page_code.specs.OwnRuns.{own_runs}
 use Rattle.page_code.specs.T4Pages.{eol_text, eols_text, row_text, rows_text}
 use Rattle.page_code.proofs.OwnRunLaws.{own_runs_only}
 

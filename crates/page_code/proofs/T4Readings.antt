@@ -1,6 +1,6 @@
 -- What reading gives at a place of the bits, in the forms that a reader of them meets.
 use Rattle.std.proofs.Common.{ltb, ℕ, zero, suc, ◌≡◌, ◌+◌, ◌<◌, ◌≤◌, Bool, false, List, [], ◌∷◌, ◌++◌, length, drop, Some, None, refl, ap, sym, ◌∙◌, arith, cond, drop-drop}
-use Rattle.std.specs.Prelude.{Option, Ok, Err}
+use Rattle.std.specs.Prelude.{Ok, Err}
 use Rattle.std.proofs.lemmas.Bool.{lt-ltb, le-ltb}
 use Rattle.std.proofs.lemmas.List.{drop_at}
 use Rattle.raster.specs.declared.row.Color.{Color}
@@ -12,9 +12,9 @@ use Rattle.run_tables.specs.Fronts.Look.{go, stop, refuse}
 use Rattle.run_tables.specs.RowFronts.{read_row}
 use Rattle.run_tables.proofs.RowReadings.{reads_rows_exactly, refuses_at_longest}
 use Rattle.page_code.specs.T4Pages.{eol_text}
-use Rattle.page_code.specs.T4Fronts.{PageState, Step, PageLook, zeros_before, by_eol, eol_bits, bits_of_eols, bits_of_five, ends_with, look_in_row, look, reading, MayBegin, CodeStands}
+use Rattle.page_code.specs.T4Fronts.{PageState, Step, PageLook, zeros_before, by_eol, bits_of_eols, bits_of_five, ends_with, look_in_row, reading, MayBegin, CodeStands}
 use Rattle.page_code.specs.T4Fronts.PageItem.{eol}
-use Rattle.page_code.specs.T4Fronts.PageState.{first, row_start, in_row, row_end}
+use Rattle.page_code.specs.T4Fronts.PageState.{first, row_start, row_end}
 use Rattle.page_code.proofs.ZeroBits.{zeros_split, length-eol}
 use Rattle.page_code.proofs.T4Looks.{by_eol_there, by_eol_other}
 use Rattle.page_code.proofs.T4Rows.{reading_go, reading_stop, reading_refuse, reading_row, reading_row_refused}

@@ -1,7 +1,7 @@
 -- What reading a whole T.6 page gives, in the words of its contract.
 use Rattle.std.proofs.Common.{◌++◌, suc, arith, ltb, ℕ, ◌≡◌, ◌≢◌, ◌+◌, Bool, true, false, List, [], ◌∷◌, inl, inr, length, Some, None, ap, sym, ◌∙◌, cond, nat_eq}
 use Rattle.std.specs.List.{AllByRecursion}
-use Rattle.std.specs.Prelude.{All, Option, Result, Ok, Err, IfOk, IfErr, MatchResult}
+use Rattle.std.specs.Prelude.{All, Option, Result, Ok, Err, IfOk, IfErr}
 use Rattle.raster.specs.declared.row.Color.{Color}
 use Rattle.raster.specs.Pages.{PagePixels}
 use Rattle.raster.specs.Pixels.{IsWidth}

@@ -5,7 +5,7 @@ use Rattle.std.proofs.lemmas.Bool.{lt-ltb, le-ltb, ne_eqb, eqb-false, false≢tr
 use Rattle.raster.specs.declared.row.Color.{Color}
 use Rattle.raster.specs.Pixels.{other}
 use Rattle.run_tables.specs.declared.fault.CodeFaultKind.{CodeFaultKind}
-use Rattle.run_tables.specs.declared.fault.CodeFaultKind.TheVariants.{NoRows, NoMemory, BadCode, Truncated, RunTooLong, Backwards, PastEnd, EmptyHorizontal, Extension, MissingEofb, TooManyCodedRows}
+use Rattle.run_tables.specs.declared.fault.CodeFaultKind.TheVariants.{NoRows, BadCode, Truncated, Backwards, PastEnd, EmptyHorizontal, Extension, MissingEofb, TooManyCodedRows}
 use Rattle.run_tables.specs.Codes.{code_text, run_at}
 use Rattle.run_tables.specs.Texts.{begins, all_zero, pick, is_cut}
 use Rattle.run_tables.specs.Fronts.Look.{stop, refuse}

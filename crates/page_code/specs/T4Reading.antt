@@ -1,20 +1,15 @@
 -- What the parts of a one-dimensional page's reader and writer answer (ITU-T T.4, 4.1).
-use Rattle.std.specs.Prelude.{ℕ, ◌≡◌, ◌≢◌, ◌+◌, ◌<◌, ◌≤◌, ◌++◌, Bool, List, length, drop, None, Some, Result, Ok, Err, [], ◌⊎◌}
-use Rattle.raster.specs.declared.packed.Order.{Order}
+use Rattle.std.specs.Prelude.{ℕ, ◌≡◌, ◌+◌, ◌<◌, ◌≤◌, Bool, List, length, drop, None, Some, Result, Ok, Err, [], ◌⊎◌}
 use Rattle.raster.specs.declared.row.Color.{Color}
-use Rattle.raster.specs.Packed.{FillsOctets}
 use Rattle.raster.specs.Pages.{PagePixels}
 use Rattle.run_tables.specs.declared.fault.CodeFault.{CodeFault}
-use Rattle.run_tables.specs.declared.fault.CodeFaultKind.{CodeFaultKind}
 use Rattle.run_tables.specs.declared.fault.CodeFaultKind.TheVariants.{NoMemory}
 use Rattle.page_code.specs.declared.eol.Eol.{Eol}
 use Rattle.page_code.specs.declared.eol.Eol.TheVariants.{Stands, Absent, OnlyZeros}
 use Rattle.page_code.specs.declared.one_dim.Start.{Start}
 use Rattle.page_code.specs.declared.one_dim.Start.TheVariants.{Row, End, Refused}
-use Rattle.page_code.specs.T4Pages.{ReadsAs}
 use Rattle.page_code.specs.T4Fronts.{zeros_before, CodeStands, reading, read_page}
 use Rattle.page_code.specs.T4Fronts.PageState.{row_start, row_end}
-use Rattle.page_code.specs.T4Laws.{IsLongestFront}
 
 -- what stands where an EOL may stand
 abbrev pub SeesEol : List Bool → Eol → Type 0

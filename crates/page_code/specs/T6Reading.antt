@@ -15,8 +15,7 @@ use Rattle.page_code.specs.declared.t6_mode.ModeCode.{ModeCode}
 use Rattle.page_code.specs.declared.t6_read.Start.{Start}
 use Rattle.page_code.specs.declared.t6_read.Start.TheVariants.{Row, End, Refused}
 use Rattle.page_code.specs.T6Positions.{CodingLine, line_begin}
-use Rattle.page_code.specs.T6Modes.{eofb, extension_text, ReadsAsPage}
-use Rattle.page_code.specs.T6Laws.{IsLongestFront}
+use Rattle.page_code.specs.T6Modes.{eofb, extension_text}
 use Rattle.page_code.specs.T6Fronts.{mode_code_text, mode_codes, PageSoFar, PageState, page_begin, row_added, behind_mode, after_mode, run_color, behind_run, page_look, reading, read_page}
 use Rattle.page_code.specs.T6Fronts.PageState.{between, inside, running}
 

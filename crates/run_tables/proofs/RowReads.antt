@@ -1,6 +1,6 @@
 -- Reading a row run by run.
-use Rattle.std.proofs.Common.{◌≢◌, nat_eq, subst, length-append, ltb, ℕ, ◌≡◌, ◌+◌, ◌<◌, ◌≤◌, Bool, true, false, List, [], ◌∷◌, ◌++◌, map, length, drop, replicate, Some, None, refl, ap, sym, ◌∙◌, arith, cond, inl, inr}
-use Rattle.std.specs.Prelude.{Option, Contains, Result, Ok, Err, if◌then◌else◌, Vec}
+use Rattle.std.proofs.Common.{◌≢◌, subst, length-append, ltb, ℕ, ◌≡◌, ◌+◌, ◌<◌, ◌≤◌, Bool, true, false, List, [], ◌∷◌, ◌++◌, map, length, drop, replicate, Some, None, refl, ap, sym, ◌∙◌, arith, cond, inl, inr}
+use Rattle.std.specs.Prelude.{Option, Result, Ok, Err, if◌then◌else◌, Vec}
 use Rattle.std.specs.List.{range_with_len}
 use Rattle.std.specs.Option.{option_map}
 use Rattle.std.proofs.lemmas.Bool.{lt-ltb, le-ltb, ne_eqb, eq-eqb}
@@ -19,7 +19,7 @@ use Rattle.run_tables.specs.declared.fault.CodeFault.{CodeFault}
 use Rattle.run_tables.specs.declared.reader.Among.TheVariants.{AllCodes, TerminatingCodes}
 use Rattle.run_tables.specs.Texts.{begins, pick, is_cut}
 use Rattle.run_tables.specs.Fronts.{Look}
-use Rattle.run_tables.specs.Fronts.Look.{go, stop, refuse}
+use Rattle.run_tables.specs.Fronts.Look.{refuse}
 use Rattle.run_tables.specs.RowFronts.{RunItem, run_of, item_text, run_items, codes_after, standing, amount, behind_run, after_code, look_code, found_code, judged, look, reading, read_row, row_begin, moved, RowState}
 use Rattle.run_tables.specs.RowFronts.RunItem.{run_item}
 use Rattle.run_tables.specs.RowFronts.RowState.{inside, whole}

@@ -1,11 +1,10 @@
 -- What reading a one-dimensional row answers, and what it leaves (ITU-T T.4, 4.1.1).
-use Rattle.std.specs.Prelude.{ℕ, ◌≡◌, ◌≢◌, ◌+◌, ◌<◌, ◌≤◌, ◌++◌, Bool, List, length, replicate, Option, None, Result, Ok, Err, sum, Vec, ◌⊎◌}
+use Rattle.std.specs.Prelude.{ℕ, ◌≡◌, ◌+◌, ◌<◌, ◌≤◌, ◌++◌, List, length, replicate, None, Result, Ok, Err, sum, Vec, ◌⊎◌}
 use Rattle.raster.specs.declared.row.Color.{Color}
 use Rattle.raster.specs.declared.row.Color.TheVariants.{White}
 use Rattle.raster.specs.Runs.{colored}
 use Rattle.raster.specs.Pixels.{other}
 use Rattle.run_tables.specs.declared.fault.CodeFault.{CodeFault}
-use Rattle.run_tables.specs.declared.fault.CodeFaultKind.{CodeFaultKind}
 use Rattle.run_tables.specs.declared.fault.CodeFaultKind.TheVariants.{NoMemory}
 use Rattle.run_tables.specs.Reading.{Reading, rest_of}
 use Rattle.run_tables.specs.RowFronts.{behind_run, reading, row_begin}

@@ -1,4 +1,4 @@
-use Rattle.std.proofs.Common.{◌≡◌, ◌+◌, ◌-◌, ◌*◌, ◌≤◌, arith, length, drop, refl, sym}
+use Rattle.std.proofs.Common.{◌≡◌, ◌-◌, ◌*◌, arith, length, drop, refl, sym}
 use Rattle.std.proofs.lemmas.List.{length-drop}
 use Rattle.raster.specs.Packed.{bits_of}
 use Rattle.raster.proofs.PackedLemmas.{length-bits_in}

@@ -1,4 +1,3 @@
-use Rattle.std.proofs.Common.{drop}
 use Rattle.raster.specs.Packed.{bits_of}
 use Rattle.page_code.proofs.T4Readings.{reading_first_none}
 use Rattle.page_code.proofs.OneDimReads.{first_stands, first_absent}

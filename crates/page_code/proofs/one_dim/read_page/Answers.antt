@@ -1,9 +1,6 @@
-use Rattle.std.proofs.Common.{◌≡◌, ◌+◌, ◌*◌, ◌≤◌, drop, length, arith, inr, sym, ◌∙◌, rules, ap}
-use Rattle.std.specs.Prelude.{Ok, Err}
+use Rattle.std.proofs.Common.{◌≡◌, ◌+◌, ◌*◌, ◌≤◌, drop, length, arith, inr, ◌∙◌, rules}
 use Rattle.raster.specs.Packed.{bits_of}
 use Rattle.raster.proofs.PackedLemmas.{length-bits_in}
-use Rattle.page_code.specs.T4Fronts.{reading, read_page}
-use Rattle.page_code.specs.T4Fronts.PageState.{row_start, row_end}
 use Rattle.page_code.proofs.EolReads.{bits_left}
 use Rattle.page_code.proofs.OneDimReads.{eol_goes}
 use Rattle.page_code.proofs.T4Readings.{reading_end_none, reading_end_bad}

@@ -1,4 +1,4 @@
-use Rattle.std.proofs.Common.{List, ◌≡◌, ◌≢◌, ◌+◌, ◌*◌, ◌≤◌, ◌++◌, ◌∷◌, [], drop, length, ap, arith, sym, ◌∙◌, inr, length-append}
+use Rattle.std.proofs.Common.{List, ◌≡◌, ◌+◌, ◌≤◌, ◌++◌, ◌∷◌, [], drop, length, ap, arith, sym, ◌∙◌, inr, length-append}
 use Rattle.std.proofs.lemmas.Bool.{iff_false}
 use Rattle.raster.specs.Packed.{bits_of}
 use Rattle.raster.specs.Pages.{PagePixels}

@@ -1,4 +1,4 @@
-use Rattle.std.proofs.Common.{◌≡◌, ◌<◌, ◌≤◌, arith, length, drop, sym, ◌∙◌, ap}
+use Rattle.std.proofs.Common.{arith, drop, ◌∙◌}
 use Rattle.raster.specs.Packed.{bits_of}
 use Rattle.page_code.proofs.T4Readings.{reading_again_none, reading_again_eol, reading_again_full}
 use Rattle.page_code.proofs.OneDimReads.{start_none, start_eol}

@@ -1,5 +1,4 @@
-use Rattle.std.proofs.Common.{Global, ◌≡◌, ap, ◌∙◌, subst}
-use Rattle.std.specs.Prelude.{Err, Ok}
+use Rattle.std.proofs.Common.{Global, ap, ◌∙◌}
 use Rattle.raster.specs.declared.row.Color.TheVariants.{White}
 use Rattle.raster.specs.Runs.{colored}
 use Rattle.run_tables.proofs.RowReads.{runs_read, runs_refused}

@@ -1,4 +1,4 @@
-use Rattle.std.proofs.Common.{◌+◌, ◌<◌, ◌≤◌, arith, sym}
+use Rattle.std.proofs.Common.{◌+◌, ◌<◌, ◌≤◌, arith}
 use Rattle.run_tables.proofs.RowReads.{low_within, both_within, first_refused, first_long, second_refused, second_long}
 use Rattle.run_tables.proofs.RunReads.{low_run}
 use Rattle.run_tables.proofs.reader.BitReader.run_within.Goals as goal
