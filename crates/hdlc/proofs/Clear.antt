@@ -7,7 +7,8 @@ use Rattle.std.proofs.lemmas.List.FromFn.{length-map-range_with_len}
 use Rattle.std.proofs.lemmas.Bool.{cases_eq, cases_Bool, ne_eqb, eq-eqb, and_parts, false≢true}
 use Rattle.std.specs.Bool.{beq}
 use Rattle.hdlc.specs.Octets.{number, octet_at, octets_of}
-use Rattle.hdlc.specs.Flags.{begins, flag}
+use Rattle.run_tables.specs.Texts.{begins}
+use Rattle.hdlc.specs.Flags.{flag}
 use Rattle.hdlc.specs.Gaps.{ones_before, clear, has_six}
 use Rattle.hdlc.specs.Standing.{recent, at_flag}
 use Rattle.hdlc.proofs.Flags.{range_more, filter_range_more, filter_range_agree, Below, Below-filter, recent-more, length-recent, recent_long}

@@ -1,6 +1,7 @@
 -- The register of 16 bits leaves what the long division leaves.
 use Rattle.std.proofs.Common.{◌≡◌, ℕ, zero, suc, ◌+◌, ◌-◌, ◌*◌, ◌/◌, ◌%◌, ◌^◌, ◌<◌, ◌≤◌, Bool, true, false, not, ◌&&◌, List, [], ◌∷◌, ◌++◌, length, drop, map, cond, get_or, refl, ap, sym, ◌∙◌, arith, inl, inr, nat_eq, bit_xor, pow-suc, replicate}
 use Rattle.std.specs.List.{fold}
+use Rattle.std.specs.Cmp.Lexicographic.{pointwise}
 use Rattle.std.proofs.lemmas.List.{length-drop, length-append, length-map}
 use Rattle.std.proofs.lemmas.List.Sums.{fold-append}
 use Rattle.std.proofs.lemmas.Bool.{ne_eqb, eq-eqb, cases_eq}
@@ -10,7 +11,6 @@ use Rattle.raster.specs.declared.packed.Order.TheVariants.{LsbFirst}
 use Rattle.hdlc.specs.Octets.{number}
 use Rattle.hdlc.specs.Fcs.{xor, add, divisor, remainder, sixteen, check_bits, fcs_of, check_octets}
 use Rattle.hdlc.specs.Register.{shift_in, crc_bit}
-use Rattle.hdlc.specs.Gaps.{same_octets}
 use Rattle.hdlc.proofs.BitPlaces.{bits_in-next}
 use Rattle.hdlc.proofs.Clear.{sixteen_bits}
 
@@ -177,7 +177,7 @@ register_more octets place register is =
 pub check_octets_are : (octets : List ℕ) → check_octets octets ≡ fcs_of octets % 256 ∷ fcs_of octets / 256 ∷ []
 check_octets_are octets = sixteen_bits (check_bits (bits_of LsbFirst octets)) (length-check_bits (bits_of LsbFirst octets))
 
-pub checks_number : (sent : List ℕ) (octets : List ℕ) → length sent ≡ 2 → ((k : ℕ) → get_or sent k 0 < 256) → nat_eq (get_or sent 0 0 + 256 * (get_or sent 1 0 + 256 * 0)) (fcs_of octets) ≡ same_octets sent (check_octets octets)
+pub checks_number : (sent : List ℕ) (octets : List ℕ) → length sent ≡ 2 → ((k : ℕ) → get_or sent k 0 < 256) → nat_eq (get_or sent 0 0 + 256 * (get_or sent 1 0 + 256 * 0)) (fcs_of octets) ≡ pointwise nat_eq sent (check_octets octets)
 checks_number [] octets h small = absurd (omega arith)
 checks_number (x ∷ []) octets h small = absurd (omega arith)
 checks_number (x ∷ y ∷ z ∷ rest) octets h small = absurd (omega arith)

@@ -5,7 +5,8 @@ use Rattle.std.specs.List.{range_with_len, filter}
 use Rattle.std.proofs.lemmas.List.{drop-append-le, take-append-le, length-drop, length-append, drop-drop}
 use Rattle.std.proofs.lemmas.List.Elements.{filter-append}
 use Rattle.std.proofs.lemmas.Bool.{cases_lt}
-use Rattle.hdlc.specs.Flags.{begins, flag, flag_at, flags, neighbours, pairs_from, between}
+use Rattle.run_tables.specs.Texts.{begins}
+use Rattle.hdlc.specs.Flags.{flag, flag_at, flags, neighbours, pairs_from, between}
 use Rattle.hdlc.specs.Standing.{recent, last_of, last_from, last_flag}
 
 pub begins-append : (t xs ys : List Bool) → length t ≤ length xs → begins t (xs ++ ys) ≡ begins t xs

@@ -4,7 +4,8 @@ use Rattle.std.specs.List.{filter}
 use Rattle.std.proofs.lemmas.List.{append-nil, length-append, map-append, drop_at}
 use Rattle.std.proofs.lemmas.List.Elements.{filter-append}
 use Rattle.hdlc.specs.declared.counts.Class.TheVariants.{Good}
-use Rattle.hdlc.specs.Flags.{begins, flag, flags, gaps}
+use Rattle.run_tables.specs.Texts.{begins}
+use Rattle.hdlc.specs.Flags.{flag, flags, gaps}
 use Rattle.hdlc.specs.Gaps.{good, class_of, is_class, content}
 use Rattle.hdlc.specs.Frames.{IsFrame, EndsIdle, IsReady}
 use Rattle.hdlc.specs.Laws.{FrameGrows}

@@ -5,7 +5,8 @@ use Rattle.std.specs.List.{Contains, filter, range_with_len}
 use Rattle.std.proofs.lemmas.List.{length-drop}
 use Rattle.std.proofs.lemmas.List.Elements.{All-contains, Contains-append_left, Contains-push, filter_passes}
 use Rattle.std.proofs.lemmas.Bool.{cases_eq, false≢true, and_parts}
-use Rattle.hdlc.specs.Flags.{begins, flag, flag_at, flags}
+use Rattle.run_tables.specs.Texts.{begins}
+use Rattle.hdlc.specs.Flags.{flag, flag_at, flags}
 use Rattle.hdlc.specs.Laws.{FlagsStand}
 use Rattle.hdlc.proofs.Flags.{filter_range_more}
 

@@ -1,6 +1,7 @@
 -- The stuffed text of a content and its check sequence between flags is a frame.
 use Rattle.std.proofs.Common.{◌≡◌, ℕ, zero, suc, ◌+◌, ◌-◌, ◌*◌, ◌/◌, ◌%◌, ◌<◌, ◌≤◌, Bool, true, false, List, [], ◌∷◌, ◌++◌, length, take, drop, map, cond, refl, ap, sym, ◌∙◌, arith, nat_eq, nat_lt, append_assoc, get_or}
 use Rattle.std.specs.List.{range_with_len, filter, count_by}
+use Rattle.std.specs.Cmp.Lexicographic.{pointwise}
 use Rattle.std.proofs.lemmas.List.{length-append, length-map, drop_at, take_at, drop-drop}
 use Rattle.std.proofs.lemmas.List.FromFn.{length-range_with_len}
 use Rattle.std.proofs.lemmas.List.Sums.{length-filter, count_by-le-length}
@@ -12,7 +13,7 @@ use Rattle.raster.proofs.PackedLemmas.{length-bits_in, bits_in-none}
 use Rattle.hdlc.specs.Octets.{number, octet_at, octets_of}
 use Rattle.hdlc.specs.Fcs.{check_octets, fcs_of}
 use Rattle.hdlc.specs.Flags.{flag, gaps}
-use Rattle.hdlc.specs.Gaps.{clear, class_of, is_class, content as content_of, checks, same_octets, octets_in, ones_before}
+use Rattle.hdlc.specs.Gaps.{clear, class_of, is_class, content as content_of, checks, octets_in, ones_before}
 use Rattle.hdlc.specs.Frames.{IsFrame}
 use Rattle.hdlc.specs.Writing.{Written, IsWriting}
 use Rattle.hdlc.proofs.BitPlaces.{octet_bits, bits_of-cons, bits_of-append, number-octet_bits}
@@ -50,7 +51,7 @@ octets_back (x ∷ xs) small =
     (octets_of-cons (octet_bits x) (bits_of LsbFirst xs) refl ∙
     (ap (λ n. n ∷ octets_of (bits_of LsbFirst xs)) (number-octet_bits x small.0) ∙ ap (λ ys. x ∷ ys) (octets_back xs small.1)))
 
-same_itself : (xs : List ℕ) → same_octets xs xs ≡ true
+same_itself : (xs : List ℕ) → pointwise nat_eq xs xs ≡ true
 same_itself [] = refl
 same_itself (x ∷ xs) = rw (eq-eqb x x refl) (same_itself xs)
 

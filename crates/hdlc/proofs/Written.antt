@@ -3,7 +3,8 @@ use Rattle.std.proofs.Common.{◌≡◌, ℕ, zero, suc, ◌+◌, ◌-◌, ◌<�
 use Rattle.std.specs.List.{prefix_len}
 use Rattle.std.proofs.lemmas.List.{append-nil, length-append, take_at, take-take, reverse-append, reverse-reverse, length-reverse}
 use Rattle.std.proofs.lemmas.Bool.{cases_Bool, false≢true, le-ltb, lt-ltb}
-use Rattle.hdlc.specs.Flags.{begins, flag, flags, gaps}
+use Rattle.run_tables.specs.Texts.{begins}
+use Rattle.hdlc.specs.Flags.{flag, flags, gaps}
 use Rattle.hdlc.specs.Gaps.{clear, has_six}
 use Rattle.hdlc.specs.Writing.{Alone, Written, IsWriting}
 use Rattle.hdlc.specs.Standing.{recent, settled, settled_after, at_flag}

@@ -1,15 +1,12 @@
 -- Written-out bits, and what the definitions say of them.
-use Rattle.std.specs.Prelude.{ℕ, ◌≡◌, Bool, true, List, [], ◌∷◌, codes, map, nat_eq, replicate}
+use Rattle.std.specs.Prelude.{ℕ, ◌≡◌, true, List, [], ◌∷◌, codes, replicate}
 use Rattle.raster.specs.Packed.{bits_of}
 use Rattle.raster.specs.declared.packed.Order.TheVariants.{LsbFirst}
+use Rattle.run_tables.specs.Codes.{text}
 use Rattle.hdlc.specs.declared.counts.Class.TheVariants.{Aborted, Ragged, Short, Damaged}
 use Rattle.hdlc.specs.Fcs.{fcs_of, check_octets}
 use Rattle.hdlc.specs.Flags.{flags, gaps}
 use Rattle.hdlc.specs.Gaps.{clear, good, count_of}
-
--- the bits that digits `0` and `1` write
-abbrev pub text : List ℕ → List Bool
-text digits = map (λ digit. nat_eq digit 49) digits
 
 -- the frame of a message confirmation (MCF) as octets, the least significant bit first
 abbrev pub message_confirmation : List ℕ
@@ -19,6 +16,7 @@ message_confirmation = 0x7E ∷ 0xDF ∷ 0x47 ∷ 0x30 ∷ 0x8A ∷ 0xC6 ∷ 0xF
 abbrev pub one_bit_wrong : List ℕ
 one_bit_wrong = 0x7E ∷ 0xDF ∷ 0x47 ∷ 0x31 ∷ 0x8A ∷ 0xC6 ∷ 0xFB ∷ 0x01 ∷ []
 
+-- the worked rows that the definitions are checked by
 pub record AreExamples : Type 0 where
   -- the check sequences of a well-known text and of two frames
   pub check_text : fcs_of (codes "123456789") ≡ 0x906E

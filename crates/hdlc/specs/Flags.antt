@@ -1,13 +1,7 @@
 -- Flags and the gaps between them, by places in the whole list of bits (ISO/IEC 13239, flag sequence; ITU-T T.30, 5.3).
-use Rattle.std.specs.Prelude.{ℕ, ◌+◌, ◌-◌, Bool, true, false, ◌&&◌, List, [], ◌∷◌, length, map, take, drop, nat_lt}
-use Rattle.std.specs.Bool.{beq}
+use Rattle.std.specs.Prelude.{ℕ, ◌+◌, ◌-◌, Bool, true, false, List, [], ◌∷◌, length, map, take, drop, nat_lt}
 use Rattle.std.specs.List.{range_with_len, filter}
-
--- the first bits begin the second
-abbrev pub begins : List Bool → List Bool → Bool
-begins [] bits = true
-begins (x ∷ xs) [] = false
-begins (x ∷ xs) (y ∷ ys) = beq y x && begins xs ys
+use Rattle.run_tables.specs.Texts.{begins}
 
 -- the flag sequence, 01111110
 abbrev pub flag : List Bool

@@ -1,7 +1,8 @@
 -- What a gap is: its bits without the stuffed ones, its class, its content (ISO/IEC 13239, transparency and invalid
 -- frames; ITU-T T.30, 5.3).
-use Rattle.std.specs.Prelude.{ℕ, ◌+◌, ◌-◌, ◌%◌, Bool, true, false, not, ◌&&◌, List, [], ◌∷◌, length, map, take, drop, get_or, nat_eq, nat_lt, if◌then◌else◌}
+use Rattle.std.specs.Prelude.{ℕ, ◌+◌, ◌-◌, ◌%◌, Bool, false, not, List, [], ◌∷◌, length, map, take, drop, get_or, nat_eq, nat_lt, if◌then◌else◌}
 use Rattle.std.specs.List.{range_with_len, filter, count_by, suffix_len, list_any}
+use Rattle.std.specs.Cmp.Lexicographic.{pointwise}
 use Rattle.hdlc.specs.declared.counts.Class.{Class}
 use Rattle.hdlc.specs.declared.counts.Class.TheVariants.{Good, Aborted, Ragged, Short, Long, Damaged}
 use Rattle.hdlc.specs.Octets.{octets_of}
@@ -28,15 +29,9 @@ octets_in gap = octets_of (clear gap)
 abbrev pub content : List Bool → List ℕ
 content gap = take (length (octets_in gap) - 2) (octets_in gap)
 
--- the same octets in the same order
-abbrev pub same_octets : List ℕ → List ℕ → Bool
-same_octets [] [] = true
-same_octets (x ∷ xs) (y ∷ ys) = nat_eq x y && same_octets xs ys
-same_octets xs ys = false
-
 -- the last two octets are the check sequence of the others
 abbrev pub checks : List ℕ → Bool
-checks octets = same_octets (drop (length octets - 2) octets) (check_octets (take (length octets - 2) octets))
+checks octets = pointwise nat_eq (drop (length octets - 2) octets) (check_octets (take (length octets - 2) octets))
 
 -- the class of a gap is the first that fits
 abbrev pub class_of : List Bool → Class

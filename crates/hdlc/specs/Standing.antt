@@ -1,7 +1,8 @@
 -- What of all bits so far decides how the next one counts: the last flag's place, the last eight bits, and the bits of
 -- the gap that is open. The clauses of a deframer name this; no definition of a frame does.
 use Rattle.std.specs.Prelude.{ℕ, ◌+◌, ◌-◌, Bool, true, List, [], ◌∷◌, length, take, drop, min, Option, Some, None, is_some}
-use Rattle.hdlc.specs.Flags.{begins, flags, flag}
+use Rattle.run_tables.specs.Texts.{begins}
+use Rattle.hdlc.specs.Flags.{flags, flag}
 
 -- the last eight bits; before the first bit stand eight of a fill
 unfoldable pub recent : Bool → List Bool → List Bool

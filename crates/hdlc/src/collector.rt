@@ -3,7 +3,7 @@
 ghost use Rattle.hdlc.specs.Collects.{Collects};
 ghost use Rattle.hdlc.specs.Gaps.{class_of, checks, content};
 ghost use Rattle.hdlc.specs.declared.counts.Class.TheVariants.{Good};
-ghost use Rattle.std.specs.Prelude.{◌≡◌, ◌≤◌, ◌+◌, ◌++◌, ◌∷◌, ◌||◌, [], List, Bool, cond, min, length};
+ghost use Rattle.std.specs.Prelude.{◌≡◌, ◌≤◌, ◌+◌, ◌++◌, ◌∷◌, [], List, Bool, cond, min, length};
 
 use crate::assembler::Assembler;
 use crate::check_sequence::fcs;
@@ -19,25 +19,15 @@ fn checked(octets: &[u8]) -> bool
     LittleEndian::read_u16(sent) == fcs(covered)
 }
 
-/// One more, up to a bound.
-pub fn more(count: u8, most: u8) -> u8
-    ensures { count ≤ most → result ≡ min most (count + 1) }
-{
-    if count < most { count + 1 } else { most }
-}
-
 /// How many 1 bits in a row there are after one bit more, up to six.
 fn ones_after(ones: u8, bit: bool) -> u8
     ensures { ones ≤ 6 → result ≡ cond bit (min 6 (ones + 1)) 0 }
 {
-    if bit { more(ones, 6) } else { 0 }
-}
-
-/// Whether one of the two is so.
-fn either(a: bool, b: bool) -> bool
-    ensures { result ≡ (a || b) }
-{
-    a || b
+    if bit {
+        ones.saturating_add(1).min(6)
+    } else {
+        0
+    }
 }
 
 /// What is kept of the bits of a gap whose end has not come.
@@ -83,9 +73,9 @@ impl Collector {
         ensures { (gap : List Bool) → Collects self.old gap → Collects self.new (gap ++ bit ∷ []) }
     {
         let stuffed = self.ones >= 5;
-        self.seen = more(self.seen, 8);
+        self.seen = self.seen.saturating_add(1).min(8);
         self.ones = ones_after(self.ones, bit);
-        self.aborted = either(self.aborted, self.ones == 6);
+        self.aborted |= self.ones == 6;
         if stuffed {
             return;
         }

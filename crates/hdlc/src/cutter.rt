@@ -9,7 +9,7 @@ ghost use Rattle.hdlc.specs.declared.counts.Class.{Class as AnyClass};
 ghost use Rattle.std.specs.Prelude.{ℕ, ◌≡◌, ◌+◌, ◌/◌, ◌≤◌, ◌++◌, ◌∷◌, ◌&&◌, [], List, Bool, cond, min, nat_lt, length, OnOk};
 
 use crate::assembler::shifted;
-use crate::collector::{Collector, more};
+use crate::collector::Collector;
 use crate::counts::{Class, Counts};
 use std::alloc::{AllocError, Global};
 use std::collections::VecDeque;
@@ -31,7 +31,11 @@ pub struct Cutter {
 fn held_after(begun: bool, held: u8) -> u8
     ensures { held ≤ 8 → result ≡ cond begun (min 8 (held + 1)) 0 }
 {
-    if begun { more(held, 8) } else { 0 }
+    if begun {
+        held.saturating_add(1).min(8)
+    } else {
+        0
+    }
 }
 
 impl Cutter {
