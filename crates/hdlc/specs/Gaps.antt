@@ -1,6 +1,6 @@
 -- What a gap is: its bits without the stuffed ones, its class, its content (ISO/IEC 13239, transparency and invalid
 -- frames; ITU-T T.30, 5.3).
-use Rattle.std.specs.Prelude.{ℕ, ◌+◌, ◌-◌, ◌%◌, Bool, false, not, List, [], ◌∷◌, length, map, take, drop, get_or, nat_eq, nat_lt, if◌then◌else◌}
+use Rattle.std.specs.Prelude.{ℕ, ◌+◌, ◌-◌, ◌%◌, Bool, false, not, List, length, map, take, drop, get_or, nat_eq, nat_lt, if◌then◌else◌}
 use Rattle.std.specs.List.{range_with_len, filter, count_by, suffix_len, list_any}
 use Rattle.std.specs.Cmp.Lexicographic.{pointwise}
 use Rattle.hdlc.specs.declared.counts.Class.{Class}
