@@ -1,7 +1,7 @@
 -- Lemmas on speeds and agreement.
 use Rattle.std.proofs.Common.{◌≡◌, ℕ, Bool, true, false, cond, not, ◌&&◌, ◌||◌, nat_eq, nat_le, List, [], ◌∷◌, Option, Some, None, Err, IfOk, get_or, refl, sym, ◌∙◌, ap, inl, inr}
-use Rattle.std.proofs.lemmas.Bool.{cases_Bool, eqb-true}
-use Rattle.std.specs.List.{filter}
+use Rattle.std.proofs.lemmas.Bool.{cases_Bool, eqb-true, and_parts}
+use Rattle.std.specs.List.{filter, find}
 use Rattle.page_code.specs.declared.coding.Coding.{Coding}
 use Rattle.page_code.specs.declared.coding.Coding.TheVariants.{OneDim, T6}
 use Rattle.signals.specs.Agreement.{place_of_speed, pixels_of, supports_speed, common_speed, tried_speeds, speed_order, first_of, after_speed, lower_speed, wished_coding, agreed_coding, takes_pages, at_first, agreed, offers_coding, allowed}
@@ -53,10 +53,16 @@ after-filtered p speed (x ∷ xs) untried =
           ]
     ]
 
+pub first_filtered : (p : Speed → Bool) (xs : List Speed) → first_of (filter p xs) ≡ find p xs
+first_filtered p [] = refl
+first_filtered p (x ∷ xs) = elim (cases_Bool (p x)) [ inl kept ↦ rw kept refl | inr left ↦ rw left (first_filtered p xs) ]
+
 pub lower-tried : (caps : Caps) (wish : Wish) (speed : Speed) → common_speed wish.modems caps.modems speed ≡ true →
-    lower_speed caps wish speed ≡ first_of (filter (common_speed wish.modems caps.modems) (after_speed speed (speed_order wish.modems caps.modems)))
+    lower_speed caps wish speed ≡ find (common_speed wish.modems caps.modems) (after_speed speed (speed_order wish.modems caps.modems))
 unfolding lower_speed
-lower-tried caps wish speed tried = ap first_of (after-filter (common_speed wish.modems caps.modems) speed (speed_order wish.modems caps.modems) tried)
+lower-tried caps wish speed tried =
+    ap first_of (after-filter (common_speed wish.modems caps.modems) speed (speed_order wish.modems caps.modems) tried)
+    ∙ first_filtered (common_speed wish.modems caps.modems) (after_speed speed (speed_order wish.modems caps.modems))
 
 pub lower-untried : (caps : Caps) (wish : Wish) (speed : Speed) → common_speed wish.modems caps.modems speed ≡ false → lower_speed caps wish speed ≡ None
 unfolding lower_speed
@@ -78,10 +84,6 @@ offers-wished caps wish = offers caps wish.coding caps.t6 refl
     offers caps T6 true e = e
     offers caps T6 false e = refl
 
-pub both-true : (a b : Bool) → (a && b) ≡ true → (a ≡ true) × (b ≡ true)
-both-true true b e = (refl, e)
-both-true false b e = cc
-
 pub agreed-allowed : (caps : Caps) (wish : Wish) (width : PageWidth) (fine : Bool) → IfOk (agreed caps wish width fine) (λ params. allowed caps params ≡ true)
 agreed-allowed caps wish width fine = decided (takes_pages caps width fine) (first_of (tried_speeds wish.modems caps.modems)) refl refl
   where
@@ -89,8 +91,8 @@ agreed-allowed caps wish width fine = decided (takes_pages caps width fine) (fir
         IfOk (cond takes (at_first first caps wish width fine) (Err (record {}))) (λ params. allowed caps params ≡ true)
     decided true None e f = tt
     decided true (Some speed) e f =
-        let fineness = both-true ((caps.receiver && caps.ecm) && nat_le (pixels_of width) (pixels_of caps.widest)) (not fine || caps.fine) e in
-        let widths = both-true (caps.receiver && caps.ecm) (nat_le (pixels_of width) (pixels_of caps.widest)) fineness.0 in
-        let common = both-true (supports_speed wish.modems speed) (supports_speed caps.modems speed) (first-passes (common_speed wish.modems caps.modems) (speed_order wish.modems caps.modems) speed f) in
+        let fineness = and_parts ((caps.receiver && caps.ecm) && nat_le (pixels_of width) (pixels_of caps.widest)) (not fine || caps.fine) e in
+        let widths = and_parts (caps.receiver && caps.ecm) (nat_le (pixels_of width) (pixels_of caps.widest)) fineness.0 in
+        let common = and_parts (supports_speed wish.modems speed) (supports_speed caps.modems speed) (first-passes (common_speed wish.modems caps.modems) (speed_order wish.modems caps.modems) speed f) in
         rw (common.1, widths.1, fineness.1, offers-wished caps wish) refl
     decided false first e f = tt

@@ -4,3 +4,5 @@ pub mod RoundTrip
 pub mod SayingLemmas
 pub mod TextLemmas
 pub mod LowerLemmas
+pub mod Cases
+pub mod SendingLemmas

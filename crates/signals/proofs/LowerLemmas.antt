@@ -1,37 +1,10 @@
 -- How many speeds two stations try.
-use Rattle.std.proofs.Common.{◌≡◌, ◌+◌, ◌≤◌, Bool, true, false, cond, ◌&&◌, nat_eq, nat_le, Option, Some, None, Err, IfOk, refl, sym, ◌∙◌, ap}
+use Rattle.std.proofs.Common.{◌≡◌, ◌+◌, ◌≤◌, Bool, true, false, cond, nat_eq, nat_le, Option, Some, None, Err, IfOk, refl, sym, ◌∙◌, ap}
 use Rattle.std.proofs.lemmas.Bool.{eqb-true, leb-true}
-use Rattle.signals.proofs.AgreementLemmas.{both-true}
+use Rattle.signals.proofs.Cases.{all_speeds, each_speed, all_modems, each_modems}
 use Rattle.signals.specs.Agreement.{tried_speeds, first_of, after_speed, lower_speed, speeds_below, takes_pages, at_first, BeginsAtMostFiveAbove, GoesDownByOne}
 use Rattle.signals.specs.declared.params.Modems.{Modems}
-use Rattle.signals.specs.declared.params.Modems.TheVariants.{Fallback, V27, V29, V27V29, V17}
 use Rattle.signals.specs.declared.params.Speed.{Speed}
-use Rattle.signals.specs.declared.params.Speed.TheVariants.{V27At2400, V27At4800, V29At7200, V29At9600, V17At7200, V17At9600, V17At12000, V17At14400}
-
--- a test holds of each speed
-abbrev pub all_speeds : (Speed → Bool) → Bool
-all_speeds f = f V27At2400 && (f V27At4800 && (f V29At7200 && (f V29At9600 && (f V17At7200 && (f V17At9600 && (f V17At12000 && f V17At14400))))))
-
-pub each_speed : (f : Speed → Bool) → all_speeds f ≡ true → (speed : Speed) → f speed ≡ true
-each_speed f e V27At2400 = (both-true (f V27At2400) (f V27At4800 && (f V29At7200 && (f V29At9600 && (f V17At7200 && (f V17At9600 && (f V17At12000 && f V17At14400)))))) (e)).0
-each_speed f e V27At4800 = (both-true (f V27At4800) (f V29At7200 && (f V29At9600 && (f V17At7200 && (f V17At9600 && (f V17At12000 && f V17At14400))))) ((both-true (f V27At2400) (f V27At4800 && (f V29At7200 && (f V29At9600 && (f V17At7200 && (f V17At9600 && (f V17At12000 && f V17At14400)))))) (e)).1)).0
-each_speed f e V29At7200 = (both-true (f V29At7200) (f V29At9600 && (f V17At7200 && (f V17At9600 && (f V17At12000 && f V17At14400)))) ((both-true (f V27At4800) (f V29At7200 && (f V29At9600 && (f V17At7200 && (f V17At9600 && (f V17At12000 && f V17At14400))))) ((both-true (f V27At2400) (f V27At4800 && (f V29At7200 && (f V29At9600 && (f V17At7200 && (f V17At9600 && (f V17At12000 && f V17At14400)))))) (e)).1)).1)).0
-each_speed f e V29At9600 = (both-true (f V29At9600) (f V17At7200 && (f V17At9600 && (f V17At12000 && f V17At14400))) ((both-true (f V29At7200) (f V29At9600 && (f V17At7200 && (f V17At9600 && (f V17At12000 && f V17At14400)))) ((both-true (f V27At4800) (f V29At7200 && (f V29At9600 && (f V17At7200 && (f V17At9600 && (f V17At12000 && f V17At14400))))) ((both-true (f V27At2400) (f V27At4800 && (f V29At7200 && (f V29At9600 && (f V17At7200 && (f V17At9600 && (f V17At12000 && f V17At14400)))))) (e)).1)).1)).1)).0
-each_speed f e V17At7200 = (both-true (f V17At7200) (f V17At9600 && (f V17At12000 && f V17At14400)) ((both-true (f V29At9600) (f V17At7200 && (f V17At9600 && (f V17At12000 && f V17At14400))) ((both-true (f V29At7200) (f V29At9600 && (f V17At7200 && (f V17At9600 && (f V17At12000 && f V17At14400)))) ((both-true (f V27At4800) (f V29At7200 && (f V29At9600 && (f V17At7200 && (f V17At9600 && (f V17At12000 && f V17At14400))))) ((both-true (f V27At2400) (f V27At4800 && (f V29At7200 && (f V29At9600 && (f V17At7200 && (f V17At9600 && (f V17At12000 && f V17At14400)))))) (e)).1)).1)).1)).1)).0
-each_speed f e V17At9600 = (both-true (f V17At9600) (f V17At12000 && f V17At14400) ((both-true (f V17At7200) (f V17At9600 && (f V17At12000 && f V17At14400)) ((both-true (f V29At9600) (f V17At7200 && (f V17At9600 && (f V17At12000 && f V17At14400))) ((both-true (f V29At7200) (f V29At9600 && (f V17At7200 && (f V17At9600 && (f V17At12000 && f V17At14400)))) ((both-true (f V27At4800) (f V29At7200 && (f V29At9600 && (f V17At7200 && (f V17At9600 && (f V17At12000 && f V17At14400))))) ((both-true (f V27At2400) (f V27At4800 && (f V29At7200 && (f V29At9600 && (f V17At7200 && (f V17At9600 && (f V17At12000 && f V17At14400)))))) (e)).1)).1)).1)).1)).1)).0
-each_speed f e V17At12000 = (both-true (f V17At12000) (f V17At14400) ((both-true (f V17At9600) (f V17At12000 && f V17At14400) ((both-true (f V17At7200) (f V17At9600 && (f V17At12000 && f V17At14400)) ((both-true (f V29At9600) (f V17At7200 && (f V17At9600 && (f V17At12000 && f V17At14400))) ((both-true (f V29At7200) (f V29At9600 && (f V17At7200 && (f V17At9600 && (f V17At12000 && f V17At14400)))) ((both-true (f V27At4800) (f V29At7200 && (f V29At9600 && (f V17At7200 && (f V17At9600 && (f V17At12000 && f V17At14400))))) ((both-true (f V27At2400) (f V27At4800 && (f V29At7200 && (f V29At9600 && (f V17At7200 && (f V17At9600 && (f V17At12000 && f V17At14400)))))) (e)).1)).1)).1)).1)).1)).1)).0
-each_speed f e V17At14400 = (both-true (f V17At12000) (f V17At14400) ((both-true (f V17At9600) (f V17At12000 && f V17At14400) ((both-true (f V17At7200) (f V17At9600 && (f V17At12000 && f V17At14400)) ((both-true (f V29At9600) (f V17At7200 && (f V17At9600 && (f V17At12000 && f V17At14400))) ((both-true (f V29At7200) (f V29At9600 && (f V17At7200 && (f V17At9600 && (f V17At12000 && f V17At14400)))) ((both-true (f V27At4800) (f V29At7200 && (f V29At9600 && (f V17At7200 && (f V17At9600 && (f V17At12000 && f V17At14400))))) ((both-true (f V27At2400) (f V27At4800 && (f V29At7200 && (f V29At9600 && (f V17At7200 && (f V17At9600 && (f V17At12000 && f V17At14400)))))) (e)).1)).1)).1)).1)).1)).1)).1
-
--- a test holds of each station's modems
-abbrev pub all_modems : (Modems → Bool) → Bool
-all_modems f = f Fallback && (f V27 && (f V29 && (f V27V29 && f V17)))
-
-pub each_modems : (f : Modems → Bool) → all_modems f ≡ true → (modems : Modems) → f modems ≡ true
-each_modems f e Fallback = (both-true (f Fallback) (f V27 && (f V29 && (f V27V29 && f V17))) (e)).0
-each_modems f e V27 = (both-true (f V27) (f V29 && (f V27V29 && f V17)) ((both-true (f Fallback) (f V27 && (f V29 && (f V27V29 && f V17))) (e)).1)).0
-each_modems f e V29 = (both-true (f V29) (f V27V29 && f V17) ((both-true (f V27) (f V29 && (f V27V29 && f V17)) ((both-true (f Fallback) (f V27 && (f V29 && (f V27V29 && f V17))) (e)).1)).1)).0
-each_modems f e V27V29 = (both-true (f V27V29) (f V17) ((both-true (f V29) (f V27V29 && f V17) ((both-true (f V27) (f V29 && (f V27V29 && f V17)) ((both-true (f Fallback) (f V27 && (f V29 && (f V27V29 && f V17))) (e)).1)).1)).1)).0
-each_modems f e V17 = (both-true (f V27V29) (f V17) ((both-true (f V29) (f V27V29 && f V17) ((both-true (f V27) (f V29 && (f V27V29 && f V17)) ((both-true (f Fallback) (f V27 && (f V29 && (f V27V29 && f V17))) (e)).1)).1)).1)).1
 
 -- the speed below has one speed less below it
 abbrev pub one_less : Modems → Modems → Speed → Option Speed → Bool

@@ -1,5 +1,5 @@
 -- What is written is read again.
-use Rattle.std.proofs.Common.{◌≡◌, ℕ, ◌+◌, ◌≤◌, Bool, true, false, not, cond, ◌&&◌, nat_eq, nat_lt, List, ◌∷◌, ◌++◌, length, Option, Some, None, Ok, refl, ◌∙◌, ap, arith}
+use Rattle.std.proofs.Common.{◌≡◌, ℕ, ◌+◌, Bool, true, false, not, cond, ◌&&◌, nat_eq, List, ◌∷◌, ◌++◌, length, Option, Some, None, Ok, refl, ◌∙◌, ap, arith}
 use Rattle.std.proofs.lemmas.Bool.{le-ltb}
 use Rattle.std.proofs.lemmas.List.{take_all}
 use Rattle.std.specs.Int.{bit_at}
@@ -147,15 +147,12 @@ params-read params =
     ∙ ap (λ w. params_at (Some params.speed) w fields) widths.1
     ∙ ap Some (same_params _ params refl second.1 refl (ap (λ b. cond b T6 OneDim) (and-is _ _ _ widths.2 refl) ∙ fourth.2) (and-is _ _ params.small widths.2 fourth.1))
 
-pub not-less : (m n : ℕ) → n ≤ m → nat_lt m n ≡ false
-not-less m n h = le-ltb m n h
-
 pub head-read : (last : Bool) (octet : ℕ) (fields : List ℕ) → read_content (head_of last octet ++ fields) ≡ read_fields octet fields
 unfolding read_content
 head-read true octet fields =
-    rw (not-less (length (0xFF ∷ 0x13 ∷ octet ∷ fields)) 1 (omega arith), not-less (length (0xFF ∷ 0x13 ∷ octet ∷ fields)) 2 (omega arith), not-less (length (0xFF ∷ 0x13 ∷ octet ∷ fields)) 3 (omega arith)) refl
+    rw (le-ltb (length (0xFF ∷ 0x13 ∷ octet ∷ fields)) 1 (omega arith), le-ltb (length (0xFF ∷ 0x13 ∷ octet ∷ fields)) 2 (omega arith), le-ltb (length (0xFF ∷ 0x13 ∷ octet ∷ fields)) 3 (omega arith)) refl
 head-read false octet fields =
-    rw (not-less (length (0xFF ∷ 0x03 ∷ octet ∷ fields)) 1 (omega arith), not-less (length (0xFF ∷ 0x03 ∷ octet ∷ fields)) 2 (omega arith), not-less (length (0xFF ∷ 0x03 ∷ octet ∷ fields)) 3 (omega arith)) refl
+    rw (le-ltb (length (0xFF ∷ 0x03 ∷ octet ∷ fields)) 1 (omega arith), le-ltb (length (0xFF ∷ 0x03 ∷ octet ∷ fields)) 2 (omega arith), le-ltb (length (0xFF ∷ 0x03 ∷ octet ∷ fields)) 3 (omega arith)) refl
 
 pub fields-read : (signal : PlainSignal) (side : Side) → IsWritable signal → read_fields (control_octet signal (x_of side)) (fields_of signal) ≡ Ok signal
 unfolding read_fields control_of page_end_of dis_fields dcs_fields
@@ -175,15 +172,15 @@ fields-read rr Answerer w = refl
 fields-read dcn Caller w = refl
 fields-read dcn Answerer w = refl
 fields-read rcp side w = refl
-fields-read (fcd number octets) side w = rw (not-less (length (number ∷ octets)) 2 (omega arith)) refl
+fields-read (fcd number octets) side w = rw (le-ltb (length (number ∷ octets)) 2 (omega arith)) refl
 fields-read (pps Null page block last) Caller w = refl
 fields-read (pps Null page block last) Answerer w = refl
 fields-read (pps Mps page block last) Caller w = refl
 fields-read (pps Mps page block last) Answerer w = refl
 fields-read (pps Eop page block last) Caller w = refl
 fields-read (pps Eop page block last) Answerer w = refl
-fields-read (ppr map) Caller w = rw (not-less (length map) 32 (omega arith), take_all 32 map (omega arith)) refl
-fields-read (ppr map) Answerer w = rw (not-less (length map) 32 (omega arith), take_all 32 map (omega arith)) refl
+fields-read (ppr map) Caller w = rw (le-ltb (length map) 32 (omega arith), take_all 32 map (omega arith)) refl
+fields-read (ppr map) Answerer w = rw (le-ltb (length map) 32 (omega arith), take_all 32 map (omega arith)) refl
 fields-read (other octet) side w = absurd w
 
 pub reads-written : (signal : PlainSignal) (side : Side) (last : Bool) → IsWritable signal → read_content (content_of signal side last) ≡ Ok signal

@@ -1,7 +1,6 @@
 -- What is read is what a content says.
 use Rattle.std.proofs.Common.{◌≡◌, ℕ, ◌≤◌, ◌⊎◌, Bool, true, false, not, cond, ◌||◌, nat_eq, nat_lt, List, length, take, drop, slice_index, Option, Some, None, Result, Ok, Err, refl, ◌∙◌, ap, subst, inl, inr, arith}
-use Rattle.std.proofs.lemmas.Bool.{not-false, eqb-true, ltb-false}
-use Rattle.signals.proofs.RoundTrip.{not-less}
+use Rattle.std.proofs.lemmas.Bool.{not-false, eqb-true, ltb-false, le-ltb}
 use Rattle.signals.specs.Reading.{control_of, page_end_of, caps_of, params_of, dcs_or_other, pps_or_other, with_octets, read_known, read_fields, read_content}
 use Rattle.signals.specs.Saying.{IsOutside, FieldsSay, Says, ReadsWhatIsSaid}
 use Rattle.signals.specs.Signals.{PlainSignal, dis, dcs, cfr, ftt, fcd, rcp, pps, ppr, mcf, rnr, rr, dcn, other}
@@ -58,7 +57,7 @@ known-says (Some Dcn) octet fields signal e = subst (FieldsSay (Some Dcn) octet 
 
 -- enough octets are read
 pub with-enough : (count : ℕ) (fields : List ℕ) (made signal : PlainSignal) → count ≤ length fields → made ≡ signal → with_octets count fields made ≡ Ok signal
-with-enough count fields made signal long e = rw (not-less (length fields) count long) (ap Ok e)
+with-enough count fields made signal long e = rw (le-ltb (length fields) count long) (ap Ok e)
 
 pub outside-read : (control : Option Control) (octet : ℕ) (fields : List ℕ) → IsOutside control fields → read_known control octet fields ≡ Ok (other octet)
 outside-read None octet fields w = refl
@@ -129,11 +128,11 @@ unfolding read_content read_fields
 says-read content signal says =
     let long = says.long in
     rw (
-      not-less (length content) 1 (omega arith),
+      le-ltb (length content) 1 (omega arith),
       says.address,
-      not-less (length content) 2 (omega arith),
+      le-ltb (length content) 2 (omega arith),
       control-in (slice_index content 1) says.control,
-      not-less (length content) 3 says.long,
+      le-ltb (length content) 3 says.long,
     ) (says-known (control_of (slice_index content 2)) (slice_index content 2) (drop 3 content) signal says.fields)
 
 pub reads-said : ReadsWhatIsSaid

@@ -5,3 +5,4 @@ pub mod Signals
 pub mod Reading
 pub mod Writing
 pub mod Saying
+pub mod Sending

@@ -1,5 +1,5 @@
 ghost use Rattle.signals.specs.Agreement.{agreed, lower_speed, allowed, speed_order, common_speed, first_of, after_speed, agreed_coding};
-ghost use Rattle.std.specs.List.{filter};
+ghost use Rattle.std.specs.List.{find};
 ghost use Rattle.std.specs.Prelude.{◌≡◌, IfOk, true, length, List};
 
 use crate::params::{Caps, Modems, PageWidth, Params, Speed, Wish};
@@ -48,14 +48,12 @@ fn is_common(ours: Modems, theirs: Modems, speed: Speed) -> bool
 
 /// The first speed that both have.
 fn first_common(ours: Modems, theirs: Modems, speeds: &[Speed]) -> Option<Speed>
-    ensures { result ≡ first_of (filter (common_speed ours theirs) speeds.now) }
+    ensures { result ≡ find (common_speed ours theirs) speeds.now }
 {
-    for speed in speeds {
-        if is_common(ours, theirs, *speed) {
-            return Some(*speed);
-        }
-    }
-    None
+    speeds
+        .iter()
+        .copied()
+        .find(|speed| is_common(ours, theirs, *speed))
 }
 
 /// What stands behind a speed; nothing where it isn't there.

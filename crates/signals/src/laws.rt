@@ -2,6 +2,7 @@
 
 ghost use Rattle.signals.specs.Agreement.{BeginsAtMostFiveAbove, GoesDownByOne};
 ghost use Rattle.signals.specs.Saying.{ControlsHaveTexts, ReadsWhatIsSaid};
+ghost use Rattle.signals.specs.Sending.{PageEndsHaveTexts, WritesTheTables};
 ghost use Rattle.signals.specs.Training.{TrainingChecksAreGood};
 ghost use Rattle.signals.specs.Writing.{ReadsWhatIsWritten};
 
@@ -19,6 +20,20 @@ pub fn reads_what_is_said()
 /// The content that is written of a signal, by either station, is read as the signal.
 pub fn reads_what_is_written()
     ensures { ReadsWhatIsWritten }
+{}
+
+/// The bits of the content that is written of a signal, in order of sending, are those of the standard's
+/// tables: the address, the control field, the text of the facsimile control field with the station's
+/// bit for its X, the 32 bits of a DIS and of a DCS by their numbers, and the text of the second field
+/// of PPS. ITU-T T.30, 5.3.4 to 5.3.6 and A.4.
+pub fn writes_the_tables()
+    ensures { WritesTheTables }
+{}
+
+/// The second field of a PPS is known exactly where its bits are those of its text, with either bit
+/// where the text has an X. ITU-T T.30, A.4.3.
+pub fn page_ends_have_texts()
+    ensures { PageEndsHaveTexts }
 {}
 
 /// A training check of its length in octets 00 is good.

@@ -17,22 +17,15 @@ pub fn training_len(speed: Speed) -> u32
     }
 }
 
-/// The larger of two counts.
-fn larger(one: usize, other: usize) -> usize
-    ensures { result ≡ max one other }
-{
-    if one < other { other } else { one }
-}
-
 /// How many octets 00 the longest run of them has.
 fn longest_run(octets: &[u8]) -> usize
     ensures { result ≡ longest_zeros octets.now }
 {
     let mut longest = 0;
-    let mut run = 0;
+    let mut run: usize = 0;
     for octet in octets {
         run = if *octet == 0 { run + 1 } else { 0 };
-        longest = larger(run, longest);
+        longest = run.max(longest);
     }
     longest
 }

@@ -10,7 +10,7 @@ loop-octet-init c = record { within = omega arith; run_within = omega arith; so_
 pub loop-octet-preserved : goal.loop-octet-preserved
 loop-octet-preserved c =
     let here : c.loop-octet.octet-index < length c.args.octets.now = c.loop-octet-test.true in
-    let greater : c.larger-longest.result ≡ max c.if-octet-eq0.run c.loop-octet.longest = c.larger-longest.ensures in
+    let greater : c.max-longest.result ≡ max c.if-octet-eq0.run c.loop-octet.longest = c.max-longest.ensures in
     elim c.if-octet-eq0.branch [
       | then-octet-eq0 w ↦
           record {

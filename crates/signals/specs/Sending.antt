@@ -1,0 +1,153 @@
+-- What is sent of a signal, bit for bit, by the tables of the standard.
+use Rattle.std.specs.Prelude.{ℕ, ◌≡◌, ◌<◌, ◌-◌, ◌↔◌, ◌&&◌, ◌||◌, Bool, true, false, cond, nat_eq, nat_le, List, [], ◌∷◌, ◌++◌, map, slice_index_or, Option, Some, None, IfSome, codes}
+use Rattle.std.specs.Int.{bit_at}
+use Rattle.std.specs.List.{flat_map, range_with_len}
+use Rattle.page_code.specs.declared.coding.Coding.{Coding}
+use Rattle.page_code.specs.declared.coding.Coding.TheVariants.{OneDim, T6}
+use Rattle.signals.specs.Reading.{page_end_of}
+use Rattle.signals.specs.Saying.{control_text, has_text}
+use Rattle.signals.specs.Signals.{PlainSignal, dis, dcs, cfr, ftt, fcd, rcp, pps, ppr, mcf, rnr, rr, dcn, other}
+use Rattle.signals.specs.Writing.{content_of}
+use Rattle.signals.specs.declared.params.Caps.{Caps}
+use Rattle.signals.specs.declared.params.Modems.{Modems}
+use Rattle.signals.specs.declared.params.Modems.TheVariants.{Fallback, V27, V29, V27V29, V17}
+use Rattle.signals.specs.declared.params.PageWidth.{PageWidth}
+use Rattle.signals.specs.declared.params.PageWidth.TheVariants.{W1728, W2048, W2432}
+use Rattle.signals.specs.declared.params.Params.{Params}
+use Rattle.signals.specs.declared.params.Speed.{Speed}
+use Rattle.signals.specs.declared.params.Speed.TheVariants.{V27At2400, V27At4800, V29At7200, V29At9600, V17At7200, V17At9600, V17At12000, V17At14400}
+use Rattle.signals.specs.declared.reading.Control.{Control}
+use Rattle.signals.specs.declared.reading.Control.TheVariants.{Dis, Dcs, Cfr, Ftt, Fcd, Rcp, Pps, Ppr, Mcf, Rnr, Rr, Dcn}
+use Rattle.signals.specs.declared.signal.PageEnd.{PageEnd}
+use Rattle.signals.specs.declared.signal.PageEnd.TheVariants.{Null, Mps, Eop}
+use Rattle.signals.specs.declared.signal.Side.{Side}
+use Rattle.signals.specs.declared.signal.Side.TheVariants.{Caller, Answerer}
+
+-- the bits of octets in order of sending, the least significant of each octet first
+abbrev pub bits_of : List ℕ → List Bool
+bits_of octets = flat_map (λ octet. map (λ place. nat_eq (bit_at octet place) 1) (range_with_len 0 8)) octets
+
+-- the bits of a text in order of sending, x where the text has an X
+abbrev pub text_bits : Bool → List ℕ → List Bool
+text_bits x letters = map (λ letter. cond (nat_eq letter 88) x (nat_eq letter 49)) letters
+
+-- the bits of a text that has no X
+abbrev pub digits : List ℕ → List Bool
+digits letters = text_bits false letters
+
+-- the X of a station: 1 of the caller, 0 of the answerer
+abbrev pub is_caller : Side → Bool
+is_caller Caller = true
+is_caller Answerer = false
+
+-- bits 11 to 14 of a DIS
+abbrev pub modems_text : Modems → List ℕ
+modems_text Fallback = codes "0000"
+modems_text V27 = codes "0100"
+modems_text V29 = codes "1000"
+modems_text V27V29 = codes "1100"
+modems_text V17 = codes "1101"
+
+-- bits 11 to 14 of a DCS
+abbrev pub speed_text : Speed → List ℕ
+speed_text V27At2400 = codes "0000"
+speed_text V27At4800 = codes "0100"
+speed_text V29At7200 = codes "1100"
+speed_text V29At9600 = codes "1000"
+speed_text V17At7200 = codes "1101"
+speed_text V17At9600 = codes "1001"
+speed_text V17At12000 = codes "0101"
+speed_text V17At14400 = codes "0001"
+
+-- bits 17 and 18 of a DIS, for the widest page, and of a DCS, for the pages
+abbrev pub width_text : PageWidth → List ℕ
+width_text W1728 = codes "00"
+width_text W2048 = codes "10"
+width_text W2432 = codes "01"
+
+-- bit 31 of a DCS: the pages have the code of T.6
+abbrev pub is_t6 : Coding → Bool
+is_t6 OneDim = false
+is_t6 T6 = true
+
+-- the bits of a DIS, each row under the number of its first bit: receiver, modems, 7.7 lines, widest page, unlimited length, 0 ms, a fourth octet, error correction, T.6
+abbrev pub dis_table : Caps → List (ℕ × List Bool)
+dis_table caps =
+    (10, caps.receiver ∷ [])
+    ∷ (11, digits (modems_text caps.modems))
+    ∷ (15, caps.fine ∷ [])
+    ∷ (17, digits (width_text caps.widest))
+    ∷ (19, digits (codes "01"))
+    ∷ (21, digits (codes "111"))
+    ∷ (24, digits (codes "1"))
+    ∷ (27, caps.ecm ∷ [])
+    ∷ (31, caps.t6 ∷ [])
+    ∷ []
+
+-- the bits of a DCS, each row under the number of its first bit: receiver, speed, 7.7 lines, width, unlimited length, 0 ms, a fourth octet, error correction, small frames, T.6
+abbrev pub dcs_table : Params → List (ℕ × List Bool)
+dcs_table params =
+    (10, digits (codes "1"))
+    ∷ (11, digits (speed_text params.speed))
+    ∷ (15, params.fine ∷ [])
+    ∷ (17, digits (width_text params.width))
+    ∷ (19, digits (codes "01"))
+    ∷ (21, digits (codes "111"))
+    ∷ (24, digits (codes "1"))
+    ∷ (27, digits (codes "1"))
+    ∷ (28, params.small ∷ [])
+    ∷ (31, is_t6 params.coding ∷ [])
+    ∷ []
+
+-- the bit of a number, from 1 in order of sending, in a table; 0 where no row has it
+abbrev pub numbered_bit : List (ℕ × List Bool) → ℕ → Bool
+numbered_bit [] number = false
+numbered_bit (row ∷ rows) number = (nat_le row.0 number && slice_index_or row.1 (number - row.0) false) || numbered_bit rows number
+
+-- bits 1 to 32 of a table
+abbrev pub table_bits : List (ℕ × List Bool) → List Bool
+table_bits table = map (numbered_bit table) (range_with_len 1 32)
+
+-- the texts of the second field of PPS in order of sending, X for a first bit that is written as 1 and ignored when read
+abbrev pub page_end_text : PageEnd → List ℕ
+page_end_text Null = codes "00000000"
+page_end_text Mps = codes "X1110010"
+page_end_text Eop = codes "X1110100"
+
+-- the facsimile control field of a signal; another signal has none of these
+abbrev pub control_for : PlainSignal → Option Control
+control_for (dis _) = Some Dis
+control_for (dcs _) = Some Dcs
+control_for cfr = Some Cfr
+control_for ftt = Some Ftt
+control_for (fcd _ _) = Some Fcd
+control_for rcp = Some Rcp
+control_for (pps _ _ _ _) = Some Pps
+control_for (ppr _) = Some Ppr
+control_for mcf = Some Mcf
+control_for rnr = Some Rnr
+control_for rr = Some Rr
+control_for dcn = Some Dcn
+control_for (other _) = None
+
+-- the bits behind the facsimile control field of a signal
+abbrev pub field_bits : PlainSignal → List Bool
+field_bits (dis caps) = table_bits (dis_table caps)
+field_bits (dcs params) = table_bits (dcs_table params)
+field_bits (fcd number octets) = bits_of (number ∷ octets)
+field_bits (pps ends page block last) = text_bits true (page_end_text ends) ++ bits_of (page ∷ block ∷ last ∷ [])
+field_bits (ppr map) = bits_of map
+field_bits _ = []
+
+-- the bits of a signal's frame: address, control field with a 1 in the last frame, facsimile control field with the station's X, fields
+abbrev pub sent_bits : Control → PlainSignal → Side → Bool → List Bool
+sent_bits control signal side last =
+    digits (codes "11111111") ++ text_bits last (codes "1100X000") ++ text_bits (is_caller side) (control_text control) ++ field_bits signal
+
+-- the bits of the content that is written of a signal, in order of sending, are those of the tables
+abbrev pub WritesTheTables : Type 0
+WritesTheTables = (signal : PlainSignal) (side : Side) (last : Bool) → IfSome (control_for signal) (λ control. bits_of (content_of signal side last) ≡ sent_bits control signal side last)
+
+-- each octet is read as the second field of PPS whose text it has
+abbrev pub PageEndsHaveTexts : Type 0
+PageEndsHaveTexts = (octet : ℕ) (ends : PageEnd) → octet < 256 → (page_end_of octet ≡ Some ends) ↔ (has_text (page_end_text ends) octet ≡ true)
