@@ -1,9 +1,10 @@
-use Rattle.std.proofs.Common.{◌≡◌, ℕ, ◌+◌, ◌-◌, ◌*◌, ◌/◌, ◌<◌, ◌≤◌, ◌++◌, Bool, true, false, List, [], ◌∷◌, length, take, drop, get_or, suc, zero, refl, sym, ap, ◌∙◌, arith, length-append}
+use Rattle.std.proofs.Common.{◌≡◌, ℕ, ◌+◌, ◌-◌, ◌*◌, ◌<◌, ◌≤◌, ◌++◌, Bool, true, false, List, [], ◌∷◌, length, take, drop, get_or, suc, zero, refl, sym, ap, ◌∙◌, arith, length-append}
 use Rattle.std.specs.Prelude.{All, min}
+use Rattle.std.specs.Int.{div_ceil}
 use Rattle.std.specs.List.{flat_map}
 use Rattle.std.proofs.lemmas.List.{length-take, length-drop, length-replicate, length-take-le, take_all, drop-drop, get_or-take, get_or-drop}
 use Rattle.std.proofs.lemmas.List.Elements.{All-nil, All-cons, All-take, All-drop}
-use Rattle.partial_page.specs.Frames.{frame_size, pieces_for, pieces, blocks_of, filled, cut, joined, IsCut}
+use Rattle.partial_page.specs.Frames.{frame_size, frames_for, pieces, blocks_of, filled, cut, joined, IsCut}
 
 pub length-pieces : {X : Type 0} → (size count : ℕ) (xs : List X) → length (pieces size count xs) ≡ count
 unfolding pieces
@@ -41,7 +42,7 @@ join-pieces size (suc count) xs =
     ∙ take_two size (count * size) xs
     ∙ ap (λ n. take n xs) e
 
-pub length-filled : (small : Bool) (octets : List ℕ) → length (filled small octets) ≡ pieces_for small (length octets) * frame_size small
+pub length-filled : (small : Bool) (octets : List ℕ) → length (filled small octets) ≡ frames_for small (length octets) * frame_size small
 length-filled true octets = simp (length-append, length-replicate) (omega arith)
 length-filled false octets = simp (length-append, length-replicate) (omega arith)
 
@@ -55,22 +56,22 @@ All-pieces size (suc count) xs e =
     let rest : length (drop size xs) ≡ count * size = simp length-drop (omega arith) in
     All-cons (λ piece. length piece ≡ size) (take size xs) _ (length-take-le size xs here) (All-pieces size count (drop size xs) rest)
 
-pub length-blocks : (size count : ℕ) (octets : List ℕ) → length (blocks_of size count octets) ≡ (count + 255) / 256
+pub length-blocks : (size count : ℕ) (octets : List ℕ) → length (blocks_of size count octets) ≡ div_ceil count 256
 unfolding blocks_of
 length-blocks size count octets = length-pieces 256 _ _
 
-pub get_or-blocks : (size count : ℕ) (octets : List ℕ) (k : ℕ) (d : List (List ℕ)) → k < (count + 255) / 256 → get_or (blocks_of size count octets) k d ≡ take 256 (drop (k * 256) (pieces size count octets))
+pub get_or-blocks : (size count : ℕ) (octets : List ℕ) (k : ℕ) (d : List (List ℕ)) → k < div_ceil count 256 → get_or (blocks_of size count octets) k d ≡ take 256 (drop (k * 256) (pieces size count octets))
 unfolding blocks_of
 get_or-blocks size count octets k d h = get_or-pieces 256 _ _ k d h
 
-pub length-block : (size count : ℕ) (octets : List ℕ) (k : ℕ) (d : List (List ℕ)) → k < (count + 255) / 256 → length (get_or (blocks_of size count octets) k d) ≡ min 256 (count - k * 256)
+pub length-block : (size count : ℕ) (octets : List ℕ) (k : ℕ) (d : List (List ℕ)) → k < div_ceil count 256 → length (get_or (blocks_of size count octets) k d) ≡ min 256 (count - k * 256)
 length-block size count octets k d h =
     ap length (get_or-blocks size count octets k d h)
     ∙ length-take 256 (drop (k * 256) (pieces size count octets))
     ∙ ap (λ n. min 256 n) (length-drop (k * 256) (pieces size count octets) ∙ ap (λ n. n - k * 256) (length-pieces size count octets))
 
 -- the frame at its number in its block stands at its place among all frames
-pub get_or-frame : (size count : ℕ) (octets : List ℕ) (k n : ℕ) → k < (count + 255) / 256 → n < 256 → k * 256 + n < count → get_or (get_or (blocks_of size count octets) k []) n [] ≡ take size (drop ((k * 256 + n) * size) octets)
+pub get_or-frame : (size count : ℕ) (octets : List ℕ) (k n : ℕ) → k < div_ceil count 256 → n < 256 → k * 256 + n < count → get_or (get_or (blocks_of size count octets) k []) n [] ≡ take size (drop ((k * 256 + n) * size) octets)
 get_or-frame size count octets k n block below within =
     ap (λ frames. get_or frames n []) (get_or-blocks size count octets k [] block)
     ∙ get_or-take 256 (drop (k * 256) (pieces size count octets)) n [] below
@@ -88,32 +89,32 @@ pub joined-blocks : (size count : ℕ) (octets : List ℕ) → length octets ≡
 unfolding blocks_of
 joined-blocks size count octets e =
     let frames : List (List ℕ) = pieces size count octets in
-    let covered : length (pieces size count octets) ≤ (count + 255) / 256 * 256 = rw length-pieces (omega arith) in
+    let covered : length (pieces size count octets) ≤ div_ceil count 256 * 256 = rw length-pieces (omega arith) in
     let all : length octets ≤ count * size = omega arith in
-    ap (λ xs. flat_map (λ frame. frame) xs) (join-pieces 256 ((count + 255) / 256) frames ∙ take_all _ frames covered)
+    ap (λ xs. flat_map (λ frame. frame) xs) (join-pieces 256 (div_ceil count 256) frames ∙ take_all _ frames covered)
     ∙ join-pieces size count octets
     ∙ take_all _ octets all
 
 pub joined-cut : (small : Bool) (octets : List ℕ) → joined (cut small octets) ≡ filled small octets
-joined-cut small octets = joined-blocks (frame_size small) (pieces_for small (length octets)) (filled small octets) (length-filled small octets)
+joined-cut small octets = joined-blocks (frame_size small) (frames_for small (length octets)) (filled small octets) (length-filled small octets)
 
-padding_below : (small : Bool) (n : ℕ) → pieces_for small n * frame_size small - n < frame_size small
+padding_below : (small : Bool) (n : ℕ) → frames_for small n * frame_size small - n < frame_size small
 padding_below true n = omega arith
 padding_below false n = omega arith
 
 -- the page limit is a multiple of both frame sizes
-filled_within : (small : Bool) (n : ℕ) → n ≤ 8388608 → pieces_for small n * frame_size small ≤ 8388608
+filled_within : (small : Bool) (n : ℕ) → n ≤ 8388608 → frames_for small n * frame_size small ≤ 8388608
 filled_within true n h = omega arith
 filled_within false n h = omega arith
 
 pub cut_is_full_frames : (small : Bool) (octets : List ℕ) → IsCut (frame_size small) octets (cut small octets)
 cut_is_full_frames small octets =
-    let count : ℕ = pieces_for small (length octets) in
+    let count : ℕ = frames_for small (length octets) in
     let size : ℕ = frame_size small in
     let inside : List ℕ = filled small octets in
     record {
       each = λ k h.
-          let block : k < (count + 255) / 256 = rw length-blocks at h in
+          let block : k < div_ceil count 256 = rw length-blocks at h in
           let long : length (get_or (cut small octets) k []) ≡ min 256 (count - k * 256) = length-block size count inside k [] block in
           record {
             some = omega arith;
@@ -122,15 +123,15 @@ cut_is_full_frames small octets =
                 (All-take (λ frame. length frame ≡ size) 256 _ (All-drop (λ frame. length frame ≡ size) (k * 256) _ (All-pieces size count inside (length-filled small octets))));
           };
       full = λ k h.
-          let block : k + 1 < (count + 255) / 256 = rw length-blocks at h in
-          let here : k < (count + 255) / 256 = omega arith in
+          let block : k + 1 < div_ceil count 256 = rw length-blocks at h in
+          let here : k < div_ceil count 256 = omega arith in
           length-block size count inside k [] here ∙ (omega arith);
       octets_then_zeros = (count * size - length octets, padding_below small (length octets), joined-cut small octets);
     }
 
 pub joined_within_limit : (small : Bool) (octets front rest : List ℕ) → length octets ≤ 8388608 → joined (cut small octets) ≡ front ++ rest → length front ≤ 8388608
 joined_within_limit small octets front rest page is =
-    let whole : length front + length rest ≡ pieces_for small (length octets) * frame_size small =
+    let whole : length front + length rest ≡ frames_for small (length octets) * frame_size small =
     sym (length-append front rest) ∙ ap length (sym is ∙ joined-cut small octets) ∙ length-filled small octets in
-    let limit : pieces_for small (length octets) * frame_size small ≤ 8388608 = filled_within small (length octets) page in
+    let limit : frames_for small (length octets) * frame_size small ≤ 8388608 = filled_within small (length octets) page in
     omega arith

@@ -1,6 +1,6 @@
 use Rattle.std.specs.Prelude.{Option}
-use Rattle.std.proofs.Common.{◌≡◌, ◌≢◌, ℕ, ◌+◌, ◌*◌, ◌/◌, ◌%◌, ◌^◌, ◌<◌, ◌||◌, true, false, cond, List, length, map, replicate, set, get_or, nat_eq, bit_or, refl, sym, ap, ◌∙◌, arith, w8, inl, inr, eq-eqb, Some, None, ◌++◌, add-one}
-use Rattle.std.specs.List.{range_with_len}
+use Rattle.std.proofs.Common.{◌≡◌, ◌≢◌, ℕ, ◌+◌, ◌*◌, ◌/◌, ◌%◌, ◌^◌, ◌<◌, ◌||◌, true, false, cond, List, length, map, replicate, set, get_or, nat_eq, bit_or, refl, sym, ap, ◌∙◌, arith, w8, inl, inr, eq-eqb, Some, None, ◌++◌, ◌∷◌, append-nil}
+use Rattle.std.specs.List.{flat_map, range_with_len}
 use Rattle.std.specs.Option.{option_map, unwrap_or}
 use Rattle.std.specs.Prelude.{nat_lt, [], is_some}
 use Rattle.std.specs.Map.{lookup}
@@ -9,7 +9,9 @@ use Rattle.std.specs.Ordering.{nat_cmp, is_eq}
 use Rattle.std.specs.BTreeMap as tree
 use Rattle.std.specs.declared.vec.Vec.{Vec}
 use Rattle.std.proofs.lemmas.List.{get_or-set_same, get_or-set_other, get_or-replicate, length-replicate, length-set, ext_get_or}
-use Rattle.std.proofs.lemmas.List.FromFn.{length-map-range_with_len, get_or-map-range_with_len}
+use Rattle.std.proofs.lemmas.List.FromFn.{length-map-range_with_len, get_or-map-range_with_len, map-range_with_len_more}
+use Rattle.std.proofs.lemmas.List.Concat.{flat_map-append}
+use Rattle.std.proofs.lemmas.List.Folds.{flat_map-map}
 use Rattle.std.proofs.lemmas.Nat.Bits.{bit_at_set_same, bit_at_set_other, bit_at-zero}
 use Rattle.std.proofs.lemmas.Bool.{cases_eq, ne_eqb}
 use Rattle.partial_page.specs.Store.{frames_in, frame_of, has_frame, no_frames, bit_of, joined_frames}
@@ -94,4 +96,11 @@ joined_frames-none frames = refl
 
 pub joined_frames-more : (frames : List (Option (List ℕ))) (n : ℕ) → joined_frames frames (n + 1) ≡ joined_frames frames n ++ unwrap_or (frame_of frames n) []
 unfolding joined_frames
-joined_frames-more frames n = rw add-one refl
+joined_frames-more frames n =
+    let part : ℕ → List ℕ = λ k. unwrap_or (frame_of frames k) [] in
+    let joined : List (List ℕ) → List ℕ = flat_map (λ x. x) in
+    sym (flat_map-map (λ x. x) part (range_with_len 0 (n + 1)))
+    ∙ ap joined (map-range_with_len_more part 0 n n (omega arith))
+    ∙ flat_map-append (λ x. x) (map part (range_with_len 0 n)) (part n ∷ [])
+    ∙ ap (λ xs. xs ++ (part n ++ [])) (flat_map-map (λ x. x) part (range_with_len 0 n))
+    ∙ ap (λ xs. flat_map part (range_with_len 0 n) ++ xs) (append-nil (part n))

@@ -1,5 +1,6 @@
 -- A coded page as blocks of frames.
-use Rattle.std.specs.Prelude.{ℕ, ◌≡◌, ◌≤◌, ◌<◌, ◌+◌, ◌-◌, ◌*◌, ◌/◌, ◌++◌, ◌∷◌, [], suc, zero, Bool, true, false, List, length, take, drop, replicate, All, slice_index_or, Result, Ok, Err}
+use Rattle.std.specs.Prelude.{ℕ, ◌≡◌, ◌≤◌, ◌<◌, ◌+◌, ◌-◌, ◌*◌, ◌++◌, ◌∷◌, [], suc, zero, Bool, true, false, List, length, take, drop, replicate, All, slice_index_or, Result, Ok, Err}
+use Rattle.std.specs.Int.{div_ceil}
 use Rattle.std.specs.List.{flat_map}
 use Rattle.partial_page.specs.declared.fault.BlockFault.{BlockFault}
 use Rattle.partial_page.specs.declared.fault.BlockFault.TheVariants.{NoMemory, PageTooLong}
@@ -9,10 +10,9 @@ abbrev pub frame_size : Bool → ℕ
 frame_size true = 64
 frame_size false = 256
 
--- how many pieces of a length a list of another length needs
-abbrev pub pieces_for : Bool → ℕ → ℕ
-pieces_for true octets = (octets + 63) / 64
-pieces_for false octets = (octets + 255) / 256
+-- how many frames so many octets need
+abbrev pub frames_for : Bool → ℕ → ℕ
+frames_for small octets = div_ceil octets (frame_size small)
 
 -- so many pieces of one length, one after the other, from the front of a list; the last may be shorter
 unfoldable pub pieces : {X : Type 0} → ℕ → ℕ → List X → List (List X)
@@ -21,15 +21,15 @@ pieces size (suc count) xs = take size xs ∷ pieces size count (drop size xs)
 
 -- octets in frames of one size, 256 frames to a block, the last block the rest
 unfoldable pub blocks_of : ℕ → ℕ → List ℕ → List (List (List ℕ))
-blocks_of size count octets = pieces 256 ((count + 255) / 256) (pieces size count octets)
+blocks_of size count octets = pieces 256 (div_ceil count 256) (pieces size count octets)
 
 -- the octets, filled with octets 00 to whole frames
 abbrev pub filled : Bool → List ℕ → List ℕ
-filled small octets = octets ++ replicate (pieces_for small (length octets) * frame_size small - length octets) 0
+filled small octets = octets ++ replicate (frames_for small (length octets) * frame_size small - length octets) 0
 
 -- the list of blocks of frames that octets are cut into
 abbrev pub cut : Bool → List ℕ → List (List (List ℕ))
-cut small octets = blocks_of (frame_size small) (pieces_for small (length octets)) (filled small octets)
+cut small octets = blocks_of (frame_size small) (frames_for small (length octets)) (filled small octets)
 
 -- the frames of all blocks, one after the other
 abbrev pub joined : List (List (List ℕ)) → List ℕ

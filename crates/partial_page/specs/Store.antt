@@ -1,6 +1,6 @@
 -- The frames of a block that were received, as a finite map from a frame's number to its data.
-use Rattle.std.specs.Prelude.{ℕ, ◌≡◌, ◌≤◌, ◌<◌, ◌/◌, ◌%◌, ◌||◌, ◌++◌, suc, zero, Bool, true, not, List, length, map, replicate, slice_index, slice_index_or, slice_set, nat_eq, nat_lt, Option, None, Some, is_some, unwrap_or, Result, Ok, Err, []}
-use Rattle.std.specs.List.{range_with_len}
+use Rattle.std.specs.Prelude.{ℕ, ◌≡◌, ◌≤◌, ◌<◌, ◌/◌, ◌%◌, ◌||◌, Bool, true, not, List, length, map, replicate, slice_index, slice_index_or, slice_set, nat_eq, nat_lt, Option, None, Some, is_some, unwrap_or, Result, Ok, Err, []}
+use Rattle.std.specs.List.{flat_map, range_with_len}
 use Rattle.std.specs.Int.{bit_at}
 use Rattle.std.specs.Option.{option_map}
 use Rattle.std.specs.Ordering.{nat_cmp}
@@ -54,8 +54,7 @@ IsWhole frames last = (n : ℕ) → n ≤ last → has_frame frames n ≡ true
 
 -- the data of the first so many numbers, one after the other
 unfoldable pub joined_frames : List (Option (List ℕ)) → ℕ → List ℕ
-joined_frames frames zero = []
-joined_frames frames (suc count) = joined_frames frames count ++ unwrap_or (frame_of frames count) []
+joined_frames frames count = flat_map (λ n. unwrap_or (frame_of frames n) []) (range_with_len 0 count)
 
 -- what storing a frame leaves, and when it is refused
 abbrev pub PutsFrame : StoredFrames → ℕ → List ℕ → StoredFrames → Result (Unit {0}) BlockFault → Type 0

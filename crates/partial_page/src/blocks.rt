@@ -1,4 +1,4 @@
-ghost use Rattle.partial_page.specs.Frames.{frame_size, pieces_for, blocks_of, cut, CutsPage, CutIsFullFrames, JoinedPageIsWithinLimit};
+ghost use Rattle.partial_page.specs.Frames.{frame_size, blocks_of, cut, CutsPage, CutIsFullFrames, JoinedPageIsWithinLimit};
 ghost use Rattle.std.specs.Prelude.{◌≡◌, ◌≤◌, ◌<◌, ◌+◌, ◌-◌, ◌*◌, List, [], length, take, drop, slice_index_or};
 
 use crate::fault::BlockFault;
@@ -8,24 +8,13 @@ use std::marker::Model;
 /// The greatest number of octets of a coded page.
 pub const PAGE_LIMIT: usize = 8_388_608;
 
-/// How many frames so many octets need.
-fn frames_for(octets: usize, small: bool) -> usize
-    requires { octets ≤ 8388608 }
-    ensures { result ≡ pieces_for small octets }
+/// The octets of a frame: 64 where `small`, else 256.
+pub(crate) fn frame_octets(small: bool) -> usize
+    ensures size { result ≡ frame_size small }
+    ensures some { 0 < result }
+    ensures most { result ≤ 256 }
 {
-    if small {
-        (octets + 63) / 64
-    } else {
-        (octets + 255) / 256
-    }
-}
-
-/// The octets of so many frames.
-fn octets_of(frames: usize, small: bool) -> usize
-    requires { frames ≤ 8388608 }
-    ensures { result ≡ frames * frame_size small }
-{
-    if small { frames * 64 } else { frames * 256 }
+    if small { 64 } else { 256 }
 }
 
 /// The frame at a place among frames that stand one after the other.
@@ -34,11 +23,8 @@ fn frame_at(octets: &[u8], place: usize, small: bool) -> &[u8]
     requires within { (place + 1) * frame_size small ≤ length octets.now }
     ensures { result.now ≡ take (frame_size small) (drop (place * frame_size small) octets.now) }
 {
-    if small {
-        &octets[place * 64..place * 64 + 64]
-    } else {
-        &octets[place * 256..place * 256 + 256]
-    }
+    let size = frame_octets(small);
+    &octets[place * size..(place + 1) * size]
 }
 
 /// A coded page, cut into the frames of ITU-T T.30 Annex A: blocks of 256 frames, the last block with
@@ -72,8 +58,9 @@ impl Blocks {
             return Err(BlockFault::PageTooLong);
         }
         let mut octets = coded;
-        let frames = frames_for(octets.len(), small);
-        octets.resize(octets_of(frames, small), 0)?;
+        let size = frame_octets(small); // of the page
+        let frames = octets.len().div_ceil(size);
+        octets.resize(frames * size, 0)?;
         Ok(Blocks {
             octets,
             frames,
@@ -86,7 +73,7 @@ impl Blocks {
     pub fn count(&self) -> usize
         ensures { result ≡ length self.now }
     {
-        (self.frames + 255) / 256
+        self.frames.div_ceil(256)
     }
 
     /// The frames of a block less 1: the number of its last frame.

@@ -1,19 +1,12 @@
-ghost use Rattle.partial_page.specs.Frames.{frame_size};
 ghost use Rattle.partial_page.specs.Store.{StoredFrames, no_frames, frame_of, has_frame, is_marked, IsWhole, joined_frames, PutsFrame, IsMissingMap, bit_of};
 ghost use Rattle.partial_page.specs.declared.fault.BlockFault.TheVariants.{NoMemory};
 ghost use Rattle.std.specs.Prelude.{◌≡◌, ◌≤◌, ◌<◌, ◌+◌, ◌++◌, ◌&&◌, ◌||◌, ℕ, length, nat_eq, unwrap_or, [], IsOkUnless, OnOk, OnErr, IsTrue, ◌↔◌};
 
+use crate::blocks::frame_octets;
 use crate::fault::BlockFault;
 use std::alloc::{AllocError, Global};
 use std::collections::BTreeMap;
 use std::marker::Model;
-
-/// The greatest length of a frame's data.
-fn longest(small: bool) -> usize
-    ensures { result ≡ frame_size small }
-{
-    if small { 64 } else { 256 }
-}
 
 /// Sets the bit of a number, if it is marked, the least significant of an octet first.
 fn mark(octets: &mut [u8; 32], n: u8, marked: bool)
@@ -59,7 +52,7 @@ impl BlockStore {
     pub fn put(&mut self, n: u8, octets: &[u8]) -> Result<(), BlockFault>
         ensures { PutsFrame self.old n octets.now self.new result }
     {
-        if octets.len() > longest(self.small) {
+        if octets.len() > frame_octets(self.small) {
             return Err(BlockFault::TooLong);
         }
         let kept = Vec::from_slice(self.alloc, octets)?;
