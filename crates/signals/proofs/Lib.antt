@@ -6,3 +6,4 @@ pub mod TextLemmas
 pub mod LowerLemmas
 pub mod Cases
 pub mod SendingLemmas
+pub mod FieldTexts

@@ -1,10 +1,10 @@
 -- What is sent of a signal, bit for bit, by the tables of the standard.
-use Rattle.std.specs.Prelude.{ℕ, ◌≡◌, ◌<◌, ◌-◌, ◌↔◌, ◌&&◌, ◌||◌, Bool, true, false, cond, nat_eq, nat_le, List, [], ◌∷◌, ◌++◌, map, slice_index_or, Option, Some, None, IfSome, codes}
+use Rattle.std.specs.Prelude.{ℕ, ◌≡◌, ◌≢◌, ◌<◌, ◌-◌, ◌↔◌, ◌&&◌, ◌||◌, Bool, true, false, cond, nat_eq, nat_le, List, [], ◌∷◌, ◌++◌, map, slice_index_or, Option, Some, None, IfSome, codes}
 use Rattle.std.specs.Int.{bit_at}
 use Rattle.std.specs.List.{flat_map, range_with_len}
 use Rattle.page_code.specs.declared.coding.Coding.{Coding}
 use Rattle.page_code.specs.declared.coding.Coding.TheVariants.{OneDim, T6}
-use Rattle.signals.specs.Reading.{page_end_of}
+use Rattle.signals.specs.Reading.{modems_of, speed_of, width_of, page_end_of}
 use Rattle.signals.specs.Saying.{control_text, has_text}
 use Rattle.signals.specs.Signals.{PlainSignal, dis, dcs, cfr, ftt, fcd, rcp, pps, ppr, mcf, rnr, rr, dcn, other}
 use Rattle.signals.specs.Writing.{content_of}
@@ -151,3 +151,15 @@ WritesTheTables = (signal : PlainSignal) (side : Side) (last : Bool) → IfSome 
 -- each octet is read as the second field of PPS whose text it has
 abbrev pub PageEndsHaveTexts : Type 0
 PageEndsHaveTexts = (octet : ℕ) (ends : PageEnd) → octet < 256 → (page_end_of octet ≡ Some ends) ↔ (has_text (page_end_text ends) octet ≡ true)
+
+-- bits 11 to 14 of a DCS are read as the speed whose text they are
+abbrev pub SpeedsHaveTexts : Type 0
+SpeedsHaveTexts = (a b c d : Bool) (speed : Speed) → (speed_of a b c d ≡ Some speed) ↔ (a ∷ b ∷ c ∷ d ∷ [] ≡ digits (speed_text speed))
+
+-- bits 11 to 14 of a DIS are read as the modems whose text they are, and so as the fallback where they are no other's
+abbrev pub ModemsHaveTexts : Type 0
+ModemsHaveTexts = (a b c d : Bool) (modems : Modems) → modems ≢ Fallback → (modems_of a b c d ≡ modems) ↔ (a ∷ b ∷ c ∷ d ∷ [] ≡ digits (modems_text modems))
+
+-- bits 17 and 18 of a DCS are read as the width whose text they are
+abbrev pub WidthsHaveTexts : Type 0
+WidthsHaveTexts = (a b : Bool) (width : PageWidth) → (width_of a b ≡ Some width) ↔ (a ∷ b ∷ [] ≡ digits (width_text width))

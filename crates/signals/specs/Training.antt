@@ -1,18 +1,22 @@
 -- The training check.
-use Rattle.std.specs.Prelude.{ℕ, ◌+◌, ◌*◌, ◌≤◌, replicate, max, cond, nat_eq, List, [], ◌∷◌}
+use Rattle.std.specs.Prelude.{ℕ, ◌+◌, ◌*◌, ◌/◌, ◌≤◌, replicate, max, cond, nat_eq, List, [], ◌∷◌}
 use Rattle.signals.specs.declared.params.Speed.{Speed}
 use Rattle.signals.specs.declared.params.Speed.TheVariants.{V27At2400, V27At4800, V29At7200, V29At9600, V17At7200, V17At9600, V17At12000, V17At14400}
 
--- the octets of the training check: 1.5 s of 0 bits
+-- the bits a second of a speed
+abbrev pub bits_a_second : Speed → ℕ
+bits_a_second V27At2400 = 2400
+bits_a_second V27At4800 = 4800
+bits_a_second V29At7200 = 7200
+bits_a_second V29At9600 = 9600
+bits_a_second V17At7200 = 7200
+bits_a_second V17At9600 = 9600
+bits_a_second V17At12000 = 12000
+bits_a_second V17At14400 = 14400
+
+-- the octets of the training check: 0 bits for 1.5 s
 abbrev pub training_octets : Speed → ℕ
-training_octets V27At2400 = 450
-training_octets V27At4800 = 900
-training_octets V29At7200 = 1350
-training_octets V29At9600 = 1800
-training_octets V17At7200 = 1350
-training_octets V17At9600 = 1800
-training_octets V17At12000 = 2250
-training_octets V17At14400 = 2700
+training_octets speed = bits_a_second speed * 3 / 2 / 8
 
 -- how many octets 00 stand at a list's front
 abbrev pub zeros_in_front : List ℕ → ℕ

@@ -2,7 +2,7 @@
 
 ghost use Rattle.signals.specs.Agreement.{BeginsAtMostFiveAbove, GoesDownByOne};
 ghost use Rattle.signals.specs.Saying.{ControlsHaveTexts, ReadsWhatIsSaid};
-ghost use Rattle.signals.specs.Sending.{PageEndsHaveTexts, WritesTheTables};
+ghost use Rattle.signals.specs.Sending.{ModemsHaveTexts, PageEndsHaveTexts, SpeedsHaveTexts, WidthsHaveTexts, WritesTheTables};
 ghost use Rattle.signals.specs.Training.{TrainingChecksAreGood};
 ghost use Rattle.signals.specs.Writing.{ReadsWhatIsWritten};
 
@@ -34,6 +34,14 @@ pub fn writes_the_tables()
 /// where the text has an X. ITU-T T.30, A.4.3.
 pub fn page_ends_have_texts()
     ensures { PageEndsHaveTexts }
+{}
+
+/// Bits of a DIS and a DCS are read as the speed, the modems and the width whose text they are, and as
+/// the fallback's modems where they are the text of no others. ITU-T T.30, 5.3.6.2.
+pub fn fields_have_texts()
+    ensures speeds { SpeedsHaveTexts }
+    ensures modems { ModemsHaveTexts }
+    ensures widths { WidthsHaveTexts }
 {}
 
 /// A training check of its length in octets 00 is good.
