@@ -1,6 +1,7 @@
 -- Lemmas on speeds and agreement.
 use Rattle.std.proofs.Common.{◌≡◌, ℕ, Bool, true, false, cond, not, ◌&&◌, ◌||◌, nat_eq, nat_le, List, [], ◌∷◌, Option, Some, None, Err, IfOk, get_or, refl, sym, ◌∙◌, ap, inl, inr}
-use Rattle.std.proofs.lemmas.Bool.{cases_Bool, eqb-true, and_parts}
+use Rattle.std.proofs.lemmas.Bool.{cases_Bool, and_parts}
+use Rattle.signals.proofs.Places.{same_value}
 use Rattle.std.specs.List.{filter, find}
 use Rattle.page_code.specs.declared.coding.Coding.{Coding}
 use Rattle.page_code.specs.declared.coding.Coding.TheVariants.{OneDim, T6}
@@ -26,8 +27,7 @@ place_tells V17At12000 = refl
 place_tells V17At14400 = refl
 
 pub same_speed : (a b : Speed) → nat_eq (place_of_speed a) (place_of_speed b) ≡ true → a ≡ b
-same_speed a b same =
-    sym (place_tells a) ∙ ap speed_at (eqb-true (place_of_speed a) (place_of_speed b) same) ∙ place_tells b
+same_speed = same_value place_of_speed speed_at place_tells
 
 pub after-filter : (p : Speed → Bool) (speed : Speed) (xs : List Speed) → p speed ≡ true → after_speed speed (filter p xs) ≡ filter p (after_speed speed xs)
 after-filter p speed [] tried = refl

@@ -1,9 +1,9 @@
 -- The texts of the speeds, modems and widths.
-use Rattle.std.proofs.Common.{◌≡◌, ℕ, Bool, true, false, ◌||◌, nat_eq, List, [], ◌∷◌, get_or, Option, Some, None, refl, sym, ◌∙◌, ap, subst}
-use Rattle.std.proofs.lemmas.Bool.{eqb-true, eq-eqb}
+use Rattle.std.proofs.Common.{◌≡◌, ℕ, Bool, true, false, ◌||◌, nat_eq, List, [], ◌∷◌, get_or, Some, refl, sym, ◌∙◌, ap, subst}
 use Rattle.std.specs.Bool.{beq}
-use Rattle.signals.proofs.AgreementLemmas.{same_speed}
+use Rattle.signals.proofs.AgreementLemmas.{speed_at, place_tells}
 use Rattle.signals.proofs.Cases.{all_speeds, each_speed, all_modems, each_modems, all_widths, each_width, all_bits, each_bit}
+use Rattle.signals.proofs.Places.{same_value, is_found, found, is-found}
 use Rattle.signals.proofs.SendingLemmas.{same_bits, same-bit, same-bits}
 use Rattle.signals.specs.Agreement.{place_of_speed}
 use Rattle.signals.specs.Reading.{modems_of, speed_of, width_of}
@@ -22,21 +22,10 @@ bits-self (false ∷ xs) = bits-self xs
 pub bits-same : (xs ys : List Bool) → xs ≡ ys → same_bits xs ys ≡ true
 bits-same xs ys e = subst (λ zs. same_bits xs zs ≡ true) e (bits-self xs)
 
-abbrev pub is_speed : Speed → Option Speed → Bool
-is_speed speed None = false
-is_speed speed (Some found) = nat_eq (place_of_speed found) (place_of_speed speed)
-
-pub found-speed : (speed : Speed) (found : Option Speed) → is_speed speed found ≡ true → found ≡ Some speed
-found-speed speed None e = cc
-found-speed speed (Some found) e = ap Some (same_speed found speed e)
-
-pub speed-found : (speed : Speed) (found : Option Speed) → found ≡ Some speed → is_speed speed found ≡ true
-speed-found speed found e = ap (is_speed speed) e ∙ eq-eqb (place_of_speed speed) (place_of_speed speed) refl
-
 abbrev pub speed_agrees : Bool → Bool → Bool → Bool → Speed → Bool
-speed_agrees a b c d speed = beq (is_speed speed (speed_of a b c d)) (same_bits (a ∷ b ∷ c ∷ d ∷ []) (digits (speed_text speed)))
+speed_agrees a b c d speed = beq (is_found place_of_speed speed (speed_of a b c d)) (same_bits (a ∷ b ∷ c ∷ d ∷ []) (digits (speed_text speed)))
 
-pub speed-agrees : (a b c d : Bool) (speed : Speed) → is_speed speed (speed_of a b c d) ≡ same_bits (a ∷ b ∷ c ∷ d ∷ []) (digits (speed_text speed))
+pub speed-agrees : (a b c d : Bool) (speed : Speed) → is_found place_of_speed speed (speed_of a b c d) ≡ same_bits (a ∷ b ∷ c ∷ d ∷ []) (digits (speed_text speed))
 speed-agrees a b c d speed =
     same-bit _ _
     (each_speed (λ s. speed_agrees a b c d s)
@@ -48,8 +37,8 @@ speed-agrees a b c d speed =
 
 pub speeds-have-texts : SpeedsHaveTexts
 speeds-have-texts a b c d speed = (
-  λ found. same-bits _ _ (sym (speed-agrees a b c d speed) ∙ speed-found speed (speed_of a b c d) found),
-  λ text. found-speed speed (speed_of a b c d) (speed-agrees a b c d speed ∙ bits-same _ _ text),
+  λ found_so. same-bits _ _ (sym (speed-agrees a b c d speed) ∙ is-found place_of_speed speed (speed_of a b c d) found_so),
+  λ text. found place_of_speed speed_at place_tells speed (speed_of a b c d) (speed-agrees a b c d speed ∙ bits-same _ _ text),
 )
 
 abbrev pub place_of_modems : Modems → ℕ
@@ -69,28 +58,18 @@ place-tells_modems V29 = refl
 place-tells_modems V27V29 = refl
 place-tells_modems V17 = refl
 
-abbrev pub are_modems : Modems → Modems → Bool
-are_modems modems found = nat_eq (place_of_modems found) (place_of_modems modems)
-
-pub found-modems : (modems found : Modems) → are_modems modems found ≡ true → found ≡ modems
-found-modems modems found e =
-    sym (place-tells_modems found) ∙ ap modems_at (eqb-true (place_of_modems found) (place_of_modems modems) e) ∙ place-tells_modems modems
-
-pub modems-found : (modems found : Modems) → found ≡ modems → are_modems modems found ≡ true
-modems-found modems found e = ap (are_modems modems) e ∙ eq-eqb (place_of_modems modems) (place_of_modems modems) refl
-
 abbrev pub is_fallback : Modems → Bool
 is_fallback modems = nat_eq (place_of_modems modems) 0
 
 abbrev pub modems_agree : Bool → Bool → Bool → Bool → Modems → Bool
 modems_agree a b c d modems =
-    is_fallback modems || beq (are_modems modems (modems_of a b c d)) (same_bits (a ∷ b ∷ c ∷ d ∷ []) (digits (modems_text modems)))
+    is_fallback modems || beq (is_found place_of_modems modems (Some (modems_of a b c d))) (same_bits (a ∷ b ∷ c ∷ d ∷ []) (digits (modems_text modems)))
 
 pub other_one : (first second : Bool) → (first || second) ≡ true → first ≡ false → second ≡ true
 other_one true second e f = cc
 other_one false second e f = e
 
-pub modems-agree : (a b c d : Bool) (modems : Modems) → is_fallback modems ≡ false → are_modems modems (modems_of a b c d) ≡ same_bits (a ∷ b ∷ c ∷ d ∷ []) (digits (modems_text modems))
+pub modems-agree : (a b c d : Bool) (modems : Modems) → is_fallback modems ≡ false → is_found place_of_modems modems (Some (modems_of a b c d)) ≡ same_bits (a ∷ b ∷ c ∷ d ∷ []) (digits (modems_text modems))
 modems-agree a b c d modems other =
     same-bit _ _
     (other_one (is_fallback modems) _
@@ -110,8 +89,8 @@ not-fallback V17 h = refl
 
 pub modems-have-texts : ModemsHaveTexts
 modems-have-texts a b c d modems other = (
-  λ found. same-bits _ _ (sym (modems-agree a b c d modems (not-fallback modems other)) ∙ modems-found modems (modems_of a b c d) found),
-  λ text. found-modems modems (modems_of a b c d) (modems-agree a b c d modems (not-fallback modems other) ∙ bits-same _ _ text),
+  λ found_so. same-bits _ _ (sym (modems-agree a b c d modems (not-fallback modems other)) ∙ is-found place_of_modems modems (Some (modems_of a b c d)) (ap Some found_so)),
+  λ text. same_value place_of_modems modems_at place-tells_modems (modems_of a b c d) modems (modems-agree a b c d modems (not-fallback modems other) ∙ bits-same _ _ text),
 )
 
 abbrev pub place_of_width : PageWidth → ℕ
@@ -127,22 +106,10 @@ place-tells_width W1728 = refl
 place-tells_width W2048 = refl
 place-tells_width W2432 = refl
 
-abbrev pub is_width : PageWidth → Option PageWidth → Bool
-is_width width None = false
-is_width width (Some found) = nat_eq (place_of_width found) (place_of_width width)
-
-pub found-width : (width : PageWidth) (found : Option PageWidth) → is_width width found ≡ true → found ≡ Some width
-found-width width None e = cc
-found-width width (Some found) e =
-    ap Some (sym (place-tells_width found) ∙ ap width_at (eqb-true (place_of_width found) (place_of_width width) e) ∙ place-tells_width width)
-
-pub width-found : (width : PageWidth) (found : Option PageWidth) → found ≡ Some width → is_width width found ≡ true
-width-found width found e = ap (is_width width) e ∙ eq-eqb (place_of_width width) (place_of_width width) refl
-
 abbrev pub width_agrees : Bool → Bool → PageWidth → Bool
-width_agrees a b width = beq (is_width width (width_of a b)) (same_bits (a ∷ b ∷ []) (digits (width_text width)))
+width_agrees a b width = beq (is_found place_of_width width (width_of a b)) (same_bits (a ∷ b ∷ []) (digits (width_text width)))
 
-pub width-agrees : (a b : Bool) (width : PageWidth) → is_width width (width_of a b) ≡ same_bits (a ∷ b ∷ []) (digits (width_text width))
+pub width-agrees : (a b : Bool) (width : PageWidth) → is_found place_of_width width (width_of a b) ≡ same_bits (a ∷ b ∷ []) (digits (width_text width))
 width-agrees a b width =
     same-bit _ _
     (each_width (λ w. width_agrees a b w)
@@ -150,6 +117,6 @@ width-agrees a b width =
 
 pub widths-have-texts : WidthsHaveTexts
 widths-have-texts a b width = (
-  λ found. same-bits _ _ (sym (width-agrees a b width) ∙ width-found width (width_of a b) found),
-  λ text. found-width width (width_of a b) (width-agrees a b width ∙ bits-same _ _ text),
+  λ found_so. same-bits _ _ (sym (width-agrees a b width) ∙ is-found place_of_width width (width_of a b) found_so),
+  λ text. found place_of_width width_at place-tells_width width (width_of a b) (width-agrees a b width ∙ bits-same _ _ text),
 )

@@ -7,3 +7,4 @@ pub mod LowerLemmas
 pub mod Cases
 pub mod SendingLemmas
 pub mod FieldTexts
+pub mod Places

@@ -1,6 +1,7 @@
 -- The bits that are sent.
-use Rattle.std.proofs.Common.{◌≡◌, ℕ, ◌<◌, Bool, true, false, ◌&&◌, nat_eq, List, [], ◌∷◌, ◌++◌, get_or, Option, Some, None, IfSome, codes, refl, sym, ◌∙◌, ap}
-use Rattle.std.proofs.lemmas.Bool.{and_parts, agree_below_at, eqb-true, eq-eqb}
+use Rattle.std.proofs.Common.{◌≡◌, ℕ, ◌<◌, Bool, true, false, ◌&&◌, List, [], ◌∷◌, ◌++◌, get_or, Option, Some, None, IfSome, codes, refl, sym, ◌∙◌, ap}
+use Rattle.std.proofs.lemmas.Bool.{and_parts, agree_below_at}
+use Rattle.signals.proofs.Places.{is_found, found, is-found}
 use Rattle.std.specs.Bool.{beq}
 use Rattle.page_code.specs.declared.coding.Coding.{Coding}
 use Rattle.signals.proofs.Cases.{each_speed, all_modems, each_modems, all_widths, each_width, all_codings, each_coding, all_bits, each_bit}
@@ -151,26 +152,14 @@ place-tells_end Null = refl
 place-tells_end Mps = refl
 place-tells_end Eop = refl
 
-abbrev pub is_end : PageEnd → Option PageEnd → Bool
-is_end ends None = false
-is_end ends (Some found) = nat_eq (place_of_end found) (place_of_end ends)
-
-pub found-end : (ends : PageEnd) (found : Option PageEnd) → is_end ends found ≡ true → found ≡ Some ends
-found-end ends None e = cc
-found-end ends (Some found) e =
-    ap Some (sym (place-tells_end found) ∙ ap end_at (eqb-true (place_of_end found) (place_of_end ends) e) ∙ place-tells_end ends)
-
-pub end-found : (ends : PageEnd) (found : Option PageEnd) → found ≡ Some ends → is_end ends found ≡ true
-end-found ends found e = ap (is_end ends) e ∙ eq-eqb (place_of_end ends) (place_of_end ends) refl
-
-pub text-tells_end : (octet : ℕ) (ends : PageEnd) → octet < 256 → is_end ends (page_end_of octet) ≡ has_text (page_end_text ends) octet
+pub text-tells_end : (octet : ℕ) (ends : PageEnd) → octet < 256 → is_found place_of_end ends (page_end_of octet) ≡ has_text (page_end_text ends) octet
 unfolding page_end_of
-text-tells_end octet Null h = agree_below_at (λ o. is_end Null (page_end_of o)) (λ o. has_text (page_end_text Null) o) 256 octet refl h
-text-tells_end octet Mps h = agree_below_at (λ o. is_end Mps (page_end_of o)) (λ o. has_text (page_end_text Mps) o) 256 octet refl h
-text-tells_end octet Eop h = agree_below_at (λ o. is_end Eop (page_end_of o)) (λ o. has_text (page_end_text Eop) o) 256 octet refl h
+text-tells_end octet Null h = agree_below_at (λ o. is_found place_of_end Null (page_end_of o)) (λ o. has_text (page_end_text Null) o) 256 octet refl h
+text-tells_end octet Mps h = agree_below_at (λ o. is_found place_of_end Mps (page_end_of o)) (λ o. has_text (page_end_text Mps) o) 256 octet refl h
+text-tells_end octet Eop h = agree_below_at (λ o. is_found place_of_end Eop (page_end_of o)) (λ o. has_text (page_end_text Eop) o) 256 octet refl h
 
 pub page-ends-have-texts : PageEndsHaveTexts
 page-ends-have-texts octet ends h = (
-  λ found. sym (text-tells_end octet ends h) ∙ end-found ends (page_end_of octet) found,
-  λ text. found-end ends (page_end_of octet) (text-tells_end octet ends h ∙ text),
+  λ found_so. sym (text-tells_end octet ends h) ∙ is-found place_of_end ends (page_end_of octet) found_so,
+  λ text. found place_of_end end_at place-tells_end ends (page_end_of octet) (text-tells_end octet ends h ∙ text),
 )

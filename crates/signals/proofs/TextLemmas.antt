@@ -1,6 +1,7 @@
 -- The control fields and their texts.
-use Rattle.std.proofs.Common.{◌≡◌, ℕ, ◌<◌, Bool, true, false, nat_eq, [], ◌∷◌, get_or, Option, Some, None, refl, sym, ◌∙◌, ap}
-use Rattle.std.proofs.lemmas.Bool.{agree_below_at, eqb-true, eq-eqb}
+use Rattle.std.proofs.Common.{◌≡◌, ℕ, ◌<◌, [], ◌∷◌, get_or, refl, sym, ◌∙◌}
+use Rattle.std.proofs.lemmas.Bool.{agree_below_at}
+use Rattle.signals.proofs.Places.{is_found, found, is-found}
 use Rattle.signals.specs.Reading.{control_of}
 use Rattle.signals.specs.Saying.{control_text, has_text, ControlsHaveTexts}
 use Rattle.signals.specs.declared.reading.Control.{Control}
@@ -37,35 +38,23 @@ place-tells_control Rnr = refl
 place-tells_control Rr = refl
 place-tells_control Dcn = refl
 
-abbrev pub is_control : Control → Option Control → Bool
-is_control control None = false
-is_control control (Some found) = nat_eq (place_of_control found) (place_of_control control)
-
-pub found-control : (control : Control) (found : Option Control) → is_control control found ≡ true → found ≡ Some control
-found-control control None e = cc
-found-control control (Some found) e =
-    ap Some (sym (place-tells_control found) ∙ ap control_at (eqb-true (place_of_control found) (place_of_control control) e) ∙ place-tells_control control)
-
-pub control-found : (control : Control) (found : Option Control) → found ≡ Some control → is_control control found ≡ true
-control-found control found e = ap (is_control control) e ∙ eq-eqb (place_of_control control) (place_of_control control) refl
-
-pub text-tells : (octet : ℕ) (control : Control) → octet < 256 → is_control control (control_of octet) ≡ has_text (control_text control) octet
+pub text-tells : (octet : ℕ) (control : Control) → octet < 256 → is_found place_of_control control (control_of octet) ≡ has_text (control_text control) octet
 unfolding control_of
-text-tells octet Dis h = agree_below_at (λ o. is_control Dis (control_of o)) (λ o. has_text (control_text Dis) o) 256 octet refl h
-text-tells octet Dcs h = agree_below_at (λ o. is_control Dcs (control_of o)) (λ o. has_text (control_text Dcs) o) 256 octet refl h
-text-tells octet Cfr h = agree_below_at (λ o. is_control Cfr (control_of o)) (λ o. has_text (control_text Cfr) o) 256 octet refl h
-text-tells octet Ftt h = agree_below_at (λ o. is_control Ftt (control_of o)) (λ o. has_text (control_text Ftt) o) 256 octet refl h
-text-tells octet Fcd h = agree_below_at (λ o. is_control Fcd (control_of o)) (λ o. has_text (control_text Fcd) o) 256 octet refl h
-text-tells octet Rcp h = agree_below_at (λ o. is_control Rcp (control_of o)) (λ o. has_text (control_text Rcp) o) 256 octet refl h
-text-tells octet Pps h = agree_below_at (λ o. is_control Pps (control_of o)) (λ o. has_text (control_text Pps) o) 256 octet refl h
-text-tells octet Ppr h = agree_below_at (λ o. is_control Ppr (control_of o)) (λ o. has_text (control_text Ppr) o) 256 octet refl h
-text-tells octet Mcf h = agree_below_at (λ o. is_control Mcf (control_of o)) (λ o. has_text (control_text Mcf) o) 256 octet refl h
-text-tells octet Rnr h = agree_below_at (λ o. is_control Rnr (control_of o)) (λ o. has_text (control_text Rnr) o) 256 octet refl h
-text-tells octet Rr h = agree_below_at (λ o. is_control Rr (control_of o)) (λ o. has_text (control_text Rr) o) 256 octet refl h
-text-tells octet Dcn h = agree_below_at (λ o. is_control Dcn (control_of o)) (λ o. has_text (control_text Dcn) o) 256 octet refl h
+text-tells octet Dis h = agree_below_at (λ o. is_found place_of_control Dis (control_of o)) (λ o. has_text (control_text Dis) o) 256 octet refl h
+text-tells octet Dcs h = agree_below_at (λ o. is_found place_of_control Dcs (control_of o)) (λ o. has_text (control_text Dcs) o) 256 octet refl h
+text-tells octet Cfr h = agree_below_at (λ o. is_found place_of_control Cfr (control_of o)) (λ o. has_text (control_text Cfr) o) 256 octet refl h
+text-tells octet Ftt h = agree_below_at (λ o. is_found place_of_control Ftt (control_of o)) (λ o. has_text (control_text Ftt) o) 256 octet refl h
+text-tells octet Fcd h = agree_below_at (λ o. is_found place_of_control Fcd (control_of o)) (λ o. has_text (control_text Fcd) o) 256 octet refl h
+text-tells octet Rcp h = agree_below_at (λ o. is_found place_of_control Rcp (control_of o)) (λ o. has_text (control_text Rcp) o) 256 octet refl h
+text-tells octet Pps h = agree_below_at (λ o. is_found place_of_control Pps (control_of o)) (λ o. has_text (control_text Pps) o) 256 octet refl h
+text-tells octet Ppr h = agree_below_at (λ o. is_found place_of_control Ppr (control_of o)) (λ o. has_text (control_text Ppr) o) 256 octet refl h
+text-tells octet Mcf h = agree_below_at (λ o. is_found place_of_control Mcf (control_of o)) (λ o. has_text (control_text Mcf) o) 256 octet refl h
+text-tells octet Rnr h = agree_below_at (λ o. is_found place_of_control Rnr (control_of o)) (λ o. has_text (control_text Rnr) o) 256 octet refl h
+text-tells octet Rr h = agree_below_at (λ o. is_found place_of_control Rr (control_of o)) (λ o. has_text (control_text Rr) o) 256 octet refl h
+text-tells octet Dcn h = agree_below_at (λ o. is_found place_of_control Dcn (control_of o)) (λ o. has_text (control_text Dcn) o) 256 octet refl h
 
 pub controls-have-texts : ControlsHaveTexts
 controls-have-texts octet control h = (
-  λ found. sym (text-tells octet control h) ∙ control-found control (control_of octet) found,
-  λ text. found-control control (control_of octet) (text-tells octet control h ∙ text),
+  λ found_so. sym (text-tells octet control h) ∙ is-found place_of_control control (control_of octet) found_so,
+  λ text. found place_of_control control_at place-tells_control control (control_of octet) (text-tells octet control h ∙ text),
 )
