@@ -2,11 +2,12 @@
 use Rattle.std.proofs.Common.{◌≡◌, ℕ, ◌+◌, ◌-◌, ◌<◌, ◌≤◌, Bool, true, false, ◌&&◌, ◌||◌, List, [], ◌∷◌, ◌++◌, length, take, drop, map, cond, get_or, min, refl, ap, sym, ◌∙◌, arith, inl, inr, Option, Some, None, nat_eq, nat_lt}
 use Rattle.std.specs.Prelude.{is_some}
 use Rattle.std.specs.List.{filter, count_by}
-use Rattle.std.proofs.lemmas.List.{drop-append-le, take-append-le, length-append, append-nil, drop_all, length-take-le, take_more, get_or-drop, map-append}
+use Rattle.std.proofs.lemmas.List.{drop-append-le, take-append-le, length-append, append-nil, append_assoc, drop_all, length-take-le, take_more, get_or-drop, map-append}
 use Rattle.std.proofs.lemmas.List.Elements.{filter-append}
 use Rattle.std.proofs.lemmas.List.Sums.{sum_by-append}
 use Rattle.std.proofs.lemmas.Bool.{cases_lt, ne_eqb, eq-eqb, false≢true}
 use Rattle.hdlc.specs.Flags.{flags, neighbours, between, gaps}
+use Rattle.hdlc.specs.Laws.{GoodContentsStay}
 use Rattle.hdlc.specs.Gaps.{good, count_of, class_of, is_class, content}
 use Rattle.hdlc.specs.declared.counts.Class.{Class}
 use Rattle.hdlc.specs.declared.counts.Class.TheVariants.{Good}
@@ -156,6 +157,12 @@ good-more bits b = ap (λ gs. map content (filter fine gs)) (gaps-more bits b) �
         (map-append content (filter fine (gaps bits)) (cond (fine (settled bits)) (settled bits ∷ []) []) ∙
         ap (λ gs. good bits ++ gs) (one (fine (settled bits))))
     go false = ap (λ gs. map content (filter fine gs)) (append-nil (gaps bits)) ∙ sym (append-nil (good bits))
+
+pub good_stays : GoodContentsStay
+good_stays bits [] = ([], ap good (append-nil bits) ∙ sym (append-nil (good bits)))
+good_stays bits (b ∷ more) =
+    let rest = good_stays (bits ++ b ∷ []) more in
+    (_ , ap good (sym (append_assoc bits (b ∷ []) more)) ∙ (rest.1 ∙ (ap (λ xs. xs ++ rest.0) (good-more bits b) ∙ append_assoc (good bits) _ rest.0)))
 
 pub count-more : (class : Class) (bits : List Bool) (b : Bool) → count_of class (bits ++ b ∷ []) ≡ count_of class bits + cond (closes bits b && is_class class (class_of (settled bits))) 1 0
 count-more class bits b = ap (count_by fits) (gaps-more bits b) ∙ (sum_by-append (λ gap. cond (fits gap) 1 0) (gaps bits) (cond (closes bits b) (settled bits ∷ []) []) ∙ ap (λ n. count_of class bits + n) (go (closes bits b)))

@@ -16,6 +16,10 @@ FlagsStand = (bits : List Bool) (place : ℕ) → Contains (flags bits) place �
 abbrev pub FlagForgets : Type 0
 FlagForgets = (before behind : List Bool) → gaps ((before ++ flag) ++ behind) ≡ gaps (before ++ flag) ++ gaps (flag ++ behind)
 
+-- bits that follow leave the good contents that there are, and may bring more behind them
+abbrev pub GoodContentsStay : Type 0
+GoodContentsStay = (bits more : List Bool) → (new : List (List ℕ)) × (good (bits ++ more) ≡ good bits ++ new)
+
 -- A frame and 0 bits to an octet, behind bits that are empty or end with a flag and at most seven 0 bits, leave them so; the
 -- gaps grow by the frame's only gap, and so the good contents by its content alone.
 abbrev pub FrameGrows : Type 0

@@ -1,6 +1,6 @@
 //! Laws of flags, gaps and frames: calls that do nothing, whose contracts are the laws.
 
-ghost use Rattle.hdlc.specs.Laws.{FlagsStand, FlagForgets, FrameGrows, OneFrame, PiecesJoin, NextWaits, NextStands};
+ghost use Rattle.hdlc.specs.Laws.{FlagsStand, FlagForgets, GoodContentsStay, FrameGrows, OneFrame, PiecesJoin, NextWaits, NextStands};
 ghost use Rattle.hdlc.specs.Examples.{AreExamples};
 
 /// The flags of bits are exactly the places where a flag stands.
@@ -11,6 +11,11 @@ pub fn flags_stand()
 /// After a flag all else is forgotten: the gaps behind it don't depend on what stood before.
 pub fn flag_forgets()
     ensures { FlagForgets }
+{}
+
+/// Bits that follow leave the good contents that there are, and may bring more behind them.
+pub fn good_contents_stay()
+    ensures { GoodContentsStay }
 {}
 
 /// A frame and up to seven 0 bits, after bits that are empty or end with a flag and at most seven 0
