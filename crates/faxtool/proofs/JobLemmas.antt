@@ -7,7 +7,7 @@ use Rattle.clap.specs.declared.error.Error.{Error}
 use Rattle.clap.specs.declared.builder.value_parser.ValueParser.{ValueParser}
 use Rattle.clap.proofs.OnLiterals.{clap_on_literals}
 use Rattle.clap.proofs.WalkLemmas.{one_text-rows}
-use Rattle.faxtool.specs.declared.words.Job.TheVariants.{Code, Show}
+use Rattle.faxtool.specs.declared.words.Job.TheVariants.{Code, Frames, Show}
 use Rattle.faxtool.specs.declared.words.Outcome.{Outcome}
 use Rattle.faxtool.specs.declared.words.Outcome.TheVariants.{Done, Fault, Words}
 use Rattle.faxtool.specs.Jobs.{HasNoJob, IsFaxtool, IsOutcomeOf, IsRefusalOf, IsWidthIn, ReadsWidth, faxtool_app}
@@ -98,8 +98,14 @@ show_is_code e =
     let bad : 115 ≡ 99 = ap (λ (t : Text). slice_index t 0) e in
     absurd (omega (arith, bad))
 
+show_is_frames : codes "show" ≡ codes "frames" → ⊥
+show_is_frames e =
+    let bad : 115 ≡ 102 = ap (λ (t : Text). slice_index t 0) e in
+    absurd (omega (arith, bad))
+
 -- without a width there is no job for `show`
 pub no_width : (rows : List Row) → ((n : ℕ) → IsWidthIn rows n → ⊥) → HasNoJob (Some (codes "show", rows))
 no_width rows none (Code coding order input output) (others, e, is) = show_is_code (some_name (codes "show") (codes "code") rows others e)
 no_width rows none (Show coding order width input) (others, e, is) =
     none width (subst (λ (xs : List Row). IsWidthIn xs width) (sym (some_rows (codes "show") (codes "show") rows others e)) is.width_is)
+no_width rows none (Frames input) (others, e, is) = show_is_frames (some_name (codes "show") (codes "frames") rows others e)

@@ -1,1 +1,3 @@
 mod JobLemmas
+mod Listing
+mod HexText

@@ -1,5 +1,5 @@
 -- What the commands that code and show pages do with what they read.
-use Rattle.std.specs.Prelude.{ℕ, ◌≡◌, ◌≢◌, ◌≤◌, ◌⊎◌, Bool, false, List, [], ◌∷◌, Option, length, Ok, Err}
+use Rattle.std.specs.Prelude.{ℕ, ◌≡◌, ◌≢◌, ◌≤◌, ◌⊎◌, Bool, false, List, [], ◌∷◌, Option, length, Err}
 use Rattle.std.specs.Io.KnownBytes.{Appends}
 use Rattle.raster.specs.declared.packed.Order.{Order}
 use Rattle.raster.specs.declared.row.Color.{Color}
@@ -20,6 +20,7 @@ use Rattle.page_code.specs.T4Laws.{IsLongestFront}
 use Rattle.page_code.specs.T6Code.{page_code as two_dimensional_text}
 use Rattle.page_code.specs.T6Laws.{IsLongestFront as IsLongestFrontOfT6}
 use Rattle.page_code.specs.T6Modes.{ReadsAsPage}
+use Rattle.faxtool.specs.Faults.{IsOutside}
 use Rattle.faxtool.specs.declared.fault.ToolFault.{ToolFault}
 use Rattle.faxtool.specs.declared.fault.ToolFault.TheVariants.{No, AtBit}
 
@@ -45,10 +46,6 @@ pub record CodesImage (coding : Coding) (order : Order) (before after : Option (
   pub code : List ℕ
   pub coded : FillsOctets order (code_text coding page.width page.rows) code
   pub written : Appends before after code
-
--- a fault of reading or writing, or memory that was refused
-abbrev pub IsOutside : ToolFault → Type 0
-IsOutside fault = (fault ≡ No 8) ⊎ (fault ≡ No 9)
 
 -- several images were read
 abbrev pub AreSeveral : List ℕ → ToolFault → Type 0

@@ -1,6 +1,8 @@
--- The program's fault lines.
-use Rattle.std.specs.Prelude.{ℕ, List, ◌++◌, codes}
+-- The faults of the program and their lines.
+use Rattle.std.specs.Prelude.{ℕ, ◌≡◌, ◌⊎◌, List, ◌++◌, codes}
 use Rattle.std.specs.Fmt.{decimal}
+use Rattle.std.specs.declared.io.ErrorKind.{ErrorKind}
+use Rattle.std.specs.declared.io.ErrorKind.TheVariants.{OutOfMemory}
 use Rattle.run_tables.specs.declared.fault.CodeFault.{CodeFault}
 use Rattle.run_tables.specs.declared.fault.CodeFaultKind.{CodeFaultKind}
 use Rattle.run_tables.specs.declared.fault.CodeFaultKind.TheVariants.{NoMemory}
@@ -19,5 +21,15 @@ abbrev pub fault_at : ℕ → CodeFaultKind → ToolFault
 fault_at place NoMemory = No 9
 fault_at place kind = AtBit (number_of kind) place
 
+-- the fault that the program tells of a fault of coded bits
 abbrev pub fault_of_code : CodeFault → ToolFault
 fault_of_code fault = fault_at fault.place fault.kind
+
+-- a fault of reading or writing, or memory that was refused
+abbrev pub IsOutside : ToolFault → Type 0
+IsOutside fault = (fault ≡ No 8) ⊎ (fault ≡ No 9)
+
+-- the fault of a reader or a writer that fails: 9 where memory was refused in it, else 8
+abbrev pub fault_of_io : ErrorKind → ToolFault
+fault_of_io OutOfMemory = No 9
+fault_of_io kind = No 8

@@ -18,7 +18,7 @@ use Rattle.raster.specs.declared.packed.Order.{Order}
 use Rattle.raster.specs.declared.packed.Order.TheVariants.{LsbFirst, MsbFirst}
 use Rattle.faxtool.specs.declared.fault.ToolFault.TheVariants.{No}
 use Rattle.faxtool.specs.declared.words.Job.{Job}
-use Rattle.faxtool.specs.declared.words.Job.TheVariants.{Code, Show}
+use Rattle.faxtool.specs.declared.words.Job.TheVariants.{Code, Frames, Show}
 use Rattle.faxtool.specs.declared.words.Outcome.{Outcome}
 use Rattle.faxtool.specs.declared.words.Outcome.TheVariants.{Done, Fault, Words}
 
@@ -59,23 +59,30 @@ file_rule id = record (new_rule id) {
   required = true;
 }
 
+-- `code`: the code, the order, and the files of the image and of its code
 abbrev pub code_app : ValueParser → ValueParser → App
 code_app codings orders = with_rule (with_rule (with_rule (with_rule (new_app (codes "code"))
     (coding_rule codings)) (order_rule orders)) (file_rule (codes "in"))) (file_rule (codes "out"))
 
+-- `show`: the code, the width, the order, and the file of the page
 abbrev pub show_app : ValueParser → ValueParser → App
 show_app codings orders = with_rule (with_rule (with_rule (with_rule (new_app (codes "show"))
     (coding_rule codings)) width_rule) (order_rule orders)) (file_rule (codes "file"))
 
--- the program, which wants one of its two commands
+-- `frames`: the file of the bits
+abbrev pub frames_app : App
+frames_app = with_rule (new_app (codes "frames")) (file_rule (codes "file"))
+
+-- the program, which wants one of its commands
 abbrev pub empty_app : App
 empty_app = let app = new_app (codes "faxtool") in record app {
   top = record app.top { arg_required_else_help = true; subcommand_required = true };
 }
 
+-- the program with its commands
 abbrev pub faxtool_app : ValueParser → ValueParser → App
-faxtool_app codings orders = with_subcommand (with_subcommand empty_app (code_app codings orders).top)
-    (show_app codings orders).top
+faxtool_app codings orders = with_subcommand (with_subcommand (with_subcommand empty_app (code_app codings orders).top)
+    (show_app codings orders).top) frames_app.top
 
 -- the parser takes these names and no other text
 abbrev pub TakesNames : ValueParser → List Text → Type 0
@@ -147,6 +154,9 @@ IsJobOf met (Code coding order input output) = (rows : List Row)
 IsJobOf met (Show coding order width input) = (rows : List Row)
     × (met ≡ Some (codes "show", rows))
     × IsShowOf rows coding order width (string_bytes input)
+IsJobOf met (Frames input) = (rows : List Row)
+    × (met ≡ Some (codes "frames", rows))
+    × (first_of (codes "file") rows ≡ Some (string_bytes input))
 
 -- no job is of the command's name and values
 abbrev pub HasNoJob : Option (Text × List Row) → Type 0
@@ -174,6 +184,7 @@ IsOutcomeOf error (Words given) = (kind_of error ≢ OutOfMemory) × (given ≡ 
 
 -- ---- the exit status
 
+-- 0 where the job is done, 1 for a fault, 2 for the words
 abbrev pub status_of : Outcome → ℕ
 status_of Done = 0
 status_of (Fault fault) = 1
@@ -183,3 +194,4 @@ status_of (Words error) = 2
 abbrev pub HasWidth : Job → Type 0
 HasWidth (Code coding order input output) = Unit {0}
 HasWidth (Show coding order width input) = IsWidth width
+HasWidth (Frames input) = Unit {0}

@@ -1,3 +1,5 @@
 pub mod Jobs
 pub mod Faults
 pub mod Engines
+pub mod Texts
+pub mod Frames

@@ -1,37 +1,24 @@
-//! What the commands do, over any reader and any writer.
-ghost use Rattle.faxtool.specs.Engines.{CodesImage, IsOutside, ReadsIn, RefusesImage, RefusesIn, RefusesShow, ShowsPage, code_text};
+//! What `code` and `show` do, over any reader and any writer.
+ghost use Rattle.faxtool.specs.Engines.{CodesImage, ReadsIn, RefusesImage, RefusesIn, RefusesShow, ShowsPage, code_text};
+ghost use Rattle.faxtool.specs.Faults.{IsOutside};
 ghost use Rattle.page_code.specs.PageCodes.{AppendsCode};
 ghost use Rattle.raster.specs.Packed.{bits_of};
 ghost use Rattle.raster.specs.Pixels.{IsWidth};
 ghost use Rattle.std.specs.Io.KnownBytes.{Appends};
 ghost use Rattle.std.specs.Prelude.{◌≡◌, ◌≢◌, ◌<◌, IfErr, IfOk, IfSome, OnErr, OnOk, length};
 
-use crate::fault::{NO_MEMORY, ToolFault};
+use crate::fault::ToolFault;
 use page_code::{Coding, OneDim, PageCode, T6};
 use raster::{Page, read_pbm, write_text};
 use run_tables::{CodeFault, CodeFaultKind, Order};
 use std::alloc::{AllocError, Global};
-use std::io;
 use std::io::{Read, Write};
 
 #[cfg(test)]
 mod tests;
 
-/// The fault of a reader, a writer or a file.
-pub const FAILED: ToolFault = ToolFault::No(8);
-
 /// The fault of an input of more than one image.
 const SEVERAL_PAGES: ToolFault = ToolFault::No(27);
-
-/// The fault of a reader or a writer: it failed, or memory was refused in it.
-fn fault_of(error: &io::Error) -> ToolFault
-    ensures { IsOutside result }
-{
-    match error.kind() {
-        io::ErrorKind::OutOfMemory => NO_MEMORY,
-        _ => FAILED,
-    }
-}
 
 /// All octets that are left in the reader.
 fn read_octets<R: Read>(alloc: Global, reader: &mut R) -> Result<Vec<u8>, ToolFault>
@@ -39,20 +26,16 @@ fn read_octets<R: Read>(alloc: Global, reader: &mut R) -> Result<Vec<u8>, ToolFa
     ensures fault { IfErr result IsOutside }
 {
     let mut octets = Vec::new(alloc);
-    match reader.read_to_end(&mut octets) {
-        Ok(_) => Ok(octets),
-        Err(error) => Err(fault_of(&error)),
-    }
+    reader.read_to_end(&mut octets)?;
+    Ok(octets)
 }
 
 fn write_octets<W: Write>(octets: &[u8], writer: &mut W) -> Result<(), ToolFault>
     ensures octets { OnOk result (Appends (W.contents writer.old) (W.contents writer.new) octets.now) }
     ensures fault { IfErr result IsOutside }
 {
-    match writer.write_all(octets) {
-        Ok(()) => Ok(()),
-        Err(error) => Err(fault_of(&error)),
-    }
+    writer.write_all(octets)?;
+    Ok(())
 }
 
 /// Appends the page's code.
@@ -103,17 +86,12 @@ pub fn code_engine<R: Read, W: Write>(
     ensures coded { OnOk result (IfSome (R.remaining reader.old) (CodesImage coding order (W.contents writer.old) (W.contents writer.new))) }
     ensures refused { IfErr result (λ fault. IfSome (R.remaining reader.old) (λ octets. RefusesImage octets fault)) }
 {
-    let document = match read_pbm(alloc, reader, false) {
-        Ok(document) => document,
-        Err(fault) => return Err(ToolFault::No(fault.number())),
-    };
+    let document = read_pbm(alloc, reader, false)?;
     let [page] = document.pages() else {
         return Err(SEVERAL_PAGES);
     };
     let mut octets = Vec::new(alloc);
-    if encode(alloc, coding, page, order, &mut octets).is_err() {
-        return Err(NO_MEMORY);
-    }
+    encode(alloc, coding, page, order, &mut octets)?;
     write_octets(&octets, writer)
 }
 
@@ -132,15 +110,8 @@ pub fn show_engine<R: Read, W: Write>(
     ensures shown { OnOk result (IfSome (R.remaining reader.old) (ShowsPage coding order width (W.contents writer.old) (W.contents writer.new))) }
     ensures refused { IfErr result (λ fault. IfSome (R.remaining reader.old) (λ octets. RefusesShow coding order width octets fault)) }
 {
-    let octets = match read_octets(alloc, reader) {
-        Ok(octets) => octets,
-        Err(fault) => return Err(fault),
-    };
-    match decode(alloc, coding, &octets, order, width) {
-        Ok((page, _used)) => match write_text(&page, writer) {
-            Ok(()) => Ok(()),
-            Err(_) => Err(FAILED),
-        },
-        Err(fault) => Err(ToolFault::from(fault)),
-    }
+    let octets = read_octets(alloc, reader)?;
+    let (page, _used) = decode(alloc, coding, &octets, order, width)?;
+    write_text(&page, writer)?;
+    Ok(())
 }

@@ -1,7 +1,9 @@
 //! What went wrong while a command ran.
+use raster::RasterFault;
 use run_tables::{CodeFault, CodeFaultKind};
+use std::alloc::AllocError;
 use std::error::Error;
-use std::fmt;
+use std::{fmt, io};
 
 /// A fault of data, files or memory, as the program's fault line shows it.
 #[derive(Clone, Copy, Debug, PartialEq, Eq)]
@@ -16,6 +18,9 @@ pub enum ToolFault {
         place: u128,
     },
 }
+
+/// A reader, a writer or a file failed.
+pub const FAILED: ToolFault = ToolFault::No(8);
 
 /// Memory was refused.
 pub const NO_MEMORY: ToolFault = ToolFault::No(9);
@@ -36,6 +41,18 @@ impl fmt::Display for ToolFault {
 
 impl Error for ToolFault {}
 
+impl From<RasterFault> for ToolFault {
+    ghost use Rattle.std.specs.Prelude.{◌≡◌};
+    ghost use Rattle.raster.specs.Faults.{number_of};
+    ghost use Rattle.faxtool.specs.declared.fault.ToolFault.TheVariants.{No};
+
+    ghost from_gives = { λ fault tool_fault. tool_fault ≡ No (number_of fault) };
+
+    fn from(fault: RasterFault) -> ToolFault {
+        ToolFault::No(fault.number())
+    }
+}
+
 impl From<CodeFault> for ToolFault {
     ghost use Rattle.std.specs.Prelude.{◌≡◌};
     ghost use Rattle.faxtool.specs.Faults.{fault_of_code};
@@ -49,6 +66,32 @@ impl From<CodeFault> for ToolFault {
                 no: kind.number(),
                 place: fault.place,
             },
+        }
+    }
+}
+
+impl From<AllocError> for ToolFault {
+    ghost use Rattle.std.specs.Prelude.{◌≡◌};
+    ghost use Rattle.faxtool.specs.declared.fault.ToolFault.TheVariants.{No};
+
+    ghost from_gives = { λ _ fault. fault ≡ No 9 };
+
+    fn from(_error: AllocError) -> ToolFault {
+        NO_MEMORY
+    }
+}
+
+impl From<io::Error> for ToolFault {
+    ghost use Rattle.std.specs.Prelude.{◌≡◌};
+    ghost use Rattle.std.specs.IoError.{error_kind};
+    ghost use Rattle.faxtool.specs.Faults.{IsOutside, fault_of_io};
+
+    ghost from_gives = { λ error fault. (fault ≡ fault_of_io (error_kind error)) × IsOutside fault };
+
+    fn from(error: io::Error) -> ToolFault {
+        match error.kind() {
+            io::ErrorKind::OutOfMemory => NO_MEMORY,
+            _ => FAILED,
         }
     }
 }

@@ -1,4 +1,4 @@
-//! A tool on fax pages: it codes images and shows coded pages.
+//! A tool on fax pages and frames: it codes images, shows coded pages and lists the frames in bits.
 #![tactic(auto)]
 
 ghost use Rattle.faxtool.specs.Jobs.{HasWidth};
@@ -6,10 +6,15 @@ ghost use Rattle.raster.specs.Pixels.{IsWidth};
 
 mod engine;
 mod fault;
+mod frames;
+#[cfg(test)]
+mod test_streams;
+mod texts;
 mod words;
 
-use engine::{FAILED, code_engine, show_engine};
-use fault::{NO_MEMORY, ToolFault};
+use engine::{code_engine, show_engine};
+use fault::{FAILED, NO_MEMORY, ToolFault};
+use frames::frames_engine;
 use page_code::Coding;
 use run_tables::Order;
 use std::io::{BufWriter, Write};
@@ -73,6 +78,7 @@ fn run_job(rt: &HostRuntime, job: Job) -> Outcome
             width,
             input,
         } => show_file(rt, *coding, *order, *width, input),
+        Job::Frames { input } => list_file(rt, input),
     };
     match done {
         Ok(()) => Outcome::Done,
@@ -105,7 +111,17 @@ fn show_file(
     requires { IsWidth width }
 {
     let mut reader = fs::open(rt, input).map_err(|_| FAILED)?;
-    let mut writer = BufWriter::new(rt.alloc(), io::writer(rt)).map_err(|_| NO_MEMORY)?;
+    let mut writer = BufWriter::new(rt.alloc(), io::writer(rt))?;
     show_engine(rt.alloc(), &mut reader, &mut writer, coding, order, width)?;
-    writer.flush().map_err(|_| FAILED)
+    writer.flush()?;
+    Ok(())
+}
+
+/// Lists the frames in a file.
+fn list_file(rt: &HostRuntime, input: &str) -> Result<(), ToolFault> {
+    let mut reader = fs::open(rt, input).map_err(|_| FAILED)?;
+    let mut writer = BufWriter::new(rt.alloc(), io::writer(rt))?;
+    frames_engine(rt.alloc(), &mut reader, &mut writer)?;
+    writer.flush()?;
+    Ok(())
 }

@@ -7,7 +7,7 @@ ghost use Rattle.clap.specs.declared.builder.command.Command.TheViews.{out-Comma
 ghost use Rattle.clap.specs.declared.error.kind.ErrorKind.TheVariants.{OutOfMemory};
 ghost use Rattle.faxtool.specs.Jobs.{HasNoJob, IsFaxtool, IsJobOf, IsOutcomeOf, IsRefusalOf};
 ghost use Rattle.faxtool.specs.Jobs.{IsWidthIn, ReadsAs, ReadsWidth, code_app, coding_named, coding_rule};
-ghost use Rattle.faxtool.specs.Jobs.{empty_app, file_rule, order_named, order_rule, show_app};
+ghost use Rattle.faxtool.specs.Jobs.{empty_app, file_rule, order_named, order_rule, show_app, frames_app};
 ghost use Rattle.faxtool.specs.Jobs.{status_of, width_rule};
 
 use crate::fault::{NO_MEMORY, ToolFault};
@@ -41,6 +41,11 @@ pub enum Job {
         /// The page's width in pixels, 1 to 2,432.
         width: u32,
         /// The name of the page's file.
+        input: String,
+    },
+    /// Lists the frames in a file of bits.
+    Frames {
+        /// The name of the file.
         input: String,
     },
 }
@@ -126,6 +131,9 @@ fn job_in(alloc: Global, matches: &ArgMatches<'_>) -> Result<Option<Job>, AllocE
     if let Some(inner) = matches.subcommand_matches("show") {
         return show_job(alloc, inner);
     }
+    if let Some(inner) = matches.subcommand_matches("frames") {
+        return frames_job(alloc, inner);
+    }
     Ok(None)
 }
 
@@ -167,6 +175,18 @@ fn show_job(alloc: Global, matches: &ArgMatches<'_>) -> Result<Option<Job>, Allo
         coding,
         order: order_in(matches),
         width,
+        input: String::from_str(alloc, input)?,
+    }))
+}
+
+fn frames_job(alloc: Global, matches: &ArgMatches<'_>) -> Result<Option<Job>, AllocError>
+    ensures { let met = Some (codes "frames", rows_of (found_of matches.now)) in
+        IfOk result (λ job. MatchOption job (HasNoJob met) (IsJobOf met)) }
+{
+    let Some(input) = text_in(matches, "file") else {
+        return Ok(None);
+    };
+    Ok(Some(Job::Frames {
         input: String::from_str(alloc, input)?,
     }))
 }
@@ -241,14 +261,18 @@ fn faxtool_command<'a>(alloc: Global) -> Result<Command<'a>, AllocError>
     let orders = ValueParser::from(ORDERS.as_slice());
     let code = code_command(alloc, codings, orders)?;
     let show = show_command(alloc, codings, orders)?;
-    empty_command(alloc).subcommand(code)?.subcommand(show)
+    let frames = frames_command(alloc)?;
+    empty_command(alloc)
+        .subcommand(code)?
+        .subcommand(show)?
+        .subcommand(frames)
 }
 
 fn empty_command<'a>(alloc: Global) -> Command<'a>
     ensures { app_of result ≡ empty_app }
 {
     Command::new(alloc, "faxtool")
-        .about("Codes images as fax pages and shows coded pages")
+        .about("Codes images as fax pages, shows coded pages and lists frames")
         .subcommand_required(true)
         .arg_required_else_help(true)
 }
@@ -283,6 +307,15 @@ fn show_command<'a>(
         .arg(width_option(alloc))?
         .arg(order_option(alloc, orders))?
         .arg(file_name(alloc, "file", "FILE", "The file of the coded page"))
+}
+
+fn frames_command<'a>(alloc: Global) -> Result<Command<'a>, AllocError>
+    ensures app { IfOk result (λ command. app_of command ≡ frames_app) }
+    ensures local { IfOk result (λ command. (fields_of command).has_globals ≡ false) }
+{
+    Command::new(alloc, "frames")
+        .about("Lists the frames in a file of bits, the least significant of an octet first")
+        .arg(file_name(alloc, "file", "FILE", "The file of the bits"))
 }
 
 fn coding_option<'a>(alloc: Global, codings: ValueParser<'a>) -> Arg<'a>

@@ -1,59 +1,10 @@
-use super::{FAILED, code_engine, show_engine};
-use crate::fault::{NO_MEMORY, ToolFault};
+use super::{code_engine, show_engine};
+use crate::fault::{FAILED, ToolFault};
+use crate::test_streams::{Narrow, OneByOne};
 use page_code::Coding;
 use run_tables::Order;
-use std::alloc::{AllocError, Global};
-use std::io;
-use std::io::{Read, Write};
+use std::alloc::Global;
 use std::test::Fail;
-
-/// A reader that gives its octets one a read, and then ends or fails.
-#[derive(Drop)]
-struct OneByOne<'a> {
-    left: &'a [u8],
-    fails: bool,
-}
-
-impl Read for OneByOne<'_> {
-    fn read(&mut self, octets: &mut [u8]) -> io::Result<usize> {
-        if octets.is_empty() {
-            return Ok(0);
-        }
-        match self.left.split_first() {
-            Some((first, rest)) => {
-                octets[0] = *first;
-                self.left = rest;
-                Ok(1)
-            }
-            None if self.fails => Err(io::Error::from(io::ErrorKind::Other)),
-            None => Ok(0),
-        }
-    }
-}
-
-/// A writer that takes so many octets, one a write, and then fails.
-#[derive(Drop)]
-struct Narrow {
-    taken: Vec<u8>,
-    room: usize,
-}
-
-impl Write for Narrow {
-    fn write(&mut self, octets: &[u8]) -> io::Result<usize> {
-        if octets.is_empty() {
-            return Ok(0);
-        }
-        if self.taken.len() >= self.room {
-            return Err(io::Error::from(io::ErrorKind::Other));
-        }
-        self.taken.push(octets[0]).map_err(AllocError::from)?;
-        Ok(1)
-    }
-
-    fn flush(&mut self) -> io::Result<()> {
-        Ok(())
-    }
-}
 
 const IMAGE: [u8; 8] = [0x50, 0x34, 0x0A, 0x38, 0x20, 0x31, 0x0A, 0x30];
 
@@ -64,16 +15,30 @@ const CODE: [u8; 12] = [
 const TEXT: &[u8] = b"..##....\n";
 
 fn coded(alloc: Global, image: &[u8], order: Order) -> Result<Vec<u8>, ToolFault> {
-    let mut octets = Vec::with_capacity(alloc, 100).map_err(|_| NO_MEMORY)?;
+    let mut octets = Vec::with_capacity(alloc, 100)?;
     let mut reader = image;
     code_engine(alloc, &mut reader, &mut octets, Coding::OneDim, order)?;
     Ok(octets)
 }
 
 fn shown(alloc: Global, code: &[u8], order: Order) -> Result<Vec<u8>, ToolFault> {
-    let mut text = Vec::with_capacity(alloc, 100).map_err(|_| NO_MEMORY)?;
+    let mut text = Vec::with_capacity(alloc, 100)?;
     let mut reader = code;
     show_engine(alloc, &mut reader, &mut text, Coding::OneDim, order, 8)?;
+    Ok(text)
+}
+
+fn shown_in_two_dimensions(alloc: Global, code: &[u8]) -> Result<Vec<u8>, ToolFault> {
+    let mut text = Vec::with_capacity(alloc, 100)?;
+    let mut reader = code;
+    show_engine(
+        alloc,
+        &mut reader,
+        &mut text,
+        Coding::T6,
+        Order::MsbFirst,
+        8,
+    )?;
     Ok(text)
 }
 
@@ -218,20 +183,18 @@ fn an_image_is_coded_and_shown_in_two_dimensions(rt: HostRuntime) -> Result<(), 
         Order::MsbFirst,
     )?;
     assert_eq!(rt; octets.as_slice(), code.as_slice());
-    let mut text = Vec::with_capacity(alloc, 100)?;
-    show_engine(
-        alloc,
-        &mut code.as_slice(),
-        &mut text,
-        Coding::T6,
-        Order::MsbFirst,
-        8,
-    )?;
+    let text = shown_in_two_dimensions(alloc, &code)?;
     assert_eq!(rt;
         text.as_slice(),
         b"..##....\n..##....\n........\n".as_slice()
     );
-    for (refused, no, place) in [
+    Ok(())
+}
+
+#[test]
+fn codes_that_are_no_page_of_two_dimensions_are_refused_at_their_bit(rt: HostRuntime) {
+    let alloc = rt.alloc();
+    for (code, no, place) in [
         ([].as_slice(), 17, 0),
         (&[0x02], 16, 0),
         (&[0x80, 0x08, 0x00], 11, 1),
@@ -240,17 +203,7 @@ fn an_image_is_coded_and_shown_in_two_dimensions(rt: HostRuntime) -> Result<(), 
         (&[0x26, 0xA1, 0xB8], 15, 11),
         (&[0x00, 0x10, 0x01], 4, 0),
     ] {
-        let mut text = Vec::new(alloc);
-        let mut reader = refused;
-        let done = show_engine(
-            alloc,
-            &mut reader,
-            &mut text,
-            Coding::T6,
-            Order::MsbFirst,
-            8,
-        );
-        assert_eq!(rt; done, Err(ToolFault::AtBit { no, place }), "{refused:?}");
+        let refused = shown_in_two_dimensions(alloc, code).err();
+        assert_eq!(rt; refused, Some(ToolFault::AtBit { no, place }), "{code:?}");
     }
-    Ok(())
 }

@@ -93,6 +93,22 @@ fn reads_a_show(rt: HostRuntime) -> Result<(), Fail> {
 }
 
 #[test]
+fn reads_frames(rt: HostRuntime) -> Result<(), Fail> {
+    let alloc = rt.alloc();
+    let wanted = Job::Frames {
+        input: String::from_str(alloc, "line.bits")?,
+    };
+    assert_job(&rt, &["faxtool", "frames", "line.bits"], wanted);
+    let missing = ErrorKind::MissingRequiredArgument;
+    assert_refused(&rt, &["faxtool", "frames"], missing);
+    let two = ["faxtool", "frames", "line.bits", "more"];
+    assert_refused(&rt, &two, ErrorKind::UnknownArgument);
+    let order = ["faxtool", "frames", "--order", "lsb", "line.bits"];
+    assert_refused(&rt, &order, ErrorKind::UnknownArgument);
+    Ok(())
+}
+
+#[test]
 fn refuses_widths(rt: HostRuntime) {
     for text in [
         "0",
@@ -152,6 +168,11 @@ fn answers_a_call_for_help(rt: HostRuntime) {
     assert_refused(&rt, &["faxtool", "help", "show"], ErrorKind::DisplayHelp);
     assert_refused(&rt, &["faxtool", "show", "--help"], ErrorKind::DisplayHelp);
     assert_refused(&rt, &["faxtool", "code", "--help"], ErrorKind::DisplayHelp);
+    assert_refused(
+        &rt,
+        &["faxtool", "frames", "--help"],
+        ErrorKind::DisplayHelp,
+    );
 }
 
 #[test]
@@ -202,6 +223,11 @@ fn refused_memory_is_a_fault(rt: HostRuntime) {
         Ok(Job::Show { width, input, .. }) => {
             assert!(rt; width == 8 && input.as_str() == "out.mh");
         }
+        Err(Outcome::Fault(fault)) => assert!(rt; fault == NO_MEMORY),
+        _ => assert!(rt; false),
+    }
+    match read_words(rt.alloc(), &["faxtool", "frames", "line.bits"]) {
+        Ok(Job::Frames { input }) => assert!(rt; input.as_str() == "line.bits"),
         Err(Outcome::Fault(fault)) => assert!(rt; fault == NO_MEMORY),
         _ => assert!(rt; false),
     }
