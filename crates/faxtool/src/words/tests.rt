@@ -226,6 +226,11 @@ fn refused_memory_is_a_fault(rt: HostRuntime) {
         Err(Outcome::Fault(fault)) => assert!(rt; fault == NO_MEMORY),
         _ => assert!(rt; false),
     }
+}
+
+// The same of the command that lists frames.
+#[test]
+fn refused_memory_is_a_fault_of_frames(rt: HostRuntime) {
     match read_words(rt.alloc(), &["faxtool", "frames", "line.bits"]) {
         Ok(Job::Frames { input }) => assert!(rt; input.as_str() == "line.bits"),
         Err(Outcome::Fault(fault)) => assert!(rt; fault == NO_MEMORY),
