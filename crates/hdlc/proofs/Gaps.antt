@@ -162,7 +162,7 @@ pub good_stays : GoodContentsStay
 good_stays bits [] = ([], ap good (append-nil bits) ∙ sym (append-nil (good bits)))
 good_stays bits (b ∷ more) =
     let rest = good_stays (bits ++ b ∷ []) more in
-    (_ , ap good (sym (append_assoc bits (b ∷ []) more)) ∙ (rest.1 ∙ (ap (λ xs. xs ++ rest.0) (good-more bits b) ∙ append_assoc (good bits) _ rest.0)))
+    (_, ap good (sym (append_assoc bits (b ∷ []) more)) ∙ (rest.1 ∙ (ap (λ xs. xs ++ rest.0) (good-more bits b) ∙ append_assoc (good bits) _ rest.0)))
 
 pub count-more : (class : Class) (bits : List Bool) (b : Bool) → count_of class (bits ++ b ∷ []) ≡ count_of class bits + cond (closes bits b && is_class class (class_of (settled bits))) 1 0
 count-more class bits b = ap (count_by fits) (gaps-more bits b) ∙ (sum_by-append (λ gap. cond (fits gap) 1 0) (gaps bits) (cond (closes bits b) (settled bits ∷ []) []) ∙ ap (λ n. count_of class bits + n) (go (closes bits b)))
