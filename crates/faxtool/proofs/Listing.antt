@@ -16,7 +16,7 @@ use Rattle.hdlc.specs.Stands.{count_in}
 use Rattle.hdlc.specs.declared.counts.Class.{Class}
 use Rattle.hdlc.specs.declared.counts.Class.TheVariants.{Good, Aborted, Ragged, Short, Long, Damaged}
 use Rattle.hdlc.specs.declared.counts.Counts.{Counts}
-use Rattle.hdlc.proofs.BitPlaces.{bits_of-append}
+use Rattle.raster.proofs.OctetBits.{bits_of-append}
 use Rattle.hdlc.proofs.Gaps.{good_stays}
 use Rattle.faxtool.specs.Frames.{counted, counts_line, counts_of, frame_line, frame_lines, listing}
 

@@ -9,6 +9,7 @@ use Rattle.std.proofs.lemmas.Bool.{eq-eqb, le-ltb}
 use Rattle.hdlc.specs.declared.counts.Class.TheVariants.{Good}
 use Rattle.raster.specs.Packed.{bits_of}
 use Rattle.raster.specs.declared.packed.Order.TheVariants.{LsbFirst}
+use Rattle.raster.proofs.OctetBits.{octet_bits, bits_of-cons, bits_of-append}
 use Rattle.raster.proofs.PackedLemmas.{length-bits_in, bits_in-none}
 use Rattle.hdlc.specs.Octets.{number, octet_at, octets_of}
 use Rattle.hdlc.specs.Fcs.{check_octets, fcs_of}
@@ -16,7 +17,7 @@ use Rattle.hdlc.specs.Flags.{flag, gaps}
 use Rattle.hdlc.specs.Gaps.{clear, class_of, is_class, content as content_of, checks, octets_in, ones_before}
 use Rattle.hdlc.specs.Frames.{IsFrame}
 use Rattle.hdlc.specs.Writing.{Written, IsWriting}
-use Rattle.hdlc.proofs.BitPlaces.{octet_bits, bits_of-cons, bits_of-append, number-octet_bits}
+use Rattle.hdlc.proofs.BitPlaces.{number-octet_bits}
 use Rattle.hdlc.proofs.Division.{check_octets_are}
 use Rattle.hdlc.proofs.Written.{closes_written}
 

@@ -1,4 +1,5 @@
 pub mod PackedLemmas
+pub mod OctetBits
 pub mod RowLemmas
 pub mod TextLemmas
 pub mod PbmParts

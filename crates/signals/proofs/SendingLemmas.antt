@@ -3,11 +3,15 @@ use Rattle.std.proofs.Common.{◌≡◌, ℕ, ◌<◌, Bool, true, false, ◌&&�
 use Rattle.std.proofs.lemmas.Bool.{and_parts, agree_below_at}
 use Rattle.signals.proofs.Places.{is_found, found, is-found}
 use Rattle.std.specs.Bool.{beq}
+use Rattle.std.specs.List.{flat_map}
 use Rattle.page_code.specs.declared.coding.Coding.{Coding}
+use Rattle.raster.proofs.OctetBits.{octet_bits, bits_of-flat_map}
+use Rattle.raster.specs.Packed.{bits_of}
+use Rattle.raster.specs.declared.packed.Order.TheVariants.{LsbFirst}
 use Rattle.signals.proofs.Cases.{each_speed, all_modems, each_modems, all_widths, each_width, all_codings, each_coding, all_bits, each_bit}
 use Rattle.signals.specs.Reading.{page_end_of}
 use Rattle.signals.specs.Saying.{control_text, has_text}
-use Rattle.signals.specs.Sending.{bits_of, text_bits, digits, is_caller, dis_table, dcs_table, table_bits, page_end_text, control_for, field_bits, sent_bits, WritesTheTables, PageEndsHaveTexts}
+use Rattle.signals.specs.Sending.{text_bits, digits, is_caller, dis_table, dcs_table, table_bits, page_end_text, control_for, field_bits, sent_bits, WritesTheTables, PageEndsHaveTexts}
 use Rattle.signals.specs.Signals.{PlainSignal, dis, dcs, cfr, ftt, fcd, rcp, pps, ppr, mcf, rnr, rr, dcn, other}
 use Rattle.signals.specs.Writing.{x_of, dis_fields, dcs_fields, control_octet, fields_of, head_of, content_of}
 use Rattle.signals.specs.declared.params.Caps.{Caps}
@@ -45,7 +49,7 @@ abbrev pub dis_agrees : Bool → Modems → Bool → PageWidth → Bool → Bool
 unfolding dis_fields
 dis_agrees receiver modems fine widest t6 ecm =
     let caps : Caps = record { receiver = receiver; modems = modems; fine = fine; widest = widest; t6 = t6; ecm = ecm } in
-    same_bits (bits_of (dis_fields caps)) (table_bits (dis_table caps))
+    same_bits (flat_map octet_bits (dis_fields caps)) (table_bits (dis_table caps))
 
 pub dis-agrees : (receiver : Bool) (modems : Modems) (fine : Bool) (widest : PageWidth) (t6 ecm : Bool) → dis_agrees receiver modems fine widest t6 ecm ≡ true
 unfolding dis_agrees
@@ -58,16 +62,16 @@ dis-agrees receiver modems fine widest t6 ecm =
     (each_bit (λ r. all_modems (λ m. all_bits (λ f. all_widths (λ w. all_bits (λ t. all_bits (λ e. dis_agrees r m f w t e)))))) refl receiver)
     modems) fine) widest) t6) ecm
 
-pub dis-bits : (caps : Caps) → bits_of (dis_fields caps) ≡ table_bits (dis_table caps)
+pub dis-bits : (caps : Caps) → flat_map octet_bits (dis_fields caps) ≡ table_bits (dis_table caps)
 unfolding dis_fields dis_agrees
 dis-bits caps =
-    same-bits (bits_of (dis_fields caps)) (table_bits (dis_table caps)) (dis-agrees caps.receiver caps.modems caps.fine caps.widest caps.t6 caps.ecm)
+    same-bits (flat_map octet_bits (dis_fields caps)) (table_bits (dis_table caps)) (dis-agrees caps.receiver caps.modems caps.fine caps.widest caps.t6 caps.ecm)
 
 abbrev pub dcs_agrees : Speed → Bool → PageWidth → Coding → Bool → Bool
 unfolding dcs_fields
 dcs_agrees speed fine width coding small =
     let params : Params = record { speed = speed; fine = fine; width = width; coding = coding; small = small } in
-    same_bits (bits_of (dcs_fields params)) (table_bits (dcs_table params))
+    same_bits (flat_map octet_bits (dcs_fields params)) (table_bits (dcs_table params))
 
 pub dcs-agrees : (speed : Speed) (fine : Bool) (width : PageWidth) (coding : Coding) (small : Bool) → dcs_agrees speed fine width coding small ≡ true
 unfolding dcs_agrees
@@ -79,17 +83,17 @@ dcs-agrees speed fine width coding small =
     (each_speed (λ s. all_bits (λ f. all_widths (λ w. all_codings (λ c. all_bits (λ m. dcs_agrees s f w c m))))) refl speed)
     fine) width) coding) small
 
-pub dcs-bits : (params : Params) → bits_of (dcs_fields params) ≡ table_bits (dcs_table params)
+pub dcs-bits : (params : Params) → flat_map octet_bits (dcs_fields params) ≡ table_bits (dcs_table params)
 unfolding dcs_fields dcs_agrees
 dcs-bits params =
-    same-bits (bits_of (dcs_fields params)) (table_bits (dcs_table params)) (dcs-agrees params.speed params.fine params.width params.coding params.small)
+    same-bits (flat_map octet_bits (dcs_fields params)) (table_bits (dcs_table params)) (dcs-agrees params.speed params.fine params.width params.coding params.small)
 
-pub head-bits : (last x : Bool) (control : Control) (octet : ℕ) (fields : List ℕ) (bits : List Bool) → bits_of (octet ∷ []) ≡ text_bits x (control_text control) → bits_of fields ≡ bits →
-    bits_of (head_of last octet ++ fields) ≡ digits (codes "11111111") ++ text_bits last (codes "1100X000") ++ text_bits x (control_text control) ++ bits
-head-bits true x control octet fields bits first rest = ap (λ c. digits (codes "11111111") ++ text_bits true (codes "1100X000") ++ c ++ bits_of fields) first ∙ ap (λ b. digits (codes "11111111") ++ text_bits true (codes "1100X000") ++ text_bits x (control_text control) ++ b) rest
-head-bits false x control octet fields bits first rest = ap (λ c. digits (codes "11111111") ++ text_bits false (codes "1100X000") ++ c ++ bits_of fields) first ∙ ap (λ b. digits (codes "11111111") ++ text_bits false (codes "1100X000") ++ text_bits x (control_text control) ++ b) rest
+pub head-bits : (last x : Bool) (control : Control) (octet : ℕ) (fields : List ℕ) (bits : List Bool) → flat_map octet_bits (octet ∷ []) ≡ text_bits x (control_text control) → flat_map octet_bits fields ≡ bits →
+    flat_map octet_bits (head_of last octet ++ fields) ≡ digits (codes "11111111") ++ text_bits last (codes "1100X000") ++ text_bits x (control_text control) ++ bits
+head-bits true x control octet fields bits first rest = ap (λ c. digits (codes "11111111") ++ text_bits true (codes "1100X000") ++ c ++ flat_map octet_bits fields) first ∙ ap (λ b. digits (codes "11111111") ++ text_bits true (codes "1100X000") ++ text_bits x (control_text control) ++ b) rest
+head-bits false x control octet fields bits first rest = ap (λ c. digits (codes "11111111") ++ text_bits false (codes "1100X000") ++ c ++ flat_map octet_bits fields) first ∙ ap (λ b. digits (codes "11111111") ++ text_bits false (codes "1100X000") ++ text_bits x (control_text control) ++ b) rest
 
-pub control-bits : (signal : PlainSignal) (side : Side) → IfSome (control_for signal) (λ control. bits_of (control_octet signal (x_of side) ∷ []) ≡ text_bits (is_caller side) (control_text control))
+pub control-bits : (signal : PlainSignal) (side : Side) → IfSome (control_for signal) (λ control. flat_map octet_bits (control_octet signal (x_of side) ∷ []) ≡ text_bits (is_caller side) (control_text control))
 control-bits (dis caps) side = refl
 control-bits (dcs params) Caller = refl
 control-bits (dcs params) Answerer = refl
@@ -113,17 +117,17 @@ control-bits dcn Caller = refl
 control-bits dcn Answerer = refl
 control-bits (other octet) side = tt
 
-pub fields-bits : (signal : PlainSignal) → bits_of (fields_of signal) ≡ field_bits signal
+pub fields-bits : (signal : PlainSignal) → flat_map octet_bits (fields_of signal) ≡ field_bits signal
 fields-bits (dis caps) = dis-bits caps
 fields-bits (dcs params) = dcs-bits params
 fields-bits cfr = refl
 fields-bits ftt = refl
-fields-bits (fcd number octets) = refl
+fields-bits (fcd number octets) = sym (bits_of-flat_map (number ∷ octets))
 fields-bits rcp = refl
-fields-bits (pps Null page block last) = refl
-fields-bits (pps Mps page block last) = refl
-fields-bits (pps Eop page block last) = refl
-fields-bits (ppr map) = refl
+fields-bits (pps Null page block last) = ap (λ bits. text_bits true (page_end_text Null) ++ bits) (sym (bits_of-flat_map (page ∷ block ∷ last ∷ [])))
+fields-bits (pps Mps page block last) = ap (λ bits. text_bits true (page_end_text Mps) ++ bits) (sym (bits_of-flat_map (page ∷ block ∷ last ∷ [])))
+fields-bits (pps Eop page block last) = ap (λ bits. text_bits true (page_end_text Eop) ++ bits) (sym (bits_of-flat_map (page ∷ block ∷ last ∷ [])))
+fields-bits (ppr map) = sym (bits_of-flat_map map)
 fields-bits mcf = refl
 fields-bits rnr = refl
 fields-bits rr = refl
@@ -134,9 +138,9 @@ pub writes-tables : WritesTheTables
 unfolding content_of
 writes-tables signal side last = sent (control_for signal) (control-bits signal side)
   where
-    sent : (found : Option Control) → IfSome found (λ control. bits_of (control_octet signal (x_of side) ∷ []) ≡ text_bits (is_caller side) (control_text control)) →
-        IfSome found (λ control. bits_of (content_of signal side last) ≡ sent_bits control signal side last)
-    sent (Some control) first = head-bits last (is_caller side) control (control_octet signal (x_of side)) (fields_of signal) (field_bits signal) first (fields-bits signal)
+    sent : (found : Option Control) → IfSome found (λ control. flat_map octet_bits (control_octet signal (x_of side) ∷ []) ≡ text_bits (is_caller side) (control_text control)) →
+        IfSome found (λ control. bits_of LsbFirst (content_of signal side last) ≡ sent_bits control signal side last)
+    sent (Some control) first = bits_of-flat_map (content_of signal side last) ∙ head-bits last (is_caller side) control (control_octet signal (x_of side)) (fields_of signal) (field_bits signal) first (fields-bits signal)
     sent None first = tt
 
 abbrev pub place_of_end : PageEnd → ℕ

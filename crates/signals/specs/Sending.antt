@@ -1,9 +1,10 @@
 -- What is sent of a signal, bit for bit, by the tables of the standard.
 use Rattle.std.specs.Prelude.{ℕ, ◌≡◌, ◌≢◌, ◌<◌, ◌-◌, ◌↔◌, ◌&&◌, ◌||◌, Bool, true, false, cond, nat_eq, nat_le, List, [], ◌∷◌, ◌++◌, map, slice_index_or, Option, Some, None, IfSome, codes}
-use Rattle.std.specs.Int.{bit_at}
-use Rattle.std.specs.List.{flat_map, range_with_len}
+use Rattle.std.specs.List.{range_with_len}
 use Rattle.page_code.specs.declared.coding.Coding.{Coding}
 use Rattle.page_code.specs.declared.coding.Coding.TheVariants.{OneDim, T6}
+use Rattle.raster.specs.Packed.{bits_of}
+use Rattle.raster.specs.declared.packed.Order.TheVariants.{LsbFirst}
 use Rattle.signals.specs.Reading.{modems_of, speed_of, width_of, page_end_of}
 use Rattle.signals.specs.Saying.{control_text, has_text}
 use Rattle.signals.specs.Signals.{PlainSignal, dis, dcs, cfr, ftt, fcd, rcp, pps, ppr, mcf, rnr, rr, dcn, other}
@@ -22,10 +23,6 @@ use Rattle.signals.specs.declared.signal.PageEnd.{PageEnd}
 use Rattle.signals.specs.declared.signal.PageEnd.TheVariants.{Null, Mps, Eop}
 use Rattle.signals.specs.declared.signal.Side.{Side}
 use Rattle.signals.specs.declared.signal.Side.TheVariants.{Caller, Answerer}
-
--- the bits of octets in order of sending, the least significant of each octet first
-abbrev pub bits_of : List ℕ → List Bool
-bits_of octets = flat_map (λ octet. map (λ place. nat_eq (bit_at octet place) 1) (range_with_len 0 8)) octets
 
 -- the bits of a text in order of sending, x where the text has an X
 abbrev pub text_bits : Bool → List ℕ → List Bool
@@ -134,9 +131,9 @@ control_for (other _) = None
 abbrev pub field_bits : PlainSignal → List Bool
 field_bits (dis caps) = table_bits (dis_table caps)
 field_bits (dcs params) = table_bits (dcs_table params)
-field_bits (fcd number octets) = bits_of (number ∷ octets)
-field_bits (pps ends page block last) = text_bits true (page_end_text ends) ++ bits_of (page ∷ block ∷ last ∷ [])
-field_bits (ppr map) = bits_of map
+field_bits (fcd number octets) = bits_of LsbFirst (number ∷ octets)
+field_bits (pps ends page block last) = text_bits true (page_end_text ends) ++ bits_of LsbFirst (page ∷ block ∷ last ∷ [])
+field_bits (ppr map) = bits_of LsbFirst map
 field_bits _ = []
 
 -- the bits of a signal's frame: address, control field with a 1 in the last frame, facsimile control field with the station's X, fields
@@ -146,7 +143,7 @@ sent_bits control signal side last =
 
 -- the bits of the content that is written of a signal, in order of sending, are those of the tables
 abbrev pub WritesTheTables : Type 0
-WritesTheTables = (signal : PlainSignal) (side : Side) (last : Bool) → IfSome (control_for signal) (λ control. bits_of (content_of signal side last) ≡ sent_bits control signal side last)
+WritesTheTables = (signal : PlainSignal) (side : Side) (last : Bool) → IfSome (control_for signal) (λ control. bits_of LsbFirst (content_of signal side last) ≡ sent_bits control signal side last)
 
 -- each octet is read as the second field of PPS whose text it has
 abbrev pub PageEndsHaveTexts : Type 0
