@@ -1,6 +1,6 @@
 -- The lines of frames while bits come in pieces.
 use Rattle.std.proofs.Common.{◌≡◌, ◌+◌, ◌-◌, ◌^◌, ℕ, Bool, List, [], ◌∷◌, ◌++◌, Option, Some, None, length, drop, min, slice_get, refl, ap, sym, ◌∙◌, subst, arith}
-use Rattle.std.specs.Prelude.{IfSome, OnOk, Result, Ok, Err}
+use Rattle.std.specs.Prelude.{IfSome}
 use Rattle.std.proofs.KnownBytes.{Appends-nil, Appends-trans, Consumes-nil, Consumes-trans}
 use Rattle.std.proofs.lemmas.List.{append-nil, append_assoc, drop_all, length-append}
 use Rattle.std.proofs.Math.Seq.{drop-append_seam}
@@ -161,8 +161,3 @@ all_listed start left rest before now new framing number counts old none end eac
         at_end (Some xs) taken end =
             let all : octets ≡ old.came = taken ∙ (ap (λ l. (old.came ++ []) ++ l) end ∙ (append-nil (old.came ++ []) ∙ append-nil old.came)) in
             subst (λ l. Appends before new (listing (bits_of LsbFirst l))) (sym all) text
-
--- what follows where a call succeeded
-pub then_ok : {T E P Q : Type 0} (r : Result T E) → (P → Q) → OnOk r P → OnOk r Q
-then_ok (Ok x) so is = so is
-then_ok (Err e) so is = tt

@@ -1,11 +1,9 @@
 //! What `code` and `show` do, over any reader and any writer.
 ghost use Rattle.faxtool.specs.Engines.{CodesImage, ReadsIn, RefusesImage, RefusesIn, RefusesShow, ShowsPage, code_text};
-ghost use Rattle.faxtool.specs.Faults.{IsOutside};
 ghost use Rattle.page_code.specs.PageCodes.{AppendsCode};
 ghost use Rattle.raster.specs.Packed.{bits_of};
 ghost use Rattle.raster.specs.Pixels.{IsWidth};
-ghost use Rattle.std.specs.Io.KnownBytes.{Appends};
-ghost use Rattle.std.specs.Prelude.{◌≡◌, ◌≢◌, ◌<◌, IfErr, IfOk, IfSome, OnErr, OnOk, length};
+ghost use Rattle.std.specs.Prelude.{◌≢◌, ◌<◌, IfErr, IfOk, IfSome, OnOk, length};
 
 use crate::fault::ToolFault;
 use page_code::{Coding, OneDim, PageCode, T6};
@@ -19,24 +17,6 @@ mod tests;
 
 /// The fault of an input of more than one image.
 const SEVERAL_PAGES: ToolFault = ToolFault::No(27);
-
-/// All octets that are left in the reader.
-fn read_octets<R: Read>(alloc: Global, reader: &mut R) -> Result<Vec<u8>, ToolFault>
-    ensures octets { IfOk result (λ octets. IfSome (R.remaining reader.old) (λ left. octets.items ≡ left)) }
-    ensures fault { IfErr result IsOutside }
-{
-    let mut octets = Vec::new(alloc);
-    reader.read_to_end(&mut octets)?;
-    Ok(octets)
-}
-
-fn write_octets<W: Write>(octets: &[u8], writer: &mut W) -> Result<(), ToolFault>
-    ensures octets { OnOk result (Appends (W.contents writer.old) (W.contents writer.new) octets.now) }
-    ensures fault { IfErr result IsOutside }
-{
-    writer.write_all(octets)?;
-    Ok(())
-}
 
 /// Appends the page's code.
 fn encode(
@@ -92,7 +72,8 @@ pub fn code_engine<R: Read, W: Write>(
     };
     let mut octets = Vec::new(alloc);
     encode(alloc, coding, page, order, &mut octets)?;
-    write_octets(&octets, writer)
+    writer.write_all(&octets)?;
+    Ok(())
 }
 
 /// Reads octets that begin with the code of a page of this width in pixels, 1 to 2,432, and writes the
@@ -110,7 +91,8 @@ pub fn show_engine<R: Read, W: Write>(
     ensures shown { OnOk result (IfSome (R.remaining reader.old) (ShowsPage coding order width (W.contents writer.old) (W.contents writer.new))) }
     ensures refused { IfErr result (λ fault. IfSome (R.remaining reader.old) (λ octets. RefusesShow coding order width octets fault)) }
 {
-    let octets = read_octets(alloc, reader)?;
+    let mut octets = Vec::new(alloc);
+    reader.read_to_end(&mut octets)?;
     let (page, _used) = decode(alloc, coding, &octets, order, width)?;
     write_text(&page, writer)?;
     Ok(())

@@ -1,4 +1,4 @@
-//! The texts of signals, contents and counts, as `frames` shows them.
+//! The texts of signals and contents, as `frames` shows them.
 
 ghost use Rattle.faxtool.specs.Texts.{coding_text, lines_text, modems_text, page_end_text, signal_text, speed_text};
 ghost use Rattle.signals.specs.Signals.{other};
@@ -28,6 +28,7 @@ fn lines(fine: bool) -> &'static str
     either(fine, "fine", "standard")
 }
 
+/// The modems of a station.
 fn modems(modems: Modems) -> &'static str
     ensures { result.now ≡ modems_text modems }
 {
@@ -56,6 +57,7 @@ fn speed(speed: Speed) -> &'static str
     }
 }
 
+/// The code of pages.
 fn coding(coding: Coding) -> &'static str
     ensures { result.now ≡ coding_text coding }
 {
@@ -65,6 +67,7 @@ fn coding(coding: Coding) -> &'static str
     }
 }
 
+/// What ends with a block.
 fn page_end(ends: PageEnd) -> &'static str
     ensures { result.now ≡ page_end_text ends }
 {

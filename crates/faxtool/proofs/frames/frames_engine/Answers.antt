@@ -1,6 +1,7 @@
 use Rattle.std.proofs.Common.{◌≡◌, [], take, subst}
 use Rattle.std.specs.Io.KnownBytes.{Consumes}
-use Rattle.faxtool.proofs.Listing.{all_listed, none_listed, piece_listed, then_ok}
+use Rattle.faxtool.proofs.Listing.{all_listed, none_listed, piece_listed}
+use Rattle.std.proofs.lemmas.Result.{on_ok_weaker}
 use Rattle.faxtool.proofs.frames.frames_engine.Goals as goal
 
 pub loop-read-init : goal.loop-read-init
@@ -11,7 +12,7 @@ returns-then-count-eq0-clause-listed g c =
     let zero : c.in_ok-count.count ≡ 0 = c.if-count-eq0.true in
     let none : Consumes (g.R.Read.remaining c.loop-read.reader) (g.R.Read.remaining c.read_some.new.reader) [] =
     subst (λ n. Consumes (g.R.Read.remaining c.loop-read.reader) (g.R.Read.remaining c.read_some.new.reader) (take n c.read_some.new.piece)) zero c.in_ok-count.ensures.came in
-    then_ok c.write_counts.result
+    on_ok_weaker c.write_counts.result
     (all_listed _ _ _ _ _ _ c.loop-read.deframer c.loop-read.number c.counts.result c.loop-read.invariant none (c.in_ok-count.ensures.end zero) c.counts.ensures)
     c.write_counts.ensures.line
 
