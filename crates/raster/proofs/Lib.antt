@@ -1,5 +1,6 @@
 pub mod PackedLemmas
 pub mod OctetBits
+pub mod OctetLemmas
 pub mod RowLemmas
 pub mod TextLemmas
 pub mod PbmParts

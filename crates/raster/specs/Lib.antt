@@ -1,4 +1,5 @@
 pub mod Packed
+pub mod Octets
 pub mod Pixels
 pub mod Runs
 pub mod Changes
@@ -7,3 +8,4 @@ pub mod Pages
 pub mod Text
 pub mod Pbm
 pub mod PbmText
+pub mod Laws
