@@ -1,13 +1,14 @@
 -- Lemmas on speeds and agreement.
-use Rattle.std.proofs.Common.{◌≡◌, ℕ, Bool, true, false, cond, not, ◌&&◌, ◌||◌, nat_eq, nat_le, List, [], ◌∷◌, Option, Some, None, Err, IfOk, get_or, refl, sym, ◌∙◌, ap, inl, inr}
-use Rattle.std.proofs.lemmas.Bool.{cases_Bool, and_parts}
+use Rattle.std.proofs.Common.{◌≡◌, ℕ, Bool, true, false, cond, not, ◌&&◌, ◌||◌, nat_eq, nat_le, List, [], ◌∷◌, Option, Some, None, Err, IfOk, get_or, refl, sym, ◌∙◌, ap, subst, inl, inr}
+use Rattle.std.proofs.lemmas.Bool.{cases_Bool, and_parts, eqb-true}
 use Rattle.signals.proofs.Places.{same_value}
 use Rattle.std.specs.List.{filter, find}
 use Rattle.page_code.specs.declared.coding.Coding.{Coding}
 use Rattle.page_code.specs.declared.coding.Coding.TheVariants.{OneDim, T6}
-use Rattle.signals.specs.Agreement.{place_of_speed, pixels_of, supports_speed, common_speed, tried_speeds, speed_order, first_of, after_speed, lower_speed, wished_coding, agreed_coding, takes_pages, at_first, agreed, offers_coding, allowed}
+use Rattle.signals.specs.Agreement.{place_of_speed, pixels_of, supports_speed, common_speed, tried_speeds, speed_order, first_of, after_speed, lower_speed, wished_coding, agreed_coding, takes_pages, at_first, agreed, offers_coding, allowed, AgreedIsAllowed, AgreedFits, LoweredIsAllowed, width_of_pixels, WidthsHavePixels}
 use Rattle.signals.specs.declared.params.Caps.{Caps}
 use Rattle.signals.specs.declared.params.PageWidth.{PageWidth}
+use Rattle.signals.specs.declared.params.PageWidth.TheVariants.{W1728, W2048, W2432}
 use Rattle.signals.specs.declared.params.Speed.{Speed}
 use Rattle.signals.specs.declared.params.Speed.TheVariants.{V27At2400, V27At4800, V29At7200, V29At9600, V17At7200, V17At9600, V17At12000, V17At14400}
 use Rattle.signals.specs.declared.params.Wish.{Wish}
@@ -84,7 +85,7 @@ offers-wished caps wish = offers caps wish.coding caps.t6 refl
     offers caps T6 true e = e
     offers caps T6 false e = refl
 
-pub agreed-allowed : (caps : Caps) (wish : Wish) (width : PageWidth) (fine : Bool) → IfOk (agreed caps wish width fine) (λ params. allowed caps params ≡ true)
+pub agreed-allowed : AgreedIsAllowed
 agreed-allowed caps wish width fine = decided (takes_pages caps width fine) (first_of (tried_speeds wish.modems caps.modems)) refl refl
   where
     decided : (takes : Bool) (first : Option Speed) → takes_pages caps width fine ≡ takes → first_of (tried_speeds wish.modems caps.modems) ≡ first →
@@ -96,3 +97,59 @@ agreed-allowed caps wish width fine = decided (takes_pages caps width fine) (fir
         let common = and_parts (supports_speed wish.modems speed) (supports_speed caps.modems speed) (first-passes (common_speed wish.modems caps.modems) (speed_order wish.modems caps.modems) speed f) in
         rw (common.1, widths.1, fineness.1, offers-wished caps wish) refl
     decided false first e f = tt
+
+pub agreed-fits : AgreedFits
+agreed-fits caps wish width fine = decided (takes_pages caps width fine) (first_of (tried_speeds wish.modems caps.modems))
+  where
+    decided : (takes : Bool) (first : Option Speed) → IfOk (cond takes (at_first first caps wish width fine) (Err (record {}))) (λ params. (params.width ≡ width) × (params.fine ≡ fine))
+    decided true None = tt
+    decided true (Some speed) = (refl, refl)
+    decided false first = tt
+
+pub after-passes : (p : Speed → Bool) (from : Speed) (xs : List Speed) (speed : Speed) → first_of (after_speed from (filter p xs)) ≡ Some speed → p speed ≡ true
+after-passes p from [] speed first = cc
+after-passes p from (x ∷ xs) speed first =
+    elim (cases_Bool (p x)) [
+      | inr left ↦ after-passes p from xs speed (rw left at first)
+      | inl kept ↦
+          let behind : first_of (cond (nat_eq (place_of_speed x) (place_of_speed from)) (filter p xs) (after_speed from (filter p xs))) ≡ Some speed = rw kept at first in
+          elim (cases_Bool (nat_eq (place_of_speed x) (place_of_speed from))) [
+            | inl same ↦ first-passes p xs speed (rw same at behind)
+            | inr other ↦ after-passes p from xs speed (rw other at behind)
+          ]
+    ]
+
+pub lowered-allowed : LoweredIsAllowed
+unfolding lower_speed
+lowered-allowed caps wish params next allows lowered =
+    let common = and_parts (supports_speed wish.modems next) (supports_speed caps.modems next)
+    (after-passes (common_speed wish.modems caps.modems) params.speed (speed_order wish.modems caps.modems) next lowered) in
+    let parts = and_parts ((supports_speed caps.modems params.speed && nat_le (pixels_of params.width) (pixels_of caps.widest)) && (not params.fine || caps.fine)) (offers_coding caps params.coding) allows in
+    let lines = and_parts (supports_speed caps.modems params.speed && nat_le (pixels_of params.width) (pixels_of caps.widest)) (not params.fine || caps.fine) parts.0 in
+    let widths = and_parts (supports_speed caps.modems params.speed) (nat_le (pixels_of params.width) (pixels_of caps.widest)) lines.0 in
+    rw (common.1, widths.1, lines.1, parts.1) refl
+
+pub widths-have-pixels : WidthsHavePixels
+widths-have-pixels pixels width = (λ e. pixels-of pixels width e, λ e. subst (λ n. width_of_pixels n ≡ Some width) e (width-back width))
+  where
+    width-back : (width : PageWidth) → width_of_pixels (pixels_of width) ≡ Some width
+    width-back W1728 = refl
+    width-back W2048 = refl
+    width-back W2432 = refl
+
+    pixels-of : (pixels : ℕ) (width : PageWidth) → width_of_pixels pixels ≡ Some width → pixels_of width ≡ pixels
+    pixels-of pixels width e =
+        elim (cases_Bool (nat_eq pixels 1728)) [
+          | inl a ↦ let found : Some W1728 ≡ Some width = rw a at e in let same : W1728 ≡ width = cc in ap pixels_of (sym same) ∙ sym (eqb-true pixels 1728 a)
+          | inr a ↦
+              let later : cond (nat_eq pixels 2048) (Some W2048) (cond (nat_eq pixels 2432) (Some W2432) None) ≡ Some width = rw a at e in
+              elim (cases_Bool (nat_eq pixels 2048)) [
+                | inl b ↦ let found : Some W2048 ≡ Some width = rw b at later in let same : W2048 ≡ width = cc in ap pixels_of (sym same) ∙ sym (eqb-true pixels 2048 b)
+                | inr b ↦
+                    let last : cond (nat_eq pixels 2432) (Some W2432) None ≡ Some width = rw b at later in
+                    elim (cases_Bool (nat_eq pixels 2432)) [
+                      | inl c ↦ let found : Some W2432 ≡ Some width = rw c at last in let same : W2432 ≡ width = cc in ap pixels_of (sym same) ∙ sym (eqb-true pixels 2432 c)
+                      | inr c ↦ let none : None ≡ Some width = rw c at last in cc
+                    ]
+              ]
+        ]

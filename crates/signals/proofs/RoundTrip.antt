@@ -1,5 +1,5 @@
 -- What is written is read again.
-use Rattle.std.proofs.Common.{◌≡◌, ℕ, ◌+◌, Bool, true, false, not, cond, ◌&&◌, nat_eq, List, ◌∷◌, ◌++◌, length, Option, Some, None, Ok, refl, ◌∙◌, ap, arith}
+use Rattle.std.proofs.Common.{◌≡◌, ℕ, ◌+◌, ◌≤◌, Bool, true, false, not, cond, ◌&&◌, nat_eq, List, ◌∷◌, ◌++◌, length, Option, Some, None, Ok, refl, ◌∙◌, ap, arith}
 use Rattle.std.proofs.lemmas.Bool.{le-ltb}
 use Rattle.std.proofs.lemmas.List.{take_all}
 use Rattle.std.specs.Int.{bit_at}
@@ -7,7 +7,7 @@ use Rattle.page_code.specs.declared.coding.Coding.{Coding}
 use Rattle.page_code.specs.declared.coding.Coding.TheVariants.{OneDim, T6}
 use Rattle.signals.specs.Reading.{field_bit, late_bit, control_of, modems_of, speed_of, widest_of, width_of, page_end_of, caps_of, params_at, params_of, read_fields, read_content}
 use Rattle.signals.specs.Signals.{PlainSignal, dis, dcs, cfr, ftt, fcd, rcp, pps, ppr, mcf, rnr, rr, dcn, other}
-use Rattle.signals.specs.Writing.{IsWritable, x_of, written_or, modems_octet, speed_octet, width_octet, coding_octet, dis_fields, dcs_fields, control_octet, fields_of, head_of, content_of}
+use Rattle.signals.specs.Writing.{IsWritable, WrittenFitsAFrame, x_of, written_or, modems_octet, speed_octet, width_octet, coding_octet, dis_fields, dcs_fields, control_octet, fields_of, head_of, content_of}
 use Rattle.signals.specs.declared.params.Caps.{Caps}
 use Rattle.signals.specs.declared.params.Modems.{Modems}
 use Rattle.signals.specs.declared.params.Modems.TheVariants.{Fallback, V27, V29, V27V29, V17}
@@ -16,7 +16,7 @@ use Rattle.signals.specs.declared.params.PageWidth.TheVariants.{W1728, W2048, W2
 use Rattle.signals.specs.declared.params.Params.{Params}
 use Rattle.signals.specs.declared.params.Speed.{Speed}
 use Rattle.signals.specs.declared.params.Speed.TheVariants.{V27At2400, V27At4800, V29At7200, V29At9600, V17At7200, V17At9600, V17At12000, V17At14400}
-use Rattle.signals.specs.declared.signal.PageEnd.TheVariants.{Null, Mps, Eop}
+use Rattle.signals.specs.declared.signal.PageEnd.TheVariants.{Null, Mps, Eom, Eop}
 use Rattle.signals.specs.declared.signal.Side.{Side}
 use Rattle.signals.specs.declared.signal.Side.TheVariants.{Caller, Answerer}
 
@@ -177,6 +177,8 @@ fields-read (pps Null page block last) Caller w = refl
 fields-read (pps Null page block last) Answerer w = refl
 fields-read (pps Mps page block last) Caller w = refl
 fields-read (pps Mps page block last) Answerer w = refl
+fields-read (pps Eom page block last) Caller w = refl
+fields-read (pps Eom page block last) Answerer w = refl
 fields-read (pps Eop page block last) Caller w = refl
 fields-read (pps Eop page block last) Answerer w = refl
 fields-read (ppr map) Caller w = rw (le-ltb (length map) 32 (omega arith), take_all 32 map (omega arith)) refl
@@ -186,3 +188,24 @@ fields-read (other octet) side w = absurd w
 pub reads-written : (signal : PlainSignal) (side : Side) (last : Bool) → IsWritable signal → read_content (content_of signal side last) ≡ Ok signal
 unfolding content_of
 reads-written signal side last writable = head-read last (control_octet signal (x_of side)) (fields_of signal) ∙ fields-read signal side writable
+
+-- so many octets at most stand behind the control field
+fields-fit : (signal : PlainSignal) → IsWritable signal → length (fields_of signal) ≤ 297
+unfolding dis_fields dcs_fields
+fields-fit (dis caps) w = omega arith
+fields-fit (dcs params) w = omega arith
+fields-fit cfr w = omega arith
+fields-fit ftt w = omega arith
+fields-fit (fcd number octets) w = omega arith
+fields-fit rcp w = omega arith
+fields-fit (pps ends page block last) w = omega arith
+fields-fit (ppr map) w = omega arith
+fields-fit mcf w = omega arith
+fields-fit rnr w = omega arith
+fields-fit rr w = omega arith
+fields-fit dcn w = omega arith
+fields-fit (other octet) w = absurd w
+
+pub written-fits : WrittenFitsAFrame
+unfolding content_of
+written-fits signal side last w = let most : length (fields_of signal) ≤ 297 = fields-fit signal w in (omega arith, omega arith)

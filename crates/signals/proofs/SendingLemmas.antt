@@ -21,7 +21,7 @@ use Rattle.signals.specs.declared.params.Params.{Params}
 use Rattle.signals.specs.declared.params.Speed.{Speed}
 use Rattle.signals.specs.declared.reading.Control.{Control}
 use Rattle.signals.specs.declared.signal.PageEnd.{PageEnd}
-use Rattle.signals.specs.declared.signal.PageEnd.TheVariants.{Null, Mps, Eop}
+use Rattle.signals.specs.declared.signal.PageEnd.TheVariants.{Null, Mps, Eom, Eop}
 use Rattle.signals.specs.declared.signal.Side.{Side}
 use Rattle.signals.specs.declared.signal.Side.TheVariants.{Caller, Answerer}
 
@@ -126,6 +126,7 @@ fields-bits (fcd number octets) = sym (bits_of-flat_map (number ∷ octets))
 fields-bits rcp = refl
 fields-bits (pps Null page block last) = ap (λ bits. text_bits true (page_end_text Null) ++ bits) (sym (bits_of-flat_map (page ∷ block ∷ last ∷ [])))
 fields-bits (pps Mps page block last) = ap (λ bits. text_bits true (page_end_text Mps) ++ bits) (sym (bits_of-flat_map (page ∷ block ∷ last ∷ [])))
+fields-bits (pps Eom page block last) = ap (λ bits. text_bits true (page_end_text Eom) ++ bits) (sym (bits_of-flat_map (page ∷ block ∷ last ∷ [])))
 fields-bits (pps Eop page block last) = ap (λ bits. text_bits true (page_end_text Eop) ++ bits) (sym (bits_of-flat_map (page ∷ block ∷ last ∷ [])))
 fields-bits (ppr map) = sym (bits_of-flat_map map)
 fields-bits mcf = refl
@@ -146,20 +147,23 @@ writes-tables signal side last = sent (control_for signal) (control-bits signal 
 abbrev pub place_of_end : PageEnd → ℕ
 place_of_end Null = 0
 place_of_end Mps = 1
-place_of_end Eop = 2
+place_of_end Eom = 2
+place_of_end Eop = 3
 
 abbrev pub end_at : ℕ → PageEnd
-end_at n = get_or (Null ∷ Mps ∷ Eop ∷ []) n Null
+end_at n = get_or (Null ∷ Mps ∷ Eom ∷ Eop ∷ []) n Null
 
 pub place-tells_end : (ends : PageEnd) → end_at (place_of_end ends) ≡ ends
 place-tells_end Null = refl
 place-tells_end Mps = refl
+place-tells_end Eom = refl
 place-tells_end Eop = refl
 
 pub text-tells_end : (octet : ℕ) (ends : PageEnd) → octet < 256 → is_found place_of_end ends (page_end_of octet) ≡ has_text (page_end_text ends) octet
 unfolding page_end_of
 text-tells_end octet Null h = agree_below_at (λ o. is_found place_of_end Null (page_end_of o)) (λ o. has_text (page_end_text Null) o) 256 octet refl h
 text-tells_end octet Mps h = agree_below_at (λ o. is_found place_of_end Mps (page_end_of o)) (λ o. has_text (page_end_text Mps) o) 256 octet refl h
+text-tells_end octet Eom h = agree_below_at (λ o. is_found place_of_end Eom (page_end_of o)) (λ o. has_text (page_end_text Eom) o) 256 octet refl h
 text-tells_end octet Eop h = agree_below_at (λ o. is_found place_of_end Eop (page_end_of o)) (λ o. has_text (page_end_text Eop) o) 256 octet refl h
 
 pub page-ends-have-texts : PageEndsHaveTexts

@@ -1,5 +1,5 @@
 -- What two stations agree on.
-use Rattle.std.specs.Prelude.{ℕ, ◌≡◌, ◌≤◌, Bool, true, false, not, cond, ◌&&◌, ◌||◌, List, [], ◌∷◌, Option, Some, None, Result, Ok, Err, nat_eq, nat_le, ◌+◌, length, IfOk}
+use Rattle.std.specs.Prelude.{ℕ, ◌≡◌, ◌≤◌, ◌↔◌, Bool, true, false, not, cond, ◌&&◌, ◌||◌, List, [], ◌∷◌, Option, Some, None, Result, Ok, Err, nat_eq, nat_le, ◌+◌, length, IfOk}
 use Rattle.std.specs.List.{filter}
 use Rattle.page_code.specs.declared.coding.Coding.{Coding}
 use Rattle.page_code.specs.declared.coding.Coding.TheVariants.{OneDim, T6}
@@ -30,6 +30,17 @@ abbrev pub pixels_of : PageWidth → ℕ
 pixels_of W1728 = 1728
 pixels_of W2048 = 2048
 pixels_of W2432 = 2432
+
+-- the width of so many pixels; none of other numbers
+abbrev pub width_of_pixels : ℕ → Option PageWidth
+width_of_pixels pixels =
+    cond (nat_eq pixels 1728) (Some W1728)
+    (cond (nat_eq pixels 2048) (Some W2048)
+    (cond (nat_eq pixels 2432) (Some W2432) None))
+
+-- a number of pixels has the width whose pixels it is
+abbrev pub WidthsHavePixels : Type 0
+WidthsHavePixels = (pixels : ℕ) (width : PageWidth) → (width_of_pixels pixels ≡ Some width) ↔ (pixels_of width ≡ pixels)
 
 -- the speeds that modems have
 abbrev pub supports_speed : Modems → Speed → Bool
@@ -113,6 +124,19 @@ offers_coding caps T6 = caps.t6
 -- the caps allow parameters
 abbrev pub allowed : Caps → Params → Bool
 allowed caps params = supports_speed caps.modems params.speed && nat_le (pixels_of params.width) (pixels_of caps.widest) && (not params.fine || caps.fine) && offers_coding caps params.coding
+
+-- what is agreed with any capabilities is allowed by them
+abbrev pub AgreedIsAllowed : Type 0
+AgreedIsAllowed = (caps : Caps) (wish : Wish) (width : PageWidth) (fine : Bool) → IfOk (agreed caps wish width fine) (λ params. allowed caps params ≡ true)
+
+-- what is agreed for pages has their width and is fine where they are
+abbrev pub AgreedFits : Type 0
+AgreedFits = (caps : Caps) (wish : Wish) (width : PageWidth) (fine : Bool) → IfOk (agreed caps wish width fine) (λ params. (params.width ≡ width) × (params.fine ≡ fine))
+
+-- parameters that are allowed are allowed at the next lower speed
+abbrev pub LoweredIsAllowed : Type 0
+LoweredIsAllowed = (caps : Caps) (wish : Wish) (params : Params) (next : Speed) → allowed caps params ≡ true → lower_speed caps wish params.speed ≡ Some next →
+    allowed caps (record params { speed = next }) ≡ true
 
 -- how many speeds of the list tried stand below a speed
 abbrev pub speeds_below : Modems → Modems → Speed → ℕ

@@ -16,7 +16,7 @@ use Rattle.signals.specs.declared.params.Speed.TheVariants.{V27At2400, V27At4800
 use Rattle.signals.specs.declared.reading.Control.{Control}
 use Rattle.signals.specs.declared.reading.Control.TheVariants.{Dis, Dcs, Cfr, Ftt, Fcd, Rcp, Pps, Ppr, Mcf, Rnr, Rr, Dcn}
 use Rattle.signals.specs.declared.signal.PageEnd.{PageEnd}
-use Rattle.signals.specs.declared.signal.PageEnd.TheVariants.{Null, Mps, Eop}
+use Rattle.signals.specs.declared.signal.PageEnd.TheVariants.{Null, Mps, Eom, Eop}
 
 -- an octet is one with the first bit, X, of either station: the even one or the odd one above it
 abbrev pub with_x : ℕ → ℕ → Bool
@@ -79,10 +79,13 @@ width_of true false = Some W2048
 width_of false true = Some W2432
 width_of true true = None
 
--- what ends with a block, by the second field of PPS, the first bit of MPS and EOP free
+-- what ends with a block, by the second field of PPS, the first bit of MPS, EOM and EOP free
 unfoldable pub page_end_of : ℕ → Option PageEnd
 page_end_of octet =
-    cond (nat_eq octet 0x00) (Some Null) (cond (with_x 0x4E octet) (Some Mps) (cond (with_x 0x2E octet) (Some Eop) None))
+    cond (nat_eq octet 0x00) (Some Null)
+    (cond (with_x 0x4E octet) (Some Mps)
+    (cond (with_x 0x8E octet) (Some Eom)
+    (cond (with_x 0x2E octet) (Some Eop) None)))
 
 -- the capabilities of a DIS
 unfoldable pub caps_of : List ℕ → Caps

@@ -20,7 +20,7 @@ use Rattle.signals.specs.declared.params.Speed.TheVariants.{V27At2400, V27At4800
 use Rattle.signals.specs.declared.reading.Control.{Control}
 use Rattle.signals.specs.declared.reading.Control.TheVariants.{Dis, Dcs, Cfr, Ftt, Fcd, Rcp, Pps, Ppr, Mcf, Rnr, Rr, Dcn}
 use Rattle.signals.specs.declared.signal.PageEnd.{PageEnd}
-use Rattle.signals.specs.declared.signal.PageEnd.TheVariants.{Null, Mps, Eop}
+use Rattle.signals.specs.declared.signal.PageEnd.TheVariants.{Null, Mps, Eom, Eop}
 use Rattle.signals.specs.declared.signal.Side.{Side}
 use Rattle.signals.specs.declared.signal.Side.TheVariants.{Caller, Answerer}
 
@@ -109,6 +109,7 @@ table_bits table = map (numbered_bit table) (range_with_len 1 32)
 abbrev pub page_end_text : PageEnd → List ℕ
 page_end_text Null = codes "00000000"
 page_end_text Mps = codes "X1110010"
+page_end_text Eom = codes "X1110001"
 page_end_text Eop = codes "X1110100"
 
 -- the facsimile control field of a signal; another signal has none of these

@@ -13,7 +13,7 @@ use Rattle.signals.specs.declared.params.Params.{Params}
 use Rattle.signals.specs.declared.params.Speed.{Speed}
 use Rattle.signals.specs.declared.params.Speed.TheVariants.{V27At2400, V27At4800, V29At7200, V29At9600, V17At7200, V17At9600, V17At12000, V17At14400}
 use Rattle.signals.specs.declared.signal.PageEnd.{PageEnd}
-use Rattle.signals.specs.declared.signal.PageEnd.TheVariants.{Null, Mps, Eop}
+use Rattle.signals.specs.declared.signal.PageEnd.TheVariants.{Null, Mps, Eom, Eop}
 use Rattle.signals.specs.declared.signal.Side.{Side}
 use Rattle.signals.specs.declared.signal.Side.TheVariants.{Caller, Answerer}
 
@@ -60,6 +60,7 @@ coding_octet T6 = 0x40
 abbrev pub page_end_octet : PageEnd → ℕ
 page_end_octet Null = 0x00
 page_end_octet Mps = 0x4F
+page_end_octet Eom = 0x8F
 page_end_octet Eop = 0x2F
 
 -- the fields of a DIS
@@ -111,6 +112,14 @@ IsWritable (fcd _ octets) = (1 ≤ length octets) × (length octets ≤ 256)
 IsWritable (ppr map) = length map ≡ 32
 IsWritable (other _) = ⊥
 IsWritable _ = Unit {0}
+
+-- a content has 3 to 300 octets, as many as a frame's may
+abbrev pub FitsAFrame : List ℕ → Type 0
+FitsAFrame content = (3 ≤ length content) × (length content ≤ 300)
+
+-- the content of a signal that can be written fits a frame
+abbrev pub WrittenFitsAFrame : Type 0
+WrittenFitsAFrame = (signal : PlainSignal) (side : Side) (last : Bool) → IsWritable signal → FitsAFrame (content_of signal side last)
 
 -- the content of a signal that can be written, of either side, is read as the signal
 abbrev pub ReadsWhatIsWritten : Type 0

@@ -1,10 +1,10 @@
 //! Laws of the definitions. Nothing runs.
 
-ghost use Rattle.signals.specs.Agreement.{BeginsAtMostFiveAbove, GoesDownByOne};
+ghost use Rattle.signals.specs.Agreement.{AgreedFits, AgreedIsAllowed, BeginsAtMostFiveAbove, GoesDownByOne, LoweredIsAllowed, WidthsHavePixels};
 ghost use Rattle.signals.specs.Saying.{ControlsHaveTexts, ReadsWhatIsSaid};
 ghost use Rattle.signals.specs.Sending.{ModemsHaveTexts, PageEndsHaveTexts, SpeedsHaveTexts, WidthsHaveTexts, WritesTheTables};
 ghost use Rattle.signals.specs.Training.{TrainingChecksAreGood};
-ghost use Rattle.signals.specs.Writing.{ReadsWhatIsWritten};
+ghost use Rattle.signals.specs.Writing.{ReadsWhatIsWritten, WrittenFitsAFrame};
 
 /// A facsimile control field is known exactly where its bits are those of the signal's text, with either
 /// bit where the text has an X. ITU-T T.30, 5.3.6.1.
@@ -20,6 +20,11 @@ pub fn reads_what_is_said()
 /// The content that is written of a signal, by either station, is read as the signal.
 pub fn reads_what_is_written()
     ensures { ReadsWhatIsWritten }
+{}
+
+/// The content that is written of a signal has 3 to 300 octets, as many as a frame's may.
+pub fn written_fits_a_frame()
+    ensures { WrittenFitsAFrame }
 {}
 
 /// The bits of the content that is written of a signal, in order of sending, are those of the standard's
@@ -44,9 +49,26 @@ pub fn fields_have_texts()
     ensures widths { WidthsHaveTexts }
 {}
 
+/// A number of pixels has the width whose pixels it is, and no other number has one.
+pub fn widths_have_pixels()
+    ensures { WidthsHavePixels }
+{}
+
 /// A training check of its length in octets 00 is good.
 pub fn training_checks_are_good()
     ensures { TrainingChecksAreGood }
+{}
+
+/// What two stations agree on for pages is allowed by the capabilities that it was agreed with, and has
+/// the width and the lines of the pages.
+pub fn agreed_is_allowed()
+    ensures allowed { AgreedIsAllowed }
+    ensures fits { AgreedFits }
+{}
+
+/// Parameters that are allowed are allowed at the next lower speed that two stations try.
+pub fn lowered_is_allowed()
+    ensures { LoweredIsAllowed }
 {}
 
 /// What two stations agree on begins at most five speeds above the last that they try, and each next

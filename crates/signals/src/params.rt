@@ -1,4 +1,4 @@
-ghost use Rattle.signals.specs.Agreement.{supports_speed, place_of_speed, pixels_of};
+ghost use Rattle.signals.specs.Agreement.{supports_speed, place_of_speed, pixels_of, width_of_pixels};
 ghost use Rattle.std.specs.Prelude.{◌≡◌, nat_eq};
 
 use page_code::Coding;
@@ -94,6 +94,18 @@ pub enum PageWidth {
 }
 
 impl PageWidth {
+    /// The width of so many pixels; none of other numbers.
+    pub fn of_pixels(pixels: u32) -> Option<PageWidth>
+        ensures { result ≡ width_of_pixels pixels }
+    {
+        match pixels {
+            1728 => Some(PageWidth::W1728),
+            2048 => Some(PageWidth::W2048),
+            2432 => Some(PageWidth::W2432),
+            _ => None,
+        }
+    }
+
     /// The width in pixels.
     pub fn pixels(self) -> u32
         ensures { result ≡ pixels_of self }

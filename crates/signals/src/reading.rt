@@ -120,7 +120,7 @@ fn width(bit_17: bool, bit_18: bool) -> Option<PageWidth>
     }
 }
 
-/// What ends with a block, by the second field of PPS; the first bit of MPS and EOP is ignored.
+/// What ends with a block, by the second field of PPS; the first bit of MPS, EOM and EOP is ignored.
 #[tactic(auto, unfolding(crate::specs::Reading::page_end_of))]
 fn page_end(octet: u8) -> Option<PageEnd>
     ensures { result ≡ page_end_of octet }
@@ -128,6 +128,7 @@ fn page_end(octet: u8) -> Option<PageEnd>
     match octet {
         0x00 => Some(PageEnd::Null),
         0x4E | 0x4F => Some(PageEnd::Mps),
+        0x8E | 0x8F => Some(PageEnd::Eom),
         0x2E | 0x2F => Some(PageEnd::Eop),
         _ => None,
     }

@@ -5,8 +5,10 @@ use crate::params::{Caps, Params};
 pub enum PageEnd {
     /// The block alone.
     Null,
-    /// A page, and another follows.
+    /// A page, and another of its group, of one width and `fine`, follows.
     Mps,
+    /// A page, and one of another group follows: the stations agree anew.
+    Eom,
     /// The last page.
     Eop,
 }

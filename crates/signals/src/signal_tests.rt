@@ -104,8 +104,8 @@ fn others(rt: HostRuntime) {
         read(&[0xFF, 0x13, 0x83, 0x00, 0x22, 0xF8]),
         Ok(Signal::Other(0x83))
     );
-    let eom = [0xFF, 0x13, 0xBF, 0x8F, 0x00, 0x00, 0x00];
-    assert_eq!(rt; read(&eom), Ok(Signal::Other(0xBF)));
+    let no_end = [0xFF, 0x13, 0xBF, 0x90, 0x00, 0x00, 0x00];
+    assert_eq!(rt; read(&no_end), Ok(Signal::Other(0xBF)));
     assert_eq!(rt; read(&[0xFF, 0x13, 0x81]), Ok(Signal::Other(0x81)));
 }
 
@@ -120,6 +120,15 @@ fn blocks(rt: HostRuntime) {
     let even = [0xFF, 0x13, 0xBE, 0x4E, 1, 2, 3];
     assert_eq!(rt; read(&even), Ok(pps));
     assert!(rt; caller_writes(pps, &[0xFF, 0x13, 0xBF, 0x4F, 1, 2, 3]));
+    let eom = Signal::Pps {
+        ends: PageEnd::Eom,
+        page: 0,
+        block: 0,
+        last: 0,
+    };
+    let odd = [0xFF, 0x13, 0xBF, 0x8F, 0x00, 0x00, 0x00];
+    assert_eq!(rt; read(&odd), Ok(eom));
+    assert!(rt; caller_writes(eom, &odd));
     let data = [7, 8, 9];
     let fcd = Signal::Fcd {
         number: 5,

@@ -1,6 +1,7 @@
+ghost use Rattle.signals.specs.Reading.{read_content};
 ghost use Rattle.signals.specs.Signals.{plain};
 ghost use Rattle.signals.specs.Writing.{IsWritable, content_of, head_of, x_of, modems_octet, speed_octet, width_octet, coding_octet, dis_fields, dcs_fields, page_end_octet, written_or};
-ghost use Rattle.std.specs.Prelude.{◌≡◌, ◌≤◌, ◌<◌, ◌+◌, ◌++◌, length};
+ghost use Rattle.std.specs.Prelude.{◌≡◌, ◌≤◌, ◌<◌, ◌+◌, ◌++◌, Ok, length};
 
 use crate::params::{Caps, Modems, PageWidth, Params, Speed};
 use crate::signal::{PageEnd, Side, Signal};
@@ -88,6 +89,7 @@ fn page_end(ends: PageEnd) -> u8
     match ends {
         PageEnd::Null => 0x00,
         PageEnd::Mps => 0x4F,
+        PageEnd::Eom => 0x8F,
         PageEnd::Eop => 0x2F,
     }
 }
@@ -134,12 +136,9 @@ fn content(last: bool, control: u8, fields: &[u8]) -> ArrayVec<u8, 300>
     content
 }
 
-/// The content of the frame that says a signal: FF, the control field, 13 in the last frame of a
-/// transmission and 03 in each other, the facsimile control field with the first bit X of the station
-/// that sends it, and the fields. FCD has 1 to 256 octets of data, and `Other` can't be written. Takes no
-/// memory. ITU-T T.30, 5.3.4 to 5.3.6 and A.4.
+/// The content of the frame that says a signal, from a station.
 #[tactic(auto, unfolding(crate::specs::Writing::content_of))]
-pub fn write(signal: &Signal, side: Side, last: bool) -> ArrayVec<u8, 300>
+fn content_from(signal: &Signal, side: Side, last: bool) -> ArrayVec<u8, 300>
     requires { IsWritable (plain signal.now) }
     ensures { result.items ≡ content_of (plain signal.now) side last }
 {
@@ -172,4 +171,17 @@ pub fn write(signal: &Signal, side: Side, last: bool) -> ArrayVec<u8, 300>
         Signal::Dcn => content(last, 0xFA + x, &[]),
         Signal::Other(octet) => content(last, *octet, &[]),
     }
+}
+
+/// The content of the frame that says a signal: FF, the control field, 13 in the last frame of a
+/// transmission and 03 in each other, the facsimile control field with the first bit X of the station
+/// that sends it, and the fields. FCD has 1 to 256 octets of data, and `Other` can't be written. Takes no
+/// memory. ITU-T T.30, 5.3.4 to 5.3.6 and A.4.
+pub fn write(signal: &Signal, side: Side, last: bool) -> ArrayVec<u8, 300>
+    requires { IsWritable (plain signal.now) }
+    ensures content { result.items ≡ content_of (plain signal.now) side last }
+    ensures size { (3 ≤ length result.items) × (length result.items ≤ 300) }
+    ensures reads { read_content result.items ≡ Ok (plain signal.now) }
+{
+    content_from(signal, side, last)
 }

@@ -1,0 +1,5 @@
+use Rattle.signals.proofs.RoundTrip.{written-fits}
+use Rattle.signals.proofs.laws.written_fits_a_frame.Goals as goal
+
+pub returns : goal.returns
+returns c = written-fits
