@@ -1,55 +1,22 @@
 -- Octets and their bits: octets joined, octets of bits and back, bits packed into octets. For the layers above.
-use Rattle.std.proofs.Common.{◌≡◌, ℕ, zero, suc, ◌<◌, ◌≤◌, ◌+◌, ◌-◌, ◌*◌, ◌/◌, ◌%◌, ◌^◌, ◌&&◌, Bool, true, false, List, [], ◌∷◌, ◌++◌, length, map, take, drop, cond, replicate, refl, ap, sym, ◌∙◌, arith, inl, inr, nat_eq, append_assoc, get_or}
+use Rattle.std.proofs.Common.{◌≡◌, ℕ, zero, suc, ◌<◌, ◌≤◌, ◌+◌, ◌-◌, ◌*◌, ◌/◌, ◌%◌, ◌^◌, ◌&&◌, Bool, true, false, List, [], ◌∷◌, ◌++◌, length, map, take, drop, cond, replicate, refl, ap, sym, ◌∙◌, arith, inl, inr, nat_eq, get_or}
 use Rattle.std.specs.Bool.{beq}
 use Rattle.std.specs.Int.{bit_at}
 use Rattle.std.specs.List.{range_with_len}
 use Rattle.std.proofs.lemmas.List.{length-append, length-replicate, length-take, take-append-drop, take_at, drop_at, drop-drop}
 use Rattle.std.proofs.lemmas.Bool.{and_parts, cases_eq, ne_eqb, eq-eqb}
 use Rattle.std.proofs.lemmas.Nat.Bits.{bit_at-lt}
-use Rattle.raster.specs.Packed.{bits_of, bits_in, bit_in, place_in, FillsOctets}
+use Rattle.raster.specs.Packed.{bits_of, FillsOctets}
 use Rattle.raster.specs.Octets.{number, octet_at, octets_of, AreOctets, fill_of, packed}
 use Rattle.raster.specs.Laws.{BitsJoin, PackedHold, PackedAlone}
-use Rattle.raster.specs.declared.packed.Order.{Order}
-use Rattle.raster.specs.declared.packed.Order.TheVariants.{LsbFirst, MsbFirst}
-use Rattle.raster.proofs.OctetBits.{octet_bits, bits_of-cons}
+use Rattle.raster.specs.declared.packed.Order.TheVariants.{LsbFirst}
+use Rattle.raster.proofs.OctetBits.{octet_bits, bits_of-cons, bits_of-join}
 use Rattle.raster.proofs.PackedLemmas.{length-bits_in, bits_in-none}
 
 -- ---- octets joined, in either order
 
--- the bits of one octet
-abbrev pub octet_bits_in : Order → ℕ → List Bool
-octet_bits_in order x = map (λ place. nat_eq (bit_at x (place_in order place)) 1) (range_with_len 0 8)
-
-map_behind : {X : Type 0} (f g : ℕ → X) (a n : ℕ) → ((i : ℕ) → f (i + 8) ≡ g i) → map f (range_with_len (a + 8) n) ≡ map g (range_with_len a n)
-map_behind f g a zero same = refl
-map_behind f g a (suc n) same =
-    let next : a + 8 + 1 ≡ a + 1 + 8 = omega arith in
-    ap (λ x. x ∷ map f (range_with_len (a + 8 + 1) n)) (same a) ∙
-    (ap (λ m. g a ∷ map f (range_with_len m n)) next ∙ ap (λ xs. g a ∷ xs) (map_behind f g (a + 1) n same))
-
-place_behind : (order : Order) (i : ℕ) → place_in order (i + 8) ≡ place_in order i
-place_behind LsbFirst i = omega arith
-place_behind MsbFirst i = omega arith
-
--- the bits of octets are those of the first and then those of the others
-pub bits_of-first : (order : Order) (x : ℕ) (xs : List ℕ) → bits_of order (x ∷ xs) ≡ octet_bits_in order x ++ bits_of order xs
-unfolding bits_in
-bits_of-first order x xs =
-    let size : 8 * length (x ∷ xs) ≡ suc (suc (suc (suc (suc (suc (suc (suc (8 * length xs)))))))) = omega arith in
-    ap (λ n. map (bit_in order (x ∷ xs)) (range_with_len 0 n)) size ∙
-    ap (λ bits. octet_bits_in order x ++ bits) (map_behind (bit_in order (x ∷ xs)) (bit_in order xs) 0 (8 * length xs) behind)
-  where
-    behind : (i : ℕ) → bit_in order (x ∷ xs) (i + 8) ≡ bit_in order xs i
-    behind i =
-        let octet : (i + 8) / 8 ≡ suc (i / 8) = omega arith in
-        ap (λ n. nat_eq (bit_at (get_or (x ∷ xs) n 0) (place_in order (i + 8))) 1) octet ∙ ap (λ n. nat_eq (bit_at (get_or xs (i / 8) 0) n) 1) (place_behind order i)
-
 pub bits_of-append : BitsJoin
-bits_of-append order [] ys = ap (λ bits. bits ++ bits_of order ys) (sym (bits_in-none order []))
-bits_of-append order (x ∷ xs) ys =
-    bits_of-first order x (xs ++ ys) ∙
-    (ap (λ bits. octet_bits_in order x ++ bits) (bits_of-append order xs ys) ∙
-    (sym (append_assoc (octet_bits_in order x) (bits_of order xs) (bits_of order ys)) ∙ ap (λ bits. bits ++ bits_of order ys) (sym (bits_of-first order x xs))))
+bits_of-append order xs ys = bits_of-join order xs ys
 
 -- ---- octets of bits, and back
 
