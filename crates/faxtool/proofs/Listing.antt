@@ -110,7 +110,7 @@ piece_listed start left rest before now new framing fed after number next piece 
       came = old.came ++ piece;
       read = Consumes-trans start left rest old.came piece old.read taken;
       stands = subst (λ f. StandsAfter f whole (length (good whole))) (sym is) (record {
-        cuts = stands.cuts;
+        kept = stands.kept;
         counted = stands.counted;
         within = le_refl (length (good whole));
         queued = sym (drop_all (length (good whole)) (good whole) (le_refl (length (good whole))));

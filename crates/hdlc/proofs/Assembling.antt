@@ -3,7 +3,7 @@ use Rattle.std.proofs.Common.{◌≡◌, ℕ, suc, ◌+◌, ◌/◌, ◌%◌, �
 use Rattle.std.proofs.lemmas.List.{take-append-le, take_all, length-take, length-append, append-nil}
 use Rattle.std.proofs.lemmas.Bool.{ne_eqb, eq-eqb, lt-ltb, le-ltb}
 use Rattle.hdlc.specs.declared.assembler.Assembler.{Assembler}
-use Rattle.hdlc.specs.Octets.{number, octets_of}
+use Rattle.raster.specs.Octets.{number, octets_of}
 use Rattle.hdlc.specs.Standing.{recent}
 use Rattle.hdlc.specs.Assembles.{Assembles}
 use Rattle.hdlc.proofs.Clear.{octets_of-more, number-recent, length-more}

@@ -6,7 +6,7 @@ use Rattle.std.proofs.lemmas.List.Folds.{list_any-append}
 use Rattle.std.proofs.lemmas.List.FromFn.{length-map-range_with_len}
 use Rattle.std.proofs.lemmas.Bool.{cases_eq, cases_Bool, ne_eqb, eq-eqb, and_parts, false≢true}
 use Rattle.std.specs.Bool.{beq}
-use Rattle.hdlc.specs.Octets.{number, octet_at, octets_of}
+use Rattle.raster.specs.Octets.{number, octet_at, octets_of}
 use Rattle.run_tables.specs.Texts.{begins}
 use Rattle.hdlc.specs.Flags.{flag}
 use Rattle.hdlc.specs.Gaps.{ones_before, clear, has_six}

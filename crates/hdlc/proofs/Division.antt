@@ -8,7 +8,7 @@ use Rattle.std.proofs.lemmas.Bool.{ne_eqb, eq-eqb, cases_eq}
 use Rattle.std.proofs.lemmas.Nat.{xor_block}
 use Rattle.raster.specs.Packed.{bits_of, bits_in, bit_in}
 use Rattle.raster.specs.declared.packed.Order.TheVariants.{LsbFirst}
-use Rattle.hdlc.specs.Octets.{number}
+use Rattle.raster.specs.Octets.{number}
 use Rattle.hdlc.specs.Fcs.{xor, add, divisor, remainder, sixteen, check_bits, fcs_of, check_octets}
 use Rattle.hdlc.specs.Register.{shift_in, crc_bit}
 use Rattle.hdlc.proofs.BitPlaces.{bits_in-next}

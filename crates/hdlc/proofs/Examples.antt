@@ -1,7 +1,7 @@
 -- The examples, by computing.
 use Rattle.std.proofs.Common.{refl}
 use Rattle.raster.specs.Packed.{bits_in}
-use Rattle.hdlc.specs.Octets.{octets_of}
+use Rattle.raster.specs.Octets.{octets_of}
 use Rattle.hdlc.specs.Fcs.{check_bits}
 use Rattle.hdlc.specs.Flags.{gaps, flags}
 use Rattle.hdlc.specs.Gaps.{clear, has_six}

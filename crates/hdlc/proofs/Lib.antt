@@ -7,7 +7,9 @@ pub mod Division
 pub mod Assembling
 pub mod Collecting
 pub mod Steps
+pub mod Keeping
 pub mod Joined
+pub mod Hearing
 pub mod Written
 pub mod Round
 pub mod Extending

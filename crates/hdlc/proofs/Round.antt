@@ -1,56 +1,24 @@
 -- The stuffed text of a content and its check sequence between flags is a frame.
-use Rattle.std.proofs.Common.{◌≡◌, ℕ, zero, suc, ◌+◌, ◌-◌, ◌*◌, ◌/◌, ◌%◌, ◌<◌, ◌≤◌, Bool, true, false, List, [], ◌∷◌, ◌++◌, length, take, drop, map, cond, refl, ap, sym, ◌∙◌, arith, nat_eq, nat_lt, append_assoc, get_or}
+use Rattle.std.proofs.Common.{◌≡◌, ℕ, ◌+◌, ◌-◌, ◌*◌, ◌/◌, ◌%◌, ◌<◌, ◌≤◌, Bool, true, false, List, [], ◌∷◌, ◌++◌, length, take, drop, map, cond, refl, ap, sym, ◌∙◌, arith, nat_eq, nat_lt, append_assoc}
 use Rattle.std.specs.List.{range_with_len, filter, count_by}
 use Rattle.std.specs.Cmp.Lexicographic.{pointwise}
-use Rattle.std.proofs.lemmas.List.{length-append, length-map, drop_at, take_at, drop-drop}
+use Rattle.std.proofs.lemmas.List.{length-append, length-map, drop_at, take_at}
 use Rattle.std.proofs.lemmas.List.FromFn.{length-range_with_len}
 use Rattle.std.proofs.lemmas.List.Sums.{length-filter, count_by-le-length}
 use Rattle.std.proofs.lemmas.Bool.{eq-eqb, le-ltb}
 use Rattle.hdlc.specs.declared.counts.Class.TheVariants.{Good}
 use Rattle.raster.specs.Packed.{bits_of}
 use Rattle.raster.specs.declared.packed.Order.TheVariants.{LsbFirst}
-use Rattle.raster.proofs.OctetBits.{octet_bits, bits_of-cons, bits_of-append}
-use Rattle.raster.proofs.PackedLemmas.{length-bits_in, bits_in-none}
-use Rattle.hdlc.specs.Octets.{number, octet_at, octets_of}
+use Rattle.raster.specs.Octets.{octets_of, AreOctets}
+use Rattle.raster.proofs.OctetLemmas.{bits_of-append, octets_back, are_octets-append}
+use Rattle.raster.proofs.PackedLemmas.{length-bits_in}
 use Rattle.hdlc.specs.Fcs.{check_octets, fcs_of}
 use Rattle.hdlc.specs.Flags.{flag, gaps}
 use Rattle.hdlc.specs.Gaps.{clear, class_of, is_class, content as content_of, checks, octets_in, ones_before}
 use Rattle.hdlc.specs.Frames.{IsFrame}
 use Rattle.hdlc.specs.Writing.{Written, IsWriting}
-use Rattle.hdlc.proofs.BitPlaces.{number-octet_bits}
 use Rattle.hdlc.proofs.Division.{check_octets_are}
 use Rattle.hdlc.proofs.Written.{closes_written}
-
-map_shift : {X : Type 0} (f g : ℕ → X) (a n : ℕ) → ((i : ℕ) → f (i + 1) ≡ g i) → map f (range_with_len (a + 1) n) ≡ map g (range_with_len a n)
-map_shift f g a zero same = refl
-map_shift f g a (suc n) same = ap (λ x. x ∷ map f (range_with_len (a + 1 + 1) n)) (same a) ∙ ap (λ xs. g a ∷ xs) (map_shift f g (a + 1) n same)
-
-octets_of-cons : (front rest : List Bool) → length front ≡ 8 → octets_of (front ++ rest) ≡ number front ∷ octets_of rest
-unfolding octets_of
-octets_of-cons front rest h =
-    let size : length (front ++ rest) / 8 ≡ suc (length rest / 8) = rw length-append (omega arith) in
-    let first : take 8 (front ++ rest) ≡ front = take_at front rest 8 h in
-    let shift : (i : ℕ) → octet_at (front ++ rest) (i + 1) ≡ octet_at rest i = λ i.
-    let split : 8 * (i + 1) ≡ 8 + 8 * i = omega arith in
-    ap (λ xs. number (take 8 xs)) (ap (λ n. drop n (front ++ rest)) split ∙ (sym (drop-drop (8 * i) 8 (front ++ rest)) ∙ ap (drop (8 * i)) (drop_at front rest 8 h))) in
-    ap (λ n. map (octet_at (front ++ rest)) (range_with_len 0 n)) size ∙
-    (ap (λ xs. number xs ∷ map (octet_at (front ++ rest)) (range_with_len (0 + 1) (length rest / 8))) first ∙
-    ap (λ xs. number front ∷ xs) (map_shift (octet_at (front ++ rest)) (octet_at rest) 0 (length rest / 8) shift))
-
-abbrev pub AreOctets : List ℕ → Type 0
-AreOctets [] = Unit {0}
-AreOctets (x ∷ xs) = (x < 256) × AreOctets xs
-
-octets_of-none : octets_of [] ≡ []
-unfolding octets_of
-octets_of-none = refl
-
-pub octets_back : (octets : List ℕ) → AreOctets octets → octets_of (bits_of LsbFirst octets) ≡ octets
-octets_back [] small = ap octets_of (bits_in-none LsbFirst []) ∙ octets_of-none
-octets_back (x ∷ xs) small =
-    ap octets_of (bits_of-cons x xs) ∙
-    (octets_of-cons (octet_bits x) (bits_of LsbFirst xs) refl ∙
-    (ap (λ n. n ∷ octets_of (bits_of LsbFirst xs)) (number-octet_bits x small.0) ∙ ap (λ ys. x ∷ ys) (octets_back xs small.1)))
 
 same_itself : (xs : List ℕ) → pointwise nat_eq xs xs ≡ true
 same_itself [] = refl
@@ -92,19 +60,11 @@ length-clear gap =
     let size : length places ≡ length gap = length-range_with_len 0 (length gap) in
     rw (length-map, length-filter) (omega arith)
 
-pub are_octets : (xs : List ℕ) → ((k : ℕ) → get_or xs k 0 < 256) → AreOctets xs
-are_octets [] small = tt
-are_octets (x ∷ xs) small = (small 0, are_octets xs (λ k. small (suc k)))
-
-pub are_octets-append : (xs ys : List ℕ) → AreOctets xs → AreOctets ys → AreOctets (xs ++ ys)
-are_octets-append [] ys a b = b
-are_octets-append (x ∷ xs) ys a b = (a.0, are_octets-append xs ys a.1 b)
-
 -- what a writer has once the closing flag stands
 pub whole_frame : (old all new : List Bool) (octets sent : List ℕ) (count f : ℕ) → IsWriting all old (bits_of LsbFirst octets ++ bits_of LsbFirst sent) count → new ≡ all ++ flag → f ≡ fcs_of octets → f < 65536 → sent ≡ f % 256 ∷ f / 256 ∷ [] → AreOctets octets → 3 ≤ length octets → length octets ≤ 300 → (frame : List Bool) × IsFrame octets frame × (new ≡ old ++ frame)
 whole_frame old all new octets sent count f w is fcs fits two small least most =
     let body : List Bool = w.pre in
-    let text : Written body (bits_of LsbFirst (octets ++ sent)) count = rw (bits_of-append octets sent) w.text in
+    let text : Written body (bits_of LsbFirst (octets ++ sent)) count = rw (bits_of-append LsbFirst octets sent) w.text in
     let check : sent ≡ check_octets octets = two ∙ (ap (λ n. n % 256 ∷ n / 256 ∷ []) fcs ∙ sym (check_octets_are octets)) in
     let size : length sent ≡ 2 = ap length two in
     let low : f % 256 < 256 = omega arith in

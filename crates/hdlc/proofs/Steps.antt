@@ -14,13 +14,14 @@ use Rattle.hdlc.specs.declared.cutter.Cutter.{Cutter}
 use Rattle.raster.specs.Packed.{bits_in, bit_in}
 use Rattle.raster.specs.declared.packed.Order.TheVariants.{LsbFirst}
 use Rattle.raster.proofs.PackedLemmas.{bits_in-none}
-use Rattle.hdlc.specs.Octets.{number}
+use Rattle.raster.specs.Octets.{number}
 use Rattle.hdlc.specs.Flags.{flags, gaps}
 use Rattle.hdlc.specs.Gaps.{good, count_of, class_of, is_class, content}
 use Rattle.hdlc.specs.Contents.{contents_of}
 use Rattle.hdlc.specs.Standing.{begun, held, recent, unclosed, settled, at_flag, last_flag, held_after}
 use Rattle.hdlc.specs.Collects.{Collects}
 use Rattle.hdlc.specs.Framing.{Framing, StandsAfter}
+use Rattle.hdlc.specs.Kept.{Kept}
 use Rattle.hdlc.specs.Stands.{Cuts, Stands, Grows, count_in}
 use Rattle.hdlc.proofs.BitPlaces.{bits_in-next}
 use Rattle.hdlc.proofs.Clear.{number-recent, at_flag_is, oldest_is}
@@ -154,18 +155,18 @@ next_content framing bits handed old = ap (λ q. slice_get q 0) old.queued ∙ g
 
 pub next_stands : (framing : Framing) (bits : List Bool) (handed : ℕ) → StandsAfter framing bits handed → handed < length (good bits) → StandsAfter (record framing { queue = drop 1 framing.queue }) bits (handed + 1)
 next_stands framing bits handed old more = record {
-  cuts = old.cuts;
+  kept = old.kept;
   counted = old.counted;
   within = omega arith;
   queued = ap (drop 1) old.queued ∙ drop-drop 1 handed (good bits);
 }
 
-pub framing_same : (a b : Framing) → a.cutter ≡ b.cutter → a.counts ≡ b.counts → a.queue ≡ b.queue → a ≡ b
-framing_same a b cutter counts queue =
-    let one : Cutter → Framing = λ x. record { cutter = x; counts = a.counts; queue = a.queue } in
-    let two : Counts → Framing = λ x. record { cutter = b.cutter; counts = x; queue = a.queue } in
-    let three : List (List ℕ) → Framing = λ x. record { cutter = b.cutter; counts = b.counts; queue = x } in
-    ap one cutter ∙ (ap two counts ∙ ap three queue)
+pub framing_same : (a b : Framing) → a.kept ≡ b.kept → a.counts ≡ b.counts → a.queue ≡ b.queue → a ≡ b
+framing_same a b kept counts queue =
+    let one : Kept → Framing = λ x. record { kept = x; counts = a.counts; queue = a.queue } in
+    let two : Counts → Framing = λ x. record { kept = b.kept; counts = x; queue = a.queue } in
+    let three : List (List ℕ) → Framing = λ x. record { kept = b.kept; counts = b.counts; queue = x } in
+    ap one kept ∙ (ap two counts ∙ ap three queue)
 
 pub contents_drop : (frames rest : List (Vec ℕ Global)) → rest ≡ drop 1 frames → contents_of rest ≡ drop 1 (contents_of frames)
 contents_drop [] rest e = ap contents_of e

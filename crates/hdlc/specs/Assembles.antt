@@ -1,7 +1,7 @@
 -- What an assembler keeps.
 use Rattle.std.specs.Prelude.{◌≡◌, ◌%◌, Bool, false, List, length, take, nat_lt}
 use Rattle.hdlc.specs.declared.assembler.Assembler.{Assembler}
-use Rattle.hdlc.specs.Octets.{number, octets_of}
+use Rattle.raster.specs.Octets.{number, octets_of}
 use Rattle.hdlc.specs.Standing.{recent}
 
 -- what an assembler keeps of the bits that it was given

@@ -3,7 +3,7 @@
 use Rattle.std.specs.Prelude.{ℕ, zero, suc, Bool, true, false, not, List, [], ◌∷◌, ◌++◌, length, map, if◌then◌else◌}
 use Rattle.raster.specs.Packed.{bits_of}
 use Rattle.raster.specs.declared.packed.Order.TheVariants.{LsbFirst}
-use Rattle.hdlc.specs.Octets.{octets_of, number}
+use Rattle.raster.specs.Octets.{octets_of, number}
 
 -- the sum of two bits without carry
 abbrev pub xor : Bool → Bool → Bool

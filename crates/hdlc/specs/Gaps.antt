@@ -5,7 +5,7 @@ use Rattle.std.specs.List.{range_with_len, filter, count_by, suffix_len, list_an
 use Rattle.std.specs.Cmp.Lexicographic.{pointwise}
 use Rattle.hdlc.specs.declared.counts.Class.{Class}
 use Rattle.hdlc.specs.declared.counts.Class.TheVariants.{Good, Aborted, Ragged, Short, Long, Damaged}
-use Rattle.hdlc.specs.Octets.{octets_of}
+use Rattle.raster.specs.Octets.{octets_of}
 use Rattle.hdlc.specs.Fcs.{check_octets}
 use Rattle.hdlc.specs.Flags.{gaps}
 

@@ -1,11 +1,11 @@
 -- Laws of flags, gaps and frames, which the functions of `laws` prove.
 use Rattle.std.specs.Prelude.{ℕ, ◌≡◌, ◌+◌, ◌<◌, ◌≤◌, ◌↔◌, Bool, true, false, List, [], ◌∷◌, ◌++◌, length, drop, slice_get, replicate}
 use Rattle.std.specs.List.{Contains}
-use Rattle.raster.specs.Packed.{bits_of}
+use Rattle.raster.specs.Packed.{bits_of, FillsOctets}
 use Rattle.raster.specs.declared.packed.Order.TheVariants.{LsbFirst}
 use Rattle.hdlc.specs.Flags.{flag, flag_at, flags, gaps}
 use Rattle.hdlc.specs.Gaps.{good}
-use Rattle.hdlc.specs.Framing.{Framing, StandsAfter}
+use Rattle.hdlc.specs.Framing.{Framing, StandsAfter, IsIdle}
 use Rattle.hdlc.specs.Frames.{IsFrame, IsReady}
 
 -- the flags are the places where a flag stands, and no other
@@ -27,13 +27,15 @@ FrameGrows = (bits : List Bool) (content : List ℕ) (frame : List Bool) (zeros 
     → IsReady (bits ++ (frame ++ replicate zeros false)) × (gaps (bits ++ (frame ++ replicate zeros false)) ≡ gaps bits ++ gaps frame)
     × (good (bits ++ (frame ++ replicate zeros false)) ≡ good bits ++ content ∷ [])
 
+-- the same of the octets that hold a frame
+abbrev pub FrameOctetsGrow : Type 0
+FrameOctetsGrow = (bits : List Bool) (content : List ℕ) (frame : List Bool) (octets : List ℕ) → IsReady bits
+    → IsFrame content frame → FillsOctets LsbFirst frame octets
+    → IsReady (bits ++ bits_of LsbFirst octets) × (good (bits ++ bits_of LsbFirst octets) ≡ good bits ++ content ∷ [])
+
 -- a content has one frame alone
 abbrev pub OneFrame : Type 0
 OneFrame = (content : List ℕ) (one other : List Bool) → IsFrame content one → IsFrame content other → one ≡ other
-
--- the bits of two pieces together are those of one and then of the other
-abbrev pub PiecesJoin : Type 0
-PiecesJoin = (first second : List ℕ) → bits_of LsbFirst (first ++ second) ≡ bits_of LsbFirst first ++ bits_of LsbFirst second
 
 -- a deframer's queue begins with the first good content that was not handed out
 abbrev pub NextWaits : Type 0
@@ -43,3 +45,15 @@ NextWaits = (framing : Framing) (bits : List Bool) (handed : ℕ) → StandsAfte
 abbrev pub NextStands : Type 0
 NextStands = (framing : Framing) (bits : List Bool) (handed : ℕ) → StandsAfter framing bits handed → handed < length (good bits)
     → StandsAfter (record framing { queue = drop 1 framing.queue }) bits (handed + 1)
+
+-- a deframer that has taken no bits is idle
+abbrev pub NewIsIdle : Type 0
+NewIsIdle = (framing : Framing) → StandsAfter framing [] 0 → IsIdle framing
+
+-- An idle deframer that is fed the octets that hold a frame has the frame's content waiting and no other; once that is handed
+-- out it is idle again.
+abbrev pub FrameIsHeard : Type 0
+FrameIsHeard = (old fed : Framing) (content : List ℕ) (frame : List Bool) (octets : List ℕ) → IsIdle old
+    → IsFrame content frame → FillsOctets LsbFirst frame octets
+    → ((bits : List Bool) (handed : ℕ) → StandsAfter old bits handed → StandsAfter fed (bits ++ bits_of LsbFirst octets) handed)
+    → (fed.queue ≡ content ∷ []) × IsIdle (record fed { queue = drop 1 fed.queue })

@@ -1,10 +1,10 @@
-pub mod Octets
 pub mod Fcs
 pub mod Flags
 pub mod Gaps
 pub mod Frames
 pub mod Laws
 pub mod Standing
+pub mod Kept
 pub mod Stands
 pub mod Framing
 pub mod Register

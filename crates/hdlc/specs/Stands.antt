@@ -1,13 +1,14 @@
--- What a deframer keeps of the bits so far.
+-- What the deframer's registers have of the bits so far.
 use Rattle.std.specs.Prelude.{ℕ, ◌≡◌, ◌-◌, ◌^◌, ◌≤◌, Bool, true, List, ◌++◌, length, min, drop}
 use Rattle.hdlc.specs.declared.counts.Class.{Class}
 use Rattle.hdlc.specs.declared.counts.Class.TheVariants.{Good, Aborted, Ragged, Short, Long, Damaged}
 use Rattle.hdlc.specs.declared.counts.Counts.{Counts}
 use Rattle.hdlc.specs.declared.cutter.Cutter.{Cutter}
-use Rattle.hdlc.specs.Octets.{number}
+use Rattle.raster.specs.Octets.{number}
 use Rattle.hdlc.specs.Gaps.{good, count_of}
 use Rattle.hdlc.specs.Standing.{begun, held, recent, unclosed}
 use Rattle.hdlc.specs.Collects.{Collects}
+use Rattle.hdlc.specs.Kept.{Kept}
 
 -- the count of a class
 abbrev pub count_in : Counts → Class → ℕ
@@ -24,6 +25,21 @@ pub record Cuts (cutter : Cutter) (bits : List Bool) : Type 0 where
   pub held : cutter.held ≡ held bits
   pub window : cutter.window ≡ number (recent true bits)
   pub gap : Collects cutter.gap (unclosed bits)
+
+-- what a cutter keeps, as clauses see it
+abbrev pub kept_in : Cutter → Kept
+kept_in cutter = record {
+  begun = cutter.begun;
+  held = cutter.held;
+  last = cutter.window;
+  seen = cutter.gap.seen;
+  ones = cutter.gap.ones;
+  aborted = cutter.gap.aborted;
+  octets = cutter.gap.clear.whole.items;
+  long = cutter.gap.clear.long;
+  part = cutter.gap.clear.part;
+  ending = cutter.gap.clear.window;
+}
 
 -- After these bits, of whose good contents so many were handed out, this is kept, these are the counts, and these
 -- contents wait.

@@ -32,7 +32,7 @@ pub struct Assembler {
 
 impl Assembler {
     /// No bits yet.
-    #[tactic(auto, unfolding(crate::specs::Octets::octets_of))]
+    #[tactic(auto, unfolding(raster::specs::Octets::octets_of))]
     pub fn new() -> Self
         ensures { Assembles result [] }
     {

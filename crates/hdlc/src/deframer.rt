@@ -36,8 +36,9 @@ impl Model for Deframer {
     ghost Value = { Framing };
 
     ghost use Rattle.hdlc.specs.Contents.{contents_of};
+    ghost use Rattle.hdlc.specs.Stands.{kept_in};
 
-    ghost view = { λ d. record { cutter = d.cutter; counts = d.counts; queue = contents_of d.queue.items } };
+    ghost view = { λ d. record { kept = kept_in d.cutter; counts = d.counts; queue = contents_of d.queue.items } };
 }
 
 impl Deframer {

@@ -1,6 +1,6 @@
 //! Laws of flags, gaps and frames: calls that do nothing, whose contracts are the laws.
 
-ghost use Rattle.hdlc.specs.Laws.{FlagsStand, FlagForgets, GoodContentsStay, FrameGrows, OneFrame, PiecesJoin, NextWaits, NextStands};
+ghost use Rattle.hdlc.specs.Laws.{FlagsStand, FlagForgets, GoodContentsStay, FrameGrows, FrameOctetsGrow, OneFrame, NextWaits, NextStands, NewIsIdle, FrameIsHeard};
 ghost use Rattle.hdlc.specs.Examples.{AreExamples};
 
 /// The flags of bits are exactly the places where a flag stands.
@@ -25,14 +25,14 @@ pub fn frame_grows()
     ensures { FrameGrows }
 {}
 
+/// The same of the octets that hold a frame and 0 bits to an octet.
+pub fn frame_octets_grow()
+    ensures { FrameOctetsGrow }
+{}
+
 /// A content has one frame alone, so what is written is determined to the bit.
 pub fn one_frame()
     ensures { OneFrame }
-{}
-
-/// The bits of two pieces together are those of the first and then of the second.
-pub fn pieces_join()
-    ensures { PiecesJoin }
 {}
 
 /// What a deframer hands out next is the first good content that was not handed out.
@@ -43,6 +43,17 @@ pub fn next_waits()
 /// After a content was handed out a deframer stands after the same bits, with one more handed out.
 pub fn next_stands()
     ensures { NextStands }
+{}
+
+/// A deframer that has taken no bits is idle: a frame may follow, and nothing waits.
+pub fn new_is_idle()
+    ensures { NewIsIdle }
+{}
+
+/// An idle deframer that is fed the octets of one frame has its content waiting and no other; once
+/// that is handed out it is idle again.
+pub fn frame_is_heard()
+    ensures { FrameIsHeard }
 {}
 
 /// What the definitions say of written-out bits.

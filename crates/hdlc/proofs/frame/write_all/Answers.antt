@@ -1,6 +1,7 @@
 use Rattle.std.proofs.Common.{◌≡◌, ◌∷◌, [], ◌%◌, ◌/◌, arith, ap, ◌∙◌}
 use Rattle.raster.specs.Packed.{Bits}
-use Rattle.hdlc.proofs.Round.{whole_frame, are_octets}
+use Rattle.raster.proofs.OctetLemmas.{are_octets}
+use Rattle.hdlc.proofs.Round.{whole_frame}
 use Rattle.hdlc.proofs.Written.{writes_none}
 use Rattle.hdlc.proofs.frame.write_all.Goals as goal
 

@@ -10,6 +10,6 @@ returns c =
     lent_some c.self.inside.queue.items c.pop_front.new.self.items c.pop_front.result c.as_deref.result _ c.pop_front.ensures.items c.as_deref.ensures.value (same _ _ c.self.view_is) in
     let none : IfNone c.as_deref.result (slice_get c.args.self.now.queue 0 ≡ None) =
     lent_none c.self.inside.queue.items c.pop_front.new.self.items c.pop_front.result c.as_deref.result _ c.pop_front.ensures.items c.pop_front.ensures.rest c.as_deref.ensures.value (same _ _ c.self.view_is) in (
-      (refl, λ _. tt, framing_same _ _ (ap (λ (v : Framing). v.cutter) c.self.view_is) (ap (λ (v : Framing). v.counts) c.self.view_is) (contents_drop _ _ c.pop_front.ensures.rest ∙ ap (λ (v : Framing). drop 1 v.queue) c.self.view_is)),
+      (refl, λ _. tt, framing_same _ _ (ap (λ (v : Framing). v.kept) c.self.view_is) (ap (λ (v : Framing). v.counts) c.self.view_is) (contents_drop _ _ c.pop_front.ensures.rest ∙ ap (λ (v : Framing). drop 1 v.queue) c.self.view_is)),
       record { after = tt; some = some; none = none; content = λ bits handed old. content_if c.as_deref.result _ _ some (next_content c.args.self.now bits handed old); end = λ bits handed old. nothing_waits c.args.self.now bits handed c.as_deref.result old none },
     )
