@@ -1,5 +1,6 @@
 -- Octets and their bits: octets joined, octets of bits and back, bits packed into octets. For the layers above.
-use Rattle.std.proofs.Common.{◌≡◌, ℕ, zero, suc, ◌<◌, ◌≤◌, ◌+◌, ◌-◌, ◌*◌, ◌/◌, ◌%◌, ◌^◌, ◌&&◌, Bool, true, false, List, [], ◌∷◌, ◌++◌, length, map, take, drop, cond, replicate, refl, ap, sym, ◌∙◌, arith, inl, inr, nat_eq, get_or}
+use Rattle.std.proofs.Common.{◌≡◌, ℕ, zero, suc, ◌<◌, ◌≤◌, ◌+◌, ◌-◌, ◌*◌, ◌/◌, ◌%◌, ◌^◌, ◌&&◌, Bool, true, false, List, [], ◌∷◌, ◌++◌}
+use Rattle.std.proofs.Common.{length, map, take, drop, cond, replicate, refl, ap, sym, ◌∙◌, arith, inl, inr, nat_eq, get_or}
 use Rattle.std.specs.Bool.{beq}
 use Rattle.std.specs.Int.{bit_at}
 use Rattle.std.specs.List.{range_with_len}
@@ -20,9 +21,11 @@ bits_of-append order xs ys = bits_of-join order xs ys
 
 -- ---- octets of bits, and back
 
-map_shift : {X : Type 0} (f g : ℕ → X) (a n : ℕ) → ((i : ℕ) → f (i + 1) ≡ g i) → map f (range_with_len (a + 1) n) ≡ map g (range_with_len a n)
+map_shift : {X : Type 0} (f g : ℕ → X) (a n : ℕ) → ((i : ℕ) → f (i + 1) ≡ g i)
+    → map f (range_with_len (a + 1) n) ≡ map g (range_with_len a n)
 map_shift f g a zero same = refl
-map_shift f g a (suc n) same = ap (λ x. x ∷ map f (range_with_len (a + 1 + 1) n)) (same a) ∙ ap (λ xs. g a ∷ xs) (map_shift f g (a + 1) n same)
+map_shift f g a (suc n) same =
+    ap (λ x. x ∷ map f (range_with_len (a + 1 + 1) n)) (same a) ∙ ap (λ xs. g a ∷ xs) (map_shift f g (a + 1) n same)
 
 -- eight bits more in front are an octet more
 pub octets_of-cons : (front rest : List Bool) → length front ≡ 8 → octets_of (front ++ rest) ≡ number front ∷ octets_of rest
@@ -32,7 +35,8 @@ octets_of-cons front rest h =
     let first : take 8 (front ++ rest) ≡ front = take_at front rest 8 h in
     let shift : (i : ℕ) → octet_at (front ++ rest) (i + 1) ≡ octet_at rest i = λ i.
     let split : 8 * (i + 1) ≡ 8 + 8 * i = omega arith in
-    ap (λ xs. number (take 8 xs)) (ap (λ n. drop n (front ++ rest)) split ∙ (sym (drop-drop (8 * i) 8 (front ++ rest)) ∙ ap (drop (8 * i)) (drop_at front rest 8 h))) in
+    ap (λ xs. number (take 8 xs)) (ap (λ n. drop n (front ++ rest)) split ∙
+    (sym (drop-drop (8 * i) 8 (front ++ rest)) ∙ ap (drop (8 * i)) (drop_at front rest 8 h))) in
     ap (λ n. map (octet_at (front ++ rest)) (range_with_len 0 n)) size ∙
     (ap (λ xs. number xs ∷ map (octet_at (front ++ rest)) (range_with_len (0 + 1) (length rest / 8))) first ∙
     ap (λ xs. number front ∷ xs) (map_shift (octet_at (front ++ rest)) (octet_at rest) 0 (length rest / 8) shift))
@@ -49,7 +53,8 @@ low_bit x place = elim (cases_eq (bit_at x place) 1) [
 
 -- the bits of an octet write it
 pub number-octet_bits : (x : ℕ) → x < 256 → number (octet_bits x) ≡ x
-number-octet_bits x h = rw (low_bit x 0, low_bit x 1, low_bit x 2, low_bit x 3, low_bit x 4, low_bit x 5, low_bit x 6, low_bit x 7) (omega arith)
+number-octet_bits x h =
+    rw (low_bit x 0, low_bit x 1, low_bit x 2, low_bit x 3, low_bit x 4, low_bit x 5, low_bit x 6, low_bit x 7) (omega arith)
 
 -- octets are those of their bits
 pub octets_back : (octets : List ℕ) → AreOctets octets → octets_of (bits_of LsbFirst octets) ≡ octets
@@ -78,8 +83,12 @@ every_at : (n : ℕ) (test : List Bool → Bool) → every n test ≡ true → (
 every_at zero test h [] e = h
 every_at zero test h (x ∷ xs) e = absurd (omega arith)
 every_at (suc n) test h [] e = absurd (omega arith)
-every_at (suc n) test h (true ∷ xs) e = every_at n (λ ys. test (true ∷ ys)) (and_parts (every n (λ ys. test (true ∷ ys))) (every n (λ ys. test (false ∷ ys))) h).0 xs (omega arith)
-every_at (suc n) test h (false ∷ xs) e = every_at n (λ ys. test (false ∷ ys)) (and_parts (every n (λ ys. test (true ∷ ys))) (every n (λ ys. test (false ∷ ys))) h).1 xs (omega arith)
+every_at (suc n) test h (true ∷ xs) e =
+    let both = and_parts (every n (λ ys. test (true ∷ ys))) (every n (λ ys. test (false ∷ ys))) h in
+    every_at n (λ ys. test (true ∷ ys)) both.0 xs (omega arith)
+every_at (suc n) test h (false ∷ xs) e =
+    let both = and_parts (every n (λ ys. test (true ∷ ys))) (every n (λ ys. test (false ∷ ys))) h in
+    every_at n (λ ys. test (false ∷ ys)) both.1 xs (omega arith)
 
 abbrev same_bits : List Bool → List Bool → Bool
 same_bits [] [] = true
@@ -98,7 +107,8 @@ same_bits_same (false ∷ xs) (false ∷ ys) h = ap (λ l. false ∷ l) (same_bi
 
 -- eight bits are those of their number
 pub octet_bits-number : (bits : List Bool) → length bits ≡ 8 → octet_bits (number bits) ≡ bits
-octet_bits-number bits e = same_bits_same (octet_bits (number bits)) bits (every_at 8 (λ xs. same_bits (octet_bits (number xs)) xs) refl bits e)
+octet_bits-number bits e =
+    same_bits_same (octet_bits (number bits)) bits (every_at 8 (λ xs. same_bits (octet_bits (number xs)) xs) refl bits e)
 
 -- bits of whole octets are those of their octets
 pub bits_of-octets_of : (n : ℕ) (bits : List Bool) → length bits ≡ 8 * n → bits_of LsbFirst (octets_of bits) ≡ bits
@@ -106,7 +116,8 @@ bits_of-octets_of zero [] e = ap (bits_of LsbFirst) octets_of-none ∙ bits_in-n
 bits_of-octets_of zero (x ∷ xs) e = absurd (omega arith)
 bits_of-octets_of (suc n) bits e =
     let split : take 8 bits ++ drop 8 bits ≡ bits = take-append-drop 8 bits in
-    let sizes : length (take 8 bits) + length (drop 8 bits) ≡ length bits = sym (length-append (take 8 bits) (drop 8 bits)) ∙ ap length split in
+    let sizes : length (take 8 bits) + length (drop 8 bits) ≡ length bits =
+    sym (length-append (take 8 bits) (drop 8 bits)) ∙ ap length split in
     let front : length (take 8 bits) ≡ 8 = rw length-take (omega arith) in
     let rest : length (drop 8 bits) ≡ 8 * n = omega arith in
     ap (λ l. bits_of LsbFirst (octets_of l)) (sym split) ∙
@@ -139,7 +150,8 @@ pub bits_of-packed : (bits : List Bool) → bits_of LsbFirst (packed bits) ≡ b
 unfolding packed
 bits_of-packed bits =
     let n : ℕ = length bits in
-    let size : length (bits ++ replicate (fill_of n) false) ≡ n + fill_of n = length-append bits (replicate (fill_of n) false) ∙ ap (λ m. n + m) (length-replicate (fill_of n) false) in
+    let size : length (bits ++ replicate (fill_of n) false) ≡ n + fill_of n =
+    length-append bits (replicate (fill_of n) false) ∙ ap (λ m. n + m) (length-replicate (fill_of n) false) in
     bits_of-octets_of ((n + fill_of n) / 8) (bits ++ replicate (fill_of n) false) (omega arith)
 
 -- octets that hold the bits and fewer than eight 0 bits are the packed bits
@@ -147,7 +159,8 @@ pub packed_is : PackedAlone
 unfolding packed
 packed_is bits octets fills small =
     let size : 8 * length octets ≡ length bits + fills.fill =
-    sym (length-bits_in LsbFirst octets (8 * length octets)) ∙ (ap length fills.filled ∙ (length-append bits (replicate fills.fill false) ∙ ap (λ m. length bits + m) (length-replicate fills.fill false))) in
+    sym (length-bits_in LsbFirst octets (8 * length octets)) ∙ (ap length fills.filled ∙
+    (length-append bits (replicate fills.fill false) ∙ ap (λ m. length bits + m) (length-replicate fills.fill false))) in
     let fill : fills.fill ≡ fill_of (length bits) = omega (arith, fills.few) in
     sym (octets_back octets small) ∙ ap octets_of (fills.filled ∙ ap (λ m. bits ++ replicate m false) fill)
 

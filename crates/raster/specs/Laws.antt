@@ -11,7 +11,8 @@ BitsJoin = (order : Order) (front rest : List ℕ) → bits_of order (front ++ r
 
 -- packed bits are octets, whose bits are the bits and the 0 bits that fill them
 abbrev pub PackedHold : Type 0
-PackedHold = (bits : List Bool) → AreOctets (packed bits) × (bits_of LsbFirst (packed bits) ≡ bits ++ replicate (fill_of (length bits)) false)
+PackedHold = (bits : List Bool) → AreOctets (packed bits)
+    × (bits_of LsbFirst (packed bits) ≡ bits ++ replicate (fill_of (length bits)) false)
 
 -- octets that are the bits and then fewer than eight 0 bits are the packed bits
 abbrev pub PackedAlone : Type 0
