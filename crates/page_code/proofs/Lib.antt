@@ -22,3 +22,4 @@ pub mod T6Readings
 pub mod T6Writes
 pub mod T6Steps
 pub mod T6Gives
+pub mod CodingLaws

@@ -19,7 +19,7 @@ use Rattle.page_code.specs.T4Fronts.PageItem.{eol, coded}
 use Rattle.page_code.specs.T4Fronts.PageState.{first, row_start, in_row, row_end}
 use Rattle.page_code.specs.T4Laws.{IsLongestFront}
 use Rattle.page_code.specs.T4Reading.{GivesPage, SeesEol}
-use Rattle.page_code.specs.PageCodes.{IsOnlyAnswer, ReadsItsCode, ReadsPage, RefusesPage}
+use Rattle.page_code.specs.PageCodes.{GivesRows, IsOnlyAnswer, ReadsItsCode, ReadsPage, RefusesPage}
 use Rattle.page_code.specs.declared.eol.Eol.TheVariants.{Stands}
 use Rattle.run_tables.specs.Fronts.Look.{go, stop, refuse}
 use Rattle.page_code.proofs.T4Looks.{by_eol_other}
@@ -117,6 +117,11 @@ pub gives_refuses : (width : ℕ) (fine : Bool) (bits : List Bool) (result : Res
 gives_refuses width fine bits (Ok read) wide gives = tt
 gives_refuses width fine bits (Err fault) wide (inl memory) = λ other. absurd (other (ap (λ (f : CodeFault). f.kind) memory))
 gives_refuses width fine bits (Err fault) wide (inr e) = λ other. record { longest = refuses_at_longest width bits fault.place fault.kind e; none = λ rows used reads. refuses_no_page width bits fault.place fault.kind rows used wide e reads }
+
+pub gives_rows : (width : ℕ) (fine : Bool) (bits : List Bool) (result : Result (PagePixels × ℕ) CodeFault) → GivesPage width fine bits result → GivesRows (read_page width bits) result
+gives_rows width fine bits (Ok read) gives = gives.2
+gives_rows width fine bits (Err fault) (inl memory) = λ differs. absurd (differs (ap (λ (f : CodeFault). f.kind) memory))
+gives_rows width fine bits (Err fault) (inr e) = λ differs. e
 
 pub gives_memory : (width : ℕ) (fine : Bool) (bits : List Bool) (result : Result (PagePixels × ℕ) CodeFault) → GivesPage width fine bits result → IfErr result (λ fault. fault.kind ≡ NoMemory → fault.place ≡ 0)
 gives_memory width fine bits (Ok read) gives = tt

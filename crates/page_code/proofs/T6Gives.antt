@@ -20,7 +20,7 @@ use Rattle.page_code.specs.T6Fronts.{mode_code_text, mode_codes, PageItem, PageS
 use Rattle.page_code.specs.T6Fronts.PageItem.{mode_item, run_item}
 use Rattle.page_code.specs.T6Fronts.PageState.{between, inside, running}
 use Rattle.page_code.specs.T6Reading.{GivesPage}
-use Rattle.page_code.specs.PageCodes.{IsOnlyAnswer, ReadsItsCode, ReadsPage, RefusesPage}
+use Rattle.page_code.specs.PageCodes.{GivesRows, IsOnlyAnswer, ReadsItsCode, ReadsPage, RefusesPage}
 use Rattle.page_code.specs.T6Laws.{IsLongestFront}
 use Rattle.page_code.specs.T6Code.{page_code}
 use Rattle.page_code.proofs.T6PageLaws.{reads_pages_exactly, refuses_no_page, refuses_at_longest}
@@ -124,6 +124,11 @@ pub gives_refuses : (width : ℕ) (fine : Bool) (bits : List Bool) (result : Res
 gives_refuses width fine bits (Ok read) wide gives = tt
 gives_refuses width fine bits (Err fault) wide (inl memory) = λ differs. absurd (differs (ap (λ (f : CodeFault). f.kind) memory))
 gives_refuses width fine bits (Err fault) wide (inr e) = λ differs. record { longest = refuses_at_longest width bits fault.place fault.kind e; none = λ rows used reads. refuses_no_page width bits fault.place fault.kind rows used wide e reads }
+
+pub gives_rows : (width : ℕ) (fine : Bool) (bits : List Bool) (result : Result (PagePixels × ℕ) CodeFault) → GivesPage width fine bits result → GivesRows (read_page width bits) result
+gives_rows width fine bits (Ok read) gives = gives.2
+gives_rows width fine bits (Err fault) (inl memory) = λ differs. absurd (differs (ap (λ (f : CodeFault). f.kind) memory))
+gives_rows width fine bits (Err fault) (inr e) = λ differs. e
 
 pub gives_memory : (width : ℕ) (fine : Bool) (bits : List Bool) (result : Result (PagePixels × ℕ) CodeFault) → GivesPage width fine bits result → IfErr result (λ fault. fault.kind ≡ NoMemory → fault.place ≡ 0)
 gives_memory width fine bits (Ok read) gives = tt

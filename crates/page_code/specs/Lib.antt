@@ -1,4 +1,5 @@
 pub mod PageCodes
+pub mod Codings
 pub mod T4Pages
 pub mod OwnRuns
 pub mod T4Fronts

@@ -1,5 +1,5 @@
 -- What writing and reading a page answer, whichever the code is.
-use Rattle.std.specs.Prelude.{ℕ, ◌≡◌, ◌≤◌, ◌<◌, ◌++◌, Bool, List, length, All, Result, MatchResult}
+use Rattle.std.specs.Prelude.{ℕ, ◌≡◌, ◌≤◌, ◌<◌, ◌++◌, Bool, List, length, All, Result, Ok, Err, MatchResult, ◌≢◌}
 use Rattle.raster.specs.declared.packed.Order.{Order}
 use Rattle.raster.specs.declared.row.Color.{Color}
 use Rattle.raster.specs.Packed.{FillsOctets}
@@ -29,6 +29,11 @@ pub record RefusesPage (Reads : ℕ → List Bool → List (List Color) → ℕ 
 abbrev pub IsOnlyAnswer : (ℕ → List Bool → List (List Color) → ℕ → Type 0) → ℕ → List Bool → Result (PagePixels × ℕ) CodeFault → Type 0
 IsOnlyAnswer Reads width bits result =
     (rows : List (List Color)) (used : ℕ) → Reads width bits rows used → MatchResult result (λ read. (read.0.rows ≡ rows) × (read.1 ≡ used)) (λ fault. fault.kind ≡ NoMemory)
+
+-- the rows and the bits used are what reading gives, and so is the refusal, unless memory was refused
+abbrev pub GivesRows : Result (List (List Color) × ℕ) (ℕ × CodeFaultKind) → Result (PagePixels × ℕ) CodeFault → Type 0
+GivesRows outcome (Ok read) = outcome ≡ Ok (read.0.rows, read.1)
+GivesRows outcome (Err fault) = fault.kind ≢ NoMemory → outcome ≡ Err (fault.place, fault.kind)
 
 -- the code of a page, followed by any bits, reads as the page with the code's length
 abbrev pub ReadsItsCode : (ℕ → List (List Color) → List Bool) → (ℕ → List Bool → List (List Color) → ℕ → Type 0) → Type 0

@@ -1,11 +1,13 @@
-ghost use Rattle.page_code.specs.PageCodes.{AppendsCode, IsOnlyAnswer, ReadsItsCode, ReadsPage, RefusesPage};
+ghost use Rattle.page_code.specs.PageCodes.{AppendsCode, GivesRows, IsOnlyAnswer, ReadsItsCode, ReadsPage, RefusesPage};
 ghost use Rattle.raster.specs.Packed.{bits_of};
 ghost use Rattle.raster.specs.Pixels.{IsWidth};
 ghost use Rattle.raster.specs.declared.row.Color.{Color};
 ghost use Rattle.run_tables.specs.declared.fault.CodeFaultKind.{CodeFaultKind as Kind};
 ghost use Rattle.run_tables.specs.declared.fault.CodeFaultKind.TheVariants.{NoMemory};
-ghost use Rattle.std.specs.Prelude.{◌≡◌, ◌≢◌, ◌<◌, ℕ, List, Bool, length, IfOk, IfErr, OnOk, OnErr};
+ghost use Rattle.std.specs.Prelude.{◌≡◌, ◌≢◌, ◌<◌, ℕ, List, Bool, Result, length, IfOk, IfErr, OnOk, OnErr};
 
+use crate::one_dim::OneDim;
+use crate::t6::T6;
 use raster::Page;
 use raster::packed::Order;
 use run_tables::CodeFault;
@@ -20,6 +22,55 @@ pub enum Coding {
     T6,
 }
 
+impl Coding {
+    ghost use Rattle.page_code.specs.Codings.{IsLongestIn, ReadsIn, code_of, read_rows};
+
+    /// Appends the page's code, its last octet filled with 0 bits. Errs where memory is refused, which
+    /// changes nothing.
+    #[tactic(auto, unfolding(crate::specs::Codings::code_of))]
+    pub fn encode(
+        self,
+        alloc: Global,
+        page: &Page,
+        order: Order,
+        out: &mut Vec<u8>,
+    ) -> Result<(), AllocError>
+        requires { 0 < length page.now.rows }
+        ensures ok { OnOk result (AppendsCode order (code_of self page.now.width page.now.rows) out.old.items out.new.items) }
+        ensures err { OnErr result (out.new.items ≡ out.old.items) }
+    {
+        match self {
+            Coding::OneDim => OneDim::encode(alloc, page, order, out),
+            Coding::T6 => T6::encode(alloc, page, order, out),
+        }
+    }
+
+    /// The page of this width in pixels that the octets' bits begin with, and how many bits it uses;
+    /// what follows is ignored. Errs at the bit where no page's code can go on; and with `NoMemory`, at
+    /// bit 0.
+    #[tactic(auto, unfolding(crate::specs::Codings::ReadsIn, crate::specs::Codings::IsLongestIn, crate::specs::Codings::read_rows))]
+    pub fn decode(
+        self,
+        alloc: Global,
+        octets: &[u8],
+        order: Order,
+        width: u32,
+        fine: bool,
+    ) -> Result<(Page, u128), CodeFault>
+        requires { IsWidth width }
+        ensures reads { IfOk result (λ read. ReadsPage (ReadsIn self) width fine (bits_of order octets.now) read.0 read.1) }
+        ensures only { IsOnlyAnswer (ReadsIn self) width (bits_of order octets.now) result }
+        ensures refuses { IfErr result (λ fault. fault.kind ≢ NoMemory → RefusesPage (ReadsIn self) (IsLongestIn self) width (bits_of order octets.now) fault) }
+        ensures gives { GivesRows (read_rows self width (bits_of order octets.now)) result }
+        ensures memory { IfErr result (λ fault. fault.kind ≡ NoMemory → fault.place ≡ 0) }
+    {
+        match self {
+            Coding::OneDim => OneDim::decode(alloc, octets, order, width, fine),
+            Coding::T6 => T6::decode(alloc, octets, order, width, fine),
+        }
+    }
+}
+
 /// Writing and reading of pages in one code.
 pub trait PageCode {
     // the prescribed code of rows of a width
@@ -27,6 +78,9 @@ pub trait PageCode {
 
     // bits read as rows of a width, with so many of them used
     ghost Reads: { ℕ → List Bool → List (List Color) → ℕ → Type 0 };
+
+    // what bits read as: rows of a width and the bits used, or the place and the kind of a refusal
+    ghost outcome: { ℕ → List Bool → Result (List (List Color) × ℕ) (ℕ × Kind) };
 
     // bits are refused at a place, behind their longest front, and with the kind of the bits there
     ghost Longest: { ℕ → List Bool → ℕ → Kind → Type 0 };
@@ -52,6 +106,7 @@ pub trait PageCode {
         ensures reads { IfOk result (λ read. ReadsPage Reads width fine (bits_of order octets.now) read.0 read.1) }
         ensures only { IsOnlyAnswer Reads width (bits_of order octets.now) result }
         ensures refuses { IfErr result (λ fault. fault.kind ≢ NoMemory → RefusesPage Reads Longest width (bits_of order octets.now) fault) }
+        ensures gives { GivesRows (outcome width (bits_of order octets.now)) result }
         ensures memory { IfErr result (λ fault. fault.kind ≡ NoMemory → fault.place ≡ 0) };
 
     /// The law of the code: the code of a page, followed by any bits, reads as the page with the code's

@@ -3,7 +3,10 @@
 #![tactic(auto)]
 
 mod coding;
+#[cfg(test)]
+mod coding_tests;
 mod eol;
+pub mod laws;
 mod one_dim;
 #[cfg(test)]
 mod one_dim_tests;

@@ -140,10 +140,13 @@ fn write_rows(alloc: Global, rows: &[Row], bits: &mut BitWriter) -> Result<(), A
 impl PageCode for OneDim {
     ghost use Rattle.page_code.specs.T4Pages.{ReadsAs, page_text};
     ghost use Rattle.page_code.specs.T4Laws.{IsLongestFront};
+    ghost use Rattle.page_code.specs.T4Fronts.{read_page as read_bits};
 
     ghost code = { λ width rows. page_text rows };
 
     ghost Reads = { ReadsAs };
+
+    ghost outcome = { read_bits };
 
     ghost Longest = { IsLongestFront };
 

@@ -55,10 +55,13 @@ impl PageCode for T6 {
     ghost use Rattle.page_code.specs.T6Code.{page_code};
     ghost use Rattle.page_code.specs.T6Modes.{ReadsAsPage};
     ghost use Rattle.page_code.specs.T6Laws.{IsLongestFront};
+    ghost use Rattle.page_code.specs.T6Fronts.{read_page as read_bits};
 
     ghost code = { page_code };
 
     ghost Reads = { ReadsAsPage };
+
+    ghost outcome = { read_bits };
 
     ghost Longest = { IsLongestFront };
 

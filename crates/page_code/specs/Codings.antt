@@ -1,0 +1,60 @@
+-- Pages in either code: the code of a page, what bits read as, and which bits read as a page.
+use Rattle.std.specs.Prelude.{ℕ, ◌≡◌, ◌<◌, ◌≤◌, ◌↔◌, ◌++◌, Bool, List, length, All, Result, Ok, Err}
+use Rattle.raster.specs.declared.row.Color.{Color}
+use Rattle.raster.specs.Pixels.{IsWidth}
+use Rattle.run_tables.specs.declared.fault.CodeFaultKind.{CodeFaultKind}
+use Rattle.page_code.specs.declared.coding.Coding.{Coding}
+use Rattle.page_code.specs.declared.coding.Coding.TheVariants.{OneDim, T6}
+use Rattle.page_code.specs.PageCodes.{ReadsItsCode}
+use Rattle.page_code.specs.T4Pages.{ReadsAs, page_text}
+use Rattle.page_code.specs.T4Fronts.{read_page as read_one_dim}
+use Rattle.page_code.specs.T4Laws.{IsLongestFront as IsLongestOneDim}
+use Rattle.page_code.specs.T6Code.{page_code}
+use Rattle.page_code.specs.T6Modes.{ReadsAsPage}
+use Rattle.page_code.specs.T6Fronts.{read_page as read_t6}
+use Rattle.page_code.specs.T6Laws.{IsLongestFront as IsLongestT6}
+
+-- the prescribed code of rows of a width
+unfoldable pub code_of : Coding → ℕ → List (List Color) → List Bool
+code_of OneDim width rows = page_text rows
+code_of T6 width rows = page_code width rows
+
+-- the bits read as rows of this width, with so many of them used
+unfoldable pub ReadsIn : Coding → ℕ → List Bool → List (List Color) → ℕ → Type 0
+ReadsIn OneDim width bits rows used = ReadsAs width bits rows used
+ReadsIn T6 width bits rows used = ReadsAsPage width bits rows used
+
+-- what bits read as: the rows and the bits used, or the place and the kind of a refusal
+unfoldable pub read_rows : Coding → ℕ → List Bool → Result (List (List Color) × ℕ) (ℕ × CodeFaultKind)
+read_rows OneDim width bits = read_one_dim width bits
+read_rows T6 width bits = read_t6 width bits
+
+-- no front of the bits is longer, and this kind is seen behind it
+unfoldable pub IsLongestIn : Coding → ℕ → List Bool → ℕ → CodeFaultKind → Type 0
+IsLongestIn OneDim width bits place kind = IsLongestOneDim width bits place kind
+IsLongestIn T6 width bits place kind = IsLongestT6 width bits place kind
+
+-- Laws of pages in either code
+
+-- a page is read exactly where the bits read as it
+abbrev pub ReadsExactly : Type 0
+ReadsExactly = (coding : Coding) (width : ℕ) (bits : List Bool) (rows : List (List Color)) (used : ℕ) → IsWidth width → (read_rows coding width bits ≡ Ok (rows, used)) ↔ ReadsIn coding width bits rows used
+
+-- bits that are refused read as no page
+abbrev pub RefusesNoPage : Type 0
+RefusesNoPage =
+    (coding : Coding) (width : ℕ) (bits : List Bool) (place : ℕ) (kind : CodeFaultKind) (rows : List (List Color)) (used : ℕ) → IsWidth width → read_rows coding width bits ≡ Err (place, kind) → ¬ ReadsIn coding width bits rows used
+
+-- the place of a refusal is the length of the longest front, and its kind is what is seen behind it
+abbrev pub RefusesAtLongest : Type 0
+RefusesAtLongest = (coding : Coding) (width : ℕ) (bits : List Bool) (place : ℕ) (kind : CodeFaultKind) → read_rows coding width bits ≡ Err (place, kind) → IsLongestIn coding width bits place kind
+
+-- the code of a page, followed by any bits, reads as the page with the code's length
+abbrev pub ReadsCode : Type 0
+ReadsCode = (coding : Coding) → ReadsItsCode (code_of coding) (ReadsIn coding)
+
+-- and reading it gives the page and the code's length
+abbrev pub GivesCodedRows : Type 0
+GivesCodedRows =
+    (coding : Coding) (width : ℕ) (rows : List (List Color)) (rest : List Bool) → IsWidth width → 0 < length rows → length rows ≤ 20000 → All (λ row. length row ≡ width) rows →
+    read_rows coding width (code_of coding width rows ++ rest) ≡ Ok (rows, length (code_of coding width rows))
