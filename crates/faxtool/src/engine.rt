@@ -1,15 +1,13 @@
 //! What `code` and `show` do, over any reader and any writer.
-ghost use Rattle.faxtool.specs.Engines.{CodesImage, ReadsIn, RefusesImage, RefusesIn, RefusesShow, ShowsPage, code_text};
-ghost use Rattle.page_code.specs.PageCodes.{AppendsCode};
-ghost use Rattle.raster.specs.Packed.{bits_of};
+ghost use Rattle.faxtool.specs.Engines.{CodesImage, RefusesImage, RefusesShow, ShowsPage};
 ghost use Rattle.raster.specs.Pixels.{IsWidth};
-ghost use Rattle.std.specs.Prelude.{◌≢◌, ◌<◌, IfErr, IfOk, IfSome, OnOk, length};
+ghost use Rattle.std.specs.Prelude.{IfErr, IfSome, OnOk};
 
 use crate::fault::ToolFault;
-use page_code::{Coding, OneDim, PageCode, T6};
-use raster::{Page, read_pbm, write_text};
-use run_tables::{CodeFault, CodeFaultKind, Order};
-use std::alloc::{AllocError, Global};
+use page_code::Coding;
+use raster::{read_pbm, write_text};
+use run_tables::Order;
+use std::alloc::Global;
 use std::io::{Read, Write};
 
 #[cfg(test)]
@@ -17,41 +15,6 @@ mod tests;
 
 /// The fault of an input of more than one image.
 const SEVERAL_PAGES: ToolFault = ToolFault::No(27);
-
-/// Appends the page's code.
-fn encode(
-    alloc: Global,
-    coding: Coding,
-    page: &Page,
-    order: Order,
-    out: &mut Vec<u8>,
-) -> Result<(), AllocError>
-    requires { 0 < length page.now.rows }
-    ensures { OnOk result (AppendsCode order (code_text coding page.now.width page.now.rows) out.old.items out.new.items) }
-{
-    match coding {
-        Coding::OneDim => OneDim::encode(alloc, page, order, out),
-        Coding::T6 => T6::encode(alloc, page, order, out),
-    }
-}
-
-/// The page that the octets begin with, and the bits used.
-fn decode(
-    alloc: Global,
-    coding: Coding,
-    octets: &[u8],
-    order: Order,
-    width: u32,
-) -> Result<(Page, u128), CodeFault>
-    requires { IsWidth width }
-    ensures reads { IfOk result (λ read. ReadsIn coding width (bits_of order octets.now) read.0.rows read.1) }
-    ensures refuses { IfErr result (λ fault. fault.kind ≢ CodeFaultKind.NoMemory → RefusesIn coding width (bits_of order octets.now) fault) }
-{
-    match coding {
-        Coding::OneDim => OneDim::decode(alloc, octets, order, width, false),
-        Coding::T6 => T6::decode(alloc, octets, order, width, false),
-    }
-}
 
 /// Reads a PBM file of one image and writes the image's code, its last octet filled with 0 bits.
 /// Errs with the first fault of the file, with 27 where it has several images, with 8 where the
@@ -71,7 +34,7 @@ pub fn code_engine<R: Read, W: Write>(
         return Err(SEVERAL_PAGES);
     };
     let mut octets = Vec::new(alloc);
-    encode(alloc, coding, page, order, &mut octets)?;
+    coding.encode(alloc, page, order, &mut octets)?;
     writer.write_all(&octets)?;
     Ok(())
 }
@@ -93,7 +56,7 @@ pub fn show_engine<R: Read, W: Write>(
 {
     let mut octets = Vec::new(alloc);
     reader.read_to_end(&mut octets)?;
-    let (page, _used) = decode(alloc, coding, &octets, order, width)?;
+    let (page, _used) = coding.decode(alloc, &octets, order, width, false)?;
     write_text(&page, writer)?;
     Ok(())
 }
