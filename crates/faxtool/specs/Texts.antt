@@ -16,7 +16,7 @@ use Rattle.signals.specs.declared.params.Params.{Params}
 use Rattle.signals.specs.declared.params.Speed.{Speed}
 use Rattle.signals.specs.declared.params.Speed.TheVariants.{V27At2400, V27At4800, V29At7200, V29At9600, V17At7200, V17At9600, V17At12000, V17At14400}
 use Rattle.signals.specs.declared.signal.PageEnd.{PageEnd}
-use Rattle.signals.specs.declared.signal.PageEnd.TheVariants.{Null, Mps, Eop}
+use Rattle.signals.specs.declared.signal.PageEnd.TheVariants.{Null, Mps, Eom, Eop}
 use Rattle.signals.specs.declared.fault.SignalFault.{SignalFault}
 use Rattle.faxtool.specs.Faults.{fault_text}
 use Rattle.faxtool.specs.declared.fault.ToolFault.TheVariants.{No}
@@ -57,6 +57,7 @@ coding_text T6 = codes "t6"
 abbrev pub page_end_text : PageEnd → List ℕ
 page_end_text Null = codes "NULL"
 page_end_text Mps = codes "MPS"
+page_end_text Eom = codes "EOM"
 page_end_text Eop = codes "EOP"
 
 -- what a station can do

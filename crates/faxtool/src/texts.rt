@@ -74,6 +74,7 @@ fn page_end(ends: PageEnd) -> &'static str
     match ends {
         PageEnd::Null => "NULL",
         PageEnd::Mps => "MPS",
+        PageEnd::Eom => "EOM",
         PageEnd::Eop => "EOP",
     }
 }

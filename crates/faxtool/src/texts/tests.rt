@@ -112,7 +112,9 @@ fn blocks(rt: HostRuntime) -> Result<(), Fail> {
         (0x00, "PPS NULL page 1 block 20 last 255"),
         (0x4F, "PPS MPS page 1 block 20 last 255"),
         (0x2F, "PPS EOP page 1 block 20 last 255"),
-        (0x8F, "other bf"),
+        (0x8E, "PPS EOM page 1 block 20 last 255"),
+        (0x8F, "PPS EOM page 1 block 20 last 255"),
+        (0x90, "other bf"),
     ] {
         says(&rt, &[0xFF, 0x13, 0xBF, second, 1, 20, 255], text)?;
     }
