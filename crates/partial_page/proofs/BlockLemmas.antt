@@ -1,10 +1,11 @@
-use Rattle.std.proofs.Common.{◌≡◌, ℕ, ◌+◌, ◌-◌, ◌*◌, ◌<◌, ◌≤◌, ◌++◌, Bool, true, false, List, [], ◌∷◌, length, take, drop, get_or, suc, zero, refl, sym, ap, ◌∙◌, arith, length-append}
+use Rattle.std.proofs.Common.{◌≡◌, ℕ, ◌+◌, ◌-◌, ◌*◌, ◌<◌, ◌≤◌, ◌++◌, Bool, true, false, List, [], ◌∷◌, length, take, drop, replicate, get_or, suc, zero, refl, sym, ap, ◌∙◌, arith, length-append}
 use Rattle.std.specs.Prelude.{All, min}
 use Rattle.std.specs.Int.{div_ceil}
 use Rattle.std.specs.List.{flat_map}
 use Rattle.std.proofs.lemmas.List.{length-take, length-drop, length-replicate, length-take-le, take_all, drop-drop, get_or-take, get_or-drop}
 use Rattle.std.proofs.lemmas.List.Elements.{All-nil, All-cons, All-take, All-drop}
-use Rattle.partial_page.specs.Frames.{frame_size, frames_for, pieces, blocks_of, filled, cut, joined, IsCut}
+use Rattle.partial_page.specs.Frames.{frame_size, frames_for, pieces, blocks_of, filled, cut, joined_block, joined, IsCut}
+use Rattle.std.proofs.lemmas.List.Concat.{flat_map-append}
 
 pub length-pieces : {X : Type 0} → (size count : ℕ) (xs : List X) → length (pieces size count xs) ≡ count
 unfolding pieces
@@ -135,3 +136,22 @@ joined_within_limit small octets front rest page is =
     sym (length-append front rest) ∙ ap length (sym is ∙ joined-cut small octets) ∙ length-filled small octets in
     let limit : frames_for small (length octets) * frame_size small ≤ 8388608 = filled_within small (length octets) page in
     omega arith
+
+pub octets_have_block : (small : Bool) (octets : List ℕ) → 0 < length octets → 0 < length (cut small octets)
+octets_have_block true octets some = rw length-blocks (omega arith)
+octets_have_block false octets some = rw length-blocks (omega arith)
+
+-- the frames of all blocks are those of each block in turn
+pub joined_by_blocks : (blocks : List (List (List ℕ))) → joined blocks ≡ flat_map joined_block blocks
+joined_by_blocks [] = refl
+joined_by_blocks (block ∷ blocks) =
+    flat_map-append (λ frame. frame) block (flat_map (λ block. block) blocks) ∙ ap (λ octets. joined_block block ++ octets) (joined_by_blocks blocks)
+
+covered : (small : Bool) (n : ℕ) → n ≤ frames_for small n * frame_size small
+covered true n = omega arith
+covered false n = omega arith
+
+-- octets that were filled to whole frames, with each number by its own name
+pub filled_is_cut : (small : Bool) (octets new : List ℕ) (len long count size : ℕ) → len ≡ length octets → long ≡ length octets → size ≡ frame_size small → count ≡ div_ceil long size → new ≡ take (count * size) octets ++ replicate (count * size - len) 0 → IsCut (frame_size small) octets (blocks_of (frame_size small) count new)
+filled_is_cut small octets new len long count size all same is frames fill =
+    rw (fill, frames, is, all, same) (rw (take_all (frames_for small (length octets) * frame_size small) octets (covered small (length octets))) (cut_is_full_frames small octets))

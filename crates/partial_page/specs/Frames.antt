@@ -31,9 +31,13 @@ filled small octets = octets ++ replicate (frames_for small (length octets) * fr
 abbrev pub cut : Bool → List ℕ → List (List (List ℕ))
 cut small octets = blocks_of (frame_size small) (frames_for small (length octets)) (filled small octets)
 
+-- the frames of a block, one after the other
+abbrev pub joined_block : List (List ℕ) → List ℕ
+joined_block block = flat_map (λ frame. frame) block
+
 -- the frames of all blocks, one after the other
 abbrev pub joined : List (List (List ℕ)) → List ℕ
-joined blocks = flat_map (λ frame. frame) (flat_map (λ block. block) blocks)
+joined blocks = joined_block (flat_map (λ block. block) blocks)
 
 -- a block has 1 to 256 frames, each of exactly the agreed size
 pub record IsBlock (size : ℕ) (block : List (List ℕ)) : Type 0 where
@@ -61,3 +65,11 @@ CutIsFullFrames = (small : Bool) (octets : List ℕ) → IsCut (frame_size small
 -- since the page limit is a multiple of both frame sizes, each beginning of the joined frames of a page within the limit is within it
 abbrev pub JoinedPageIsWithinLimit : Type 0
 JoinedPageIsWithinLimit = (small : Bool) (octets front rest : List ℕ) → length octets ≤ 8388608 → joined (cut small octets) ≡ front ++ rest → length front ≤ 8388608
+
+-- octets that aren't empty have a block
+abbrev pub OctetsHaveABlock : Type 0
+OctetsHaveABlock = (small : Bool) (octets : List ℕ) → 0 < length octets → 0 < length (cut small octets)
+
+-- the frames of all blocks are those of each block in turn
+abbrev pub PageJoinsByBlocks : Type 0
+PageJoinsByBlocks = (blocks : List (List (List ℕ))) → joined blocks ≡ flat_map joined_block blocks

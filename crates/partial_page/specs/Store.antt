@@ -1,19 +1,17 @@
--- The frames of a block that were received, as a finite map from a frame's number to its data.
-use Rattle.std.specs.Prelude.{ℕ, ◌≡◌, ◌≤◌, ◌<◌, ◌/◌, ◌%◌, ◌||◌, Bool, true, not, List, length, map, replicate, slice_index, slice_index_or, slice_set, nat_eq, nat_lt, Option, None, Some, is_some, unwrap_or, Result, Ok, Err, []}
+-- The frames of a block that were received: at each number 0 to 255 its frame's data, where there is one.
+use Rattle.std.specs.Prelude.{ℕ, ◌≡◌, ◌≢◌, ◌≤◌, ◌<◌, ◌*◌, ◌||◌, ◌↔◌, Bool, true, false, cond, not, List, length, map, take, drop, replicate, slice_index, slice_index_or, slice_set, nat_lt, Option, None, Some, is_some, unwrap_or, Result, Ok, Err, []}
 use Rattle.std.specs.List.{flat_map, range_with_len}
-use Rattle.std.specs.Int.{bit_at}
-use Rattle.std.specs.Option.{option_map}
-use Rattle.std.specs.Ordering.{nat_cmp}
-use Rattle.std.specs.BTreeMap as tree
-use Rattle.std.specs.declared.vec.Vec.{Vec}
-use Rattle.partial_page.specs.Frames.{frame_size}
+use Rattle.raster.specs.Packed.{bit_in}
+use Rattle.raster.specs.declared.packed.Order.TheVariants.{LsbFirst}
+use Rattle.partial_page.specs.Frames.{frame_size, joined_block}
 use Rattle.partial_page.specs.declared.fault.BlockFault.{BlockFault}
 use Rattle.partial_page.specs.declared.fault.BlockFault.TheVariants.{NoMemory, TooLong}
 
--- a store: whether the small frames are agreed, and at each number 0 to 255 its frame's data, where there is one
+-- a store: whether the small frames are agreed, at each number 0 to 255 its frame's data, where there is one, and whether its memory is taken
 pub record StoredFrames : Type 0 where
   pub small : Bool
   pub frames : List (Option (List ℕ))
+  pub ready : Bool
 
 -- no number has a frame
 unfoldable pub no_frames : List (Option (List ℕ))
@@ -23,9 +21,10 @@ no_frames = replicate 256 None
 abbrev pub frame_of : List (Option (List ℕ)) → ℕ → Option (List ℕ)
 frame_of frames n = slice_index_or frames n None
 
--- the data at each number in an ordered map
-unfoldable pub frames_in : {Z : Type 0} → tree.BTreeMap ℕ (Vec ℕ Z) → List (Option (List ℕ))
-frames_in frames = map (λ n. option_map (λ kept. kept.items) (tree.get nat_cmp frames n)) (range_with_len 0 256)
+-- a store has 256 places, and no data is longer than a frame
+pub record IsStore (store : StoredFrames) : Type 0 where
+  pub places : length store.frames ≡ 256
+  pub short : (n : ℕ) (octets : List ℕ) → frame_of store.frames n ≡ Some octets → length octets ≤ frame_size store.small
 
 -- a number has a frame
 abbrev pub has_frame : List (Option (List ℕ)) → ℕ → Bool
@@ -41,7 +40,7 @@ is_marked frames last n = nat_lt last n || is_missing frames n
 
 -- the bit at a number, eight an octet, the least significant first
 abbrev pub bit_of : List ℕ → ℕ → Bool
-bit_of octets n = nat_eq (bit_at (slice_index octets (n / 8)) (n % 8)) 1
+bit_of octets n = bit_in LsbFirst octets n
 
 -- the map of 256 bits that says the missing numbers up to the last, and marks those above it
 pub record IsMissingMap (frames : List (Option (List ℕ))) (last : ℕ) (octets : List ℕ) : Type 0 where
@@ -56,9 +55,39 @@ IsWhole frames last = (n : ℕ) → n ≤ last → has_frame frames n ≡ true
 unfoldable pub joined_frames : List (Option (List ℕ)) → ℕ → List ℕ
 joined_frames frames count = flat_map (λ n. unwrap_or (frame_of frames n) []) (range_with_len 0 count)
 
--- what storing a frame leaves, and when it is refused
+-- what storing a frame leaves, and when it is refused: for want of memory only where the store's memory isn't taken yet
 abbrev pub PutsFrame : StoredFrames → ℕ → List ℕ → StoredFrames → Result (Unit {0}) BlockFault → Type 0
-PutsFrame old n octets new (Ok done) = (length octets ≤ frame_size old.small) × (new ≡ record old { frames = slice_set old.frames n (Some octets) })
+PutsFrame old n octets new (Ok done) = (length octets ≤ frame_size old.small) × (new ≡ record old { frames = slice_set old.frames n (Some octets); ready = true })
 PutsFrame old n octets new (Err TooLong) = (frame_size old.small < length octets) × (new ≡ old)
-PutsFrame old n octets new (Err NoMemory) = (length octets ≤ frame_size old.small) × (new ≡ old)
+PutsFrame old n octets new (Err NoMemory) = (length octets ≤ frame_size old.small) × (old.ready ≡ false) × (new ≡ old)
 PutsFrame old n octets new (Err fault) = ⊥
+
+-- the data are those at their number, and each other number has what it had
+pub record IsKept (old : List (Option (List ℕ))) (n : ℕ) (octets : List ℕ) (new : List (Option (List ℕ))) : Type 0 where
+  pub here : frame_of new n ≡ Some octets
+  pub others : (k : ℕ) → k ≢ n → frame_of new k ≡ frame_of old k
+
+-- a store in memory: one buffer of 256 places of a frame's size, a map of the numbers that have a frame, and how long each frame's data are
+-- the data at a number, from the front of its place
+abbrev pub data_at : Bool → List ℕ → List ℕ → ℕ → List ℕ
+data_at small buffer lengths n = take (slice_index lengths n) (drop (n * frame_size small) buffer)
+
+-- the frames that lie so in memory
+unfoldable pub frames_in : Bool → List ℕ → List ℕ → List ℕ → List (Option (List ℕ))
+frames_in small buffer there lengths = map (λ n. cond (bit_of there n) (Some (data_at small buffer lengths n)) None) (range_with_len 0 256)
+
+-- the buffer, where it is taken, has all its places; no frame is there before; no data are longer than a place
+pub record IsLaidOut (small : Bool) (buffer there lengths : List ℕ) : Type 0 where
+  pub room : 0 < length buffer → length buffer ≡ 256 * frame_size small
+  pub held : (n : ℕ) → bit_of there n ≡ true → 0 < length buffer
+  pub short : (n : ℕ) → slice_index lengths n ≤ frame_size small
+
+-- a store that has each frame of a block joins to the block's octets
+abbrev pub StoreJoinsToBlock : Type 0
+StoreJoinsToBlock =
+    (frames : List (Option (List ℕ))) (block : List (List ℕ)) →
+    ((k : ℕ) → k < length block → frame_of frames k ≡ Some (slice_index_or block k [])) → joined_frames frames (length block) ≡ joined_block block
+
+-- of 256 places none has a frame exactly if they are those of no frame
+abbrev pub NoFramesHaveNone : Type 0
+NoFramesHaveNone = (frames : List (Option (List ℕ))) → length frames ≡ 256 → (((n : ℕ) → n < 256 → has_frame frames n ≡ false) ↔ (frames ≡ no_frames))

@@ -1,5 +1,5 @@
-ghost use Rattle.partial_page.specs.Frames.{frame_size, blocks_of, cut, CutsPage, CutIsFullFrames, JoinedPageIsWithinLimit};
-ghost use Rattle.std.specs.Prelude.{◌≡◌, ◌≤◌, ◌<◌, ◌+◌, ◌-◌, ◌*◌, List, [], length, take, drop, slice_index_or};
+ghost use Rattle.partial_page.specs.Frames.{frame_size, CutsPage, IsCut};
+ghost use Rattle.std.specs.Prelude.{◌≡◌, ◌≤◌, ◌<◌, ◌+◌, ◌-◌, ◌*◌, [], length, take, drop, slice_index_or, IfOk};
 
 use crate::fault::BlockFault;
 use std::alloc::Global;
@@ -18,7 +18,7 @@ pub(crate) fn frame_octets(small: bool) -> usize
 }
 
 /// The frame at a place among frames that stand one after the other.
-fn frame_at(octets: &[u8], place: usize, small: bool) -> &[u8]
+pub(crate) fn frame_at(octets: &[u8], place: usize, small: bool) -> &[u8]
     requires few { place < 8388608 }
     requires within { (place + 1) * frame_size small ≤ length octets.now }
     ensures { result.now ≡ take (frame_size small) (drop (place * frame_size small) octets.now) }
@@ -52,7 +52,8 @@ impl Blocks {
     /// with octets 00. No octets give no block. Errs with `PageTooLong` where there are more than
     /// 8,388,608 octets, and with `NoMemory`. The frames stay in the memory of `coded`, which grows.
     pub fn cut(_alloc: Global, coded: Vec<u8>, small: bool) -> Result<Blocks, BlockFault>
-        ensures { CutsPage small coded.items result }
+        ensures cuts { CutsPage small coded.items result }
+        ensures full { IfOk result (λ blocks. IsCut (frame_size small) coded.items blocks) }
     {
         if coded.len() > PAGE_LIMIT {
             return Err(BlockFault::PageTooLong);
@@ -98,16 +99,3 @@ impl Blocks {
         frame_at(octets, place, self.small)
     }
 }
-
-/// A law of the frames that a page is cut into, which does nothing when it is called: each block has 1
-/// to 256 frames of exactly the agreed size, 256 in each block but the last, and joined they are the
-/// page and then fewer octets 00 than a frame has.
-pub fn page_is_cut_into_full_frames()
-    ensures { CutIsFullFrames }
-{}
-
-/// A law of the page limit, which does nothing when it is called: since the limit is a multiple of both
-/// frame sizes, each beginning of the joined frames of a page within the limit is within the limit.
-pub fn page_stays_within_limit()
-    ensures { JoinedPageIsWithinLimit }
-{}

@@ -74,6 +74,10 @@ fn no_octets_have_no_block(rt: HostRuntime) -> Result<(), Fail> {
     }
     page_is_cut_into_full_frames();
     page_stays_within_limit();
+    laws::octets_have_a_block();
+    laws::page_joins_by_blocks();
+    laws::store_joins_to_block();
+    laws::no_frames_have_none();
     Ok(())
 }
 
@@ -123,6 +127,46 @@ fn a_later_frame_replaces(rt: HostRuntime) -> Result<(), Fail> {
 }
 
 #[test]
+fn a_shorter_frame_replaces_a_full_one(rt: HostRuntime) -> Result<(), Fail> {
+    let alloc = rt.alloc();
+    let mut store = BlockStore::new(alloc, false);
+    assert!(rt; !store.ready());
+    assert!(rt; store.is_empty());
+    store.put(0, &octets(alloc, 256, 7)?)?;
+    assert!(rt; store.ready());
+    assert!(rt; !store.is_empty());
+    store.put(0, &[0xAA])?;
+    assert_eq!(rt; store.frame(0), Some([0xAA].as_slice()));
+    assert_eq!(rt; store.frame(1), None);
+    store.clear();
+    assert_eq!(rt; store.frame(0), None);
+    assert!(rt; store.ready());
+    assert!(rt; store.is_empty());
+    Ok(())
+}
+
+#[test]
+fn a_whole_block_of_full_frames_is_joined(rt: HostRuntime) -> Result<(), Fail> {
+    let alloc = rt.alloc();
+    for (small, size, all) in [(false, 256, 65_536usize), (true, 64, 16_384)] {
+        let mut store = BlockStore::new(alloc, small);
+        for n in 0..=255u8 {
+            store.put(n, &octets(alloc, size, n)?)?;
+        }
+        assert!(rt; store.whole(255));
+        let mut joined = Vec::new(alloc);
+        store.append_joined(255, &mut joined)?;
+        assert_eq!(rt; joined.len(), all);
+        for n in 0..=255u8 {
+            assert_eq!(rt; store.frame(n), Some(octets(alloc, size, n)?.as_slice()));
+            let place = n as usize * size;
+            assert_eq!(rt; joined.get(place..place + size), store.frame(n));
+        }
+    }
+    Ok(())
+}
+
+#[test]
 fn data_longer_than_a_frame_is_refused(rt: HostRuntime) -> Result<(), Fail> {
     let alloc = rt.alloc();
     let mut store = BlockStore::new(alloc, true);
@@ -130,6 +174,7 @@ fn data_longer_than_a_frame_is_refused(rt: HostRuntime) -> Result<(), Fail> {
     let long = octets(alloc, 65, 7)?;
     assert_eq!(rt; store.put(0, &long).err(), Some(BlockFault::TooLong));
     assert_eq!(rt; BlockFault::TooLong.number(), 23);
+    assert_eq!(rt; store.frame(0), Some([1, 2].as_slice()));
     assert!(rt; store.whole(0));
     let mut joined = Vec::new(alloc);
     store.append_joined(0, &mut joined)?;
@@ -151,20 +196,19 @@ fn a_refused_growth_changes_nothing(rt: HostRuntime) -> Result<(), Fail> {
     if let Err(refused) = store.put(0, &[1, 2]) {
         assert_eq!(rt; refused, BlockFault::NoMemory);
         assert_eq!(rt; store.missing(255), [0xFF; 32]);
+        assert!(rt; !store.ready());
         store.put(0, &[1, 2])?;
     }
-    let replaced = store.put(0, &[3]).is_ok();
-    assert!(rt; store.whole(0));
+    assert_eq!(rt; store.put(0, &[3]).err(), None);
     let mut joined = Vec::new(alloc);
     if let Err(refused) = store.append_joined(0, &mut joined) {
         assert_eq!(rt; refused, BlockFault::NoMemory);
         assert!(rt; joined.is_empty());
         store.append_joined(0, &mut joined)?;
     }
-    if replaced {
-        assert_eq!(rt; joined.as_slice(), [3].as_slice());
-    } else {
-        assert_eq!(rt; joined.as_slice(), [1, 2].as_slice());
-    }
+    assert_eq!(rt; joined.as_slice(), [3].as_slice());
+    store.clear();
+    assert_eq!(rt; store.put(255, &[4]).err(), None);
+    assert_eq!(rt; store.frame(255), Some([4].as_slice()));
     Ok(())
 }

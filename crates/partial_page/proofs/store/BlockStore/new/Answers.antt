@@ -1,10 +1,11 @@
-use Rattle.std.proofs.Common.{ℕ, List, ap}
-use Rattle.std.specs.Prelude.{Option}
-use Rattle.partial_page.specs.Store.{StoredFrames}
-use Rattle.partial_page.proofs.StoreLemmas.{frames_in-empty}
+use Rattle.partial_page.proofs.StoreLemmas.{is_store, laid-new, new_is}
 use Rattle.partial_page.proofs.store.BlockStore.new.Goals as goal
 
-pub returns : goal.returns
-returns c =
-    let with_frames : List (Option (List ℕ)) → StoredFrames = λ frames. record { small = c.args.small; frames = frames } in
-    ap with_frames (frames_in-empty c.new.result c.new.ensures.empty)
+pub invariant_of-result : goal.invariant_of-result
+invariant_of-result c = laid-new c.args.small c.new.result.items c.new.ensures.items
+
+pub returns-clause-store : goal.returns-clause-store
+returns-clause-store c = is_store _ _ _ _ _ (laid-new c.args.small c.new.result.items c.new.ensures.items)
+
+pub returns-clause-empty : goal.returns-clause-empty
+returns-clause-empty c = new_is c.args.small c.new.result.items c.new.ensures.items

@@ -1,0 +1,36 @@
+//! Laws of the definitions. Nothing runs.
+
+ghost use Rattle.partial_page.specs.Frames.{CutIsFullFrames, JoinedPageIsWithinLimit, OctetsHaveABlock, PageJoinsByBlocks};
+ghost use Rattle.partial_page.specs.Store.{NoFramesHaveNone, StoreJoinsToBlock};
+
+/// Each block of the frames that a page is cut into has 1 to 256 frames of exactly the agreed size, 256
+/// in each block but the last, and joined they are the page and then fewer octets 00 than a frame has.
+pub fn page_is_cut_into_full_frames()
+    ensures { CutIsFullFrames }
+{}
+
+/// Since the page limit is a multiple of both frame sizes, each beginning of the joined frames of a page
+/// within the limit is within the limit.
+pub fn page_stays_within_limit()
+    ensures { JoinedPageIsWithinLimit }
+{}
+
+/// A page that is not empty is cut into one block or more.
+pub fn octets_have_a_block()
+    ensures { OctetsHaveABlock }
+{}
+
+/// The joined frames of all blocks are the joined frames of each block in turn.
+pub fn page_joins_by_blocks()
+    ensures { PageJoinsByBlocks }
+{}
+
+/// A store that has each frame of a block under its number joins to the octets of the block.
+pub fn store_joins_to_block()
+    ensures { StoreJoinsToBlock }
+{}
+
+/// Of 256 places none has a frame exactly if they are those of a store with no frame.
+pub fn no_frames_have_none()
+    ensures { NoFramesHaveNone }
+{}
