@@ -23,3 +23,4 @@ pub mod T6Writes
 pub mod T6Steps
 pub mod T6Gives
 pub mod CodingLaws
+pub mod CodingPacked

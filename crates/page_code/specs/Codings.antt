@@ -38,16 +38,19 @@ IsLongestIn T6 width bits place kind = IsLongestT6 width bits place kind
 
 -- a page is read exactly where the bits read as it
 abbrev pub ReadsExactly : Type 0
-ReadsExactly = (coding : Coding) (width : ℕ) (bits : List Bool) (rows : List (List Color)) (used : ℕ) → IsWidth width → (read_rows coding width bits ≡ Ok (rows, used)) ↔ ReadsIn coding width bits rows used
+ReadsExactly = (coding : Coding) (width : ℕ) (bits : List Bool) (rows : List (List Color)) (used : ℕ) → IsWidth width
+    → (read_rows coding width bits ≡ Ok (rows, used)) ↔ ReadsIn coding width bits rows used
 
 -- bits that are refused read as no page
 abbrev pub RefusesNoPage : Type 0
 RefusesNoPage =
-    (coding : Coding) (width : ℕ) (bits : List Bool) (place : ℕ) (kind : CodeFaultKind) (rows : List (List Color)) (used : ℕ) → IsWidth width → read_rows coding width bits ≡ Err (place, kind) → ¬ ReadsIn coding width bits rows used
+    (coding : Coding) (width : ℕ) (bits : List Bool) (place : ℕ) (kind : CodeFaultKind) (rows : List (List Color)) (used : ℕ)
+    → IsWidth width → read_rows coding width bits ≡ Err (place, kind) → ¬ ReadsIn coding width bits rows used
 
 -- the place of a refusal is the length of the longest front, and its kind is what is seen behind it
 abbrev pub RefusesAtLongest : Type 0
-RefusesAtLongest = (coding : Coding) (width : ℕ) (bits : List Bool) (place : ℕ) (kind : CodeFaultKind) → read_rows coding width bits ≡ Err (place, kind) → IsLongestIn coding width bits place kind
+RefusesAtLongest = (coding : Coding) (width : ℕ) (bits : List Bool) (place : ℕ) (kind : CodeFaultKind)
+    → read_rows coding width bits ≡ Err (place, kind) → IsLongestIn coding width bits place kind
 
 -- the code of a page, followed by any bits, reads as the page with the code's length
 abbrev pub ReadsCode : Type 0
@@ -56,5 +59,6 @@ ReadsCode = (coding : Coding) → ReadsItsCode (code_of coding) (ReadsIn coding)
 -- and reading it gives the page and the code's length
 abbrev pub GivesCodedRows : Type 0
 GivesCodedRows =
-    (coding : Coding) (width : ℕ) (rows : List (List Color)) (rest : List Bool) → IsWidth width → 0 < length rows → length rows ≤ 20000 → All (λ row. length row ≡ width) rows →
-    read_rows coding width (code_of coding width rows ++ rest) ≡ Ok (rows, length (code_of coding width rows))
+    (coding : Coding) (width : ℕ) (rows : List (List Color)) (rest : List Bool) → IsWidth width
+    → 0 < length rows → length rows ≤ 20000 → All (λ row. length row ≡ width) rows
+    → read_rows coding width (code_of coding width rows ++ rest) ≡ Ok (rows, length (code_of coding width rows))

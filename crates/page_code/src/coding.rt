@@ -4,7 +4,7 @@ ghost use Rattle.raster.specs.Pixels.{IsWidth};
 ghost use Rattle.raster.specs.declared.row.Color.{Color};
 ghost use Rattle.run_tables.specs.declared.fault.CodeFaultKind.{CodeFaultKind as Kind};
 ghost use Rattle.run_tables.specs.declared.fault.CodeFaultKind.TheVariants.{NoMemory};
-ghost use Rattle.std.specs.Prelude.{◌≡◌, ◌≢◌, ◌<◌, ℕ, List, Bool, Result, length, IfOk, IfErr, OnOk, OnErr};
+ghost use Rattle.std.specs.Prelude.{◌≡◌, ◌≢◌, ◌<◌, ◌++◌, ℕ, List, Bool, Result, length, IfOk, IfErr, OnOk, OnErr};
 
 use crate::one_dim::OneDim;
 use crate::t6::T6;
@@ -24,6 +24,7 @@ pub enum Coding {
 
 impl Coding {
     ghost use Rattle.page_code.specs.Codings.{IsLongestIn, ReadsIn, code_of, read_rows};
+    ghost use Rattle.raster.specs.Octets.{packed};
 
     /// Appends the page's code, its last octet filled with 0 bits. Errs where memory is refused, which
     /// changes nothing.
@@ -37,6 +38,7 @@ impl Coding {
     ) -> Result<(), AllocError>
         requires { 0 < length page.now.rows }
         ensures ok { OnOk result (AppendsCode order (code_of self page.now.width page.now.rows) out.old.items out.new.items) }
+        ensures octets { OnOk result (order ≡ Order.LsbFirst → out.new.items ≡ out.old.items ++ packed (code_of self page.now.width page.now.rows)) }
         ensures err { OnErr result (out.new.items ≡ out.old.items) }
     {
         match self {
