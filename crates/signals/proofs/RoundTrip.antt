@@ -5,9 +5,10 @@ use Rattle.std.proofs.lemmas.List.{take_all}
 use Rattle.std.specs.Int.{bit_at}
 use Rattle.page_code.specs.declared.coding.Coding.{Coding}
 use Rattle.page_code.specs.declared.coding.Coding.TheVariants.{OneDim, T6}
-use Rattle.signals.specs.Reading.{field_bit, late_bit, control_of, modems_of, speed_of, widest_of, width_of, page_end_of, caps_of, params_at, params_of, read_fields, read_content}
+use Rattle.signals.specs.Controls.{control_of}
+use Rattle.signals.specs.Reading.{field_bit, late_bit, modems_of, speed_of, widest_of, width_of, page_end_of, caps_of, params_at, params_of, read_fields, read_content}
 use Rattle.signals.specs.Signals.{PlainSignal, dis, dcs, cfr, ftt, fcd, rcp, pps, ppr, mcf, rnr, rr, dcn, other}
-use Rattle.signals.specs.Writing.{IsWritable, WrittenFitsAFrame, x_of, written_or, modems_octet, speed_octet, width_octet, coding_octet, dis_fields, dcs_fields, control_octet, fields_of, head_of, content_of}
+use Rattle.signals.specs.Writing.{IsWritable, WrittenFitsAFrame, written_or, modems_octet, speed_octet, width_octet, coding_octet, dis_fields, dcs_fields, control_octet, fields_of, head_of, content_of}
 use Rattle.signals.specs.declared.params.Caps.{Caps}
 use Rattle.signals.specs.declared.params.Modems.{Modems}
 use Rattle.signals.specs.declared.params.Modems.TheVariants.{Fallback, V27, V29, V27V29, V17}
@@ -154,7 +155,7 @@ head-read true octet fields =
 head-read false octet fields =
     rw (le-ltb (length (0xFF ∷ 0x03 ∷ octet ∷ fields)) 1 (omega arith), le-ltb (length (0xFF ∷ 0x03 ∷ octet ∷ fields)) 2 (omega arith), le-ltb (length (0xFF ∷ 0x03 ∷ octet ∷ fields)) 3 (omega arith)) refl
 
-pub fields-read : (signal : PlainSignal) (side : Side) → IsWritable signal → read_fields (control_octet signal (x_of side)) (fields_of signal) ≡ Ok signal
+pub fields-read : (signal : PlainSignal) (side : Side) → IsWritable signal → read_fields (control_octet signal side) (fields_of signal) ≡ Ok signal
 unfolding read_fields control_of page_end_of dis_fields dcs_fields
 fields-read (dis caps) side w = ap (λ c. Ok (dis c)) (caps-read caps)
 fields-read (dcs params) Caller w = rw (params-read params) refl
@@ -187,7 +188,7 @@ fields-read (other octet) side w = absurd w
 
 pub reads-written : (signal : PlainSignal) (side : Side) (last : Bool) → IsWritable signal → read_content (content_of signal side last) ≡ Ok signal
 unfolding content_of
-reads-written signal side last writable = head-read last (control_octet signal (x_of side)) (fields_of signal) ∙ fields-read signal side writable
+reads-written signal side last writable = head-read last (control_octet signal side) (fields_of signal) ∙ fields-read signal side writable
 
 -- so many octets at most stand behind the control field
 fields-fit : (signal : PlainSignal) → IsWritable signal → length (fields_of signal) ≤ 297

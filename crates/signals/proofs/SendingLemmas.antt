@@ -13,13 +13,13 @@ use Rattle.signals.specs.Reading.{page_end_of}
 use Rattle.signals.specs.Saying.{control_text, has_text}
 use Rattle.signals.specs.Sending.{text_bits, digits, is_caller, dis_table, dcs_table, table_bits, page_end_text, control_for, field_bits, sent_bits, WritesTheTables, PageEndsHaveTexts}
 use Rattle.signals.specs.Signals.{PlainSignal, dis, dcs, cfr, ftt, fcd, rcp, pps, ppr, mcf, rnr, rr, dcn, other}
-use Rattle.signals.specs.Writing.{x_of, dis_fields, dcs_fields, control_octet, fields_of, head_of, content_of}
+use Rattle.signals.specs.Writing.{dis_fields, dcs_fields, control_octet, fields_of, head_of, content_of}
 use Rattle.signals.specs.declared.params.Caps.{Caps}
 use Rattle.signals.specs.declared.params.Modems.{Modems}
 use Rattle.signals.specs.declared.params.PageWidth.{PageWidth}
 use Rattle.signals.specs.declared.params.Params.{Params}
 use Rattle.signals.specs.declared.params.Speed.{Speed}
-use Rattle.signals.specs.declared.reading.Control.{Control}
+use Rattle.signals.specs.declared.control.Control.{Control}
 use Rattle.signals.specs.declared.signal.PageEnd.{PageEnd}
 use Rattle.signals.specs.declared.signal.PageEnd.TheVariants.{Null, Mps, Eom, Eop}
 use Rattle.signals.specs.declared.signal.Side.{Side}
@@ -93,7 +93,7 @@ pub head-bits : (last x : Bool) (control : Control) (octet : ℕ) (fields : List
 head-bits true x control octet fields bits first rest = ap (λ c. digits (codes "11111111") ++ text_bits true (codes "1100X000") ++ c ++ flat_map octet_bits fields) first ∙ ap (λ b. digits (codes "11111111") ++ text_bits true (codes "1100X000") ++ text_bits x (control_text control) ++ b) rest
 head-bits false x control octet fields bits first rest = ap (λ c. digits (codes "11111111") ++ text_bits false (codes "1100X000") ++ c ++ flat_map octet_bits fields) first ∙ ap (λ b. digits (codes "11111111") ++ text_bits false (codes "1100X000") ++ text_bits x (control_text control) ++ b) rest
 
-pub control-bits : (signal : PlainSignal) (side : Side) → IfSome (control_for signal) (λ control. flat_map octet_bits (control_octet signal (x_of side) ∷ []) ≡ text_bits (is_caller side) (control_text control))
+pub control-bits : (signal : PlainSignal) (side : Side) → IfSome (control_for signal) (λ control. flat_map octet_bits (control_octet signal side ∷ []) ≡ text_bits (is_caller side) (control_text control))
 control-bits (dis caps) side = refl
 control-bits (dcs params) Caller = refl
 control-bits (dcs params) Answerer = refl
@@ -139,9 +139,9 @@ pub writes-tables : WritesTheTables
 unfolding content_of
 writes-tables signal side last = sent (control_for signal) (control-bits signal side)
   where
-    sent : (found : Option Control) → IfSome found (λ control. flat_map octet_bits (control_octet signal (x_of side) ∷ []) ≡ text_bits (is_caller side) (control_text control)) →
+    sent : (found : Option Control) → IfSome found (λ control. flat_map octet_bits (control_octet signal side ∷ []) ≡ text_bits (is_caller side) (control_text control)) →
         IfSome found (λ control. bits_of LsbFirst (content_of signal side last) ≡ sent_bits control signal side last)
-    sent (Some control) first = bits_of-flat_map (content_of signal side last) ∙ head-bits last (is_caller side) control (control_octet signal (x_of side)) (fields_of signal) (field_bits signal) first (fields-bits signal)
+    sent (Some control) first = bits_of-flat_map (content_of signal side last) ∙ head-bits last (is_caller side) control (control_octet signal side) (fields_of signal) (field_bits signal) first (fields-bits signal)
     sent None first = tt
 
 abbrev pub place_of_end : PageEnd → ℕ

@@ -2,10 +2,10 @@
 use Rattle.std.proofs.Common.{◌≡◌, ℕ, ◌<◌, [], ◌∷◌, get_or, refl, sym, ◌∙◌}
 use Rattle.std.proofs.lemmas.Bool.{agree_below_at}
 use Rattle.signals.proofs.Places.{is_found, found, is-found}
-use Rattle.signals.specs.Reading.{control_of}
+use Rattle.signals.specs.Controls.{control_of}
 use Rattle.signals.specs.Saying.{control_text, has_text, ControlsHaveTexts}
-use Rattle.signals.specs.declared.reading.Control.{Control}
-use Rattle.signals.specs.declared.reading.Control.TheVariants.{Dis, Dcs, Cfr, Ftt, Fcd, Rcp, Pps, Ppr, Mcf, Rnr, Rr, Dcn}
+use Rattle.signals.specs.declared.control.Control.{Control}
+use Rattle.signals.specs.declared.control.Control.TheVariants.{Dis, Dcs, Cfr, Ftt, Fcd, Rcp, Pps, Ppr, Mcf, Rnr, Rr, Dcn}
 
 abbrev pub place_of_control : Control → ℕ
 place_of_control Dis = 0

@@ -2,6 +2,7 @@ pub mod Agreement
 pub mod Training
 pub mod Faults
 pub mod Signals
+pub mod Controls
 pub mod Reading
 pub mod Writing
 pub mod Saying

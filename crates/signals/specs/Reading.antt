@@ -2,6 +2,7 @@
 use Rattle.std.specs.Prelude.{ℕ, ◌+◌, ◌-◌, ◌/◌, ◌%◌, Bool, true, false, not, cond, ◌&&◌, ◌||◌, List, Option, Some, None, Result, Ok, Err, nat_eq, nat_lt, length, drop, take, slice_index}
 use Rattle.std.specs.Int.{bit_at}
 use Rattle.page_code.specs.declared.coding.Coding.TheVariants.{OneDim, T6}
+use Rattle.signals.specs.Controls.{control_of}
 use Rattle.signals.specs.Signals.{PlainSignal, dis, dcs, cfr, ftt, fcd, rcp, pps, ppr, mcf, rnr, rr, dcn, other}
 use Rattle.signals.specs.declared.fault.SignalFault.{SignalFault}
 use Rattle.signals.specs.declared.fault.SignalFault.TheVariants.{BadAddress, BadControl, ShortField}
@@ -13,30 +14,14 @@ use Rattle.signals.specs.declared.params.PageWidth.TheVariants.{W1728, W2048, W2
 use Rattle.signals.specs.declared.params.Params.{Params}
 use Rattle.signals.specs.declared.params.Speed.{Speed}
 use Rattle.signals.specs.declared.params.Speed.TheVariants.{V27At2400, V27At4800, V29At7200, V29At9600, V17At7200, V17At9600, V17At12000, V17At14400}
-use Rattle.signals.specs.declared.reading.Control.{Control}
-use Rattle.signals.specs.declared.reading.Control.TheVariants.{Dis, Dcs, Cfr, Ftt, Fcd, Rcp, Pps, Ppr, Mcf, Rnr, Rr, Dcn}
+use Rattle.signals.specs.declared.control.Control.{Control}
+use Rattle.signals.specs.declared.control.Control.TheVariants.{Dis, Dcs, Cfr, Ftt, Fcd, Rcp, Pps, Ppr, Mcf, Rnr, Rr, Dcn}
 use Rattle.signals.specs.declared.signal.PageEnd.{PageEnd}
 use Rattle.signals.specs.declared.signal.PageEnd.TheVariants.{Null, Mps, Eom, Eop}
 
 -- an octet is one with the first bit, X, of either station: the even one or the odd one above it
 abbrev pub with_x : ℕ → ℕ → Bool
 with_x even octet = nat_eq octet even || nat_eq octet (even + 1)
-
--- the facsimile control fields, X free where the text has an X
-unfoldable pub control_of : ℕ → Option Control
-control_of octet =
-    cond (nat_eq octet 0x80) (Some Dis)
-    (cond (with_x 0x82 octet) (Some Dcs)
-    (cond (with_x 0x84 octet) (Some Cfr)
-    (cond (with_x 0x44 octet) (Some Ftt)
-    (cond (nat_eq octet 0x06) (Some Fcd)
-    (cond (nat_eq octet 0x86) (Some Rcp)
-    (cond (with_x 0xBE octet) (Some Pps)
-    (cond (with_x 0xBC octet) (Some Ppr)
-    (cond (with_x 0x8C octet) (Some Mcf)
-    (cond (with_x 0xEC octet) (Some Rnr)
-    (cond (with_x 0x6E octet) (Some Rr)
-    (cond (with_x 0xFA octet) (Some Dcn) None)))))))))))
 
 -- a bit of the fields, numbered from 1 in order of sending, the least significant of an octet first; 0 past them
 abbrev pub field_bit : List ℕ → ℕ → Bool

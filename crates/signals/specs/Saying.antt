@@ -1,9 +1,10 @@
 -- What contents say, as a relation.
 use Rattle.std.specs.Prelude.{ℕ, ◌≡◌, ◌≤◌, ◌<◌, ◌+◌, ◌/◌, ◌%◌, ◌⊎◌, ◌↔◌, Bool, true, ◌&&◌, ◌||◌, List, [], ◌∷◌, Option, Some, None, Ok, length, drop, take, slice_index, nat_eq, codes}
-use Rattle.signals.specs.Reading.{control_of, page_end_of, caps_of, params_of, read_content}
+use Rattle.signals.specs.Controls.{control_of}
+use Rattle.signals.specs.Reading.{page_end_of, caps_of, params_of, read_content}
 use Rattle.signals.specs.Signals.{PlainSignal, dis, dcs, cfr, ftt, fcd, rcp, pps, ppr, mcf, rnr, rr, dcn, other}
-use Rattle.signals.specs.declared.reading.Control.{Control}
-use Rattle.signals.specs.declared.reading.Control.TheVariants.{Dis, Dcs, Cfr, Ftt, Fcd, Rcp, Pps, Ppr, Mcf, Rnr, Rr, Dcn}
+use Rattle.signals.specs.declared.control.Control.{Control}
+use Rattle.signals.specs.declared.control.Control.TheVariants.{Dis, Dcs, Cfr, Ftt, Fcd, Rcp, Pps, Ppr, Mcf, Rnr, Rr, Dcn}
 
 -- the texts of the facsimile control fields in order of sending, X for the first bit of either station
 abbrev pub control_text : Control → List ℕ

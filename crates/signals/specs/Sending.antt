@@ -17,8 +17,8 @@ use Rattle.signals.specs.declared.params.PageWidth.TheVariants.{W1728, W2048, W2
 use Rattle.signals.specs.declared.params.Params.{Params}
 use Rattle.signals.specs.declared.params.Speed.{Speed}
 use Rattle.signals.specs.declared.params.Speed.TheVariants.{V27At2400, V27At4800, V29At7200, V29At9600, V17At7200, V17At9600, V17At12000, V17At14400}
-use Rattle.signals.specs.declared.reading.Control.{Control}
-use Rattle.signals.specs.declared.reading.Control.TheVariants.{Dis, Dcs, Cfr, Ftt, Fcd, Rcp, Pps, Ppr, Mcf, Rnr, Rr, Dcn}
+use Rattle.signals.specs.declared.control.Control.{Control}
+use Rattle.signals.specs.declared.control.Control.TheVariants.{Dis, Dcs, Cfr, Ftt, Fcd, Rcp, Pps, Ppr, Mcf, Rnr, Rr, Dcn}
 use Rattle.signals.specs.declared.signal.PageEnd.{PageEnd}
 use Rattle.signals.specs.declared.signal.PageEnd.TheVariants.{Null, Mps, Eom, Eop}
 use Rattle.signals.specs.declared.signal.Side.{Side}

@@ -2,8 +2,10 @@
 use Rattle.std.specs.Prelude.{ℕ, ◌≡◌, ◌≤◌, ◌+◌, Bool, cond, List, [], ◌∷◌, ◌++◌, Ok, length}
 use Rattle.page_code.specs.declared.coding.Coding.{Coding}
 use Rattle.page_code.specs.declared.coding.Coding.TheVariants.{OneDim, T6}
+use Rattle.signals.specs.Controls.{octet_of}
 use Rattle.signals.specs.Reading.{read_content}
 use Rattle.signals.specs.Signals.{PlainSignal, dis, dcs, cfr, ftt, fcd, rcp, pps, ppr, mcf, rnr, rr, dcn, other}
+use Rattle.signals.specs.declared.control.Control.TheVariants.{Dis, Dcs, Cfr, Ftt, Fcd, Rcp, Pps, Ppr, Mcf, Rnr, Rr, Dcn}
 use Rattle.signals.specs.declared.params.Caps.{Caps}
 use Rattle.signals.specs.declared.params.Modems.{Modems}
 use Rattle.signals.specs.declared.params.Modems.TheVariants.{Fallback, V27, V29, V27V29, V17}
@@ -15,12 +17,6 @@ use Rattle.signals.specs.declared.params.Speed.TheVariants.{V27At2400, V27At4800
 use Rattle.signals.specs.declared.signal.PageEnd.{PageEnd}
 use Rattle.signals.specs.declared.signal.PageEnd.TheVariants.{Null, Mps, Eom, Eop}
 use Rattle.signals.specs.declared.signal.Side.{Side}
-use Rattle.signals.specs.declared.signal.Side.TheVariants.{Caller, Answerer}
-
--- the first bit X of the station that sends
-abbrev pub x_of : Side → ℕ
-x_of Caller = 1
-x_of Answerer = 0
 
 -- a bit in its place
 abbrev pub written_or : Bool → ℕ → ℕ
@@ -73,21 +69,21 @@ unfoldable pub dcs_fields : Params → List ℕ
 dcs_fields params =
     0 ∷ (0x02 + speed_octet params.speed + written_or params.fine 0x40) ∷ width_octet params.width ∷ (0x04 + written_or params.small 0x08 + coding_octet params.coding) ∷ []
 
--- the facsimile control field of a signal, with the first bit X of the station where the text has an X
-abbrev pub control_octet : PlainSignal → ℕ → ℕ
-control_octet (dis _) x = 0x80
-control_octet (dcs _) x = 0x82 + x
-control_octet cfr x = 0x84 + x
-control_octet ftt x = 0x44 + x
-control_octet (fcd _ _) x = 0x06
-control_octet rcp x = 0x86
-control_octet (pps _ _ _ _) x = 0xBE + x
-control_octet (ppr _) x = 0xBC + x
-control_octet mcf x = 0x8C + x
-control_octet rnr x = 0xEC + x
-control_octet rr x = 0x6E + x
-control_octet dcn x = 0xFA + x
-control_octet (other octet) x = octet
+-- the octet of a signal's facsimile control field, of the station that sends
+abbrev pub control_octet : PlainSignal → Side → ℕ
+control_octet (dis _) side = octet_of Dis side
+control_octet (dcs _) side = octet_of Dcs side
+control_octet cfr side = octet_of Cfr side
+control_octet ftt side = octet_of Ftt side
+control_octet (fcd _ _) side = octet_of Fcd side
+control_octet rcp side = octet_of Rcp side
+control_octet (pps _ _ _ _) side = octet_of Pps side
+control_octet (ppr _) side = octet_of Ppr side
+control_octet mcf side = octet_of Mcf side
+control_octet rnr side = octet_of Rnr side
+control_octet rr side = octet_of Rr side
+control_octet dcn side = octet_of Dcn side
+control_octet (other octet) side = octet
 
 -- the fields behind the facsimile control field of a signal
 abbrev pub fields_of : PlainSignal → List ℕ
@@ -104,7 +100,7 @@ head_of last control = 0xFF ∷ cond last 0x13 0x03 ∷ control ∷ []
 
 -- the content of the frame that says a signal, from a side, in the last frame of a transmission or not
 unfoldable pub content_of : PlainSignal → Side → Bool → List ℕ
-content_of signal side last = head_of last (control_octet signal (x_of side)) ++ fields_of signal
+content_of signal side last = head_of last (control_octet signal side) ++ fields_of signal
 
 -- a signal that can be written: FCD with 1 to 256 octets of data, PPR with 32 octets, no other signal
 abbrev pub IsWritable : PlainSignal → Type 0

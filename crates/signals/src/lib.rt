@@ -5,6 +5,7 @@
 mod agreement;
 #[cfg(test)]
 mod agreement_tests;
+mod control;
 mod fault;
 pub mod laws;
 mod params;

@@ -1,50 +1,12 @@
-ghost use Rattle.signals.specs.Reading.{field_bit, late_bit, control_of, modems_of, speed_of, widest_of, width_of, page_end_of, caps_of, params_of, read_dcs, read_fcd, read_pps, read_ppr, read_dis, read_fields, read_content};
+ghost use Rattle.signals.specs.Reading.{field_bit, late_bit, modems_of, speed_of, widest_of, width_of, page_end_of, caps_of, params_of, read_dcs, read_fcd, read_pps, read_ppr, read_dis, read_fields, read_content};
 ghost use Rattle.signals.specs.Signals.{plain_read};
 ghost use Rattle.std.specs.Prelude.{◌≡◌, ◌≤◌, length};
 
+use crate::control::Control;
 use crate::fault::SignalFault;
 use crate::params::{Caps, Modems, PageWidth, Params, Speed};
 use crate::signal::{PageEnd, Signal};
 use page_code::Coding;
-
-/// The facsimile control fields that are read.
-#[derive(Clone, Copy)]
-pub(crate) enum Control {
-    Dis,
-    Dcs,
-    Cfr,
-    Ftt,
-    Fcd,
-    Rcp,
-    Pps,
-    Ppr,
-    Mcf,
-    Rnr,
-    Rr,
-    Dcn,
-}
-
-/// What a facsimile control field says, its X of either station.
-#[tactic(auto, unfolding(crate::specs::Reading::control_of))]
-fn known(octet: u8) -> Option<Control>
-    ensures { result ≡ control_of octet }
-{
-    match octet {
-        0x80 => Some(Control::Dis),
-        0x82 | 0x83 => Some(Control::Dcs),
-        0x84 | 0x85 => Some(Control::Cfr),
-        0x44 | 0x45 => Some(Control::Ftt),
-        0x06 => Some(Control::Fcd),
-        0x86 => Some(Control::Rcp),
-        0xBE | 0xBF => Some(Control::Pps),
-        0xBC | 0xBD => Some(Control::Ppr),
-        0x8C | 0x8D => Some(Control::Mcf),
-        0xEC | 0xED => Some(Control::Rnr),
-        0x6E | 0x6F => Some(Control::Rr),
-        0xFA | 0xFB => Some(Control::Dcn),
-        _ => None,
-    }
-}
 
 /// A bit of the fields behind the facsimile control field, numbered from 1 in order of sending; 0 past
 /// them.
@@ -227,7 +189,7 @@ fn ppr(fields: &[u8]) -> Result<Signal<'_>, SignalFault>
 fn signal(octet: u8, fields: &[u8]) -> Result<Signal<'_>, SignalFault>
     ensures { plain_read result ≡ read_fields octet fields.now }
 {
-    let Some(control) = known(octet) else {
+    let Some(control) = Control::of_octet(octet) else {
         return Ok(Signal::Other(octet));
     };
     match control {

@@ -1,24 +1,13 @@
 ghost use Rattle.signals.specs.Reading.{read_content};
 ghost use Rattle.signals.specs.Signals.{plain};
-ghost use Rattle.signals.specs.Writing.{IsWritable, content_of, head_of, x_of, modems_octet, speed_octet, width_octet, coding_octet, dis_fields, dcs_fields, page_end_octet, written_or};
+ghost use Rattle.signals.specs.Writing.{IsWritable, content_of, head_of, modems_octet, speed_octet, width_octet, coding_octet, dis_fields, dcs_fields, page_end_octet, written_or};
 ghost use Rattle.std.specs.Prelude.{◌≡◌, ◌≤◌, ◌<◌, ◌+◌, ◌++◌, Ok, length};
 
+use crate::control::Control;
 use crate::params::{Caps, Modems, PageWidth, Params, Speed};
 use crate::signal::{PageEnd, Side, Signal};
 use arrayvec::ArrayVec;
 use page_code::Coding;
-
-impl Side {
-    /// The first bit X of a facsimile control field that this station sends.
-    fn x(self) -> u8
-        ensures { result ≡ x_of self }
-    {
-        match self {
-            Side::Caller => 1,
-            Side::Answerer => 0,
-        }
-    }
-}
 
 /// A bit in its place.
 fn placed(bit: bool, value: u8) -> u8
@@ -142,18 +131,17 @@ fn content_from(signal: &Signal, side: Side, last: bool) -> ArrayVec<u8, 300>
     requires { IsWritable (plain signal.now) }
     ensures { result.items ≡ content_of (plain signal.now) side last }
 {
-    let x = side.x();
     match signal {
-        Signal::Dis(caps) => content(last, 0x80, &dis(caps)),
-        Signal::Dcs(params) => content(last, 0x82 + x, &dcs(params)),
-        Signal::Cfr => content(last, 0x84 + x, &[]),
-        Signal::Ftt => content(last, 0x44 + x, &[]),
+        Signal::Dis(caps) => content(last, Control::Dis.octet(side), &dis(caps)),
+        Signal::Dcs(params) => content(last, Control::Dcs.octet(side), &dcs(params)),
+        Signal::Cfr => content(last, Control::Cfr.octet(side), &[]),
+        Signal::Ftt => content(last, Control::Ftt.octet(side), &[]),
         Signal::Fcd { number, octets } => {
-            let mut content = content(last, 0x06, &[*number]);
+            let mut content = content(last, Control::Fcd.octet(side), &[*number]);
             append(&mut content, octets);
             content
         }
-        Signal::Rcp => content(last, 0x86, &[]),
+        Signal::Rcp => content(last, Control::Rcp.octet(side), &[]),
         Signal::Pps {
             ends,
             page,
@@ -161,14 +149,14 @@ fn content_from(signal: &Signal, side: Side, last: bool) -> ArrayVec<u8, 300>
             last: last_frame,
         } => content(
             last,
-            0xBE + x,
+            Control::Pps.octet(side),
             &[page_end(*ends), *page, *block, *last_frame],
         ),
-        Signal::Ppr(map) => content(last, 0xBC + x, map),
-        Signal::Mcf => content(last, 0x8C + x, &[]),
-        Signal::Rnr => content(last, 0xEC + x, &[]),
-        Signal::Rr => content(last, 0x6E + x, &[]),
-        Signal::Dcn => content(last, 0xFA + x, &[]),
+        Signal::Ppr(map) => content(last, Control::Ppr.octet(side), map),
+        Signal::Mcf => content(last, Control::Mcf.octet(side), &[]),
+        Signal::Rnr => content(last, Control::Rnr.octet(side), &[]),
+        Signal::Rr => content(last, Control::Rr.octet(side), &[]),
+        Signal::Dcn => content(last, Control::Dcn.octet(side), &[]),
         Signal::Other(octet) => content(last, *octet, &[]),
     }
 }
