@@ -101,18 +101,21 @@ agreed-allowed caps wish width fine = decided (takes_pages caps width fine) (fir
 pub agreed-fits : AgreedFits
 agreed-fits caps wish width fine = decided (takes_pages caps width fine) (first_of (tried_speeds wish.modems caps.modems))
   where
-    decided : (takes : Bool) (first : Option Speed) → IfOk (cond takes (at_first first caps wish width fine) (Err (record {}))) (λ params. (params.width ≡ width) × (params.fine ≡ fine))
+    decided : (takes : Bool) (first : Option Speed) →
+        IfOk (cond takes (at_first first caps wish width fine) (Err (record {}))) (λ params. (params.width ≡ width) × (params.fine ≡ fine))
     decided true None = tt
     decided true (Some speed) = (refl, refl)
     decided false first = tt
 
-pub after-passes : (p : Speed → Bool) (from : Speed) (xs : List Speed) (speed : Speed) → first_of (after_speed from (filter p xs)) ≡ Some speed → p speed ≡ true
+pub after-passes : (p : Speed → Bool) (from : Speed) (xs : List Speed) (speed : Speed) →
+    first_of (after_speed from (filter p xs)) ≡ Some speed → p speed ≡ true
 after-passes p from [] speed first = cc
 after-passes p from (x ∷ xs) speed first =
     elim (cases_Bool (p x)) [
       | inr left ↦ after-passes p from xs speed (rw left at first)
       | inl kept ↦
-          let behind : first_of (cond (nat_eq (place_of_speed x) (place_of_speed from)) (filter p xs) (after_speed from (filter p xs))) ≡ Some speed = rw kept at first in
+          let behind : first_of (cond (nat_eq (place_of_speed x) (place_of_speed from)) (filter p xs) (after_speed from (filter p xs))) ≡ Some speed =
+          rw kept at first in
           elim (cases_Bool (nat_eq (place_of_speed x) (place_of_speed from))) [
             | inl same ↦ first-passes p xs speed (rw same at behind)
             | inr other ↦ after-passes p from xs speed (rw other at behind)
@@ -124,9 +127,12 @@ unfolding lower_speed
 lowered-allowed caps wish params next allows lowered =
     let common = and_parts (supports_speed wish.modems next) (supports_speed caps.modems next)
     (after-passes (common_speed wish.modems caps.modems) params.speed (speed_order wish.modems caps.modems) next lowered) in
-    let parts = and_parts ((supports_speed caps.modems params.speed && nat_le (pixels_of params.width) (pixels_of caps.widest)) && (not params.fine || caps.fine)) (offers_coding caps params.coding) allows in
-    let lines = and_parts (supports_speed caps.modems params.speed && nat_le (pixels_of params.width) (pixels_of caps.widest)) (not params.fine || caps.fine) parts.0 in
-    let widths = and_parts (supports_speed caps.modems params.speed) (nat_le (pixels_of params.width) (pixels_of caps.widest)) lines.0 in
+    let has_speed = supports_speed caps.modems params.speed in
+    let is_narrow = nat_le (pixels_of params.width) (pixels_of caps.widest) in
+    let has_lines = not params.fine || caps.fine in
+    let parts = and_parts ((has_speed && is_narrow) && has_lines) (offers_coding caps params.coding) allows in
+    let lines = and_parts (has_speed && is_narrow) has_lines parts.0 in
+    let widths = and_parts has_speed is_narrow lines.0 in
     rw (common.1, widths.1, lines.1, parts.1) refl
 
 pub widths-have-pixels : WidthsHavePixels
@@ -137,18 +143,21 @@ widths-have-pixels pixels width = (λ e. pixels-of pixels width e, λ e. subst (
     width-back W2048 = refl
     width-back W2432 = refl
 
+    only : (found width : PageWidth) (pixels : ℕ) → nat_eq pixels (pixels_of found) ≡ true → Some found ≡ Some width → pixels_of width ≡ pixels
+    only found width pixels same e = let is : found ≡ width = cc in ap pixels_of (sym is) ∙ sym (eqb-true pixels (pixels_of found) same)
+
     pixels-of : (pixels : ℕ) (width : PageWidth) → width_of_pixels pixels ≡ Some width → pixels_of width ≡ pixels
     pixels-of pixels width e =
         elim (cases_Bool (nat_eq pixels 1728)) [
-          | inl a ↦ let found : Some W1728 ≡ Some width = rw a at e in let same : W1728 ≡ width = cc in ap pixels_of (sym same) ∙ sym (eqb-true pixels 1728 a)
+          | inl a ↦ only W1728 width pixels a (rw a at e)
           | inr a ↦
               let later : cond (nat_eq pixels 2048) (Some W2048) (cond (nat_eq pixels 2432) (Some W2432) None) ≡ Some width = rw a at e in
               elim (cases_Bool (nat_eq pixels 2048)) [
-                | inl b ↦ let found : Some W2048 ≡ Some width = rw b at later in let same : W2048 ≡ width = cc in ap pixels_of (sym same) ∙ sym (eqb-true pixels 2048 b)
+                | inl b ↦ only W2048 width pixels b (rw b at later)
                 | inr b ↦
                     let last : cond (nat_eq pixels 2432) (Some W2432) None ≡ Some width = rw b at later in
                     elim (cases_Bool (nat_eq pixels 2432)) [
-                      | inl c ↦ let found : Some W2432 ≡ Some width = rw c at last in let same : W2432 ≡ width = cc in ap pixels_of (sym same) ∙ sym (eqb-true pixels 2432 c)
+                      | inl c ↦ only W2432 width pixels c (rw c at last)
                       | inr c ↦ let none : None ≡ Some width = rw c at last in cc
                     ]
               ]

@@ -127,15 +127,20 @@ allowed caps params = supports_speed caps.modems params.speed && nat_le (pixels_
 
 -- what is agreed with any capabilities is allowed by them
 abbrev pub AgreedIsAllowed : Type 0
-AgreedIsAllowed = (caps : Caps) (wish : Wish) (width : PageWidth) (fine : Bool) → IfOk (agreed caps wish width fine) (λ params. allowed caps params ≡ true)
+AgreedIsAllowed =
+    (caps : Caps) (wish : Wish) (width : PageWidth) (fine : Bool) → IfOk (agreed caps wish width fine) (λ params. allowed caps params ≡ true)
 
 -- what is agreed for pages has their width and is fine where they are
 abbrev pub AgreedFits : Type 0
-AgreedFits = (caps : Caps) (wish : Wish) (width : PageWidth) (fine : Bool) → IfOk (agreed caps wish width fine) (λ params. (params.width ≡ width) × (params.fine ≡ fine))
+AgreedFits =
+    (caps : Caps) (wish : Wish) (width : PageWidth) (fine : Bool) →
+    IfOk (agreed caps wish width fine) (λ params. (params.width ≡ width) × (params.fine ≡ fine))
 
 -- parameters that are allowed are allowed at the next lower speed
 abbrev pub LoweredIsAllowed : Type 0
-LoweredIsAllowed = (caps : Caps) (wish : Wish) (params : Params) (next : Speed) → allowed caps params ≡ true → lower_speed caps wish params.speed ≡ Some next →
+LoweredIsAllowed =
+    (caps : Caps) (wish : Wish) (params : Params) (next : Speed) →
+    allowed caps params ≡ true → lower_speed caps wish params.speed ≡ Some next →
     allowed caps (record params { speed = next }) ≡ true
 
 -- how many speeds of the list tried stand below a speed

@@ -19,7 +19,7 @@ use Rattle.signals.specs.declared.control.Control.TheVariants.{Dis, Dcs, Cfr, Ft
 use Rattle.signals.specs.declared.signal.PageEnd.{PageEnd}
 use Rattle.signals.specs.declared.signal.PageEnd.TheVariants.{Null, Mps, Eom, Eop}
 
--- an octet is one with the first bit, X, of either station: the even one or the odd one above it
+-- an octet is an even one or the odd one above it: its first bit, X, is free
 abbrev pub with_x : ℕ → ℕ → Bool
 with_x even octet = nat_eq octet even || nat_eq octet (even + 1)
 
