@@ -1,0 +1,9 @@
+pub mod LayerLaws
+pub mod SignalLaws
+pub mod CallerRows
+pub mod PageReads
+pub mod Progress
+pub mod ItemLaws
+pub mod Spending
+pub mod Limits
+pub mod RunLaws

@@ -1,0 +1,159 @@
+-- What a page is read as, whole stores, and the map of missing frames.
+use Rattle.std.proofs.Common.{◌≡◌, ◌≢◌, ℕ, zero, suc, ◌*◌, ◌≤◌, ◌<◌, ◌↔◌, Bool, true, false, List, [], ◌∷◌, map, length, replicate, Some, None, Result, Ok, Err, refl, ap, sym, subst, cond, ◌∙◌, arith, nat_le, append-nil, inl, inr}
+use Rattle.std.specs.List.{range_with_len, list_all}
+use Rattle.std.proofs.lemmas.Bool.{and_parts, leb-true, le-leb, lt-leb, cases_eq}
+use Rattle.std.proofs.lemmas.List.FromFn.{length-map-range_with_len, get_or-map-range_with_len, fill_by_all}
+use Rattle.raster.specs.Pages.{PagePixels}
+use Rattle.raster.specs.Packed.{bits_of, bits_in, bit_in}
+use Rattle.raster.specs.Pixels.{IsWidth}
+use Rattle.raster.specs.declared.packed.Order.TheVariants.{LsbFirst}
+use Rattle.raster.specs.declared.row.Color.{Color}
+use Rattle.run_tables.specs.declared.fault.CodeFaultKind.{CodeFaultKind}
+use Rattle.partial_page.specs.Store.{IsWhole, IsMissingMap, is_marked, no_frames}
+use Rattle.signals.specs.Agreement.{pixels_of}
+use Rattle.signals.specs.declared.params.PageWidth.{PageWidth}
+use Rattle.signals.specs.declared.params.PageWidth.TheVariants.{W1728, W2048, W2432}
+use Rattle.signals.specs.declared.params.Params.{Params}
+use Rattle.raster.specs.Octets.{AreOctets}
+use Rattle.page_code.specs.Codings.{read_rows, ReadsIn, ReadsExactly}
+use Rattle.stations.specs.Laws.{ReadsByGrammar}
+use Rattle.stations.specs.Layers.{IsPageOf, within_page_limit, page_of, page_read}
+use Rattle.std.specs.Prelude.{IsTrue, not, is_some}
+use Rattle.signals.specs.declared.signal.PageEnd.{PageEnd}
+use Rattle.signals.specs.declared.signal.PageEnd.TheVariants.{Null, Mps, Eom, Eop}
+use Rattle.stations.specs.declared.mark.Mark.{Mark}
+use Rattle.stations.specs.AnswererStep.{Answerer, takes_block, stores, Frames, is_whole, all_there, is_clear, ppr_map}
+use Rattle.raster.proofs.OctetLemmas.{packed_is}
+
+pub width_callable : (width : PageWidth) → IsWidth (pixels_of width)
+width_callable W1728 = (omega arith, omega arith)
+width_callable W2048 = (omega arith, omega arith)
+width_callable W2432 = (omega arith, omega arith)
+
+pub too_long : (params : Params) (octets : List ℕ) → 8388608 < length octets → None ≡ page_read params octets
+unfolding page_read within_page_limit
+too_long params octets long = rw (ltb-leb octets long) refl
+  where
+    ltb-leb : (octets : List ℕ) → 8388608 < length octets → nat_le (length octets) 8388608 ≡ false
+    ltb-leb octets long = lt-leb (length octets) 8388608 long
+
+-- a page whose rows the octets read as
+pub page_is_read :
+    (params : Params) (octets : List ℕ) (page : PagePixels) (used : ℕ) → length octets ≤ 8388608 →
+    page.width ≡ pixels_of params.width → page.fine ≡ params.fine →
+    read_rows params.coding (pixels_of params.width) (bits_of LsbFirst octets) ≡ Ok (page.rows, used) → Some page ≡ page_read params octets
+unfolding page_read within_page_limit
+page_is_read params octets page used few width fine reads =
+    let same : page ≡ record { width = pixels_of params.width; fine = params.fine; rows = page.rows } = rw (← width, ← fine) refl in
+    rw (le-leb (length octets) 8388608 few, reads) (ap Some same)
+
+-- octets that are refused
+pub none_is_read :
+    (params : Params) (octets : List ℕ) (fault : ℕ × CodeFaultKind) → length octets ≤ 8388608 →
+    read_rows params.coding (pixels_of params.width) (bits_of LsbFirst octets) ≡ Err fault → None ≡ page_read params octets
+unfolding page_read within_page_limit
+none_is_read params octets fault few refuses = rw (le-leb (length octets) 8388608 few, refuses) refl
+
+-- the page that octets read as is theirs by the grammar
+page_by_grammar :
+    ReadsExactly → (params : Params) (octets : List ℕ) (page : PagePixels) → page_read params octets ≡ Some page →
+    IsPageOf params octets page
+unfolding page_read within_page_limit
+page_by_grammar exact params octets page h = at (nat_le (length octets) 8388608) refl h
+  where
+    read_so : nat_le (length octets) 8388608 ≡ true → (r : Result (List (List Color) × ℕ) (ℕ × CodeFaultKind)) →
+        read_rows params.coding (pixels_of params.width) (bits_of LsbFirst octets) ≡ r → page_of params r ≡ Some page →
+        IsPageOf params octets page
+    read_so few (Ok (rows, used)) e h =
+        let is : record { width = pixels_of params.width; fine = params.fine; rows = rows } ≡ page = cc in
+        let all : ReadsIn params.coding (pixels_of params.width) (bits_of LsbFirst octets) rows used =
+        (exact params.coding (pixels_of params.width) (bits_of LsbFirst octets) rows used (width_callable params.width)).0 e in
+        record {
+          few = leb-true (length octets) 8388608 few;
+          used = used;
+          reads = record {
+            width_is = ap (λ (p : PagePixels). p.width) (sym is);
+            fine_is = ap (λ (p : PagePixels). p.fine) (sym is);
+            reads = subst (λ (p : PagePixels). ReadsIn params.coding (pixels_of params.width) (bits_of LsbFirst octets) p.rows used) is all;
+          };
+        }
+    read_so few (Err fault) e h = cc
+
+    at : (b : Bool) → nat_le (length octets) 8388608 ≡ b →
+        cond b (page_of params (read_rows params.coding (pixels_of params.width) (bits_of LsbFirst octets))) None ≡ Some page →
+        IsPageOf params octets page
+    at true few h = read_so few (read_rows params.coding (pixels_of params.width) (bits_of LsbFirst octets)) refl h
+    at false few h = cc
+
+pub reads_by_grammar : ReadsExactly → ReadsByGrammar
+reads_by_grammar exact params octets page = (
+  page_by_grammar exact params octets page,
+  λ h. sym (page_is_read params octets page h.used h.few h.reads.width_is h.reads.fine_is
+      ((exact params.coding (pixels_of params.width) (bits_of LsbFirst octets) page.rows h.used
+      (width_callable params.width)).1 h.reads.reads)),
+)
+
+whole_is : (frames : Frames) (last : ℕ) → is_whole frames (suc last) ≡ true → IsWhole frames last
+whole_is frames zero h n within = let is : n ≡ 0 = omega arith in rw is h
+whole_is frames (suc last) h n within =
+    let parts = and_parts (is_whole frames (suc last)) _ h in
+    elim (cases_eq n (suc last)) [ inl e ↦ rw e parts.1 | inr ne ↦ whole_is frames last parts.0 n (omega arith) ]
+
+pub is_whole_so : (frames : Frames) (last : ℕ) → IsWhole frames last → is_whole frames (suc last) ≡ true
+is_whole_so frames zero h = h 0 (omega arith)
+is_whole_so frames (suc last) h = rw (is_whole_so frames last (λ n within. h n (omega arith)), h (suc last) (omega arith)) refl
+
+pub missing_map_is :
+    (frames : Frames) (last : ℕ) (octets : List ℕ) → AreOctets octets → IsMissingMap frames last octets → octets ≡ ppr_map frames last
+unfolding ppr_map bits_in
+missing_map_is frames last octets small is =
+    let size : 8 * length octets ≡ 256 = omega (arith, is.size) in
+    let same : map (λ n. bit_in LsbFirst octets n) (range_with_len 0 256) ≡ map (λ n. is_marked frames last n) (range_with_len 0 256) =
+    fill_by_all (λ n. is_marked frames last n) (map (λ n. bit_in LsbFirst octets n) (range_with_len 0 256)) 256 true
+    (length-map-range_with_len (λ n. bit_in LsbFirst octets n) 0 256)
+    (λ k h. get_or-map-range_with_len (λ n. bit_in LsbFirst octets n) 0 256 k k true h (omega arith) ∙ is.bits k h) in
+    packed_is (map (λ n. is_marked frames last n) (range_with_len 0 256)) octets
+    (record {
+      fill = 0;
+      few = omega arith;
+      filled = ap (bits_in LsbFirst octets) size ∙
+          (same ∙ sym (append-nil (map (λ n. is_marked frames last n) (range_with_len 0 256))));
+    })
+    small
+
+pub all_there_is : (frames : Frames) (last : ℕ) → all_there frames last ≡ true → IsWhole frames last
+unfolding all_there
+all_there_is frames last h = whole_is frames last h
+
+pub whole_tells : (frames : Frames) (last : ℕ) (b : Bool) → IsTrue b ↔ IsWhole frames last → b ≡ all_there frames last
+unfolding all_there
+whole_tells frames last true h = sym (is_whole_so frames last (h.0 refl))
+whole_tells frames last false h = at (is_whole frames (suc last)) refl
+  where
+    at : (b : Bool) → is_whole frames (suc last) ≡ b → false ≡ b
+    at true e = h.1 (whole_is frames last e)
+    at false e = refl
+
+pub takes_page :
+    (s : Answerer) (ends : PageEnd) (mark : Mark) (octets : List ℕ) → ends ≢ Null →
+    takes_block s ends mark octets ≡ stores s ends mark (page_read s.params octets)
+takes_page s Null mark octets h = absurd (h refl)
+takes_page s Mps mark octets h = refl
+takes_page s Eom mark octets h = refl
+takes_page s Eop mark octets h = refl
+
+-- where no place has a frame, the list is of so many places with none
+all_none : (frames : Frames) → list_all (λ frame. not (is_some frame)) frames ≡ true → frames ≡ replicate (length frames) None
+all_none [] e = refl
+all_none (None ∷ frames) e = ap (λ rest. None ∷ rest) (all_none frames e)
+all_none (Some kept ∷ frames) e = absurd (cc e)
+
+-- a store of 256 places is clear exactly if it is that of no frame
+pub clear_tells : (frames : Frames) (result : Bool) → length frames ≡ 256 → IsTrue result ↔ (frames ≡ no_frames) → result ≡ is_clear frames
+unfolding is_clear no_frames
+clear_tells frames true size tells = rw (tells.0 refl) refl
+clear_tells frames false size tells = at (is_clear frames) refl
+  where
+    at : (clear : Bool) → is_clear frames ≡ clear → false ≡ clear
+    at false e = refl
+    at true e = tells.1 (all_none frames e ∙ ap (λ n. replicate n None) size)

@@ -1,0 +1,11 @@
+pub mod Layers
+pub mod Blocks
+pub mod Inputs
+pub mod CallerStep
+pub mod AnswererStep
+pub mod Left
+pub mod Laws
+pub mod CallerFields
+pub mod Lending
+pub mod Runs
+pub mod Limits
