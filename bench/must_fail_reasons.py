@@ -13,7 +13,10 @@ import sys
 
 TRIED = re.compile(r"(?:rt: )?must-fail (\S+): (.*)")
 # An open goal of the function that was changed or of one that calls it, or a value that doesn't fit.
-FALSE_GOAL = re.compile(r"it is not proved that |the two types (first )?differ|`omega`: the goal does not follow")
+FALSE_GOAL = re.compile(
+    r"it is not proved that |the two types (first )?differ"
+    r"|`omega`: the goal does not follow|`search`: no proof of "
+)
 # A name, a field or a file that is gone, and edits that tried no contract.
 GONE = re.compile(
     r"BAD EDIT|NOT REFUSED|only because a proof file names"
