@@ -152,7 +152,7 @@ impl BlockStore {
         ensures store { IsStore self.now }
         ensures map { IsMissingMap self.now.frames last result }
     {
-        let _ready = self.ready();
+        let _ready = self.ready(); // which says what each store keeps to
         let mut octets = [0; 32];
         for number in 0u16..256 {
             let n = number as u8;
@@ -166,7 +166,7 @@ impl BlockStore {
         ensures store { IsStore self.now }
         ensures whole { IsTrue result ↔ IsWhole self.now.frames last }
     {
-        let _ready = self.ready();
+        let _ready = self.ready(); // which says what each store keeps to
         for number in 0..last as u16 + 1 { // the frames that must be there
             if !self.has(number as u8) {
                 return false;
@@ -180,7 +180,7 @@ impl BlockStore {
         ensures store { IsStore self.now }
         ensures empty { IsTrue result ↔ (self.now.frames ≡ no_frames) }
     {
-        let _ready = self.ready();
+        let _ready = self.ready(); // which says what each store keeps to
         for number in 0u16..256 { // the frames that must not be there
             if self.has(number as u8) {
                 return false;
@@ -209,7 +209,7 @@ impl BlockStore {
         ensures err { OnErr result (octets.new.items ≡ octets.old.items) }
         ensures only { IsOkUnless result NoMemory }
     {
-        let _ready = self.ready();
+        let _ready = self.ready(); // which says what each store keeps to
         let start = octets.len();
         for number in 0..last as u16 + 1 { // the frames that are joined
             if let Err(refused) = self.append_frame(number as u8, octets) {

@@ -190,6 +190,20 @@ fn data_longer_than_a_frame_is_refused(rt: HostRuntime) -> Result<(), Fail> {
 
 /// Run with each allocation refused in turn.
 #[test]
+fn a_refused_cut_says_no_memory(rt: HostRuntime) -> Result<(), Fail> {
+    let alloc = rt.alloc();
+    let Ok(page) = octets(alloc, 600, 7) else {
+        return Ok(());
+    };
+    match Blocks::cut(alloc, page, false) {
+        Ok(blocks) => assert_eq!(rt; blocks.count(), 1),
+        Err(refused) => assert_eq!(rt; refused, BlockFault::NoMemory),
+    }
+    Ok(())
+}
+
+/// Run with each allocation refused in turn.
+#[test]
 fn a_refused_growth_changes_nothing(rt: HostRuntime) -> Result<(), Fail> {
     let alloc = rt.alloc();
     let mut store = BlockStore::new(alloc, true);
