@@ -16,7 +16,7 @@ use Rattle.stations.specs.Laws.{Each, ReadsByGrammar}
 use Rattle.stations.specs.Inputs.{CallerInput, AnswererInput, listens, trains, t2, t1, is_busy}
 use Rattle.stations.specs.CallerStep.{Caller, caller_step, caller_silent, unless_caller_ended}
 use Rattle.stations.specs.AnswererStep.{Answerer, AnswererAnswer, Frames, answerer_silent, answerer_step, answerer_table, unless_answerer_ended, first_dcs, later_dcs, judges_training, keeps_frame, accepts, stores, takes_block, answers_pps, answers_repeated, answers_rr, all_there, is_repeated, last_counted, is_clear, confirms, new_answerer}
-use Rattle.stations.specs.Runs.{answerer_after, EndedCallerStays, EndedAnswererStays, IsHeard, AreJoined, IsReadOf, StoredIsRead, StepsStoreOpen}
+use Rattle.stations.specs.Runs.{answerer_after, EndedCallerStays, EndedAnswererStays, IsHeard, AreJoined, IsReadOf, StoredIsRead, StepsStoreOpen, IsAllowedDcs, KeptIsReady, StaysReady}
 use Rattle.stations.specs.declared.mark.Mark.{Mark}
 use Rattle.stations.specs.declared.turn.AnswererState.{AnswererState}
 use Rattle.stations.specs.declared.turn.AnswererState.TheVariants.{PhaseB, WaitTraining, Message}
@@ -382,3 +382,79 @@ steps_store_open law s input = at s.ending
     at : (ending : Option End) → Stores s (unless_answerer_ended ending input s)
     at (Some why) = inl refl
     at None = table_stores law s.state input s
+
+-- the memory is there, and the caps are the same
+abbrev Ready : Answerer → AnswererAnswer → Type 0
+Ready s answer = (answer.next.ready ≡ true) × (answer.next.caps ≡ s.caps)
+
+stores_ready :
+    (s : Answerer) (ends : PageEnd) (mark : Mark) (page : Option PagePixels) → s.ready ≡ true → Ready s (stores s ends mark page)
+stores_ready s ends mark None ready = (ready, refl)
+stores_ready s ends mark (Some page) ready = (ready, refl)
+
+block_ready :
+    (s : Answerer) (ends : PageEnd) (mark : Mark) (octets : List ℕ) → s.ready ≡ true → Ready s (takes_block s ends mark octets)
+block_ready s Null mark octets ready = either (Ready s) (within_page_limit octets) _ _ (λ few. (ready, refl)) (λ long. (ready, refl))
+block_ready s Mps mark octets ready = stores_ready s Mps mark (page_read s.params octets) ready
+block_ready s Eom mark octets ready = stores_ready s Eom mark (page_read s.params octets) ready
+block_ready s Eop mark octets ready = stores_ready s Eop mark (page_read s.params octets) ready
+
+pps_ready : (s : Answerer) (ends : PageEnd) (mark : Mark) (last : ℕ) → s.ready ≡ true → Ready s (answers_pps s ends mark last)
+pps_ready s ends mark last ready =
+    let counted : ℕ = last_counted s.asked mark last in
+    either (Ready s) (is_repeated s.accepted mark) _ _ (λ repeated. (ready, refl))
+    (λ new. either (Ready s) (all_there s.frames counted) _ _
+    (λ whole. block_ready s ends mark (s.octets ++ joined_frames s.frames (counted + 1)) ready) (λ missing. (ready, refl)))
+
+repeated_ready : (s : Answerer) (mark : Mark) → s.ready ≡ true → Ready s (answers_repeated s mark)
+repeated_ready s mark ready =
+    either (Ready s) (is_repeated s.accepted mark) (record { next = s; turn = confirms s }) (answerer_silent s)
+    (λ e. (ready, refl)) (λ e. (ready, refl))
+
+rr_ready : (s : Answerer) → s.ready ≡ true → Ready s (answers_rr s)
+rr_ready s ready =
+    either (Ready s) (is_some s.accepted && is_clear s.frames) (record { next = s; turn = confirms s }) (answerer_silent s)
+    (λ e. (ready, refl)) (λ e. (ready, refl))
+
+table_ready :
+    (state : AnswererState) (input : AnswererInput) (s : Answerer) →
+    s.ready ≡ true → ¬ IsAllowedDcs s.caps input → Ready s (answerer_table state input s)
+table_ready PhaseB (listens (dcs params)) s ready not =
+    either (Ready s) (allowed s.caps params) _ _ (λ e. absurd (not e)) (λ e. (ready, refl))
+table_ready PhaseB t2 s ready not = (ready, refl)
+table_ready WaitTraining t2 s ready not = (ready, refl)
+table_ready WaitTraining (trains octets) s ready not =
+    either (Ready s) (is_good_training octets s.params) _ _ (λ e. (ready, refl)) (λ e. (ready, refl))
+table_ready WaitTraining (listens (dcs params)) s ready not =
+    either (Ready s) (allowed s.caps params) _ _ (λ e. absurd (not e)) (λ e. (ready, refl))
+table_ready Message (listens (dcs params)) s ready not =
+    either (Ready s) (allowed s.caps params) _ _ (λ e. absurd (not e)) (λ e. (ready, refl))
+table_ready Message (listens (fcd number octets)) s ready not =
+    either (Ready s) (within_frame_size s.params octets) _ _ (λ few. (refl, refl)) (λ long. (ready, refl))
+table_ready Message (listens (pps ends page block last)) s ready not = pps_ready s ends (record { page = page; block = block }) last ready
+table_ready Message (listens rr) s ready not = rr_ready s ready
+table_ready PhaseB (listens (pps ends page block last)) s ready not = repeated_ready s (record { page = page; block = block }) ready
+table_ready WaitTraining (listens (pps ends page block last)) s ready not = repeated_ready s (record { page = page; block = block }) ready
+table_ready PhaseB (listens rr) s ready not = rr_ready s ready
+table_ready WaitTraining (listens rr) s ready not = rr_ready s ready
+table_ready _ t1 s ready not = (ready, refl)
+table_ready _ (listens dcn) s ready not = (ready, refl)
+table_ready _ (is_busy busy) s ready not = (ready, refl)
+table_ready _ input s ready not = (ready, refl)
+
+step_ready : (s : Answerer) (input : AnswererInput) → s.ready ≡ true → ¬ IsAllowedDcs s.caps input → Ready s (answerer_step s input)
+step_ready s input ready not = at s.ending
+  where
+    at : (ending : Option End) → Ready s (unless_answerer_ended ending input s)
+    at (Some why) = (ready, refl)
+    at None = table_ready s.state input s ready not
+
+pub stays_ready : StaysReady
+stays_ready s [] ready none = ready
+stays_ready s (input ∷ inputs) ready none =
+    let next : Ready s (answerer_step s input) = step_ready s input ready none.0 in
+    stays_ready (answerer_step s input).next inputs next.0
+    (subst (λ caps. Each (λ input. ¬ IsAllowedDcs caps input) inputs) (sym next.1) none.1)
+
+pub kept_is_ready : KeptIsReady
+kept_is_ready s number octets going message few = rw (going, message, few) refl

@@ -7,12 +7,13 @@ use Rattle.signals.specs.Signals.{dcs, fcd}
 use Rattle.signals.specs.declared.params.Caps.{Caps}
 use Rattle.signals.specs.declared.params.Params.{Params}
 use Rattle.partial_page.specs.Store.{joined_frames}
-use Rattle.stations.specs.Layers.{IsPageOf}
+use Rattle.stations.specs.Layers.{IsPageOf, within_frame_size}
 use Rattle.stations.specs.Blocks.{joined}
 use Rattle.stations.specs.Laws.{Each}
 use Rattle.stations.specs.Inputs.{CallerInput, AnswererInput, listens}
 use Rattle.stations.specs.CallerStep.{Caller, caller_step}
 use Rattle.stations.specs.AnswererStep.{Answerer, answerer_step, new_answerer}
+use Rattle.stations.specs.declared.turn.AnswererState.TheVariants.{Message}
 use Rattle.stations.specs.declared.turn.Turn.{Turn}
 use Rattle.stations.specs.declared.turn.Turn.TheVariants.{Silent}
 
@@ -80,3 +81,21 @@ StepsStoreOpen =
     ((answerer_step s input).next.pages ≡ s.pages) ⊎
     ((page : PagePixels) × (last : ℕ) × IsPageOf s.params (s.octets ++ joined_frames s.frames (last + 1)) page ×
     ((answerer_step s input).next.pages ≡ s.pages ++ page ∷ []))
+
+-- an input is a DCS that the caps allow
+abbrev pub IsAllowedDcs : Caps → AnswererInput → Type 0
+IsAllowedDcs caps (listens (dcs params)) = allowed caps params ≡ true
+IsAllowedDcs caps _ = ⊥
+
+-- an FCD that is kept takes the memory for the open frames
+abbrev pub KeptIsReady : Type 0
+KeptIsReady =
+    (s : Answerer) (number : ℕ) (octets : List ℕ) →
+    s.ending ≡ None → s.state ≡ Message → within_frame_size s.params octets ≡ true →
+    (answerer_step s (listens (fcd number octets))).next.ready ≡ true
+
+-- from then on it is there until a DCS that is allowed, whatever else is heard
+abbrev pub StaysReady : Type 0
+StaysReady =
+    (s : Answerer) (inputs : List AnswererInput) →
+    s.ready ≡ true → Each (λ input. ¬ IsAllowedDcs s.caps input) inputs → (answerer_after inputs s).ready ≡ true

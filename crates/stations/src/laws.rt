@@ -2,7 +2,7 @@
 
 ghost use Rattle.stations.specs.Left.{StepsSpend};
 ghost use Rattle.stations.specs.Limits.{NewIsLimited, StepsKeepLimits, OpenIsLimited};
-ghost use Rattle.stations.specs.Runs.{EndedCallerStays, EndedAnswererStays, StoredIsRead, StepsStoreOpen};
+ghost use Rattle.stations.specs.Runs.{EndedCallerStays, EndedAnswererStays, StoredIsRead, StepsStoreOpen, KeptIsReady, StaysReady};
 ghost use Rattle.stations.specs.Laws.{LayersHold, ReadsByGrammar, SignalsArrive, SignalsHold, SpeedsHold};
 
 /// A page whose code a call can carry is cut into blocks of 1 to 256 frames that can be sent; joined
@@ -64,6 +64,13 @@ pub fn open_is_limited()
 pub fn ended_stays()
     ensures caller { EndedCallerStays }
     ensures answerer { EndedAnswererStays }
+{}
+
+/// The first FCD that is kept takes the memory for the open frames, which then stays until a DCS that is
+/// allowed; so no FCD between the two takes any.
+pub fn stays_ready()
+    ensures kept { KeptIsReady }
+    ensures stays { StaysReady }
 {}
 
 /// Whatever an answerer hears, a step stores at most one page, which the octets of the open page and of
