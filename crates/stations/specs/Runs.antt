@@ -1,5 +1,5 @@
 -- Each station over a list of inputs, whatever the other one is.
-use Rattle.std.specs.Prelude.{ℕ, ◌≡◌, ◌⊎◌, ◌+◌, ◌++◌, true, List, [], ◌∷◌, length, replicate, IsSome}
+use Rattle.std.specs.Prelude.{ℕ, ◌≡◌, ◌⊎◌, ◌+◌, ◌++◌, true, List, [], ◌∷◌, length, replicate, None, IsSome}
 use Rattle.std.specs.List.{Contains}
 use Rattle.raster.specs.Pages.{PagePixels}
 use Rattle.signals.specs.Agreement.{allowed}
