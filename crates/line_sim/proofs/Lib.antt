@@ -1,0 +1,14 @@
+pub mod Lists
+pub mod Groups
+pub mod Marks
+pub mod MovesOf
+pub mod Stores
+pub mod CallerKeeps
+pub mod AnswererKeeps
+pub mod LineKeeps
+pub mod WholeRuns
+pub mod WholeBlocks
+pub mod InSteps
+pub mod Maps
+pub mod Writable
+pub mod Transcripts

@@ -1,0 +1,94 @@
+-- The headline: on a half-duplex line that keeps order, delivers only what was sent and drops what still comes towards a station that transmits,
+-- over every list of losses, spoiled training checks, time-outs, receiver waits and refused growths, the answerer's pages are a beginning of the
+-- caller's, pixel for pixel, each page that the caller counts confirmed is stored once, and a station's normal end means that all are stored.
+use Rattle.std.specs.Prelude.{◌≡◌, ◌≢◌, ◌↔◌, suc, ◌≤◌, List, ◌∷◌, length, Some, None, slice_get}
+use Rattle.signals.specs.declared.params.Caps.{Caps}
+use Rattle.signals.specs.declared.params.Wish.{Wish}
+use Rattle.stations.specs.Layers.{Document, IsFullPage}
+use Rattle.stations.specs.Blocks.{Block}
+use Rattle.signals.specs.Writing.{IsWritable}
+use Rattle.stations.specs.Inputs.{PlainItem, framed, checked}
+use Rattle.stations.specs.Laws.{Each, LayersHold, SignalsHold}
+use Rattle.stations.specs.CallerStep.{blocks_of, confirmed, pps_of}
+use Rattle.stations.specs.declared.turn.AnswererState.TheVariants.{Message}
+use Rattle.stations.specs.declared.turn.End.TheVariants.{Normal}
+use Rattle.line_sim.specs.declared.event.Event.{Event}
+use Rattle.line_sim.specs.Line.{World, Outcome, happens, new_world, run}
+use Rattle.line_sim.specs.declared.event.Event.TheVariants.{DeliverToAnswerer}
+use Rattle.line_sim.specs.Line.Outcome.{Done}
+use Rattle.line_sim.specs.LineFacts.{accepted_of, HoldsAll, LineFacts}
+use Rattle.line_sim.specs.InStep.{InStep}
+use Rattle.line_sim.specs.PageMachine.{first_state, Moves, AtMostTwo, shown, IsBeginning}
+
+-- what the layers below promise
+abbrev pub Promised : Type 0
+Promised = LayersHold × SignalsHold
+
+-- what the sender, who deletes what was confirmed, and the owner of the store can rely on
+pub record IsSafe (document : Document) (w : World) : Type 0 where
+  -- the stored pages are the first of the document, with equal width, fineness and pixels
+  pub beginning : IsBeginning w.answerer.pages document
+  -- each confirmed page is stored, and at most one page more
+  pub confirmed_is_stored : confirmed w.caller ≤ length w.answerer.pages
+  pub stored_once : length w.answerer.pages ≤ suc (confirmed w.caller)
+  -- a normal end of either station means that all pages are stored, of the caller that all are confirmed too
+  pub caller_normal : w.caller.ending ≡ Some Normal → (w.answerer.pages ≡ document) × (confirmed w.caller ≡ length document)
+  pub answerer_normal : w.answerer.ending ≡ Some Normal → w.answerer.pages ≡ document
+
+-- the facts of the line hold of every world that events lead to, whatever each of them answered
+abbrev pub LineHolds : Type 0
+LineHolds =
+    (document : Document) (wish : Wish) (caps : Caps) (steps : List (Event × Outcome)) → Each IsFullPage document →
+    LineFacts (run steps (new_world document wish caps))
+
+-- so in each both stations are in step
+abbrev pub StationsInStep : Type 0
+StationsInStep =
+    (document : Document) (wish : Wish) (caps : Caps) (steps : List (Event × Outcome)) → Each IsFullPage document →
+    InStep (run steps (new_world document wish caps))
+
+-- from such a world an event makes at most two moves of the page machine, whatever it answers
+abbrev pub EventsMove : Type 0
+EventsMove =
+    (document : Document) (wish : Wish) (caps : Caps) (steps : List (Event × Outcome)) → Each IsFullPage document →
+    let w = run steps (new_world document wish caps) in
+    (event : Event) (outcome : Outcome) → AtMostTwo (length document) (shown w) (shown (happens w event outcome))
+
+-- and it shows a state that moves of the page machine lead to from the first one
+abbrev pub RunsMove : Type 0
+RunsMove =
+    (document : Document) (wish : Wish) (caps : Caps) (steps : List (Event × Outcome)) → Each IsFullPage document →
+    Moves (length document) first_state (shown (run steps (new_world document wish caps)))
+
+-- the headline itself
+abbrev pub RunsAreSafe : Type 0
+RunsAreSafe =
+    (document : Document) (wish : Wish) (caps : Caps) (steps : List (Event × Outcome)) → Each IsFullPage document →
+    IsSafe document (run steps (new_world document wish caps))
+
+-- the PPS of a block comes: the block is accepted exactly if each of its frames is open, and the pages stored then are the first of the document
+pub record WholeBlockAccepted (w : World) (block : Block) : Type 0 where
+  pub exactly : ((happens w DeliverToAnswerer Done).answerer.accepted ≡ Some (accepted_of block)) ↔ HoldsAll w.answerer.frames block.frames
+  pub pages : IsBeginning (happens w DeliverToAnswerer Done).answerer.pages w.caller.document
+
+-- so it is of every PPS that comes, in however many rounds the frames came
+abbrev pub WholeBlocksAccepted : Type 0
+WholeBlocksAccepted =
+    (document : Document) (wish : Wish) (caps : Caps) (steps : List (Event × Outcome)) → Each IsFullPage document →
+    let w = run steps (new_world document wish caps) in
+    -- the PPS under way is that of the caller's present block, which isn't accepted yet, and the answerer is in Message and hasn't ended
+    (block : Block) (items : List PlainItem) → slice_get (blocks_of w.caller) w.caller.place ≡ Some block → w.answerer.accepted ≢ Some (accepted_of block) →
+    w.to_answerer ≡ pps_of block ∷ items → w.answerer.state ≡ Message → w.answerer.ending ≡ None →
+    WholeBlockAccepted w block
+
+-- what travels can be written: of a signal, that it has a content
+abbrev pub CanBeWritten : PlainItem → Type 0
+CanBeWritten (framed signal) = IsWritable signal
+CanBeWritten (checked octets) = Unit {0}
+
+-- so can all that is ever under way
+abbrev pub LinesCanBeWritten : Type 0
+LinesCanBeWritten =
+    (document : Document) (wish : Wish) (caps : Caps) (steps : List (Event × Outcome)) → Each IsFullPage document →
+    let w = run steps (new_world document wish caps) in
+    Each CanBeWritten w.to_answerer × Each CanBeWritten w.to_caller

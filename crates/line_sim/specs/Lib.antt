@@ -1,0 +1,6 @@
+pub mod Line
+pub mod Entries
+pub mod LineFacts
+pub mod PageMachine
+pub mod InStep
+pub mod Headline

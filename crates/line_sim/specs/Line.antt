@@ -1,0 +1,123 @@
+-- The half-duplex line between a caller and an answerer, and what may happen on it.
+use Rattle.std.specs.Prelude.{ℕ, List, [], ◌∷◌, ◌++◌, take, map}
+use Rattle.signals.specs.Signals.{dis}
+use Rattle.signals.specs.declared.params.Caps.{Caps}
+use Rattle.signals.specs.declared.params.Wish.{Wish}
+use Rattle.stations.specs.Layers.{Document}
+use Rattle.stations.specs.Inputs.{CallerInput, hears, timeout, t5, AnswererInput, listens, trains, t2, t1, is_busy, PlainItem, framed, checked}
+use Rattle.stations.specs.CallerStep.{Caller, caller_step, new_caller, caller_items, no_caps, no_params}
+use Rattle.stations.specs.AnswererStep.{Answerer, answerer_step, new_answerer, answerer_items}
+use Rattle.stations.specs.declared.turn.Turn.{Turn}
+use Rattle.stations.specs.declared.turn.Turn.TheVariants.{Silent}
+use Rattle.line_sim.specs.declared.event.Event.{Event}
+use Rattle.line_sim.specs.declared.event.Event.TheVariants.{DeliverToAnswerer, DeliverToCaller, LoseToAnswerer, LoseToCaller, Spoil, CallerTimeout, CallerT5, AnswererT1, AnswererT2, Busy}
+
+-- both stations, and what is under way to each
+pub record World : Type 0 where
+  pub caller : Caller
+  pub answerer : Answerer
+  pub to_answerer : List PlainItem
+  pub to_caller : List PlainItem
+
+-- what became of an event: all of it; or a growth was refused, and nothing at all happened, or the input was lost,
+-- or of the items of the turn only the first few were made
+pub data Outcome : Type 0 where
+  Done Nothing InputLost : Outcome
+  Cut : (made : ℕ) → Outcome
+
+-- the items of a turn that are sent
+abbrev pub sent : Outcome → List PlainItem → List PlainItem
+sent (Cut made) items = take made items
+sent _ items = items
+
+-- the caller has answered; a transmission empties the list that leads to it
+abbrev pub caller_sends : Turn → World → Caller → List PlainItem → World
+caller_sends Silent w next items = record w { caller = next }
+caller_sends _ w next items = record { caller = next; answerer = w.answerer; to_answerer = w.to_answerer ++ items; to_caller = [] }
+
+abbrev pub answerer_sends : Turn → World → Answerer → List PlainItem → World
+answerer_sends Silent w next items = record w { answerer = next }
+answerer_sends _ w next items = record { caller = w.caller; answerer = next; to_answerer = []; to_caller = w.to_caller ++ items }
+
+-- a station has an input and answers it
+abbrev pub caller_acts : World → Outcome → CallerInput → World
+caller_acts w outcome input =
+    let answer = caller_step w.caller input in
+    caller_sends answer.turn w answer.next (sent outcome (caller_items answer.next answer.turn))
+
+abbrev pub answerer_acts : World → Outcome → AnswererInput → World
+answerer_acts w outcome input =
+    let answer = answerer_step w.answerer input in
+    answerer_sends answer.turn w answer.next (sent outcome (answerer_items answer.next answer.turn))
+
+-- an item comes
+abbrev pub comes_to_answerer : World → Outcome → PlainItem → World
+comes_to_answerer w outcome (framed signal) = answerer_acts w outcome (listens signal)
+comes_to_answerer w outcome (checked octets) = answerer_acts w outcome (trains octets)
+
+abbrev pub comes_to_caller : World → Outcome → PlainItem → World
+comes_to_caller w outcome (framed signal) = caller_acts w outcome (hears signal)
+comes_to_caller w outcome (checked octets) = w
+
+-- the head of a list is taken away, and acts unless it is lost
+abbrev pub delivers_to_answerer : World → Outcome → List PlainItem → World
+delivers_to_answerer w outcome [] = w
+delivers_to_answerer w InputLost (item ∷ items) = record w { to_answerer = items }
+delivers_to_answerer w outcome (item ∷ items) = comes_to_answerer (record w { to_answerer = items }) outcome item
+
+abbrev pub delivers_to_caller : World → Outcome → List PlainItem → World
+delivers_to_caller w outcome [] = w
+delivers_to_caller w InputLost (item ∷ items) = record w { to_caller = items }
+delivers_to_caller w outcome (item ∷ items) = comes_to_caller (record w { to_caller = items }) outcome item
+
+-- a list without its head
+abbrev pub after_first : List PlainItem → List PlainItem
+after_first [] = []
+after_first (item ∷ items) = items
+
+-- a training check at the head has only octets FF
+abbrev pub spoiled : List PlainItem → List PlainItem
+spoiled (checked octets ∷ items) = checked (map (λ octet. 255) octets) ∷ items
+spoiled items = items
+
+-- a timer's input
+abbrev pub caller_timer : World → Outcome → CallerInput → World
+caller_timer w InputLost input = w
+caller_timer w outcome input = caller_acts w outcome input
+
+abbrev pub answerer_timer : World → Outcome → AnswererInput → World
+answerer_timer w InputLost input = w
+answerer_timer w outcome input = answerer_acts w outcome input
+
+-- what an event does that was not refused before anything happened
+abbrev pub acts : World → Event → Outcome → World
+acts w DeliverToAnswerer outcome = delivers_to_answerer w outcome w.to_answerer
+acts w DeliverToCaller outcome = delivers_to_caller w outcome w.to_caller
+acts w LoseToAnswerer outcome = record w { to_answerer = after_first w.to_answerer }
+acts w LoseToCaller outcome = record w { to_caller = after_first w.to_caller }
+acts w Spoil outcome = record w { to_answerer = spoiled w.to_answerer }
+acts w CallerTimeout outcome = caller_timer w outcome timeout
+acts w CallerT5 outcome = caller_timer w outcome t5
+acts w AnswererT1 outcome = answerer_timer w outcome t1
+acts w AnswererT2 outcome = answerer_timer w outcome t2
+acts w (Busy busy) outcome = answerer_timer w outcome (is_busy busy)
+
+-- the world after an event with an outcome
+abbrev pub happens : World → Event → Outcome → World
+happens w event Nothing = w
+happens w event outcome = acts w event outcome
+
+-- a new world: the answerer's DIS is under way
+abbrev pub new_world : Document → Wish → Caps → World
+new_world document wish caps =
+    record {
+      caller = new_caller document wish no_caps no_params;
+      answerer = new_answerer caps no_params;
+      to_answerer = [];
+      to_caller = framed (dis caps) ∷ [];
+    }
+
+-- a whole run
+abbrev pub run : List (Event × Outcome) → World → World
+run [] w = w
+run (step ∷ steps) w = run steps (happens w step.0 step.1)

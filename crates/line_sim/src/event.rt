@@ -1,0 +1,72 @@
+use stations::Turn;
+
+/// What happens on the line or to one of its stations.
+#[derive(Clone, Copy, Debug, PartialEq, Eq)]
+pub enum Event {
+    /// The first item under way to the answerer comes.
+    DeliverToAnswerer,
+    /// The first item under way to the caller comes.
+    DeliverToCaller,
+    /// The first item under way to the answerer is lost.
+    LoseToAnswerer,
+    /// The first item under way to the caller is lost.
+    LoseToCaller,
+    /// The training check that is first under way to the answerer is spoiled: all its octets become FF.
+    Spoil,
+    /// The caller's wait for an answer is over.
+    CallerTimeout,
+    /// The caller's wait for a busy answerer is over.
+    CallerT5,
+    /// The answerer's wait for a caller is over.
+    AnswererT1,
+    /// The answerer's wait for a command or a training check is over.
+    AnswererT2,
+    /// Whether the answerer can't take pages for now.
+    Busy(bool),
+}
+
+/// What an item is that travels on the line: a frame by its signal, or a training check.
+#[derive(Clone, Copy, Debug, PartialEq, Eq)]
+pub enum Kind {
+    /// DIS.
+    Dis,
+    /// DCS.
+    Dcs,
+    /// A training check.
+    Training,
+    /// CFR.
+    Cfr,
+    /// FTT.
+    Ftt,
+    /// FCD with the number of its frame.
+    Fcd(u8),
+    /// RCP.
+    Rcp,
+    /// PPS.
+    Pps,
+    /// MCF.
+    Mcf,
+    /// PPR.
+    Ppr,
+    /// RNR.
+    Rnr,
+    /// RR.
+    Rr,
+    /// DCN.
+    Dcn,
+}
+
+/// What the transcript shows of an event.
+#[derive(Clone, Copy, Debug, PartialEq, Eq)]
+pub struct Entry {
+    /// The event.
+    pub event: Event,
+    /// The item that was delivered or lost, if there was one.
+    pub item: Option<Kind>,
+    /// What the station that the event acts on transmits: `Silent` where it took no step.
+    pub turn: Turn,
+    /// The number of FCDs of a burst, whole also where its transmission was cut; 0 for any other turn.
+    pub fcds: u16,
+    /// A growth was refused in the event.
+    pub refused: bool,
+}
