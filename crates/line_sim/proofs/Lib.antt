@@ -11,4 +11,8 @@ pub mod WholeBlocks
 pub mod InSteps
 pub mod Maps
 pub mod Writable
+pub mod Bursts
+pub mod PoliteCall
+pub mod PoliteGroups
 pub mod Transcripts
+pub mod Agreeing

@@ -4,3 +4,4 @@ pub mod LineFacts
 pub mod PageMachine
 pub mod InStep
 pub mod Headline
+pub mod Polite

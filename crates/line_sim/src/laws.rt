@@ -1,5 +1,6 @@
 //! What holds over every schedule. Nothing runs.
 
+ghost use Rattle.line_sim.specs.Polite.{GroupsAreAgreed, PoliteCalls};
 ghost use Rattle.line_sim.specs.Headline.{EventsMove, LineHolds, LinesCanBeWritten, RunsAreSafe, RunsMove, StationsInStep, WholeBlocksAccepted};
 
 /// What holds over every schedule of losses, spoiled training checks, time-outs, waits and refused
@@ -15,6 +16,18 @@ pub fn headline()
     ensures safe { RunsAreSafe }
     ensures whole { WholeBlocksAccepted }
     ensures written { LinesCanBeWritten }
+{
+    stations::laws::layers_hold();
+    stations::laws::signals_hold();
+}
+
+/// An undisturbed call of any number of groups: where both stations agree on each page and each page's code
+/// fits a call, it takes 4 deliveries for each group, the frames and 5 for each block, and one more; a polite
+/// run makes as many of them as it may, and after all of them each page is stored and confirmed, and both
+/// stations have ended normally.
+pub fn polite_calls()
+    ensures groups { GroupsAreAgreed }
+    ensures calls { PoliteCalls }
 {
     stations::laws::layers_hold();
     stations::laws::signals_hold();
