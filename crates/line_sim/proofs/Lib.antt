@@ -14,5 +14,7 @@ pub mod Writable
 pub mod Bursts
 pub mod PoliteCall
 pub mod PoliteGroups
+pub mod CallerCounts
+pub mod Counting
 pub mod Transcripts
 pub mod Agreeing

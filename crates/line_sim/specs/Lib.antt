@@ -5,3 +5,4 @@ pub mod PageMachine
 pub mod InStep
 pub mod Headline
 pub mod Polite
+pub mod Counted

@@ -1,5 +1,6 @@
 //! What holds over every schedule. Nothing runs.
 
+ghost use Rattle.line_sim.specs.Counted.{DcsBetweenGroups, RunsAreCounted};
 ghost use Rattle.line_sim.specs.Polite.{GroupsAreAgreed, PoliteCalls};
 ghost use Rattle.line_sim.specs.Headline.{EventsMove, LineHolds, LinesCanBeWritten, RunsAreSafe, RunsMove, StationsInStep, WholeBlocksAccepted};
 
@@ -31,4 +32,14 @@ pub fn polite_calls()
 {
     stations::laws::layers_hold();
     stations::laws::signals_hold();
+}
+
+/// In the transcript of every run the caller has at most 18 turns DCS for each group begun, and as many
+/// between one entry into the wait for DIS and the next; one DCN; 3 RR for each RNR that it answers so; and
+/// 12 PPS and bursts together for each burst that answers a CFR or an MCF.
+pub fn counted()
+    ensures runs { RunsAreCounted }
+    ensures groups { DcsBetweenGroups }
+{
+    stations::laws::steps_spend();
 }

@@ -1,0 +1,111 @@
+-- How often the caller transmits what, counted in the transcript of a run.
+use Rattle.std.specs.Prelude.{◌≡◌, ℕ, suc, ◌+◌, ◌*◌, ◌≤◌, Bool, true, false, cond, ◌&&◌, ◌||◌, List, [], ◌∷◌, length, Option, Some, None}
+use Rattle.signals.specs.declared.params.Caps.{Caps}
+use Rattle.signals.specs.declared.params.Wish.{Wish}
+use Rattle.stations.specs.Layers.{Document}
+use Rattle.stations.specs.Left.{is_block_turn}
+use Rattle.stations.specs.declared.turn.Turn.{Turn}
+use Rattle.stations.specs.declared.turn.Turn.TheVariants.{Training as SendTraining, Burst, Rr as SendRr, Dcn as SendDcn}
+use Rattle.line_sim.specs.Line.{World, Outcome, run, new_world}
+use Rattle.line_sim.specs.Entries.{entries}
+use Rattle.line_sim.specs.declared.event.Entry.{Entry}
+use Rattle.line_sim.specs.declared.event.Event.{Event}
+use Rattle.line_sim.specs.declared.event.Event.TheVariants.{DeliverToCaller, CallerTimeout, CallerT5}
+use Rattle.line_sim.specs.declared.event.Kind.{Kind}
+use Rattle.line_sim.specs.declared.event.Kind.TheVariants.{Cfr, Mcf, Rnr}
+
+-- how many entries pass a test
+abbrev pub count : (Entry → Bool) → List Entry → ℕ
+count test [] = 0
+count test (entry ∷ rest) = cond (test entry) (suc (count test rest)) (count test rest)
+
+-- the events whose turn is the caller's
+abbrev pub is_callers : Event → Bool
+is_callers DeliverToCaller = true
+is_callers CallerTimeout = true
+is_callers CallerT5 = true
+is_callers _ = false
+
+-- something comes to the caller
+abbrev pub is_delivery_to_caller : Event → Bool
+is_delivery_to_caller DeliverToCaller = true
+is_delivery_to_caller _ = false
+
+-- a turn is DCS with a training check; DCN; RR; a burst
+abbrev pub is_training : Turn → Bool
+is_training SendTraining = true
+is_training _ = false
+
+abbrev pub is_dcn : Turn → Bool
+is_dcn SendDcn = true
+is_dcn _ = false
+
+abbrev pub is_rr : Turn → Bool
+is_rr SendRr = true
+is_rr _ = false
+
+abbrev pub is_burst : Turn → Bool
+is_burst (Burst map) = true
+is_burst _ = false
+
+-- an item is RNR; CFR or MCF
+abbrev pub is_rnr : Option Kind → Bool
+is_rnr (Some Rnr) = true
+is_rnr _ = false
+
+abbrev pub is_cfr_or_mcf : Option Kind → Bool
+is_cfr_or_mcf (Some Cfr) = true
+is_cfr_or_mcf (Some Mcf) = true
+is_cfr_or_mcf _ = false
+
+-- the caller transmits DCS with a training check; DCN; RR; a burst, or PPS alone
+abbrev pub shows_dcs : Entry → Bool
+shows_dcs entry = is_callers entry.event && is_training entry.turn
+
+abbrev pub shows_dcn : Entry → Bool
+shows_dcn entry = is_callers entry.event && is_dcn entry.turn
+
+abbrev pub shows_rr : Entry → Bool
+shows_rr entry = is_callers entry.event && is_rr entry.turn
+
+abbrev pub shows_block : Entry → Bool
+shows_block entry = is_callers entry.event && is_block_turn entry.turn
+
+-- an RNR comes to the caller, which answers RR
+abbrev pub shows_rnr : Entry → Bool
+shows_rnr entry = is_delivery_to_caller entry.event && (is_rnr entry.item && is_rr entry.turn)
+
+-- a CFR or an MCF comes to the caller, which answers a burst: a block goes out for the first time
+abbrev pub shows_first_burst : Entry → Bool
+shows_first_burst entry = is_delivery_to_caller entry.event && (is_cfr_or_mcf entry.item && is_burst entry.turn)
+
+-- the groups that the caller has begun, and those that are through; with each of these it waits for a DIS again
+abbrev pub groups_through : World → ℕ
+groups_through w = length w.caller.finished
+
+abbrev pub groups_begun : World → ℕ
+groups_begun w = length w.caller.finished + length w.caller.present
+
+-- what is counted in the transcript of a world
+pub record IsCounted (w : World) (transcript : List Entry) : Type 0 where
+  -- at most 18 DCS for each group begun
+  pub dcs : count shows_dcs transcript ≤ 18 * groups_begun w
+  -- at most one DCN
+  pub dcn : count shows_dcn transcript ≤ 1
+  -- at most 3 RR for each RNR that is answered so
+  pub rr : count shows_rr transcript ≤ 3 * count shows_rnr transcript
+  -- at most 12 PPS and bursts for each first burst
+  pub blocks : count shows_block transcript ≤ 12 * count shows_first_burst transcript
+
+-- so it is in the transcript of every run
+abbrev pub RunsAreCounted : Type 0
+RunsAreCounted =
+    (document : Document) (wish : Wish) (caps : Caps) (steps : List (Event × Outcome)) →
+    IsCounted (run steps (new_world document wish caps)) (entries steps (new_world document wish caps))
+
+-- between one entry into the wait for DIS and the next, the caller transmits at most 18 DCS: any steps in which no group gets through have no more
+abbrev pub DcsBetweenGroups : Type 0
+DcsBetweenGroups =
+    (document : Document) (wish : Wish) (caps : Caps) (before steps : List (Event × Outcome)) →
+    let w = run before (new_world document wish caps) in
+    groups_through (run steps w) ≡ groups_through w → count shows_dcs (entries steps w) ≤ 18
