@@ -1,6 +1,6 @@
 -- Where both stations agree on each page, the pages are those of groups.
-use Rattle.std.proofs.Common.{◌≡◌, ◌≢◌, ℕ, suc, Bool, true, false, cond, List, [], ◌∷◌, length, Option, Some, None, refl, sym, ap, subst, ◌∙◌, arith}
-use Rattle.std.specs.Prelude.{◌<◌, nat_eq, ◌&&◌}
+use Rattle.std.proofs.Common.{◌≡◌, Bool, true, false, cond, List, [], ◌∷◌, Some, refl, sym, ap, subst, ◌∙◌, arith}
+use Rattle.std.specs.Prelude.{nat_eq}
 use Rattle.std.specs.Bool.{beq}
 use Rattle.std.proofs.lemmas.Bool.{and_parts, eqb-true}
 use Rattle.raster.specs.Pages.{PagePixels}
@@ -8,10 +8,8 @@ use Rattle.signals.specs.declared.params.Caps.{Caps}
 use Rattle.signals.specs.declared.params.Params.{Params}
 use Rattle.signals.specs.declared.params.Wish.{Wish}
 use Rattle.signals.specs.Agreement.{width_of_pixels}
-use Rattle.stations.specs.Layers.{Document, in_one_group, agreed_for, agreed_at, code_within_limit}
-use Rattle.stations.specs.Blocks.{groups_after}
-use Rattle.stations.specs.Laws.{Each}
-use Rattle.line_sim.specs.Polite.{IsAgreedOn, AreAgreed, GroupsAreAgreed}
+use Rattle.stations.specs.Layers.{in_one_group, agreed_for, agreed_at, code_within_limit}
+use Rattle.line_sim.specs.Polite.{AreAgreed, GroupsAreAgreed}
 
 same_bool : (a b : Bool) → beq a b ≡ true → a ≡ b
 same_bool true true e = refl
@@ -20,7 +18,9 @@ same_bool false true e = cc
 same_bool false false e = refl
 
 -- pages of one group have the same agreement
-same_agreement : (caps : Caps) (wish : Wish) (page next : PagePixels) → in_one_group page next ≡ true → agreed_for caps wish (Some page) ≡ agreed_for caps wish (Some next)
+same_agreement :
+    (caps : Caps) (wish : Wish) (page next : PagePixels) → in_one_group page next ≡ true →
+    agreed_for caps wish (Some page) ≡ agreed_for caps wish (Some next)
 unfolding in_one_group agreed_for
 same_agreement caps wish page next e =
     let both = and_parts (nat_eq page.width next.width) (beq page.fine next.fine) e in
@@ -29,13 +29,21 @@ same_agreement caps wish page next e =
     ap (λ n. agreed_at caps wish (width_of_pixels n) page.fine) width ∙ ap (agreed_at caps wish (width_of_pixels next.width)) fine
 
 -- a page goes before pages that are agreed on
-page_before : (caps : Caps) (wish : Wish) (page next : PagePixels) (pages : List PagePixels) (params : Params) → agreed_for caps wish (Some page) ≡ Some params → code_within_limit params page ≡ true →
-    (groups : List Params) → AreAgreed caps wish groups (next ∷ pages) → (b : Bool) → in_one_group page next ≡ b → (more : List Params) × AreAgreed caps wish more (page ∷ next ∷ pages)
+page_before :
+    (caps : Caps) (wish : Wish) (page next : PagePixels) (pages : List PagePixels) (params : Params) →
+    agreed_for caps wish (Some page) ≡ Some params → code_within_limit params page ≡ true →
+    (groups : List Params) → AreAgreed caps wish groups (next ∷ pages) → (b : Bool) → in_one_group page next ≡ b → (more : List Params) ×
+    AreAgreed caps wish more (page ∷ next ∷ pages)
 page_before caps wish page next pages params agree short [] h b e = absurd h
 page_before caps wish page next pages params agree short (first ∷ groups) h true e =
-    let same : first ≡ params = (let one : Some first ≡ Some params = sym h.0 ∙ (sym (same_agreement caps wish page next e) ∙ agree) in cc) in (
+    let same : first ≡ params = (let one : Some first ≡ Some params = sym h.0 ∙ (sym (same_agreement caps wish page next e) ∙ agree) in
+    cc) in (
       first ∷ groups,
-      (agree ∙ ap Some (sym same), subst (λ p. code_within_limit p page ≡ true) (sym same) short, subst (λ g. AreAgreed caps wish g (next ∷ pages)) (sym (ap (λ x. cond x (first ∷ groups) groups) e)) h),
+      (
+        agree ∙ ap Some (sym same),
+        subst (λ p. code_within_limit p page ≡ true) (sym same) short,
+        subst (λ g. AreAgreed caps wish g (next ∷ pages)) (sym (ap (λ x. cond x (first ∷ groups) groups) e)) h,
+      ),
     )
 page_before caps wish page next pages params agree short (first ∷ groups) h false e = (
   params ∷ first ∷ groups,

@@ -46,28 +46,42 @@ pub record AnswererKeeps (c : Caller) (s : Answerer) (a : ℕ) (answer : Answere
 pub answerer_silent_keeps : (c : Caller) (s : Answerer) (a : ℕ) → StationFacts c s a → AnswererKeeps c s a (answerer_silent s)
 answerer_silent_keeps c s a f = record { accepted = a; stations = f; items = tt; quiet = λ e. refl; moves = λ n. inl refl }
 
-before_group : (c : Caller) (s : Answerer) (a : ℕ) → c.state ≡ WaitCfr → StationFacts c s a → (c.present ≡ c.params ∷ []) × BeforeGroup c.place (finished_of c) a s.frames s.asked
+before_group :
+    (c : Caller) (s : Answerer) (a : ℕ) → c.state ≡ WaitCfr → StationFacts c s a →
+    (c.present ≡ c.params ∷ []) × BeforeGroup c.place (finished_of c) a s.frames s.asked
 before_group c s a e f = subst (λ st. Phase st c a s) e f.phase
 
 -- while the caller waits for CFR
-training_facts : (c : Caller) (s next : Answerer) (a : ℕ) → c.state ≡ WaitCfr → StationFacts c s a → BeforeGroup c.place (finished_of c) a next.frames next.asked → HoldsFinished (finished_of c) c.document a next → Alike next.state next.params c.params → length next.frames ≡ 256 → StationFacts c next a
+training_facts :
+    (c : Caller) (s next : Answerer) (a : ℕ) → c.state ≡ WaitCfr → StationFacts c s a →
+    BeforeGroup c.place (finished_of c) a next.frames next.asked → HoldsFinished (finished_of c) c.document a next →
+    Alike next.state next.params c.params → length next.frames ≡ 256 → StationFacts c next a
 training_facts c s next a e f before holds same_params places =
     let phase = before_group c s a e f in
-    fresh_facts c next a (c.params ∷ []) phase.0 tt before holds (λ w. (let h : WaitCfr ≡ WaitReady = sym e ∙ w in cc)) (rw e (phase.0, before)) same_params f.call f.begun places
+    fresh_facts c next a (c.params ∷ []) phase.0 tt before holds (λ w. (let h : WaitCfr ≡ WaitReady = sym e ∙ w in cc))
+    (rw e (phase.0, before)) same_params f.call f.begun places
 
 held : (c : Caller) (s : Answerer) (a : ℕ) → c.state ≡ WaitCfr → StationFacts c s a → HoldsFinished (finished_of c) c.document a s
 held c s a e f =
     let phase = before_group c s a e f in
     holds_finished c s a (c.params ∷ []) phase.0 tt (omega (arith, phase.1.place_is, phase.1.accepted_is)) f
 
-dcs_keeps : (c : Caller) (s : Answerer) (a : ℕ) (params : Params) → c.state ≡ WaitCfr → params ≡ c.params → StationFacts c s a → AnswererKeeps c s a (later_dcs s params)
+dcs_keeps :
+    (c : Caller) (s : Answerer) (a : ℕ) (params : Params) → c.state ≡ WaitCfr → params ≡ c.params → StationFacts c s a →
+    AnswererKeeps c s a (later_dcs s params)
 dcs_keeps c s a params e same f =
     let before = (before_group c s a e f).1 in
     let holds = held c s a e f in
     either (AnswererKeeps c s a) (allowed s.caps params) _ _
     (λ h. record {
       accepted = a;
-      stations = training_facts c s (record s { state = WaitTraining; params = params; frames = no_frames; ready = false; asked = None }) a e f
+      stations = training_facts c s (record s {
+        state = WaitTraining;
+        params = params;
+        frames = no_frames;
+        ready = false;
+        asked = None;
+      }) a e f
           (record { place_is = before.place_is; accepted_is = before.accepted_is; none_open = refl; none_asked = refl })
           (record { pages = holds.pages; octets = holds.octets; last = holds.last })
           same length_none;
@@ -77,7 +91,9 @@ dcs_keeps c s a params e same f =
     })
     (λ h. answerer_silent_keeps c s a f)
 
-first_dcs_keeps : (c : Caller) (s : Answerer) (a : ℕ) (params : Params) → c.state ≡ WaitCfr → params ≡ c.params → StationFacts c s a → AnswererKeeps c s a (first_dcs s params)
+first_dcs_keeps :
+    (c : Caller) (s : Answerer) (a : ℕ) (params : Params) → c.state ≡ WaitCfr → params ≡ c.params → StationFacts c s a →
+    AnswererKeeps c s a (first_dcs s params)
 first_dcs_keeps c s a params e same f =
     let before = (before_group c s a e f).1 in
     let holds = held c s a e f in
@@ -85,7 +101,12 @@ first_dcs_keeps c s a params e same f =
     (λ h. record {
       accepted = a;
       stations = training_facts c s (record s { state = WaitTraining; params = params; ready = false }) a e f
-          (record { place_is = before.place_is; accepted_is = before.accepted_is; none_open = before.none_open; none_asked = before.none_asked })
+          (record {
+            place_is = before.place_is;
+            accepted_is = before.accepted_is;
+            none_open = before.none_open;
+            none_asked = before.none_asked;
+          })
           (record { pages = holds.pages; octets = holds.octets; last = holds.last })
           same f.places;
       items = tt;
@@ -94,27 +115,34 @@ first_dcs_keeps c s a params e same f =
     })
     (λ h. answerer_silent_keeps c s a f)
 
-training_keeps : (c : Caller) (s : Answerer) (a : ℕ) (octets : List ℕ) → s.state ≡ WaitTraining → c.state ≡ WaitCfr → StationFacts c s a → AnswererKeeps c s a (judges_training s octets)
+training_keeps :
+    (c : Caller) (s : Answerer) (a : ℕ) (octets : List ℕ) → s.state ≡ WaitTraining → c.state ≡ WaitCfr → StationFacts c s a →
+    AnswererKeeps c s a (judges_training s octets)
 training_keeps c s a octets w e f =
     let before = (before_group c s a e f).1 in
     let holds = held c s a e f in
     either (AnswererKeeps c s a) (is_good_training octets s.params) _ _
     (λ h. record {
       accepted = a;
-      stations = training_facts c s (record s { state = Message }) a e f before (record { pages = holds.pages; octets = holds.octets; last = holds.last }) (subst (λ st. Alike st s.params c.params) w f.same_params) f.places;
+      stations = training_facts c s (record s { state = Message }) a e f before
+          (record { pages = holds.pages; octets = holds.octets; last = holds.last })
+          (subst (λ st. Alike st s.params c.params) w f.same_params) f.places;
       items = (refl, tt);
       quiet = λ n. cc;
       moves = λ n. inl refl;
     })
     (λ h. record {
       accepted = a;
-      stations = training_facts c s (record s { state = PhaseB }) a e f before (record { pages = holds.pages; octets = holds.octets; last = holds.last }) tt f.places;
+      stations = training_facts c s (record s { state = PhaseB }) a e f before
+          (record { pages = holds.pages; octets = holds.octets; last = holds.last }) tt f.places;
       items = (refl, tt);
       quiet = λ n. cc;
       moves = λ n. inl refl;
     })
 
-frame_keeps : (c : Caller) (s : Answerer) (a number : ℕ) (octets : List ℕ) → IsSending c.state → a ≡ c.place → frame_at (slice_get (blocks_of c) c.place) number ≡ Some octets →
+frame_keeps :
+    (c : Caller) (s : Answerer) (a number : ℕ) (octets : List ℕ) → IsSending c.state → a ≡ c.place →
+    frame_at (slice_get (blocks_of c) c.place) number ≡ Some octets →
     StationFacts c s a → AnswererKeeps c s a (keeps_frame s number octets)
 frame_keeps c s a number octets sending same is f =
     either (AnswererKeeps c s a) (within_frame_size s.params octets) _ _
@@ -122,7 +150,8 @@ frame_keeps c s a number octets sending same is f =
       accepted = a;
       stations = record {
         near = f.near;
-        phase = sending_phase c.state c a (record s { frames = slice_set s.frames number (Some octets); ready = true }) sending (phase_sending c.state c a s sending f.phase);
+        phase = sending_phase c.state c a (record s { frames = slice_set s.frames number (Some octets); ready = true }) sending
+            (phase_sending c.state c a s sending f.phase);
         waits = f.waits;
         same_params = f.same_params;
         open_frames = put_holds s.frames number octets (λ n o. frame_at (slice_get (blocks_of c) c.place) n ≡ Some o) f.open_frames is;
@@ -142,19 +171,32 @@ frame_keeps c s a number octets sending same is f =
     (λ h. answerer_silent_keeps c s a f)
 
 -- MCF or RNR goes out on an accepted block
-confirms_items : (place a : ℕ) (s next : Answerer) → a ≡ suc place → Each (MayReachCaller place next.state a) (answerer_items next (confirms s))
-confirms_items place a s next e = either (λ turn. Each (MayReachCaller place next.state a) (answerer_items next turn)) s.busy SendRnr SendMcf (λ h. (e, tt)) (λ h. (e, tt))
+confirms_items :
+    (place a : ℕ) (s next : Answerer) → a ≡ suc place → Each (MayReachCaller place next.state a) (answerer_items next (confirms s))
+confirms_items place a s next e = either (λ turn. Each (MayReachCaller place next.state a)
+    (answerer_items next turn)) s.busy SendRnr SendMcf (λ h. (e, tt)) (λ h. (e, tt))
 
 confirms_speaks : (s : Answerer) → confirms s ≢ Silent
 confirms_speaks s = either (λ turn. turn ≢ Silent) s.busy SendRnr SendMcf (λ h n. cc) (λ h n. cc)
 
-confirms_keeps : (c : Caller) (s : Answerer) (a : ℕ) → a ≡ suc c.place → StationFacts c s a → AnswererKeeps c s a (record { next = s; turn = confirms s })
-confirms_keeps c s a e f = record { accepted = a; stations = f; items = confirms_items c.place a s s e; quiet = λ n. absurd (confirms_speaks s n); moves = λ n. inl refl }
+confirms_keeps :
+    (c : Caller) (s : Answerer) (a : ℕ) → a ≡ suc c.place → StationFacts c s a →
+    AnswererKeeps c s a (record { next = s; turn = confirms s })
+confirms_keeps c s a e f = record {
+  accepted = a;
+  stations = f;
+  items = confirms_items c.place a s s e;
+  quiet = λ n. absurd (confirms_speaks s n);
+  moves = λ n. inl refl;
+}
 
-pub counted : (asked : Option Asked) (block : Block) (place a : ℕ) → AskedFits asked (Some block) place a → last_counted asked (mark_of block) (last_frame_of block) ≡ last_frame_of block
+pub counted :
+    (asked : Option Asked) (block : Block) (place a : ℕ) → AskedFits asked (Some block) place a →
+    last_counted asked (mark_of block) (last_frame_of block) ≡ last_frame_of block
 counted None block place a h = refl
 counted (Some asked) block place a h =
-    rw h.0 (either (λ n. n ≡ last_frame_of block) (same_mark (mark_of block) (mark_of block)) (max (last_frame_of block) (last_frame_of block)) (last_frame_of block) (λ e. omega arith) (λ e. refl))
+    rw h.0 (either (λ n. n ≡ last_frame_of block) (same_mark (mark_of block) (mark_of block))
+    (max (last_frame_of block) (last_frame_of block)) (last_frame_of block) (λ e. omega arith) (λ e. refl))
 
 alike_after : (ends : PageEnd) (params others : Params) → params ≡ others → Alike (state_after ends) params others
 alike_after Null params others e = e
@@ -163,8 +205,11 @@ alike_after Eom params others e = tt
 alike_after Eop params others e = e
 
 -- the present block is accepted, with these pages stored and octets open
-accepts_keeps : (c : Caller) (s : Answerer) (a : ℕ) (block : Block) (octets : List ℕ) (pages : List PagePixels) → s.params ≡ c.params → IsSending c.state → slice_get (blocks_of c) c.place ≡ Some block →
-    octets ≡ open_past (Some block) (open_before (blocks_of c) c.place) → pages ≡ take (pages_past (Some block) (pages_before (blocks_of c) c.place)) c.document →
+accepts_keeps :
+    (c : Caller) (s : Answerer) (a : ℕ) (block : Block) (octets : List ℕ) (pages : List PagePixels) → s.params ≡ c.params →
+    IsSending c.state → slice_get (blocks_of c) c.place ≡ Some block →
+    octets ≡ open_past (Some block) (open_before (blocks_of c) c.place) → pages ≡
+    take (pages_past (Some block) (pages_before (blocks_of c) c.place)) c.document →
     (s.ending ≡ None → AtMostOne (length c.document) (state_of c s) (record (state_of c s) { stored = length pages })) →
     StationFacts c s a → AnswererKeeps c s a (accepts s block.ends (mark_of block) octets pages)
 accepts_keeps c s a block octets pages same_params sending is open_is pages_are moves f =
@@ -174,7 +219,14 @@ accepts_keeps c s a block octets pages same_params sending is open_is pages_are 
       stations = record {
         near = inr refl;
         phase = sending_phase c.state c (suc c.place) next sending
-            (record { started = (phase_sending c.state c a s sending f.phase).started; same = (phase_sending c.state c a s sending f.phase).same; ready = λ h. absurd (omega (arith, h)); past = λ h. ap state_past (sym is); group = (phase_sending c.state c a s sending f.phase).group });
+            (record {
+              started = (phase_sending c.state c a s sending f.phase).started;
+              same = (phase_sending c.state c a s sending f.phase).same;
+              ready = λ h. absurd (omega (arith, h));
+              past =
+                  λ h. ap state_past (sym is);
+              group = (phase_sending c.state c a s sending f.phase).group;
+            });
         waits = λ e w. refl;
         same_params = alike_after block.ends s.params c.params same_params;
         open_frames = λ number o h. absurd (none_held no_frames number o refl h);
@@ -192,46 +244,65 @@ accepts_keeps c s a block octets pages same_params sending is open_is pages_are 
       moves = moves;
     }
 
-stores_keeps : (c : Caller) (s : Answerer) (a : ℕ) (block : Block) (page : Option PagePixels) (p : PagePixels) → s.params ≡ c.params → IsSending c.state → slice_get (blocks_of c) c.place ≡ Some block →
-    page ≡ Some p → [] ≡ open_past (Some block) (open_before (blocks_of c) c.place) → s.pages ++ p ∷ [] ≡ take (pages_past (Some block) (pages_before (blocks_of c) c.place)) c.document →
+stores_keeps :
+    (c : Caller) (s : Answerer) (a : ℕ) (block : Block) (page : Option PagePixels) (p : PagePixels) → s.params ≡ c.params →
+    IsSending c.state → slice_get (blocks_of c) c.place ≡ Some block →
+    page ≡ Some p → [] ≡ open_past (Some block) (open_before (blocks_of c) c.place) → s.pages ++ p ∷ [] ≡
+    take (pages_past (Some block) (pages_before (blocks_of c) c.place)) c.document →
     (s.ending ≡ None → AtMostOne (length c.document) (state_of c s) (record (state_of c s) { stored = length (s.pages ++ p ∷ []) })) →
     StationFacts c s a → AnswererKeeps c s a (stores s block.ends (mark_of block) page)
 stores_keeps c s a block None p same_params sending is e open_is pages_are moves f = cc
 stores_keeps c s a block (Some page) p same_params sending is e open_is pages_are moves f =
     let same : p ≡ page = cc in
-    accepts_keeps c s a block [] (s.pages ++ page ∷ []) same_params sending is open_is (subst (λ q. s.pages ++ q ∷ [] ≡ take (pages_past (Some block) (pages_before (blocks_of c) c.place)) c.document) same pages_are)
-    (subst (λ q. s.ending ≡ None → AtMostOne (length c.document) (state_of c s) (record (state_of c s) { stored = length (s.pages ++ q ∷ []) })) same moves) f
+    accepts_keeps c s a block [] (s.pages ++ page ∷ []) same_params sending is open_is
+    (subst (λ q. s.pages ++ q ∷ [] ≡ take (pages_past (Some block) (pages_before (blocks_of c) c.place)) c.document) same pages_are)
+    (subst (λ q. s.ending ≡ None → AtMostOne (length c.document) (state_of c s)
+    (record (state_of c s) { stored = length (s.pages ++ q ∷ []) })) same moves) f
 
 -- a whole block that isn't accepted yet is accepted
-takes_keeps : (c : Caller) (s : Answerer) (a : ℕ) (block : Block) (ends : PageEnd) (place : ℕ) → block.ends ≡ ends → a ≡ c.place → IsSending c.state → slice_get (blocks_of c) c.place ≡ Some block →
-    BlockFits c.document block (pages_before (blocks_of c) c.place) place (open_before (blocks_of c) c.place) → s.params ≡ c.params → block.params ≡ c.params →
+takes_keeps :
+    (c : Caller) (s : Answerer) (a : ℕ) (block : Block) (ends : PageEnd) (place : ℕ) → block.ends ≡ ends → a ≡ c.place → IsSending c.state →
+    slice_get (blocks_of c) c.place ≡ Some block →
+    BlockFits c.document block (pages_before (blocks_of c) c.place) place (open_before (blocks_of c) c.place) → s.params ≡ c.params →
+    block.params ≡ c.params →
     StationFacts c s a → AnswererKeeps c s a (takes_block s ends (mark_of block) (open_before (blocks_of c) c.place ++ joined block.frames))
 takes_keeps c s a block Null place e same sending is fits same_params own f =
     either (AnswererKeeps c s a) (within_page_limit (open_before (blocks_of c) c.place ++ joined block.frames)) _ _
-    (λ h. subst (λ ends. AnswererKeeps c s a (accepts s ends (mark_of block) (open_before (blocks_of c) c.place ++ joined block.frames) s.pages)) e
-    (accepts_keeps c s a block (open_before (blocks_of c) c.place ++ joined block.frames) s.pages same_params sending is (rw e refl) (rw e (rw same at f.pages)) (λ n. inl refl) f))
-    (λ h. (let long : within_page_limit (open_before (blocks_of c) c.place ++ joined block.frames) ≡ true = fits.long e in let not : true ≡ false = sym long ∙ h in cc))
+    (λ h. subst (λ ends. AnswererKeeps c s a (accepts s ends (mark_of block)
+    (open_before (blocks_of c) c.place ++ joined block.frames) s.pages)) e
+    (accepts_keeps c s a block (open_before (blocks_of c) c.place ++ joined block.frames) s.pages same_params sending is (rw e refl)
+    (rw e (rw same at f.pages)) (λ n. inl refl) f))
+    (λ h. (let long : within_page_limit (open_before (blocks_of c) c.place ++ joined block.frames) ≡ true = fits.long e in let not : true ≡
+    false = sym long ∙ h in cc))
 takes_keeps c s a block Mps place e same sending is fits same_params own f =
     let reads = fits.read (rw e refl) in
-    subst (λ ends. AnswererKeeps c s a (stores s ends (mark_of block) (page_read s.params (open_before (blocks_of c) c.place ++ joined block.frames)))) e
+    subst (λ ends. AnswererKeeps c s a (stores s ends (mark_of block)
+    (page_read s.params (open_before (blocks_of c) c.place ++ joined block.frames)))) e
     (stores_keeps c s a block (page_read s.params (open_before (blocks_of c) c.place ++ joined block.frames)) reads.0 same_params sending is
     (ap (λ p. page_read p (open_before (blocks_of c) c.place ++ joined block.frames)) (same_params ∙ sym own) ∙ reads.2) (rw e refl)
-    (rw e (ap (λ l. l ++ reads.0 ∷ []) (rw same at f.pages) ∙ sym (take_one_more c.document (pages_before (blocks_of c) c.place) reads.0 reads.1))) (store_move c s a reads.0 same reads.1 f) f)
+    (rw e (ap (λ l. l ++ reads.0 ∷ []) (rw same at f.pages) ∙
+    sym (take_one_more c.document (pages_before (blocks_of c) c.place) reads.0 reads.1))) (store_move c s a reads.0 same reads.1 f) f)
 takes_keeps c s a block Eom place e same sending is fits same_params own f =
     let reads = fits.read (rw e refl) in
-    subst (λ ends. AnswererKeeps c s a (stores s ends (mark_of block) (page_read s.params (open_before (blocks_of c) c.place ++ joined block.frames)))) e
+    subst (λ ends. AnswererKeeps c s a (stores s ends (mark_of block)
+    (page_read s.params (open_before (blocks_of c) c.place ++ joined block.frames)))) e
     (stores_keeps c s a block (page_read s.params (open_before (blocks_of c) c.place ++ joined block.frames)) reads.0 same_params sending is
     (ap (λ p. page_read p (open_before (blocks_of c) c.place ++ joined block.frames)) (same_params ∙ sym own) ∙ reads.2) (rw e refl)
-    (rw e (ap (λ l. l ++ reads.0 ∷ []) (rw same at f.pages) ∙ sym (take_one_more c.document (pages_before (blocks_of c) c.place) reads.0 reads.1))) (store_move c s a reads.0 same reads.1 f) f)
+    (rw e (ap (λ l. l ++ reads.0 ∷ []) (rw same at f.pages) ∙
+    sym (take_one_more c.document (pages_before (blocks_of c) c.place) reads.0 reads.1))) (store_move c s a reads.0 same reads.1 f) f)
 takes_keeps c s a block Eop place e same sending is fits same_params own f =
     let reads = fits.read (rw e refl) in
-    subst (λ ends. AnswererKeeps c s a (stores s ends (mark_of block) (page_read s.params (open_before (blocks_of c) c.place ++ joined block.frames)))) e
+    subst (λ ends. AnswererKeeps c s a (stores s ends (mark_of block)
+    (page_read s.params (open_before (blocks_of c) c.place ++ joined block.frames)))) e
     (stores_keeps c s a block (page_read s.params (open_before (blocks_of c) c.place ++ joined block.frames)) reads.0 same_params sending is
     (ap (λ p. page_read p (open_before (blocks_of c) c.place ++ joined block.frames)) (same_params ∙ sym own) ∙ reads.2) (rw e refl)
-    (rw e (ap (λ l. l ++ reads.0 ∷ []) (rw same at f.pages) ∙ sym (take_one_more c.document (pages_before (blocks_of c) c.place) reads.0 reads.1))) (store_move c s a reads.0 same reads.1 f) f)
+    (rw e (ap (λ l. l ++ reads.0 ∷ []) (rw same at f.pages) ∙
+    sym (take_one_more c.document (pages_before (blocks_of c) c.place) reads.0 reads.1))) (store_move c s a reads.0 same reads.1 f) f)
 
 -- a PPS of the present block
-new_block_keeps : (c : Caller) (s : Answerer) (a : ℕ) (block : Block) → a ≡ c.place → IsSending c.state → s.state ≡ Message → slice_get (blocks_of c) c.place ≡ Some block →
+new_block_keeps :
+    (c : Caller) (s : Answerer) (a : ℕ) (block : Block) → a ≡ c.place → IsSending c.state → s.state ≡ Message →
+    slice_get (blocks_of c) c.place ≡ Some block →
     StationFacts c s a → AnswererKeeps c s a (judges_block s block.ends (mark_of block) (last_frame_of block))
 new_block_keeps c s a block same sending message is f =
     let fits = block_fits (c.finished ++ c.present) c.document f.call.readable c.place block is in
@@ -242,9 +313,11 @@ new_block_keeps c s a block same sending message is f =
     (λ whole.
     let all = whole_holds_all block.frames s.frames fits.sendable.0 only whole in
     let open_is : s.octets ++ joined_frames s.frames (last_frame_of block + 1) ≡ open_before (blocks_of c) c.place ++ joined block.frames =
-    ap (λ o. s.octets ++ o) (joined_is block.frames s.frames fits.sendable.0 all) ∙ ap (λ o. o ++ joined block.frames) (rw same at f.octets) in
+    ap (λ o. s.octets ++ o) (joined_is block.frames s.frames fits.sendable.0 all) ∙
+    ap (λ o. o ++ joined block.frames) (rw same at f.octets) in
     subst (λ octets. AnswererKeeps c s a (takes_block s block.ends (mark_of block) octets)) (sym open_is)
-    (takes_keeps c s a block block.ends (place_before (blocks_of c) c.place) refl same sending is fits (subst (λ st. Alike st s.params c.params) message f.same_params) own.0 f))
+    (takes_keeps c s a block block.ends (place_before (blocks_of c) c.place) refl same sending is fits
+    (subst (λ st. Alike st s.params c.params) message f.same_params) own.0 f))
     (λ part. record {
       accepted = a;
       stations = record {
@@ -268,19 +341,25 @@ new_block_keeps c s a block same sending message is f =
     })
 
 block_keeps : (c : Caller) (s : Answerer) (a : ℕ) (block : Block) → IsSending c.state → slice_get (blocks_of c) c.place ≡ Some block →
-    StationFacts c s a → (a ≡ c.place) ⊎ (a ≡ suc c.place) → AnswererKeeps c s a (answers_pps s block.ends (mark_of block) (last_frame_of block))
+    StationFacts c s a → (a ≡ c.place) ⊎ (a ≡ suc c.place) →
+    AnswererKeeps c s a (answers_pps s block.ends (mark_of block) (last_frame_of block))
 block_keeps c s a block sending is f (inl same) =
     either (AnswererKeeps c s a) (is_repeated s.accepted (mark_of block)) _ _
-    (λ repeated. absurd (not_repeated (c.finished ++ c.present) c.document f.call.readable c.place block is (rw (f.last, same) at repeated)))
-    (λ new. subst (λ last. AnswererKeeps c s a (judges_block s block.ends (mark_of block) last)) (sym (counted s.asked block c.place a (rw is at f.asked)))
+    (λ repeated. absurd (not_repeated (c.finished ++ c.present) c.document f.call.readable c.place block is
+    (rw (f.last, same) at repeated)))
+    (λ new. subst (λ last. AnswererKeeps c s a (judges_block s block.ends (mark_of block) last))
+    (sym (counted s.asked block c.place a (rw is at f.asked)))
     (new_block_keeps c s a block same sending ((phase_sending c.state c a s sending f.phase).ready same) is f))
 block_keeps c s a block sending is f (inr next) =
     let last : s.accepted ≡ Some (accepted_of block) = rw (next, is) at f.last in
     either (AnswererKeeps c s a) (is_repeated s.accepted (mark_of block)) _ _
     (λ repeated. confirms_keeps c s a next f)
-    (λ new. (let h : is_repeated (Some (accepted_of block)) (mark_of block) ≡ false = rw last at new in let g = same_mark_refl (mark_of block) in cc))
+    (λ new. (let h : is_repeated (Some (accepted_of block)) (mark_of block) ≡ false = rw last at new in
+    let g = same_mark_refl (mark_of block) in cc))
 
-pps_keeps : (c : Caller) (s : Answerer) (a : ℕ) (at : Option Block) (ends : PageEnd) (mark : Mark) (last : ℕ) → IsSending c.state → slice_get (blocks_of c) c.place ≡ at → SaysBlock at ends mark last →
+pps_keeps :
+    (c : Caller) (s : Answerer) (a : ℕ) (at : Option Block) (ends : PageEnd) (mark : Mark) (last : ℕ) → IsSending c.state →
+    slice_get (blocks_of c) c.place ≡ at → SaysBlock at ends mark last →
     StationFacts c s a → AnswererKeeps c s a (answers_pps s ends mark last)
 pps_keeps c s a None ends mark last sending is says f = absurd says
 pps_keeps c s a (Some block) ends mark last sending is says f =
@@ -294,18 +373,24 @@ rr_keeps c s a e f =
     either (AnswererKeeps c s a) _ _ _ (λ h. confirms_keeps c s a e f) (λ h. answerer_silent_keeps c s a f)
 
 -- outside Message only a repeated mark is answered
-repeated_keeps : (c : Caller) (s : Answerer) (a : ℕ) (at : Option Block) (ends : PageEnd) (mark : Mark) (last : ℕ) → IsSending c.state → slice_get (blocks_of c) c.place ≡ at → SaysBlock at ends mark last →
+repeated_keeps :
+    (c : Caller) (s : Answerer) (a : ℕ) (at : Option Block) (ends : PageEnd) (mark : Mark) (last : ℕ) → IsSending c.state →
+    slice_get (blocks_of c) c.place ≡ at → SaysBlock at ends mark last →
     StationFacts c s a → (a ≡ c.place) ⊎ (a ≡ suc c.place) → AnswererKeeps c s a (answers_repeated s mark)
 repeated_keeps c s a None ends mark last sending is says f near = absurd says
 repeated_keeps c s a (Some block) ends mark last sending is says f (inl same) =
     either (AnswererKeeps c s a) (is_repeated s.accepted mark) _ _
-    (λ repeated. absurd (not_repeated (c.finished ++ c.present) c.document f.call.readable c.place block is (rw (f.last, same, says.1) at repeated)))
+    (λ repeated. absurd (not_repeated (c.finished ++ c.present) c.document f.call.readable c.place block is
+    (rw (f.last, same, says.1) at repeated)))
     (λ new. answerer_silent_keeps c s a f)
 repeated_keeps c s a (Some block) ends mark last sending is says f (inr next) =
-    either (AnswererKeeps c s a) (is_repeated s.accepted mark) _ _ (λ repeated. confirms_keeps c s a next f) (λ new. answerer_silent_keeps c s a f)
+    either (AnswererKeeps c s a) (is_repeated s.accepted mark) _ _ (λ repeated. confirms_keeps c s a next f)
+    (λ new. answerer_silent_keeps c s a f)
 
 -- the state stays, and what the facts speak of
-phase_stays : (state : CallerState) (c : Caller) (a : ℕ) (s : Answerer) (busy : Bool) (ending : Option End) → Phase state c a s → Phase state c a (record s { busy = busy; ending = ending })
+phase_stays :
+    (state : CallerState) (c : Caller) (a : ℕ) (s : Answerer) (busy : Bool) (ending : Option End) → Phase state c a s →
+    Phase state c a (record s { busy = busy; ending = ending })
 phase_stays WaitDis c a s busy ending h = h
 phase_stays WaitCfr c a s busy ending h = h
 phase_stays WaitBlock c a s busy ending h = h
@@ -344,13 +429,17 @@ table_keeps PhaseB (dcs params) c s a e f h = first_dcs_keeps c s a params h.0 h
 table_keeps WaitTraining (dcs params) c s a e f h = dcs_keeps c s a params h.0 h.1 f
 table_keeps Message (dcs params) c s a e f h = dcs_keeps c s a params h.0 h.1 f
 table_keeps Message (fcd number octets) c s a e f h = frame_keeps c s a number octets h.0 h.1 h.2 f
-table_keeps Message (pps ends page block last) c s a e f h = pps_keeps c s a (slice_get (blocks_of c) c.place) ends (record { page = page; block = block }) last h.0 refl h.1 f
+table_keeps Message (pps ends page block last) c s a e f h =
+    pps_keeps c s a (slice_get (blocks_of c) c.place) ends (record { page = page; block = block }) last h.0 refl h.1 f
 table_keeps Message rr c s a e f h = rr_keeps c s a h.1 f
-table_keeps PhaseB (pps ends page block last) c s a e f h = repeated_keeps c s a (slice_get (blocks_of c) c.place) ends (record { page = page; block = block }) last h.0 refl h.1 f f.near
-table_keeps WaitTraining (pps ends page block last) c s a e f h = repeated_keeps c s a (slice_get (blocks_of c) c.place) ends (record { page = page; block = block }) last h.0 refl h.1 f f.near
+table_keeps PhaseB (pps ends page block last) c s a e f h =
+    repeated_keeps c s a (slice_get (blocks_of c) c.place) ends (record { page = page; block = block }) last h.0 refl h.1 f f.near
+table_keeps WaitTraining (pps ends page block last) c s a e f h =
+    repeated_keeps c s a (slice_get (blocks_of c) c.place) ends (record { page = page; block = block }) last h.0 refl h.1 f f.near
 table_keeps PhaseB rr c s a e f h = rr_keeps c s a h.1 f
 table_keeps WaitTraining rr c s a e f h = rr_keeps c s a h.1 f
-table_keeps _ dcn c s a e f h = stays_keeps c s a s.busy (Some (leaves s.accepted)) (λ n. inr (page_answerer_ends (leaves s.accepted) n (may_leave c s a f))) f
+table_keeps _ dcn c s a e f h = stays_keeps c s a s.busy (Some (leaves s.accepted))
+    (λ n. inr (page_answerer_ends (leaves s.accepted) n (may_leave c s a f))) f
 table_keeps _ _ c s a e f h = answerer_silent_keeps c s a f
 
 trains_keeps : (state : AnswererState) (octets : List ℕ) (c : Caller) (s : Answerer) (a : ℕ) → s.state ≡ state → StationFacts c s a →
@@ -398,17 +487,30 @@ past_in_b (Some block) state not e = go block.ends e
     go Eom h = refl
     go Eop h = absurd (not h)
 
-in_group_b : (c : Caller) (a : ℕ) (state : AnswererState) (own : Params) → state ≢ Message → InGroup (length (finished_of c)) c.place c.params (blocks_of c) a state own → InGroup (length (finished_of c)) c.place c.params (blocks_of c) a PhaseB own
+in_group_b :
+    (c : Caller) (a : ℕ) (state : AnswererState) (own : Params) → state ≢ Message →
+    InGroup (length (finished_of c)) c.place c.params (blocks_of c) a state own →
+    InGroup (length (finished_of c)) c.place c.params (blocks_of c) a PhaseB own
 in_group_b c a state own not h =
-    record { started = h.started; same = h.same; ready = λ e. absurd (not (h.ready e)); past = λ e. past_in_b (slice_get (blocks_of c) c.place) state not (h.past e); group = h.group }
+    record {
+      started = h.started;
+      same = h.same;
+      ready = λ e. absurd (not (h.ready e));
+      past = λ e. past_in_b (slice_get (blocks_of c) c.place) state not (h.past e);
+      group = h.group;
+    }
 
-phase_b : (state : CallerState) (c : Caller) (a : ℕ) (s : Answerer) → s.state ≢ Message → Phase state c a s → Phase state c a (record s { state = PhaseB })
+phase_b :
+    (state : CallerState) (c : Caller) (a : ℕ) (s : Answerer) → s.state ≢ Message → Phase state c a s →
+    Phase state c a (record s { state = PhaseB })
 phase_b WaitDis c a s not h = (refl, h.1, h.2)
 phase_b WaitCfr c a s not h = h
 phase_b WaitBlock c a s not h = in_group_b c a s.state s.params not h
 phase_b WaitReady c a s not h = in_group_b c a s.state s.params not h
 
-old_in_phase_b : (place a : ℕ) (state : AnswererState) (item : PlainItem) → state ≢ Message → MayReachCaller place state a item → MayReachCaller place PhaseB a item
+old_in_phase_b :
+    (place a : ℕ) (state : AnswererState) (item : PlainItem) → state ≢ Message → MayReachCaller place state a item →
+    MayReachCaller place PhaseB a item
 old_in_phase_b place a state (checked octets) not h = absurd h
 old_in_phase_b place a state (framed (dis caps)) not h = tt
 old_in_phase_b place a state (framed cfr) not h = absurd (not h)
@@ -418,7 +520,9 @@ old_in_phase_b place a state (framed rnr) not h = h
 old_in_phase_b place a state (framed (ppr map)) not h = h
 old_in_phase_b place a state (framed _) not h = absurd h
 
-t2_keeps : (c : Caller) (s : Answerer) (a : ℕ) → s.state ≢ Message → StationFacts c s a → LocalKeeps c s a (record { next = record s { state = PhaseB }; turn = SendDis })
+t2_keeps :
+    (c : Caller) (s : Answerer) (a : ℕ) → s.state ≢ Message → StationFacts c s a →
+    LocalKeeps c s a (record { next = record s { state = PhaseB }; turn = SendDis })
 t2_keeps c s a not f =
     record {
       keeps = record {
@@ -456,24 +560,32 @@ stays_local : (c : Caller) (s : Answerer) (a : ℕ) (busy : Bool) (ending : Opti
 unfolding stays_keeps
 stays_local c s a busy ending moves f = record { keeps = stays_keeps c s a busy ending moves f; old = λ item h. h; dis = tt }
 
-local_table_keeps : (state : AnswererState) (input : AnswererInput) → IsLocal input → (c : Caller) (s : Answerer) (a : ℕ) → s.state ≡ state → StationFacts c s a →
+local_table_keeps :
+    (state : AnswererState) (input : AnswererInput) → IsLocal input → (c : Caller) (s : Answerer) (a : ℕ) → s.state ≡ state →
+    StationFacts c s a →
     LocalKeeps c s a (answerer_table state input s)
 local_table_keeps PhaseB t2 l c s a e f = t2_keeps c s a (λ m. (let h : PhaseB ≡ Message = sym e ∙ m in cc)) f
 local_table_keeps WaitTraining t2 l c s a e f = t2_keeps c s a (λ m. (let h : WaitTraining ≡ Message = sym e ∙ m in cc)) f
 local_table_keeps Message t2 l c s a e f = silent_local c s a f
-local_table_keeps PhaseB t1 l c s a e f = stays_local c s a s.busy (Some NoAnswer) (λ n. inr (page_answerer_ends NoAnswer n (record { normal = λ h. cc; readable = λ h. cc }))) f
-local_table_keeps WaitTraining t1 l c s a e f = stays_local c s a s.busy (Some NoAnswer) (λ n. inr (page_answerer_ends NoAnswer n (record { normal = λ h. cc; readable = λ h. cc }))) f
-local_table_keeps Message t1 l c s a e f = stays_local c s a s.busy (Some NoAnswer) (λ n. inr (page_answerer_ends NoAnswer n (record { normal = λ h. cc; readable = λ h. cc }))) f
+local_table_keeps PhaseB t1 l c s a e f =
+    stays_local c s a s.busy (Some NoAnswer) (λ n. inr (page_answerer_ends NoAnswer n (record { normal = λ h. cc; readable = λ h. cc }))) f
+local_table_keeps WaitTraining t1 l c s a e f =
+    stays_local c s a s.busy (Some NoAnswer) (λ n. inr (page_answerer_ends NoAnswer n (record { normal = λ h. cc; readable = λ h. cc }))) f
+local_table_keeps Message t1 l c s a e f =
+    stays_local c s a s.busy (Some NoAnswer) (λ n. inr (page_answerer_ends NoAnswer n (record { normal = λ h. cc; readable = λ h. cc }))) f
 local_table_keeps PhaseB (is_busy b) l c s a e f = stays_local c s a b s.ending (λ n. inl refl) f
 local_table_keeps WaitTraining (is_busy b) l c s a e f = stays_local c s a b s.ending (λ n. inl refl) f
 local_table_keeps Message (is_busy b) l c s a e f = stays_local c s a b s.ending (λ n. inl refl) f
 local_table_keeps _ (listens signal) l c s a e f = elim l [ ]
 local_table_keeps _ (trains octets) l c s a e f = elim l [ ]
 
-unless_local_keeps : (ending : Option End) (input : AnswererInput) → IsLocal input → (c : Caller) (s : Answerer) (a : ℕ) → StationFacts c s a →
+unless_local_keeps :
+    (ending : Option End) (input : AnswererInput) → IsLocal input → (c : Caller) (s : Answerer) (a : ℕ) → StationFacts c s a →
     LocalKeeps c s a (unless_answerer_ended ending input s)
 unless_local_keeps (Some why) input l c s a f = silent_local c s a f
 unless_local_keeps None input l c s a f = local_table_keeps s.state input l c s a refl f
 
-pub answerer_local_keeps : (input : AnswererInput) → IsLocal input → (c : Caller) (s : Answerer) (a : ℕ) → StationFacts c s a → LocalKeeps c s a (answerer_step s input)
+pub answerer_local_keeps :
+    (input : AnswererInput) → IsLocal input → (c : Caller) (s : Answerer) (a : ℕ) → StationFacts c s a →
+    LocalKeeps c s a (answerer_step s input)
 answerer_local_keeps input l c s a f = unless_local_keeps s.ending input l c s a f

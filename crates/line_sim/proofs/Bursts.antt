@@ -14,18 +14,22 @@ abbrev pub put_all : Frames → ℕ → List (List ℕ) → Frames
 put_all store number [] = store
 put_all store number (octets ∷ frames) = put_all (slice_set store number (Some octets)) (suc number) frames
 
-put_all_below : (frames : List (List ℕ)) (store : Frames) (number n : ℕ) → n < number → frame_of (put_all store number frames) n ≡ frame_of store n
+put_all_below :
+    (frames : List (List ℕ)) (store : Frames) (number n : ℕ) → n < number → frame_of (put_all store number frames) n ≡ frame_of store n
 put_all_below [] store number n h = refl
 put_all_below (octets ∷ frames) store number n h =
     put_all_below frames (slice_set store number (Some octets)) (suc number) n (omega arith)
     ∙ get_or-set_other store number n (Some octets) None (λ e. absurd (omega (arith, e, h)))
 
-put_all_at : (frames : List (List ℕ)) (store : Frames) (number n : ℕ) (octets : List ℕ) → number + length frames ≤ length store → slice_get frames n ≡ Some octets → frame_of (put_all store number frames) (n + number) ≡ Some octets
+put_all_at :
+    (frames : List (List ℕ)) (store : Frames) (number n : ℕ) (octets : List ℕ) → number + length frames ≤ length store →
+    slice_get frames n ≡ Some octets → frame_of (put_all store number frames) (n + number) ≡ Some octets
 put_all_at [] store number n octets fits e = cc
 put_all_at (first ∷ frames) store number zero octets fits e =
     let same : number ≡ zero + number = omega arith in
     subst (λ k. frame_of (put_all (slice_set store number (Some first)) (suc number) frames) k ≡ Some octets) same
-    (put_all_below frames (slice_set store number (Some first)) (suc number) number (omega arith) ∙ (get_or-set_same store number (Some first) None (omega (arith, fits)) ∙ e))
+    (put_all_below frames (slice_set store number (Some first)) (suc number) number (omega arith) ∙
+    (get_or-set_same store number (Some first) None (omega (arith, fits)) ∙ e))
 put_all_at (first ∷ frames) store number (suc n) octets fits e =
     let same : n + suc number ≡ suc n + number = omega arith in
     let size : length (slice_set store number (Some first)) ≡ length store = length-set store number (Some first) in
@@ -36,7 +40,8 @@ put_all_at (first ∷ frames) store number (suc n) octets fits e =
 pub all_put : (frames : List (List ℕ)) → length frames ≤ 256 → HoldsAll (put_all no_frames 0 frames) frames
 all_put frames few n octets e =
     let same : n + 0 ≡ n = omega arith in
-    subst (λ k. frame_of (put_all no_frames 0 frames) k ≡ Some octets) same (put_all_at frames no_frames 0 n octets (omega (arith, few, length_none)) e)
+    subst (λ k. frame_of (put_all no_frames 0 frames) k ≡ Some octets) same
+    (put_all_at frames no_frames 0 n octets (omega (arith, few, length_none)) e)
 
 -- a first burst has every frame
 pub every_frame : (number : ℕ) → number < 256 → bit_of all_frames number ≡ true

@@ -1,13 +1,12 @@
 -- In every world that events lead to the stations are in step.
-use Rattle.std.proofs.Common.{◌≡◌, suc, List, [], ◌∷◌, ◌++◌, refl, ap, subst, ◌∙◌}
+use Rattle.std.proofs.Common.{List, [], ◌∷◌, ◌++◌, refl, subst}
 use Rattle.signals.specs.Signals.{PlainSignal, mcf}
 use Rattle.stations.specs.Inputs.{PlainItem, framed}
 use Rattle.stations.specs.Laws.{Each}
 use Rattle.stations.specs.CallerFields.{IsSending}
 use Rattle.stations.specs.CallerStep.{blocks_of}
-use Rattle.stations.specs.declared.turn.AnswererState.TheVariants.{Message}
 use Rattle.line_sim.specs.Line.{World, new_world, run}
-use Rattle.line_sim.specs.LineFacts.{InGroup, finished_of, IsDis, OnlyDisAfterFirst, LineFacts}
+use Rattle.line_sim.specs.LineFacts.{InGroup, IsDis, OnlyDisAfterFirst, LineFacts}
 use Rattle.line_sim.specs.InStep.{IsUnderWay, InStep}
 use Rattle.line_sim.specs.Headline.{Promised, StationsInStep}
 use Rattle.line_sim.proofs.CallerKeeps.{phase_sending}
@@ -19,7 +18,8 @@ each_at : (P : PlainItem → Type 0) (before after : List PlainItem) (item : Pla
 each_at P [] after item h = h.0
 each_at P (first ∷ before) after item h = each_at P before after item h.1
 
-under_way : (P : PlainItem → Type 0) (signal : PlainSignal) (items : List PlainItem) → Each P items → IsUnderWay signal items → P (framed signal)
+under_way :
+    (P : PlainItem → Type 0) (signal : PlainSignal) (items : List PlainItem) → Each P items → IsUnderWay signal items → P (framed signal)
 under_way P signal items h at = each_at P at.0 at.1 (framed signal) (subst (Each P) at.2 h)
 
 -- an MCF is no DIS, so it is the first item
@@ -30,7 +30,8 @@ after_mcf (first ∷ before) after h = absurd (each_at IsDis before after (frame
 pub in_step : (w : World) → LineFacts w → InStep w
 in_step w f =
     let place = w.caller.place in
-    let group : IsSending w.caller.state → InGroup _ place w.caller.params (blocks_of w.caller) f.accepted w.answerer.state w.answerer.params =
+    let group :
+    IsSending w.caller.state → InGroup _ place w.caller.params (blocks_of w.caller) f.accepted w.answerer.state w.answerer.params =
     λ sending. phase_sending w.caller.state w.caller f.accepted w.answerer sending f.stations.phase in
     record {
       one_way = f.one_way;
@@ -56,4 +57,5 @@ in_step w f =
 
 pub stations_in_step : Promised → StationsInStep
 stations_in_step laws document wish caps steps full =
-    in_step (run steps (new_world document wish caps)) (run_keeps laws steps (new_world document wish caps) (new_world_facts document wish caps full))
+    in_step (run steps (new_world document wish caps))
+    (run_keeps laws steps (new_world document wish caps) (new_world_facts document wish caps full))

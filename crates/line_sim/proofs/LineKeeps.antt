@@ -98,17 +98,32 @@ caller_sent : (turn : Turn) (w : World) (next : Caller) (items : List PlainItem)
 caller_sent Silent w next items a stations free old new quiet only =
     record { accepted = a; stations = stations; one_way = free; to_answerer = old; to_caller = quiet refl; only_dis = only }
 caller_sent _ w next items a stations free old new quiet only =
-    record { accepted = a; stations = stations; one_way = inr refl; to_answerer = each_append (MayReachAnswerer next a) w.to_answerer items old new; to_caller = tt; only_dis = tt }
+    record {
+      accepted = a;
+      stations = stations;
+      one_way = inr refl;
+      to_answerer = each_append (MayReachAnswerer next a) w.to_answerer items old new;
+      to_caller = tt;
+      only_dis = tt;
+    }
 
 answerer_sent : (turn : Turn) (w : World) (next : Answerer) (items : List PlainItem) (a : ℕ) →
     StationFacts w.caller next a → (w.to_answerer ≡ []) ⊎ (w.to_caller ≡ []) →
     Each (MayReachCaller w.caller.place next.state a) w.to_caller → Each (MayReachCaller w.caller.place next.state a) items →
-    (turn ≡ Silent → Each (MayReachAnswerer w.caller a) w.to_answerer) → OnlyDisAfterFirst w.to_caller → OnlyDisAfterFirst (w.to_caller ++ items) →
+    (turn ≡ Silent → Each (MayReachAnswerer w.caller a) w.to_answerer) → OnlyDisAfterFirst w.to_caller →
+    OnlyDisAfterFirst (w.to_caller ++ items) →
     LineFacts (answerer_sends turn w next items)
 answerer_sent Silent w next items a stations free old new quiet only after =
     record { accepted = a; stations = stations; one_way = free; to_answerer = quiet refl; to_caller = old; only_dis = only }
 answerer_sent _ w next items a stations free old new quiet only after =
-    record { accepted = a; stations = stations; one_way = inl refl; to_answerer = tt; to_caller = each_append (MayReachCaller w.caller.place next.state a) w.to_caller items old new; only_dis = after }
+    record {
+      accepted = a;
+      stations = stations;
+      one_way = inl refl;
+      to_answerer = tt;
+      to_caller = each_append (MayReachCaller w.caller.place next.state a) w.to_caller items old new;
+      only_dis = after;
+    }
 
 -- what an event has to keep
 pub record Keeps (c : Caller) (s : Answerer) (after : World) : Type 0 where
@@ -119,13 +134,22 @@ pub record Keeps (c : Caller) (s : Answerer) (after : World) : Type 0 where
 -- an event that no station hears of
 unheard : (w after : World) → after.caller ≡ w.caller → after.answerer ≡ w.answerer → LineFacts after → Keeps w.caller w.answerer after
 unheard w after e g f =
-    record { line = f; moves = subst (AtMostTwo (length w.caller.document) (shown w)) (rw (e, g) refl) no_move; same = ap (λ c. c.document) e }
+    record {
+      line = f;
+      moves = subst (AtMostTwo (length w.caller.document) (shown w)) (rw (e, g) refl) no_move;
+      same = ap (λ c. c.document) e;
+    }
 
-caller_shows : (turn : Turn) (w : World) (next : Caller) (items : List PlainItem) → (shown (caller_sends turn w next items) ≡ state_of next w.answerer) × ((caller_sends turn w next items).caller.document ≡ next.document)
+caller_shows :
+    (turn : Turn) (w : World) (next : Caller) (items : List PlainItem) →
+    (shown (caller_sends turn w next items) ≡ state_of next w.answerer) × ((caller_sends turn w next items).caller.document ≡ next.document)
 caller_shows Silent w next items = (refl, refl)
 caller_shows _ w next items = (refl, refl)
 
-answerer_shows : (turn : Turn) (w : World) (next : Answerer) (items : List PlainItem) → (shown (answerer_sends turn w next items) ≡ state_of w.caller next) × ((answerer_sends turn w next items).caller.document ≡ w.caller.document)
+answerer_shows :
+    (turn : Turn) (w : World) (next : Answerer) (items : List PlainItem) →
+    (shown (answerer_sends turn w next items) ≡ state_of w.caller next) ×
+    ((answerer_sends turn w next items).caller.document ≡ w.caller.document)
 answerer_shows Silent w next items = (refl, refl)
 answerer_shows _ w next items = (refl, refl)
 
@@ -142,23 +166,29 @@ answerer_moves : (ending : Option End) (c : Caller) (s : Answerer) (input : Answ
 answerer_moves (Some why) c s input e h = no_move
 answerer_moves None c s input e h = at_most_one _ _ _ (h e)
 
-caller_does : (w : World) (outcome : Outcome) (input : CallerInput) (a : ℕ) → CallerKeeps w.caller w.answerer a (caller_step w.caller input) → LineFacts (caller_acts w outcome input) → Keeps w.caller w.answerer (caller_acts w outcome input)
+caller_does :
+    (w : World) (outcome : Outcome) (input : CallerInput) (a : ℕ) → CallerKeeps w.caller w.answerer a (caller_step w.caller input) →
+    LineFacts (caller_acts w outcome input) → Keeps w.caller w.answerer (caller_acts w outcome input)
 caller_does w outcome input a keeps line =
     let answer = caller_step w.caller input in
     let shows = caller_shows answer.turn w answer.next (sent outcome (caller_items answer.next answer.turn)) in
     record {
       line = line;
-      moves = subst (AtMostTwo (length w.caller.document) (shown w)) (sym shows.0) (caller_moves w.caller.ending w.caller w.answerer input refl keeps.moves);
+      moves = subst (AtMostTwo (length w.caller.document) (shown w)) (sym shows.0)
+          (caller_moves w.caller.ending w.caller w.answerer input refl keeps.moves);
       same = shows.1 ∙ keeps.same;
     }
 
-answerer_does : (w : World) (outcome : Outcome) (input : AnswererInput) (a : ℕ) → AnswererKeeps w.caller w.answerer a (answerer_step w.answerer input) → LineFacts (answerer_acts w outcome input) → Keeps w.caller w.answerer (answerer_acts w outcome input)
+answerer_does :
+    (w : World) (outcome : Outcome) (input : AnswererInput) (a : ℕ) → AnswererKeeps w.caller w.answerer a (answerer_step w.answerer input) →
+    LineFacts (answerer_acts w outcome input) → Keeps w.caller w.answerer (answerer_acts w outcome input)
 answerer_does w outcome input a keeps line =
     let answer = answerer_step w.answerer input in
     let shows = answerer_shows answer.turn w answer.next (sent outcome (answerer_items answer.next answer.turn)) in
     record {
       line = line;
-      moves = subst (AtMostTwo (length w.caller.document) (shown w)) (sym shows.0) (answerer_moves w.answerer.ending w.caller w.answerer input refl keeps.moves);
+      moves = subst (AtMostTwo (length w.caller.document) (shown w)) (sym shows.0)
+          (answerer_moves w.answerer.ending w.caller w.answerer input refl keeps.moves);
       same = shows.1;
     }
 
@@ -166,59 +196,107 @@ none_there : (P : PlainItem → Type 0) (items : List PlainItem) → items ≡ [
 none_there P items e = rw e tt
 
 -- an item comes to the answerer; nothing is under way to the caller
-signal_to_answerer : Promised → (w : World) (outcome : Outcome) (signal : PlainSignal) (a : ℕ) → StationFacts w.caller w.answerer a → w.to_caller ≡ [] →
-    MayReachAnswerer w.caller a (framed signal) → Each (MayReachAnswerer w.caller a) w.to_answerer → Keeps w.caller w.answerer (answerer_acts w outcome (listens signal))
+signal_to_answerer :
+    Promised → (w : World) (outcome : Outcome) (signal : PlainSignal) (a : ℕ) → StationFacts w.caller w.answerer a → w.to_caller ≡ [] →
+    MayReachAnswerer w.caller a (framed signal) → Each (MayReachAnswerer w.caller a) w.to_answerer →
+    Keeps w.caller w.answerer (answerer_acts w outcome (listens signal))
 signal_to_answerer laws w outcome signal a f none h rest =
     let keeps = answerer_hears_keeps signal w.caller w.answerer a f h in
     let answer = answerer_step w.answerer (listens signal) in
-    answerer_does w outcome (listens signal) a keeps (answerer_sent answer.turn w answer.next (sent outcome (answerer_items answer.next answer.turn)) keeps.accepted keeps.stations (inr none)
+    answerer_does w outcome (listens signal) a keeps
+    (answerer_sent answer.turn w answer.next (sent outcome (answerer_items answer.next answer.turn)) keeps.accepted keeps.stations
+    (inr none)
     (none_there _ w.to_caller none) (each_sent _ outcome _ keeps.items)
     (λ e. subst (λ n. Each (MayReachAnswerer w.caller n) w.to_answerer) (sym (keeps.quiet e)) rest)
     (rw none tt) (rw none (only_sent outcome _ (one_item answer.next answer.turn))))
 
 training_to_answerer : (w : World) (outcome : Outcome) (octets : List ℕ) (a : ℕ) → StationFacts w.caller w.answerer a → w.to_caller ≡ [] →
-    w.caller.state ≡ WaitCfr → Each (MayReachAnswerer w.caller a) w.to_answerer → Keeps w.caller w.answerer (answerer_acts w outcome (trains octets))
+    w.caller.state ≡ WaitCfr → Each (MayReachAnswerer w.caller a) w.to_answerer →
+    Keeps w.caller w.answerer (answerer_acts w outcome (trains octets))
 training_to_answerer w outcome octets a f none h rest =
     let keeps = answerer_trains_keeps octets w.caller w.answerer a f h in
     let answer = answerer_step w.answerer (trains octets) in
-    answerer_does w outcome (trains octets) a keeps (answerer_sent answer.turn w answer.next (sent outcome (answerer_items answer.next answer.turn)) keeps.accepted keeps.stations (inr none)
+    answerer_does w outcome (trains octets) a keeps
+    (answerer_sent answer.turn w answer.next (sent outcome (answerer_items answer.next answer.turn)) keeps.accepted keeps.stations
+    (inr none)
     (none_there _ w.to_caller none) (each_sent _ outcome _ keeps.items)
     (λ e. subst (λ n. Each (MayReachAnswerer w.caller n) w.to_answerer) (sym (keeps.quiet e)) rest)
     (rw none tt) (rw none (only_sent outcome _ (one_item answer.next answer.turn))))
 
-item_to_answerer : Promised → (w : World) (outcome : Outcome) (item : PlainItem) (a : ℕ) → StationFacts w.caller w.answerer a → w.to_caller ≡ [] →
-    MayReachAnswerer w.caller a item → Each (MayReachAnswerer w.caller a) w.to_answerer → Keeps w.caller w.answerer (comes_to_answerer w outcome item)
+item_to_answerer :
+    Promised → (w : World) (outcome : Outcome) (item : PlainItem) (a : ℕ) → StationFacts w.caller w.answerer a → w.to_caller ≡ [] →
+    MayReachAnswerer w.caller a item → Each (MayReachAnswerer w.caller a) w.to_answerer →
+    Keeps w.caller w.answerer (comes_to_answerer w outcome item)
 item_to_answerer laws w outcome (framed signal) a f none h rest = signal_to_answerer laws w outcome signal a f none h rest
 item_to_answerer laws w outcome (checked octets) a f none h rest = training_to_answerer w outcome octets a f none h rest
 
 -- an item comes to the caller; nothing is under way to the answerer
-signal_to_caller : Promised → (w : World) (outcome : Outcome) (signal : PlainSignal) (a : ℕ) → StationFacts w.caller w.answerer a → w.to_answerer ≡ [] →
-    MayReachCaller w.caller.place w.answerer.state a (framed signal) → Each IsDis w.to_caller → Keeps w.caller w.answerer (caller_acts w outcome (hears signal))
+signal_to_caller :
+    Promised → (w : World) (outcome : Outcome) (signal : PlainSignal) (a : ℕ) → StationFacts w.caller w.answerer a → w.to_answerer ≡ [] →
+    MayReachCaller w.caller.place w.answerer.state a (framed signal) → Each IsDis w.to_caller →
+    Keeps w.caller w.answerer (caller_acts w outcome (hears signal))
 signal_to_caller laws w outcome signal a f none h rest =
     let keeps = caller_heard_keeps laws signal w.caller w.answerer a f h in
     let answer = caller_step w.caller (hears signal) in
-    caller_does w outcome (hears signal) a keeps (caller_sent answer.turn w answer.next (sent outcome (caller_items answer.next answer.turn)) a keeps.stations (inl none)
+    caller_does w outcome (hears signal) a keeps
+    (caller_sent answer.turn w answer.next (sent outcome (caller_items answer.next answer.turn)) a keeps.stations (inl none)
     (none_there _ w.to_answerer none) (each_sent _ outcome _ keeps.items)
     (λ e. dis_may answer.next.place a w.answerer.state w.to_caller rest) (dis_only w.to_caller rest))
 
-item_to_caller : Promised → (w : World) (outcome : Outcome) (item : PlainItem) (a : ℕ) → StationFacts w.caller w.answerer a → w.to_answerer ≡ [] →
-    MayReachCaller w.caller.place w.answerer.state a item → Each IsDis w.to_caller → Keeps w.caller w.answerer (comes_to_caller w outcome item)
+item_to_caller :
+    Promised → (w : World) (outcome : Outcome) (item : PlainItem) (a : ℕ) → StationFacts w.caller w.answerer a → w.to_answerer ≡ [] →
+    MayReachCaller w.caller.place w.answerer.state a item → Each IsDis w.to_caller →
+    Keeps w.caller w.answerer (comes_to_caller w outcome item)
 item_to_caller laws w outcome (framed signal) a f none h rest = signal_to_caller laws w outcome signal a f none h rest
 item_to_caller laws w outcome (checked octets) a f none h rest = absurd h
 
-to_answerer_keeps : Promised → (w : World) (outcome : Outcome) (items : List PlainItem) → LineFacts w → LineFacts (record w { to_answerer = items }) → Keeps w.caller w.answerer (delivers_to_answerer w outcome items)
+to_answerer_keeps :
+    Promised → (w : World) (outcome : Outcome) (items : List PlainItem) → LineFacts w → LineFacts (record w { to_answerer = items }) →
+    Keeps w.caller w.answerer (delivers_to_answerer w outcome items)
 to_answerer_keeps laws w outcome [] g f = unheard w w refl refl g
-to_answerer_keeps laws w InputLost (item ∷ items) g f = unheard w (record w { to_answerer = items }) refl refl (record { accepted = f.accepted; stations = f.stations; one_way = inr (free_answerer items w.to_caller item f.one_way); to_answerer = f.to_answerer.1; to_caller = f.to_caller; only_dis = f.only_dis })
-to_answerer_keeps laws w Done (item ∷ items) g f = item_to_answerer laws (record w { to_answerer = items }) Done item f.accepted f.stations (free_answerer items w.to_caller item f.one_way) f.to_answerer.0 f.to_answerer.1
-to_answerer_keeps laws w Nothing (item ∷ items) g f = item_to_answerer laws (record w { to_answerer = items }) Nothing item f.accepted f.stations (free_answerer items w.to_caller item f.one_way) f.to_answerer.0 f.to_answerer.1
-to_answerer_keeps laws w (Cut made) (item ∷ items) g f = item_to_answerer laws (record w { to_answerer = items }) (Cut made) item f.accepted f.stations (free_answerer items w.to_caller item f.one_way) f.to_answerer.0 f.to_answerer.1
+to_answerer_keeps laws w InputLost (item ∷ items) g f =
+    unheard w (record w { to_answerer = items }) refl refl
+    (record {
+      accepted = f.accepted;
+      stations = f.stations;
+      one_way = inr (free_answerer items w.to_caller item f.one_way);
+      to_answerer = f.to_answerer.1;
+      to_caller = f.to_caller;
+      only_dis = f.only_dis;
+    })
+to_answerer_keeps laws w Done (item ∷ items) g f =
+    item_to_answerer laws (record w { to_answerer = items }) Done item f.accepted f.stations
+    (free_answerer items w.to_caller item f.one_way) f.to_answerer.0 f.to_answerer.1
+to_answerer_keeps laws w Nothing (item ∷ items) g f =
+    item_to_answerer laws (record w { to_answerer = items }) Nothing item f.accepted f.stations
+    (free_answerer items w.to_caller item f.one_way) f.to_answerer.0 f.to_answerer.1
+to_answerer_keeps laws w (Cut made) (item ∷ items) g f =
+    item_to_answerer laws (record w { to_answerer = items }) (Cut made) item f.accepted f.stations
+    (free_answerer items w.to_caller item f.one_way) f.to_answerer.0 f.to_answerer.1
 
-to_caller_keeps : Promised → (w : World) (outcome : Outcome) (items : List PlainItem) → LineFacts w → LineFacts (record w { to_caller = items }) → Keeps w.caller w.answerer (delivers_to_caller w outcome items)
+to_caller_keeps :
+    Promised → (w : World) (outcome : Outcome) (items : List PlainItem) → LineFacts w → LineFacts (record w { to_caller = items }) →
+    Keeps w.caller w.answerer (delivers_to_caller w outcome items)
 to_caller_keeps laws w outcome [] g f = unheard w w refl refl g
-to_caller_keeps laws w InputLost (item ∷ items) g f = unheard w (record w { to_caller = items }) refl refl (record { accepted = f.accepted; stations = f.stations; one_way = inl (free_caller w.to_answerer items item f.one_way); to_answerer = f.to_answerer; to_caller = f.to_caller.1; only_dis = dis_only items f.only_dis })
-to_caller_keeps laws w Done (item ∷ items) g f = item_to_caller laws (record w { to_caller = items }) Done item f.accepted f.stations (free_caller w.to_answerer items item f.one_way) f.to_caller.0 f.only_dis
-to_caller_keeps laws w Nothing (item ∷ items) g f = item_to_caller laws (record w { to_caller = items }) Nothing item f.accepted f.stations (free_caller w.to_answerer items item f.one_way) f.to_caller.0 f.only_dis
-to_caller_keeps laws w (Cut made) (item ∷ items) g f = item_to_caller laws (record w { to_caller = items }) (Cut made) item f.accepted f.stations (free_caller w.to_answerer items item f.one_way) f.to_caller.0 f.only_dis
+to_caller_keeps laws w InputLost (item ∷ items) g f =
+    unheard w (record w { to_caller = items }) refl refl
+    (record {
+      accepted = f.accepted;
+      stations = f.stations;
+      one_way = inl (free_caller w.to_answerer items item f.one_way);
+      to_answerer = f.to_answerer;
+      to_caller = f.to_caller.1;
+      only_dis = dis_only items f.only_dis;
+    })
+to_caller_keeps laws w Done (item ∷ items) g f =
+    item_to_caller laws (record w { to_caller = items }) Done item f.accepted f.stations
+    (free_caller w.to_answerer items item f.one_way) f.to_caller.0 f.only_dis
+to_caller_keeps laws w Nothing (item ∷ items) g f =
+    item_to_caller laws (record w { to_caller = items }) Nothing item f.accepted f.stations
+    (free_caller w.to_answerer items item f.one_way) f.to_caller.0 f.only_dis
+to_caller_keeps laws w (Cut made) (item ∷ items) g f =
+    item_to_caller laws (record w { to_caller = items }) (Cut made) item f.accepted f.stations
+    (free_caller w.to_answerer items item f.one_way) f.to_caller.0 f.only_dis
 
 after_first_fits : (P : PlainItem → Type 0) (items : List PlainItem) → Each P items → Each P (after_first items)
 after_first_fits P [] h = tt
@@ -229,7 +307,14 @@ after_first_none items e = rw e refl
 
 lost_answerer : (w : World) → LineFacts w → LineFacts (record w { to_answerer = after_first w.to_answerer })
 lost_answerer w f =
-    record { accepted = f.accepted; stations = f.stations; one_way = free f.one_way; to_answerer = after_first_fits _ w.to_answerer f.to_answerer; to_caller = f.to_caller; only_dis = f.only_dis }
+    record {
+      accepted = f.accepted;
+      stations = f.stations;
+      one_way = free f.one_way;
+      to_answerer = after_first_fits _ w.to_answerer f.to_answerer;
+      to_caller = f.to_caller;
+      only_dis = f.only_dis;
+    }
   where
     free : (w.to_answerer ≡ []) ⊎ (w.to_caller ≡ []) → (after_first w.to_answerer ≡ []) ⊎ (w.to_caller ≡ [])
     free (inl e) = inl (after_first_none w.to_answerer e)
@@ -237,13 +322,21 @@ lost_answerer w f =
 
 lost_caller : (w : World) → LineFacts w → LineFacts (record w { to_caller = after_first w.to_caller })
 lost_caller w f =
-    record { accepted = f.accepted; stations = f.stations; one_way = free f.one_way; to_answerer = f.to_answerer; to_caller = after_first_fits _ w.to_caller f.to_caller; only_dis = only_after_first w.to_caller f.only_dis }
+    record {
+      accepted = f.accepted;
+      stations = f.stations;
+      one_way = free f.one_way;
+      to_answerer = f.to_answerer;
+      to_caller = after_first_fits _ w.to_caller f.to_caller;
+      only_dis = only_after_first w.to_caller f.only_dis;
+    }
   where
     free : (w.to_answerer ≡ []) ⊎ (w.to_caller ≡ []) → (w.to_answerer ≡ []) ⊎ (after_first w.to_caller ≡ [])
     free (inl e) = inl e
     free (inr e) = inr (after_first_none w.to_caller e)
 
-spoiled_fits : (c : Caller) (a : ℕ) (items : List PlainItem) → Each (MayReachAnswerer c a) items → Each (MayReachAnswerer c a) (spoiled items)
+spoiled_fits :
+    (c : Caller) (a : ℕ) (items : List PlainItem) → Each (MayReachAnswerer c a) items → Each (MayReachAnswerer c a) (spoiled items)
 spoiled_fits c a [] h = tt
 spoiled_fits c a (checked octets ∷ items) h = h
 spoiled_fits c a (framed signal ∷ items) h = h
@@ -253,36 +346,54 @@ spoiled_none items e = rw e refl
 
 spoiled_keeps : (w : World) → LineFacts w → LineFacts (record w { to_answerer = spoiled w.to_answerer })
 spoiled_keeps w f =
-    record { accepted = f.accepted; stations = f.stations; one_way = free f.one_way; to_answerer = spoiled_fits w.caller f.accepted w.to_answerer f.to_answerer; to_caller = f.to_caller; only_dis = f.only_dis }
+    record {
+      accepted = f.accepted;
+      stations = f.stations;
+      one_way = free f.one_way;
+      to_answerer = spoiled_fits w.caller f.accepted w.to_answerer f.to_answerer;
+      to_caller = f.to_caller;
+      only_dis = f.only_dis;
+    }
   where
     free : (w.to_answerer ≡ []) ⊎ (w.to_caller ≡ []) → (spoiled w.to_answerer ≡ []) ⊎ (w.to_caller ≡ [])
     free (inl e) = inl (spoiled_none w.to_answerer e)
     free (inr e) = inr e
 
-caller_times : (w : World) (outcome : Outcome) (input : CallerInput) → IsTimer input → LineFacts w → Keeps w.caller w.answerer (caller_acts w outcome input)
+caller_times :
+    (w : World) (outcome : Outcome) (input : CallerInput) → IsTimer input → LineFacts w →
+    Keeps w.caller w.answerer (caller_acts w outcome input)
 caller_times w outcome input t f =
     let keeps = caller_timer_keeps input t w.caller w.answerer f.accepted f.stations in
     let answer = caller_step w.caller input in
-    caller_does w outcome input f.accepted keeps.keeps (caller_sent answer.turn w answer.next (sent outcome (caller_items answer.next answer.turn)) f.accepted keeps.keeps.stations f.one_way
+    caller_does w outcome input f.accepted keeps.keeps
+    (caller_sent answer.turn w answer.next (sent outcome (caller_items answer.next answer.turn)) f.accepted keeps.keeps.stations f.one_way
     (each_map _ _ w.to_answerer keeps.old f.to_answerer) (each_sent _ outcome _ keeps.keeps.items)
     (λ e. subst (λ n. Each (MayReachCaller n w.answerer.state f.accepted) w.to_caller) (sym (keeps.quiet e)) f.to_caller) f.only_dis)
 
-caller_timer_line : (w : World) (outcome : Outcome) (input : CallerInput) → IsTimer input → LineFacts w → Keeps w.caller w.answerer (caller_timer w outcome input)
+caller_timer_line :
+    (w : World) (outcome : Outcome) (input : CallerInput) → IsTimer input → LineFacts w →
+    Keeps w.caller w.answerer (caller_timer w outcome input)
 caller_timer_line w InputLost input t f = unheard w w refl refl f
 caller_timer_line w Done input t f = caller_times w Done input t f
 caller_timer_line w Nothing input t f = caller_times w Nothing input t f
 caller_timer_line w (Cut made) input t f = caller_times w (Cut made) input t f
 
-answerer_times : (w : World) (outcome : Outcome) (input : AnswererInput) → IsLocal input → LineFacts w → Keeps w.caller w.answerer (answerer_acts w outcome input)
+answerer_times :
+    (w : World) (outcome : Outcome) (input : AnswererInput) → IsLocal input → LineFacts w →
+    Keeps w.caller w.answerer (answerer_acts w outcome input)
 answerer_times w outcome input t f =
     let keeps = answerer_local_keeps input t w.caller w.answerer f.accepted f.stations in
     let answer = answerer_step w.answerer input in
-    answerer_does w outcome input f.accepted keeps.keeps (answerer_sent answer.turn w answer.next (sent outcome (answerer_items answer.next answer.turn)) keeps.keeps.accepted keeps.keeps.stations f.one_way
+    answerer_does w outcome input f.accepted keeps.keeps
+    (answerer_sent answer.turn w answer.next (sent outcome
+    (answerer_items answer.next answer.turn)) keeps.keeps.accepted keeps.keeps.stations f.one_way
     (each_map _ _ w.to_caller keeps.old f.to_caller) (each_sent _ outcome _ keeps.keeps.items)
     (λ e. subst (λ n. Each (MayReachAnswerer w.caller n) w.to_answerer) (sym (keeps.keeps.quiet e)) f.to_answerer)
     f.only_dis (only_append w.to_caller _ f.only_dis (each_sent IsDis outcome _ keeps.dis)))
 
-answerer_timer_line : (w : World) (outcome : Outcome) (input : AnswererInput) → IsLocal input → LineFacts w → Keeps w.caller w.answerer (answerer_timer w outcome input)
+answerer_timer_line :
+    (w : World) (outcome : Outcome) (input : AnswererInput) → IsLocal input → LineFacts w →
+    Keeps w.caller w.answerer (answerer_timer w outcome input)
 answerer_timer_line w InputLost input t f = unheard w w refl refl f
 answerer_timer_line w Done input t f = answerer_times w Done input t f
 answerer_timer_line w Nothing input t f = answerer_times w Nothing input t f
@@ -300,7 +411,8 @@ acts_keep laws w AnswererT1 outcome f = answerer_timer_line w outcome t1 of_t1 f
 acts_keep laws w AnswererT2 outcome f = answerer_timer_line w outcome t2 of_t2 f
 acts_keep laws w (Busy busy) outcome f = answerer_timer_line w outcome (is_busy busy) of_busy f
 
-pub happens_keeps : Promised → (w : World) (event : Event) (outcome : Outcome) → LineFacts w → Keeps w.caller w.answerer (happens w event outcome)
+pub happens_keeps :
+    Promised → (w : World) (event : Event) (outcome : Outcome) → LineFacts w → Keeps w.caller w.answerer (happens w event outcome)
 happens_keeps laws w event Nothing f = unheard w w refl refl f
 happens_keeps laws w event Done f = acts_keep laws w event Done f
 happens_keeps laws w event InputLost f = acts_keep laws w event InputLost f
@@ -310,15 +422,18 @@ no_pages : (pages : List PagePixels) → AreReadable [] pages
 no_pages [] = tt
 no_pages (page ∷ pages) = tt
 
-pub new_world_facts : (document : Document) (wish : Wish) (caps : Caps) → Each IsFullPage document → LineFacts (new_world document wish caps)
+pub new_world_facts :
+    (document : Document) (wish : Wish) (caps : Caps) → Each IsFullPage document → LineFacts (new_world document wish caps)
 new_world_facts document wish caps full =
     let c = new_caller document wish no_caps no_params in
     let s = new_answerer caps no_params in
     let none : finished_of c ≡ [] = no_groups 0 document in
-    let before : BeforeGroup 0 (finished_of c) 0 s.frames s.asked = record { place_is = rw none refl; accepted_is = refl; none_open = refl; none_asked = refl } in
+    let before : BeforeGroup 0 (finished_of c) 0 s.frames s.asked =
+    record { place_is = rw none refl; accepted_is = refl; none_open = refl; none_asked = refl } in
     record {
       accepted = 0;
-      stations = fresh_facts c s 0 [] refl tt before (record { pages = refl; octets = refl; last = refl }) (λ e. cc) (refl, refl, before) tt (record { full = full; through = none_through document; readable = no_pages document }) (λ n. absurd (n refl)) length_none;
+      stations = fresh_facts c s 0 [] refl tt before (record { pages = refl; octets = refl; last = refl }) (λ e. cc) (refl, refl, before) tt
+          (record { full = full; through = none_through document; readable = no_pages document }) (λ n. absurd (n refl)) length_none;
       one_way = inl refl;
       to_answerer = tt;
       to_caller = (tt, tt);

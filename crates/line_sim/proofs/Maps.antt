@@ -14,9 +14,12 @@ length_packed : (bits : List Bool) → length bits ≡ 256 → length (packed bi
 length_packed bits size =
     let fill : fill_of (length bits) ≡ 0 = ap fill_of size in
     let all : 8 * length (packed bits) ≡ length bits + fill_of (length bits) =
-    sym (length-bits_in LsbFirst (packed bits) (8 * length (packed bits))) ∙ (ap length (bits_of-packed bits) ∙ (length-append bits (replicate (fill_of (length bits)) false) ∙ ap (λ n. length bits + n) (length-replicate (fill_of (length bits)) false))) in
+    sym (length-bits_in LsbFirst (packed bits) (8 * length (packed bits))) ∙
+    (ap length (bits_of-packed bits) ∙ (length-append bits (replicate (fill_of (length bits)) false) ∙
+    ap (λ n. length bits + n) (length-replicate (fill_of (length bits)) false))) in
     omega (arith, all, fill, size)
 
 pub length_ppr_map : (frames : Frames) (last : ℕ) → length (ppr_map frames last) ≡ 32
 unfolding ppr_map
-length_ppr_map frames last = length_packed (map (λ n. is_marked frames last n) (range_with_len 0 256)) (length-map-range_with_len (λ n. is_marked frames last n) 0 256)
+length_ppr_map frames last = length_packed (map (λ n. is_marked frames last n) (range_with_len 0 256))
+    (length-map-range_with_len (λ n. is_marked frames last n) 0 256)

@@ -1,5 +1,5 @@
 -- Runs of steps, one after the other, and their entries.
-use Rattle.std.proofs.Common.{◌≡◌, ℕ, suc, ◌+◌, Bool, true, false, List, [], ◌∷◌, ◌++◌, Option, Some, None, refl, sym, ap, ◌∙◌, arith}
+use Rattle.std.proofs.Common.{◌≡◌, ℕ, ◌+◌, Bool, true, false, List, [], ◌∷◌, ◌++◌, Option, Some, None, refl, ap, ◌∙◌, arith}
 use Rattle.line_sim.specs.declared.event.Entry.{Entry}
 use Rattle.line_sim.specs.declared.event.Event.{Event}
 use Rattle.line_sim.specs.Line.{World, Outcome, happens, run}
@@ -14,17 +14,23 @@ entries_before : (entry : Option Entry) (xs ys : List Entry) → and_entries ent
 entries_before None xs ys = refl
 entries_before (Some entry) xs ys = refl
 
-pub entries_both : (steps more : List (Event × Outcome)) (w : World) → entries (steps ++ more) w ≡ entries steps w ++ entries more (run steps w)
+pub entries_both :
+    (steps more : List (Event × Outcome)) (w : World) → entries (steps ++ more) w ≡ entries steps w ++ entries more (run steps w)
 entries_both [] more w = refl
 entries_both (step ∷ steps) more w =
     ap (and_entries (entry_of w step.0 step.1)) (entries_both steps more (happens w step.0 step.1))
-    ∙ entries_before (entry_of w step.0 step.1) (entries steps (happens w step.0 step.1)) (entries more (run steps (happens w step.0 step.1)))
+    ∙ entries_before (entry_of w step.0 step.1) (entries steps (happens w step.0 step.1))
+    (entries more (run steps (happens w step.0 step.1)))
 
 -- one step more
-pub run_one_more : (steps : List (Event × Outcome)) (event : Event) (outcome : Outcome) (w : World) → run (steps ++ (event, outcome) ∷ []) w ≡ happens (run steps w) event outcome
+pub run_one_more :
+    (steps : List (Event × Outcome)) (event : Event) (outcome : Outcome) (w : World) →
+    run (steps ++ (event, outcome) ∷ []) w ≡ happens (run steps w) event outcome
 run_one_more steps event outcome w = run_both steps ((event, outcome) ∷ []) w
 
-pub entries_one_more : (steps : List (Event × Outcome)) (event : Event) (outcome : Outcome) (w : World) → entries (steps ++ (event, outcome) ∷ []) w ≡ entries steps w ++ and_entries (entry_of (run steps w) event outcome) []
+pub entries_one_more :
+    (steps : List (Event × Outcome)) (event : Event) (outcome : Outcome) (w : World) →
+    entries (steps ++ (event, outcome) ∷ []) w ≡ entries steps w ++ and_entries (entry_of (run steps w) event outcome) []
 entries_one_more steps event outcome w = entries_both steps ((event, outcome) ∷ []) w
 
 -- the marks of some entries and others

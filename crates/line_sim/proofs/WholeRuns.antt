@@ -19,19 +19,22 @@ first_moves no_move h = h
 first_moves (one_move m) h = more m h
 first_moves (two_moves m l) h = more m (more l h)
 
-run_moves : Promised → (steps : List (Event × Outcome)) (w : World) → LineFacts w → Moves (length w.caller.document) (shown w) (shown (run steps w))
+run_moves :
+    Promised → (steps : List (Event × Outcome)) (w : World) → LineFacts w → Moves (length w.caller.document) (shown w) (shown (run steps w))
 run_moves laws [] w f = none
 run_moves laws (step ∷ steps) w f =
     let keeps = happens_keeps laws w step.0 step.1 f in
     let after = happens w step.0 step.1 in
-    first_moves keeps.moves (subst (λ d. Moves (length d) (shown after) (shown (run steps after))) keeps.same (run_moves laws steps after keeps.line))
+    first_moves keeps.moves (subst (λ d. Moves (length d) (shown after) (shown (run steps after))) keeps.same
+    (run_moves laws steps after keeps.line))
 
 pub runs_move : Promised → RunsMove
 runs_move laws document wish caps steps full =
     run_moves laws steps (new_world document wish caps) (new_world_facts document wish caps full)
 
 pub line_holds : Promised → LineHolds
-line_holds laws document wish caps steps full = run_keeps laws steps (new_world document wish caps) (new_world_facts document wish caps full)
+line_holds laws document wish caps steps full =
+    run_keeps laws steps (new_world document wish caps) (new_world_facts document wish caps full)
 
 -- what holds of every state that moves lead to
 record Settled (n : ℕ) (p : PageState) : Type 0 where
@@ -80,7 +83,13 @@ moves_settle none h = h
 moves_settle (more m ms) h = moves_settle ms (move_settles m h)
 
 first_settled : (n : ℕ) → Settled n first_state
-first_settled n = record { confirmed_is_stored = omega arith; stored_once = omega arith; within = omega arith; caller_normal = λ e. cc; answerer_normal = λ e. cc }
+first_settled n = record {
+  confirmed_is_stored = omega arith;
+  stored_once = omega arith;
+  within = omega arith;
+  caller_normal = λ e. cc;
+  answerer_normal = λ e. cc;
+}
 
 run_same : Promised → (steps : List (Event × Outcome)) (w : World) → LineFacts w → (run steps w).caller.document ≡ w.caller.document
 run_same laws [] w f = refl
@@ -112,11 +121,14 @@ runs_are_safe laws document wish caps steps full =
     let facts = run_keeps laws steps first (new_world_facts document wish caps full) in
     let settled = moves_settle (runs_move laws document wish caps steps full) (first_settled (length document)) in
     let begins = beginning w document (run_same laws steps first (new_world_facts document wish caps full)) facts in
-    let stored : length w.answerer.pages ≡ length document → w.answerer.pages ≡ document = whole_beginning w.answerer.pages begins.0 document begins.1 in
+    let stored :
+    length w.answerer.pages ≡ length document →
+    w.answerer.pages ≡ document = whole_beginning w.answerer.pages begins.0 document begins.1 in
     record {
       beginning = begins;
       confirmed_is_stored = settled.confirmed_is_stored;
       stored_once = settled.stored_once;
-      caller_normal = λ e. (let all = settled.caller_normal e in (stored (omega (arith, all, settled.confirmed_is_stored, settled.within)), all));
+      caller_normal = λ e. (let all = settled.caller_normal e in
+          (stored (omega (arith, all, settled.confirmed_is_stored, settled.within)), all));
       answerer_normal = λ e. stored (settled.answerer_normal e);
     }

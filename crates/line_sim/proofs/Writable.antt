@@ -22,7 +22,9 @@ each_at P [] n x h e = cc
 each_at P (y ∷ xs) zero x h e = (let same : y ≡ x = cc in subst P same h.0)
 each_at P (y ∷ xs) (suc n) x h e = each_at P xs n x h.1 e
 
-frame_fits : (c : Caller) (s : Answerer) (a : ℕ) (at : Option Block) (number : ℕ) (octets : List ℕ) → StationFacts c s a → slice_get (blocks_of c) c.place ≡ at → frame_at at number ≡ Some octets → IsWritable (fcd number octets)
+frame_fits :
+    (c : Caller) (s : Answerer) (a : ℕ) (at : Option Block) (number : ℕ) (octets : List ℕ) → StationFacts c s a →
+    slice_get (blocks_of c) c.place ≡ at → frame_at at number ≡ Some octets → IsWritable (fcd number octets)
 frame_fits c s a None number octets f is there = cc
 frame_fits c s a (Some block) number octets f is there =
     let fits = block_fits (c.finished ++ c.present) c.document f.call.readable c.place block is in
@@ -56,4 +58,6 @@ line_can_be_written w f = (
 )
 
 pub lines_can_be_written : Promised → LinesCanBeWritten
-lines_can_be_written laws document wish caps steps full = line_can_be_written (run steps (new_world document wish caps)) (run_keeps laws steps (new_world document wish caps) (new_world_facts document wish caps full))
+lines_can_be_written laws document wish caps steps full =
+    line_can_be_written (run steps (new_world document wish caps))
+    (run_keeps laws steps (new_world document wish caps) (new_world_facts document wish caps full))

@@ -1,5 +1,5 @@
 -- How often the caller transmits what, counted in the transcript of a run.
-use Rattle.std.specs.Prelude.{◌≡◌, ℕ, suc, ◌+◌, ◌*◌, ◌≤◌, Bool, true, false, cond, ◌&&◌, ◌||◌, List, [], ◌∷◌, length, Option, Some, None}
+use Rattle.std.specs.Prelude.{◌≡◌, ℕ, suc, ◌+◌, ◌*◌, ◌≤◌, Bool, true, false, cond, ◌&&◌, List, [], ◌∷◌, length, Option, Some}
 use Rattle.signals.specs.declared.params.Caps.{Caps}
 use Rattle.signals.specs.declared.params.Wish.{Wish}
 use Rattle.stations.specs.Layers.{Document}
@@ -103,7 +103,8 @@ RunsAreCounted =
     (document : Document) (wish : Wish) (caps : Caps) (steps : List (Event × Outcome)) →
     IsCounted (run steps (new_world document wish caps)) (entries steps (new_world document wish caps))
 
--- between one entry into the wait for DIS and the next, the caller transmits at most 18 DCS: any steps in which no group gets through have no more
+-- between one entry into the wait for DIS and the next, the caller transmits at most 18 DCS: any steps in which no group gets through
+-- have no more
 abbrev pub DcsBetweenGroups : Type 0
 DcsBetweenGroups =
     (document : Document) (wish : Wish) (caps : Caps) (before steps : List (Event × Outcome)) →

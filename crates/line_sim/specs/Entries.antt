@@ -1,5 +1,5 @@
 -- What the transcript shows of each event, and of a whole run.
-use Rattle.std.specs.Prelude.{ℕ, zero, suc, Bool, true, false, List, [], ◌∷◌, ◌++◌, Option, Some, None}
+use Rattle.std.specs.Prelude.{ℕ, suc, Bool, true, false, List, [], ◌∷◌, Option, Some, None}
 use Rattle.signals.specs.Signals.{PlainSignal, dis, dcs, cfr, ftt, fcd, rcp, pps, ppr, mcf, rnr, rr, dcn, other}
 use Rattle.stations.specs.Inputs.{CallerInput, hears, timeout, t5, AnswererInput, listens, trains, t2, t1, is_busy, PlainItem, framed, checked}
 use Rattle.stations.specs.CallerStep.{Caller, caller_step, caller_items}
@@ -116,7 +116,8 @@ station_says w None (Some input) = answerer_says w.answerer input
 station_says w None None = says Silent
 
 abbrev pub event_says : World → Event → Outcome → Said
-event_says w event outcome = station_says w (unless_lost outcome (input_to_caller w event)) (unless_lost outcome (input_to_answerer w event))
+event_says w event outcome = station_says w (unless_lost outcome (input_to_caller w event))
+    (unless_lost outcome (input_to_answerer w event))
 
 -- a growth was refused
 abbrev pub is_refused : Outcome → Bool

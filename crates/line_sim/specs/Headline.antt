@@ -1,6 +1,7 @@
--- The headline: on a half-duplex line that keeps order, delivers only what was sent and drops what still comes towards a station that transmits,
--- over every list of losses, spoiled training checks, time-outs, receiver waits and refused growths, the answerer's pages are a beginning of the
--- caller's, pixel for pixel, each page that the caller counts confirmed is stored once, and a station's normal end means that all are stored.
+-- The headline: on a half-duplex line that keeps order, delivers only what was sent and drops what still comes towards a station that
+-- transmits, over every list of losses, spoiled training checks, time-outs, receiver waits and refused growths, the answerer's pages
+-- are a beginning of the caller's, pixel for pixel, each page that the caller counts confirmed is stored once, and a station's normal
+-- end means that all are stored.
 use Rattle.std.specs.Prelude.{◌≡◌, ◌≢◌, ◌↔◌, suc, ◌≤◌, List, ◌∷◌, length, Some, None, slice_get}
 use Rattle.signals.specs.declared.params.Caps.{Caps}
 use Rattle.signals.specs.declared.params.Wish.{Wish}
@@ -66,7 +67,8 @@ RunsAreSafe =
     (document : Document) (wish : Wish) (caps : Caps) (steps : List (Event × Outcome)) → Each IsFullPage document →
     IsSafe document (run steps (new_world document wish caps))
 
--- the PPS of a block comes: the block is accepted exactly if each of its frames is open, and the pages stored then are the first of the document
+-- the PPS of a block comes: the block is accepted exactly if each of its frames is open, and the pages stored then are the first of the
+-- document
 pub record WholeBlockAccepted (w : World) (block : Block) : Type 0 where
   pub exactly : ((happens w DeliverToAnswerer Done).answerer.accepted ≡ Some (accepted_of block)) ↔ HoldsAll w.answerer.frames block.frames
   pub pages : IsBeginning (happens w DeliverToAnswerer Done).answerer.pages w.caller.document
@@ -76,8 +78,10 @@ abbrev pub WholeBlocksAccepted : Type 0
 WholeBlocksAccepted =
     (document : Document) (wish : Wish) (caps : Caps) (steps : List (Event × Outcome)) → Each IsFullPage document →
     let w = run steps (new_world document wish caps) in
-    -- the PPS under way is that of the caller's present block, which isn't accepted yet, and the answerer is in Message and hasn't ended
-    (block : Block) (items : List PlainItem) → slice_get (blocks_of w.caller) w.caller.place ≡ Some block → w.answerer.accepted ≢ Some (accepted_of block) →
+    -- the PPS under way is that of the caller's present block, which isn't accepted yet, and the answerer is in Message and hasn't
+    -- ended
+    (block : Block) (items : List PlainItem) → slice_get (blocks_of w.caller) w.caller.place ≡ Some block →
+    w.answerer.accepted ≢ Some (accepted_of block) →
     w.to_answerer ≡ pps_of block ∷ items → w.answerer.state ≡ Message → w.answerer.ending ≡ None →
     WholeBlockAccepted w block
 

@@ -1,13 +1,13 @@
 -- What holds of every world that events lead to, in words: how far the two stations are apart, and what may be under way.
 use Rattle.std.specs.Prelude.{◌≡◌, ℕ, suc, ◌⊎◌, List, [], ◌∷◌, ◌++◌, Some, slice_get}
-use Rattle.signals.specs.Signals.{PlainSignal, cfr, ftt, fcd, ppr, mcf, rnr, rr, dcn}
+use Rattle.signals.specs.Signals.{PlainSignal, cfr, fcd, ppr, mcf, rnr, rr, dcn}
 use Rattle.partial_page.specs.Store.{no_frames, frame_of}
 use Rattle.stations.specs.Blocks.{open_before}
 use Rattle.stations.specs.Inputs.{PlainItem, framed}
 use Rattle.stations.specs.Laws.{Each}
 use Rattle.stations.specs.CallerFields.{IsSending}
 use Rattle.stations.specs.CallerStep.{blocks_of}
-use Rattle.stations.specs.declared.turn.AnswererState.TheVariants.{PhaseB, Message}
+use Rattle.stations.specs.declared.turn.AnswererState.TheVariants.{Message}
 use Rattle.line_sim.specs.Line.{World}
 use Rattle.line_sim.specs.LineFacts.{accepted_at, frame_at, state_past, IsDis}
 use Rattle.line_sim.specs.PageMachine.{IsBeginning}
@@ -37,12 +37,17 @@ pub record InStep (w : World) : Type 0 where
   pub stays : ¬ IsUnderWay dcn w.to_caller
   -- after an MCF only DIS are under way
   pub only_dis : (before after : List PlainItem) → w.to_caller ≡ before ++ framed mcf ∷ after → Each IsDis after
-  -- while the caller sends a group's blocks both have the same parameters, and the answerer is in Message, or in phase B once it has accepted the group's last block
+  -- while the caller sends a group's blocks both have the same parameters, and the answerer is in Message, or in phase B once it has
+  -- accepted the group's last block
   pub same_params : IsSending w.caller.state → w.answerer.params ≡ w.caller.params
   pub message : IsSending w.caller.state → accepted ≡ w.caller.place → w.answerer.state ≡ Message
-  pub phase : IsSending w.caller.state → accepted ≡ suc w.caller.place → w.answerer.state ≡ state_past (slice_get (blocks_of w.caller) w.caller.place)
+  pub phase :
+      IsSending w.caller.state → accepted ≡ suc w.caller.place →
+      w.answerer.state ≡ state_past (slice_get (blocks_of w.caller) w.caller.place)
   -- each open frame is a frame of the present block, with its number and data; once the block is accepted, none is open
-  pub open_frames : (number : ℕ) (octets : List ℕ) → frame_of w.answerer.frames number ≡ Some octets → frame_at (slice_get (blocks_of w.caller) w.caller.place) number ≡ Some octets
+  pub open_frames :
+      (number : ℕ) (octets : List ℕ) → frame_of w.answerer.frames number ≡ Some octets →
+      frame_at (slice_get (blocks_of w.caller) w.caller.place) number ≡ Some octets
   pub none_open : accepted ≡ suc w.caller.place → w.answerer.frames ≡ no_frames
   -- the octets of the open page are those of its accepted blocks, one after the other
   pub octets : w.answerer.octets ≡ open_before (blocks_of w.caller) accepted

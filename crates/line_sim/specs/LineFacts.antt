@@ -61,9 +61,13 @@ finished_of c = call_blocks c.finished 0 c.document
 abbrev pub due : List Params → Document → ℕ
 due finished document = pages_before (call_blocks finished 0 document) (length (call_blocks finished 0 document))
 
--- groups are through: whatever groups follow, their blocks follow those of the groups that are through, and all pages can be read if those of the groups that follow can
+-- groups are through: whatever groups follow, their blocks follow those of the groups that are through, and all pages can be read if
+-- those of the groups that follow can
 pub record GroupsThrough (finished : List Params) (document : Document) : Type 0 where
-  pub blocks : (more : List Params) → call_blocks (finished ++ more) 0 document ≡ call_blocks finished 0 document ++ call_blocks more (due finished document) (drop (due finished document) document)
+  pub blocks :
+      (more : List Params) →
+      call_blocks (finished ++ more) 0 document ≡ call_blocks finished 0 document ++
+      call_blocks more (due finished document) (drop (due finished document) document)
   pub readable : (more : List Params) → AreReadable more (drop (due finished document) document) → AreReadable (finished ++ more) document
 
 -- what holds of a caller's document under the parameters of its groups
@@ -87,7 +91,8 @@ pub record BeforeGroup (place : ℕ) (finished : List Block) (accepted : ℕ) (f
   pub none_asked : asked ≡ None
 
 -- while a group's blocks go out: the answerer is in Message, but in phase B after a group's last block
-pub record InGroup (finished place : ℕ) (params : Params) (blocks : List Block) (accepted : ℕ) (state : AnswererState) (own : Params) : Type 0 where
+pub record InGroup (finished place : ℕ) (params : Params) (blocks : List Block) (accepted : ℕ) (state : AnswererState)
+    (own : Params) : Type 0 where
   pub started : finished ≤ place
   pub same : own ≡ params
   pub ready : accepted ≡ place → state ≡ Message
@@ -121,7 +126,9 @@ pub record StationFacts (c : Caller) (s : Answerer) (accepted : ℕ) : Type 0 wh
   pub waits : c.ending ≡ None → c.state ≡ WaitReady → accepted ≡ suc c.place
   pub same_params : Alike s.state s.params c.params
   -- each open frame is a frame of the present block
-  pub open_frames : (number : ℕ) (octets : List ℕ) → frame_of s.frames number ≡ Some octets → frame_at (slice_get (blocks_of c) c.place) number ≡ Some octets
+  pub open_frames :
+      (number : ℕ) (octets : List ℕ) → frame_of s.frames number ≡ Some octets →
+      frame_at (slice_get (blocks_of c) c.place) number ≡ Some octets
   -- once the present block is accepted no frame is open
   pub cleared : accepted ≡ suc c.place → s.frames ≡ no_frames
   pub asked : AskedFits s.asked (slice_get (blocks_of c) c.place) c.place accepted
@@ -146,7 +153,8 @@ MayReachAnswerer c accepted (framed (dcs params)) = (c.state ≡ WaitCfr) × (pa
 MayReachAnswerer c accepted (framed (fcd number octets)) =
     IsSending c.state × (accepted ≡ c.place) × (frame_at (slice_get (blocks_of c) c.place) number ≡ Some octets)
 MayReachAnswerer c accepted (framed rcp) = Unit {0}
-MayReachAnswerer c accepted (framed (pps ends page block last)) = IsSending c.state × SaysBlock (slice_get (blocks_of c) c.place) ends (record { page = page; block = block }) last
+MayReachAnswerer c accepted (framed (pps ends page block last)) = IsSending c.state ×
+    SaysBlock (slice_get (blocks_of c) c.place) ends (record { page = page; block = block }) last
 MayReachAnswerer c accepted (framed rr) = IsSending c.state × (accepted ≡ suc c.place)
 MayReachAnswerer c accepted (framed dcn) = Unit {0}
 MayReachAnswerer c accepted _ = ⊥

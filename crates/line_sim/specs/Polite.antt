@@ -1,5 +1,5 @@
 -- A polite run: whatever is under way is delivered, in order; where a group is through, the answerer's T2 begins the next one.
-use Rattle.std.specs.Prelude.{◌≡◌, ℕ, zero, suc, ◌+◌, ◌*◌, ◌≤◌, ◌<◌, ◌≢◌, min, Bool, true, false, cond, ◌&&◌, not, is_some, nat_lt, List, [], ◌∷◌, ◌++◌, length, Option, Some, None}
+use Rattle.std.specs.Prelude.{◌≡◌, ℕ, zero, suc, ◌+◌, ◌*◌, ◌≤◌, ◌<◌, ◌≢◌, min, Bool, true, false, cond, ◌&&◌, not, is_some, nat_lt, List, [], ◌∷◌, ◌++◌, length, Some}
 use Rattle.raster.specs.Pages.{PagePixels}
 use Rattle.signals.specs.declared.params.Caps.{Caps}
 use Rattle.signals.specs.declared.params.Params.{Params}
@@ -31,9 +31,11 @@ waits_for_dcs _ = false
 -- neither has ended, the caller waits for another DIS with a block confirmed, and the answerer is in phase B
 abbrev pub is_between_groups : World → Bool
 is_between_groups w =
-    not (is_some w.caller.ending) && not (is_some w.answerer.ending) && waits_for_dis w.caller.state && nat_lt 0 w.caller.place && waits_for_dcs w.answerer.state
+    not (is_some w.caller.ending) && not (is_some w.answerer.ending) && waits_for_dis w.caller.state && nat_lt 0 w.caller.place &&
+    waits_for_dcs w.answerer.state
 
--- the steps of the next delivery, if there is one: the first item under way comes; between groups the answerer's T2 sends a DIS, and it comes
+-- the steps of the next delivery, if there is one: the first item under way comes; between groups the answerer's T2 sends a DIS, and it
+-- comes
 abbrev pub next_steps : World → List PlainItem → List PlainItem → List (Event × Outcome)
 next_steps w [] [] = cond (is_between_groups w) ((AnswererT2, Done) ∷ (DeliverToCaller, Done) ∷ []) []
 next_steps w [] (item ∷ items) = (DeliverToCaller, Done) ∷ []
@@ -83,7 +85,8 @@ abbrev pub AreAgreed : Caps → Wish → List Params → List PagePixels → Typ
 AreAgreed caps wish groups [] = length groups ≡ 1
 AreAgreed caps wish [] (page ∷ pages) = ⊥
 AreAgreed caps wish (params ∷ groups) (page ∷ pages) =
-    (agreed_for caps wish (Some page) ≡ Some params) × (code_within_limit params page ≡ true) × AreAgreed caps wish (groups_after page pages (params ∷ groups)) pages
+    (agreed_for caps wish (Some page) ≡ Some params) × (code_within_limit params page ≡ true) ×
+    AreAgreed caps wish (groups_after page pages (params ∷ groups)) pages
 
 -- both stations agree on a page, and its code fits a call
 abbrev pub IsAgreedOn : Caps → Wish → PagePixels → Type 0
@@ -111,7 +114,8 @@ pub record IsThrough (document : Document) (w : World) : Type 0 where
   pub confirmed_all : confirmed w.caller ≡ length document
   pub stored_all : w.answerer.pages ≡ document
 
--- a polite run makes the lesser number of deliveries of the call's and those that it may make, and after all of them the call is through
+-- a polite run makes the lesser number of deliveries of the call's and those that it may make, and after all of them the call is
+-- through
 pub record IsPolite (groups : List Params) (document : Document) (w : World) (most : ℕ) : Type 0 where
   pub number : deliveries most w ≡ min (call_length groups document) most
   pub through : call_length groups document ≤ most → IsThrough document (polite most w)
@@ -119,5 +123,6 @@ pub record IsPolite (groups : List Params) (document : Document) (w : World) (mo
 -- so it is of every call that nobody disturbs
 abbrev pub PoliteCalls : Type 0
 PoliteCalls =
-    (document : Document) (wish : Wish) (caps : Caps) (groups : List Params) (most : ℕ) → 0 < length document → Each IsFullPage document → AreAgreed caps wish groups document →
+    (document : Document) (wish : Wish) (caps : Caps) (groups : List Params) (most : ℕ) → 0 < length document → Each IsFullPage document →
+    AreAgreed caps wish groups document →
     IsPolite groups document (new_world document wish caps) most
