@@ -17,4 +17,5 @@ pub mod PoliteGroups
 pub mod CallerCounts
 pub mod Counting
 pub mod Transcripts
+pub mod Told
 pub mod Agreeing

@@ -86,10 +86,10 @@ groups_through w = length w.caller.finished
 abbrev pub groups_begun : World → ℕ
 groups_begun w = length w.caller.finished + length w.caller.present
 
--- what is counted in the transcript of a world
-pub record IsCounted (w : World) (transcript : List Entry) : Type 0 where
+-- what is counted in the transcript of a run in which the caller has begun so many groups
+pub record IsCounted (groups : ℕ) (transcript : List Entry) : Type 0 where
   -- at most 18 DCS for each group begun
-  pub dcs : count shows_dcs transcript ≤ 18 * groups_begun w
+  pub dcs : count shows_dcs transcript ≤ 18 * groups
   -- at most one DCN
   pub dcn : count shows_dcn transcript ≤ 1
   -- at most 3 RR for each RNR that is answered so
@@ -101,7 +101,7 @@ pub record IsCounted (w : World) (transcript : List Entry) : Type 0 where
 abbrev pub RunsAreCounted : Type 0
 RunsAreCounted =
     (document : Document) (wish : Wish) (caps : Caps) (steps : List (Event × Outcome)) →
-    IsCounted (run steps (new_world document wish caps)) (entries steps (new_world document wish caps))
+    IsCounted (groups_begun (run steps (new_world document wish caps))) (entries steps (new_world document wish caps))
 
 -- between one entry into the wait for DIS and the next, the caller transmits at most 18 DCS: any steps in which no group gets through
 -- have no more

@@ -2,7 +2,8 @@
 -- transmits, over every list of losses, spoiled training checks, time-outs, receiver waits and refused growths, the answerer's pages
 -- are a beginning of the caller's, pixel for pixel, each page that the caller counts confirmed is stored once, and a station's normal
 -- end means that all are stored.
-use Rattle.std.specs.Prelude.{◌≡◌, ◌≢◌, ◌↔◌, suc, ◌≤◌, List, ◌∷◌, length, Some, None, slice_get}
+use Rattle.std.specs.Prelude.{◌≡◌, ◌≢◌, ◌↔◌, ℕ, suc, ◌≤◌, List, Option, ◌∷◌, length, Some, None, slice_get}
+use Rattle.raster.specs.Pages.{PagePixels}
 use Rattle.signals.specs.declared.params.Caps.{Caps}
 use Rattle.signals.specs.declared.params.Wish.{Wish}
 use Rattle.stations.specs.Layers.{Document, IsFullPage}
@@ -12,6 +13,7 @@ use Rattle.stations.specs.Inputs.{PlainItem, framed, checked}
 use Rattle.stations.specs.Laws.{Each, LayersHold, SignalsHold}
 use Rattle.stations.specs.CallerStep.{blocks_of, confirmed, pps_of}
 use Rattle.stations.specs.declared.turn.AnswererState.TheVariants.{Message}
+use Rattle.stations.specs.declared.turn.End.{End}
 use Rattle.stations.specs.declared.turn.End.TheVariants.{Normal}
 use Rattle.line_sim.specs.declared.event.Event.{Event}
 use Rattle.line_sim.specs.Line.{World, Outcome, happens, new_world, run}
@@ -25,16 +27,21 @@ use Rattle.line_sim.specs.PageMachine.{first_state, Moves, AtMostTwo, shown, IsB
 abbrev pub Promised : Type 0
 Promised = LayersHold × SignalsHold
 
--- what the sender, who deletes what was confirmed, and the owner of the store can rely on
-pub record IsSafe (document : Document) (w : World) : Type 0 where
+-- what the sender, who deletes what was confirmed, and the owner of the store can rely on, of a document, the pages stored, how many are
+-- confirmed, and how both stations ended
+pub record IsSafe (document : Document) (pages : List PagePixels) (confirms : ℕ) (caller_end answerer_end : Option End) : Type 0 where
   -- the stored pages are the first of the document, with equal width, fineness and pixels
-  pub beginning : IsBeginning w.answerer.pages document
+  pub beginning : IsBeginning pages document
   -- each confirmed page is stored, and at most one page more
-  pub confirmed_is_stored : confirmed w.caller ≤ length w.answerer.pages
-  pub stored_once : length w.answerer.pages ≤ suc (confirmed w.caller)
+  pub confirmed_is_stored : confirms ≤ length pages
+  pub stored_once : length pages ≤ suc confirms
   -- a normal end of either station means that all pages are stored, of the caller that all are confirmed too
-  pub caller_normal : w.caller.ending ≡ Some Normal → (w.answerer.pages ≡ document) × (confirmed w.caller ≡ length document)
-  pub answerer_normal : w.answerer.ending ≡ Some Normal → w.answerer.pages ≡ document
+  pub caller_normal : caller_end ≡ Some Normal → (pages ≡ document) × (confirms ≡ length document)
+  pub answerer_normal : answerer_end ≡ Some Normal → pages ≡ document
+
+-- the same of a world
+abbrev pub IsSafeWorld : Document → World → Type 0
+IsSafeWorld document w = IsSafe document w.answerer.pages (confirmed w.caller) w.caller.ending w.answerer.ending
 
 -- the facts of the line hold of every world that events lead to, whatever each of them answered
 abbrev pub LineHolds : Type 0
@@ -65,7 +72,7 @@ RunsMove =
 abbrev pub RunsAreSafe : Type 0
 RunsAreSafe =
     (document : Document) (wish : Wish) (caps : Caps) (steps : List (Event × Outcome)) → Each IsFullPage document →
-    IsSafe document (run steps (new_world document wish caps))
+    IsSafeWorld document (run steps (new_world document wish caps))
 
 -- the PPS of a block comes: the block is accepted exactly if each of its frames is open, and the pages stored then are the first of the
 -- document
