@@ -1,11 +1,8 @@
 //! The answering station: ITU-T T.30, phases B to E and Annex A.
 
-ghost use Rattle.raster.specs.Packed.{bits_of};
-ghost use Rattle.raster.specs.Pixels.{IsWidth};
-ghost use Rattle.raster.specs.declared.packed.Order.TheVariants.{LsbFirst};
 ghost use Rattle.partial_page.specs.Store.{no_frames, joined_frames, IsMissingMap};
-ghost use Rattle.std.specs.Prelude.{◌≡◌, ◌≢◌, ◌<◌, ◌≤◌, ◌+◌, ◌++◌, ℕ, cond, List, Bool, [], true, length, take, Some, None, Ok, IfOk, IsOk, IsSome, IsTrue, ◌↔◌, ◌⊎◌, ◌≢◌, false};
-ghost use Rattle.stations.specs.AnswererStep.{Answerer as AnswererTuple, new_answerer, same_mark, is_repeated, last_counted, all_there, ppr_map, confirms, first_dcs, later_dcs, keeps_frame, judges_training, judges_block, answers_pps, takes_block, Steps, StepsOrRefuses, AnswererTakesNoMemory, answers_rr, answers_repeated, leaves, end_after, answerer_ends, answerer_table, answerer_step, answerer_items, is_clear, Frames, state_after, stores};
+ghost use Rattle.std.specs.Prelude.{◌≡◌, ◌≢◌, ◌<◌, ◌≤◌, ◌+◌, ◌++◌, ℕ, true, length, take, Some, None, Ok, IfOk, IsOk, IsSome, IsTrue, ◌↔◌, ◌⊎◌, false};
+ghost use Rattle.stations.specs.AnswererStep.{Answerer as AnswererTuple, new_answerer, same_mark, is_repeated, last_counted, all_there, ppr_map, confirms, first_dcs, later_dcs, keeps_frame, judges_training, answers_pps, takes_block, Steps, StepsOrRefuses, AnswererTakesNoMemory, answers_rr, answers_repeated, leaves, end_after, answerer_ends, answerer_table, answerer_step, answerer_items, is_clear, Frames, state_after, stores};
 ghost use Rattle.stations.specs.declared.turn.End.TheVariants.{BadPage, NoAnswer};
 ghost use Rattle.stations.specs.Layers.{page_read, is_good_training, within_page_limit, within_frame_size};
 ghost use Rattle.stations.specs.declared.turn.AnswererState.TheVariants.{PhaseB, WaitTraining, Message};

@@ -2,9 +2,8 @@
 
 ghost use Rattle.raster.specs.Packed.{FillsOctets};
 ghost use Rattle.raster.specs.declared.packed.Order.TheVariants.{LsbFirst};
-ghost use Rattle.std.specs.Prelude.{◌≡◌, ◌<◌, ◌+◌, ℕ, suc, cond, nat_lt, List, Bool, [], drop, length, slice_get, Some, None, Ok, IfOk, IsOk, IsSome, IsTrue, ◌↔◌, ◌⊎◌, ◌≢◌};
-ghost use Rattle.stations.specs.Blocks.{Block};
-ghost use Rattle.stations.specs.CallerStep.{Caller as CallerTuple, no_caps, no_params, new_caller, all_frames, caller_silent, caller_gives_up, tries_again, answers_dis, answers_ftt, answers_ppr, answers_rnr, answers_mcf, goes_on, first_burst, caller_step, caller_table, confirmed, blocks_of, present_block, burst_of, pps_items, training_items, caller_items};
+ghost use Rattle.std.specs.Prelude.{◌≡◌, ◌<◌, ◌+◌, cond, nat_lt, List, Bool, drop, length, slice_get, Some, None, Ok, IfOk, IsOk, IsSome, IsTrue, ◌↔◌, ◌⊎◌, ◌≢◌};
+ghost use Rattle.stations.specs.CallerStep.{Caller as CallerTuple, no_params, all_frames, caller_gives_up, tries_again, answers_dis, answers_ftt, answers_ppr, answers_rnr, answers_mcf, goes_on, caller_step, caller_table, confirmed, blocks_of, present_block, burst_of, pps_items, training_items, caller_items};
 ghost use Rattle.stations.specs.Inputs.{caller_input};
 ghost use Rattle.raster.specs.Octets.{packed};
 ghost use Rattle.signals.specs.Agreement.{width_of_pixels};
