@@ -12,6 +12,7 @@ pub mod InSteps
 pub mod Maps
 pub mod Writable
 pub mod Bursts
+pub mod PoliteSteps
 pub mod PoliteCall
 pub mod PoliteGroups
 pub mod CallerCounts

@@ -70,6 +70,16 @@ count_deliveries (step ∷ steps) = cond (is_delivery step.0) (suc (count_delive
 abbrev pub deliveries : ℕ → World → ℕ
 deliveries most w = count_deliveries (polite_steps most w)
 
+-- it makes no events but deliveries and the answerer's T2, and all of each
+abbrev pub IsPoliteEvent : Event → Type 0
+IsPoliteEvent DeliverToAnswerer = Unit {0}
+IsPoliteEvent DeliverToCaller = Unit {0}
+IsPoliteEvent AnswererT2 = Unit {0}
+IsPoliteEvent _ = ⊥
+
+abbrev pub PoliteEvents : Type 0
+PoliteEvents = (most : ℕ) (w : World) → Each (λ (step : Event × Outcome). IsPoliteEvent step.0 × (step.1 ≡ Done)) (polite_steps most w)
+
 -- a polite run stopped at a refused event: the steps before it were made, and it became what its outcome says
 pub record StopsAt (most : ℕ) (old new : World) : Type 0 where
   pub before : List (Event × Outcome)

@@ -1,7 +1,7 @@
 //! What holds over every schedule. Nothing runs.
 
 ghost use Rattle.line_sim.specs.Counted.{DcsBetweenGroups, RunsAreCounted};
-ghost use Rattle.line_sim.specs.Polite.{GroupsAreAgreed, PoliteCalls};
+ghost use Rattle.line_sim.specs.Polite.{GroupsAreAgreed, PoliteCalls, PoliteEvents};
 ghost use Rattle.line_sim.specs.Headline.{EventsMove, LineHolds, LinesCanBeWritten, RunsAreSafe, RunsMove, StationsInStep, WholeBlocksAccepted};
 
 /// What holds over every schedule of losses, spoiled training checks, time-outs, waits and refused
@@ -22,11 +22,13 @@ pub fn headline()
     stations::laws::signals_hold();
 }
 
-/// An undisturbed call of any number of groups: where both stations agree on each page and each page's code
-/// fits a call, it takes 4 deliveries for each group, the frames and 5 for each block, and one more; a polite
-/// run makes as many of them as it may, and after all of them each page is stored and confirmed, and both
-/// stations have ended normally.
+/// A polite run makes deliveries alone, and between groups the answerer's T2. An undisturbed call of any
+/// number of groups, where both stations agree on each page and each page's code fits a call, takes 4
+/// deliveries for each group, the frames and 5 for each block, and one more; a polite run makes as many of
+/// them as it may, and after all of them each page is stored and confirmed, and both stations have ended
+/// normally.
 pub fn polite_calls()
+    ensures events { PoliteEvents }
     ensures groups { GroupsAreAgreed }
     ensures calls { PoliteCalls }
 {
