@@ -1,3 +1,7 @@
+pub mod Counting
+pub mod Sending
+pub mod Frames
+pub mod Items
 pub mod Lists
 pub mod Groups
 pub mod Marks
@@ -16,7 +20,6 @@ pub mod PoliteSteps
 pub mod PoliteCall
 pub mod PoliteGroups
 pub mod CallerCounts
-pub mod Counting
 pub mod Transcripts
 pub mod Told
 pub mod Agreeing

@@ -6,3 +6,5 @@ pub mod InStep
 pub mod Headline
 pub mod Polite
 pub mod Counted
+pub mod Octets
+pub mod Hearing

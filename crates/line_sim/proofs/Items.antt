@@ -1,0 +1,134 @@
+-- The items under way as their octets say them.
+use Rattle.std.proofs.Common.{◌≡◌, ◌≢◌, ℕ, Bool, List, [], ◌∷◌, ◌++◌, length, map, replicate, Some, Ok, refl, ap, sym, subst, ◌∙◌}
+use Rattle.hdlc.specs.Framing.{Framing, StandsAfter}
+use Rattle.hdlc.specs.Laws.{FrameGrows}
+use Rattle.raster.specs.Packed.{bits_of}
+use Rattle.raster.specs.declared.packed.Order.TheVariants.{LsbFirst}
+use Rattle.signals.specs.Reading.{read_content}
+use Rattle.signals.specs.Signals.{PlainSignal, dis, dcs, cfr, ftt, fcd, rcp, pps, ppr, mcf, rnr, rr, dcn, other}
+use Rattle.signals.specs.Writing.{content_of, ReadsWhatIsWritten}
+use Rattle.stations.specs.Inputs.{framed, checked}
+use Rattle.line_sim.specs.Entries.{kind_of, signal_kind}
+use Rattle.line_sim.specs.Line.{spoiled}
+use Rattle.line_sim.specs.Octets.{Carries, signal_said, item_said, IsItem, IsIdle, HasTaken}
+use Rattle.line_sim.specs.declared.event.Kind.{Kind}
+use Rattle.line_sim.specs.declared.event.Kind.TheVariants.{Dis, Dcs, Training, Cfr, Ftt, Fcd, Rcp, Pps, Mcf, Ppr, Rnr, Rr, Dcn}
+use Rattle.line_sim.proofs.Frames.{said, taken}
+
+-- what octets carry that aren't a training check
+abbrev pub CarriesKind : Kind → List ℕ → Type 0
+CarriesKind kind octets = (signal : PlainSignal) × Carries octets signal × (signal_kind signal ≡ Some kind)
+
+pub carried : (kind : Kind) (octets : List ℕ) → kind ≢ Training → IsItem kind octets → CarriesKind kind octets
+carried Training octets differs h = absurd (differs refl)
+carried Dis octets differs h = h
+carried Dcs octets differs h = h
+carried Cfr octets differs h = h
+carried Ftt octets differs h = h
+carried (Fcd number) octets differs h = h
+carried Rcp octets differs h = h
+carried Pps octets differs h = h
+carried Mcf octets differs h = h
+carried Ppr octets differs h = h
+carried Rnr octets differs h = h
+carried Rr octets differs h = h
+carried Dcn octets differs h = h
+
+pub is_item : (kind : Kind) (octets : List ℕ) → kind ≢ Training → CarriesKind kind octets → IsItem kind octets
+is_item Training octets differs h = absurd (differs refl)
+is_item Dis octets differs h = h
+is_item Dcs octets differs h = h
+is_item Cfr octets differs h = h
+is_item Ftt octets differs h = h
+is_item (Fcd number) octets differs h = h
+is_item Rcp octets differs h = h
+is_item Pps octets differs h = h
+is_item Mcf octets differs h = h
+is_item Ppr octets differs h = h
+is_item Rnr octets differs h = h
+is_item Rr octets differs h = h
+is_item Dcn octets differs h = h
+
+pub said_frame : (kind : Kind) (octets : List ℕ) → kind ≢ Training → item_said kind octets ≡ framed (signal_said octets)
+said_frame Training octets differs = absurd (differs refl)
+said_frame Dis octets differs = refl
+said_frame Dcs octets differs = refl
+said_frame Cfr octets differs = refl
+said_frame Ftt octets differs = refl
+said_frame (Fcd number) octets differs = refl
+said_frame Rcp octets differs = refl
+said_frame Pps octets differs = refl
+said_frame Mcf octets differs = refl
+said_frame Ppr octets differs = refl
+said_frame Rnr octets differs = refl
+said_frame Rr octets differs = refl
+said_frame Dcn octets differs = refl
+
+pub no_check : (signal : PlainSignal) (kind : Kind) → signal_kind signal ≡ Some kind → kind ≢ Training
+no_check (dis caps) kind e is = cc
+no_check (dcs params) kind e is = cc
+no_check cfr kind e is = cc
+no_check ftt kind e is = cc
+no_check (fcd number octets) kind e is = cc
+no_check rcp kind e is = cc
+no_check (pps ends page block last) kind e is = cc
+no_check (ppr map) kind e is = cc
+no_check mcf kind e is = cc
+no_check rnr kind e is = cc
+no_check rr kind e is = cc
+no_check dcn kind e is = cc
+no_check (other octet) kind e is = cc
+
+-- the item that octets say is the one that they carry
+pub says_carried : (kind : Kind) (octets : List ℕ) (signal : PlainSignal) → FrameGrows → ReadsWhatIsWritten → Carries octets signal → signal_kind signal ≡ Some kind → item_said kind octets ≡ framed signal
+says_carried kind octets signal grows reads carries e = said_frame kind octets (no_check signal kind e) ∙ ap framed (said octets signal grows reads carries)
+
+kind_by : (kind : Kind) (octets : List ℕ) → FrameGrows → ReadsWhatIsWritten → kind ≢ Training → CarriesKind kind octets → kind_of (item_said kind octets) ≡ Some kind
+kind_by kind octets grows reads differs h = ap kind_of (says_carried kind octets h.0 grows reads h.1 h.2) ∙ h.2
+
+pub kind_said : (kind : Kind) (octets : List ℕ) → FrameGrows → ReadsWhatIsWritten → IsItem kind octets → kind_of (item_said kind octets) ≡ Some kind
+kind_said Training octets grows reads h = refl
+kind_said Dis octets grows reads h = kind_by Dis octets grows reads (λ e. cc) h
+kind_said Dcs octets grows reads h = kind_by Dcs octets grows reads (λ e. cc) h
+kind_said Cfr octets grows reads h = kind_by Cfr octets grows reads (λ e. cc) h
+kind_said Ftt octets grows reads h = kind_by Ftt octets grows reads (λ e. cc) h
+kind_said (Fcd number) octets grows reads h = kind_by (Fcd number) octets grows reads (λ e. cc) h
+kind_said Rcp octets grows reads h = kind_by Rcp octets grows reads (λ e. cc) h
+kind_said Pps octets grows reads h = kind_by Pps octets grows reads (λ e. cc) h
+kind_said Mcf octets grows reads h = kind_by Mcf octets grows reads (λ e. cc) h
+kind_said Ppr octets grows reads h = kind_by Ppr octets grows reads (λ e. cc) h
+kind_said Rnr octets grows reads h = kind_by Rnr octets grows reads (λ e. cc) h
+kind_said Rr octets grows reads h = kind_by Rr octets grows reads (λ e. cc) h
+kind_said Dcn octets grows reads h = kind_by Dcn octets grows reads (λ e. cc) h
+
+-- the content that a frame's octets have is read as the signal that they say
+pub record Heard (kind : Kind) (octets : List ℕ) (fed : Framing) : Type 0 where
+  pub content : List ℕ
+  pub has : HasTaken fed content
+  pub reads : read_content content ≡ Ok (signal_said octets)
+  pub is : item_said kind octets ≡ framed (signal_said octets)
+
+pub hears_it : (kind : Kind) (octets : List ℕ) (old fed : Framing) → FrameGrows → ReadsWhatIsWritten → kind ≢ Training → IsItem kind octets → IsIdle old →
+    ((bits : List Bool) (handed : ℕ) → StandsAfter old bits handed → StandsAfter fed (bits ++ bits_of LsbFirst octets) handed) → Heard kind octets fed
+hears_it kind octets old fed grows reads differs item idle feeds =
+    let h : CarriesKind kind octets = carried kind octets differs item in
+    let signal : PlainSignal = h.0 in
+    let carries : Carries octets signal = h.1 in
+    record {
+      content = content_of signal carries.side carries.last;
+      has = taken octets (content_of signal carries.side carries.last) old fed grows carries.sent idle feeds;
+      reads = reads signal carries.side carries.last carries.writable ∙ ap (λ s. Ok s) (sym (said octets signal grows reads carries));
+      is = said_frame kind octets differs;
+    }
+
+map_constant : (xs : List ℕ) → map {B = ℕ} (λ octet. 255) xs ≡ replicate (length xs) 255
+map_constant [] = refl
+map_constant (x ∷ xs) = ap (λ ys. 255 ∷ ys) (map_constant xs)
+
+-- a training check with all its octets FF
+pub check_spoiled : (kind : Kind) (octets new : List ℕ) → kind ≡ Training → new ≡ replicate (length octets) 255 → item_said kind new ∷ [] ≡ spoiled (item_said kind octets ∷ [])
+check_spoiled kind octets new is e =
+    subst (λ k. item_said k new ∷ [] ≡ spoiled (item_said k octets ∷ [])) (sym is) (ap (λ l. checked l ∷ []) (e ∙ sym (map_constant octets)))
+
+pub frame_unspoiled : (kind : Kind) (octets : List ℕ) → kind ≢ Training → item_said kind octets ∷ [] ≡ spoiled (item_said kind octets ∷ [])
+frame_unspoiled kind octets differs = rw (said_frame kind octets differs) refl

@@ -1,0 +1,166 @@
+//! What is under way to one of the stations, and how it hears it.
+
+ghost use Rattle.line_sim.specs.Entries.{count_fcds, head_kind};
+ghost use Rattle.line_sim.specs.Headline.{CanBeWritten};
+ghost use Rattle.line_sim.specs.Hearing.{AnswererHears, CallerHears, HearsFirst};
+ghost use Rattle.line_sim.specs.Line.{after_first, spoiled};
+ghost use Rattle.stations.specs.Inputs.{PlainItem};
+ghost use Rattle.stations.specs.Laws.{Each};
+ghost use Rattle.stations.specs.Lending.{plain_item};
+ghost use Rattle.std.specs.Prelude.{◌≡◌, ◌+◌, [], ◌∷◌, ◌++◌, cond, ℕ, List, take, min, IsTrue, ◌↔◌, OnOk, OnErr};
+
+use crate::event::Kind;
+use crate::item::UnderWay;
+use hdlc::Deframer;
+use signals::{Side, Signal};
+use stations::{Answerer, Caller, Item, Items, Turn};
+use std::alloc::{AllocError, Global};
+use std::collections::VecDeque;
+use std::marker::Model;
+
+/// Whether an item is an FCD.
+fn is_fcd(item: &Item<'_>) -> bool
+    ensures { (items : List PlainItem) → count_fcds (plain_item item.now ∷ items) ≡ cond result 1 0 + count_fcds items }
+{
+    matches!(
+        item,
+        Item::Frame {
+            signal: Signal::Fcd { .. },
+            ..
+        }
+    )
+}
+
+/// How many of the items are FCDs, up to 65,535.
+pub(crate) fn fcd_count(mut items: Items<'_>) -> u16
+    ensures { result ≡ min 65535 (count_fcds items.entry) }
+{
+    let mut count: u16 = 0;
+    while let Some(item) = items.take_next() {
+        if is_fcd(&item) {
+            count = count.saturating_add(1);
+        }
+    }
+    count
+}
+
+/// What is under way to a station, the first item first, and the deframer by which it hears frames.
+#[derive(Drop)]
+pub(crate) struct Channel {
+    alloc: Global,
+    sender: Side,
+    items: VecDeque<UnderWay>,
+    deframer: Deframer,
+}
+
+impl Model for Channel {
+    ghost use Rattle.std.specs.Prelude.{List};
+    ghost use Rattle.stations.specs.Inputs.{PlainItem};
+    ghost use Rattle.line_sim.specs.Octets.{IsIdle};
+
+    ghost Value = { List PlainItem };
+
+    ghost view = { λ c. c.items.items };
+
+    ghost invariant = { λ c. IsIdle c.deframer };
+}
+
+impl Channel {
+    /// Nothing is under way.
+    pub(crate) fn new(alloc: Global, sender: Side) -> Channel
+        ensures { result ≡ [] }
+    {
+        Channel {
+            alloc,
+            sender,
+            items: VecDeque::new(alloc),
+            deframer: Deframer::new(alloc),
+        }
+    }
+
+    /// Whether nothing is under way.
+    pub(crate) fn is_empty(&self) -> bool
+        ensures { IsTrue result ↔ (self.now ≡ []) }
+    {
+        self.items.is_empty()
+    }
+
+    /// What the first item is.
+    pub(crate) fn head(&self) -> Option<Kind>
+        ensures { result ≡ head_kind self.now }
+    {
+        let first = self.items.front()?;
+        Some(first.kind())
+    }
+
+    /// Nothing is under way any more.
+    pub(crate) fn clear(&mut self)
+        ensures { self.new ≡ [] }
+    {
+        self.items.truncate(0);
+    }
+
+    /// The first item is lost.
+    pub(crate) fn lose(&mut self)
+        ensures { self.new ≡ after_first self.old }
+    {
+        let _lost = self.items.pop_front();
+    }
+
+    /// A training check that is first has only octets FF.
+    pub(crate) fn spoil(&mut self)
+        ensures { self.new ≡ spoiled self.old }
+    {
+        if let Some(first) = self.items.front_mut() {
+            first.spoil();
+        }
+    }
+
+    /// The first item comes to the caller. Errs where memory is refused: the caller has not heard it.
+    pub(crate) fn deliver_to_caller(&mut self, caller: &mut Caller) -> Result<Turn, AllocError>
+        ensures left { self.new ≡ after_first self.old }
+        ensures heard { HearsFirst CallerHears self.old caller.old caller.new result }
+    {
+        match self.items.pop_front() {
+            Some(item) => item.come_to_caller(&mut self.deframer, caller),
+            None => Ok(Turn::Silent),
+        }
+    }
+
+    /// The first item comes to the answerer. Errs where memory is refused: the answerer has not heard it.
+    pub(crate) fn deliver_to_answerer(
+        &mut self,
+        answerer: &mut Answerer,
+    ) -> Result<Turn, AllocError>
+        ensures left { self.new ≡ after_first self.old }
+        ensures heard { HearsFirst AnswererHears self.old answerer.old answerer.new result }
+    {
+        match self.items.pop_front() {
+            Some(item) => item.come_to_answerer(&mut self.deframer, answerer),
+            None => Ok(Turn::Silent),
+        }
+    }
+
+    /// One item more is under way.
+    fn push(&mut self, item: Item<'_>) -> Result<(), AllocError>
+        requires { CanBeWritten (plain_item item) }
+        ensures ok { OnOk result (self.new ≡ self.old ++ plain_item item.entry ∷ []) }
+        ensures err { OnErr result (self.new ≡ self.old) }
+    {
+        let made = UnderWay::new(self.alloc, self.sender, item)?;
+        self.items.push_back(made)?;
+        Ok(())
+    }
+
+    /// Items are sent. Errs where memory is refused: the items that were made are under way.
+    pub(crate) fn send(&mut self, mut items: Items<'_>) -> Result<(), AllocError>
+        requires { Each CanBeWritten items }
+        ensures ok { OnOk result (self.new ≡ self.old ++ items.entry) }
+        ensures err { OnErr result ((made : ℕ) × (self.new ≡ self.old ++ take made items.entry)) }
+    {
+        while let Some(item) = items.take_next() {
+            self.push(item)?;
+        }
+        Ok(())
+    }
+}

@@ -1,0 +1,205 @@
+//! What is under way: frames as octets, and training checks.
+
+ghost use Rattle.line_sim.specs.Entries.{kind_of, signal_kind};
+ghost use Rattle.line_sim.specs.Headline.{CanBeWritten};
+ghost use Rattle.line_sim.specs.Hearing.{AnswererHears, CallerHears};
+ghost use Rattle.line_sim.specs.Line.{spoiled};
+ghost use Rattle.line_sim.specs.Octets.{Carries, IsIdle};
+ghost use Rattle.signals.specs.Reading.{read_content};
+ghost use Rattle.signals.specs.Signals.{PlainSignal, plain};
+ghost use Rattle.signals.specs.Writing.{IsWritable};
+ghost use Rattle.stations.specs.AnswererStep.{StepsOrRefuses, answerer_step};
+ghost use Rattle.stations.specs.CallerStep.{caller_step};
+ghost use Rattle.stations.specs.Inputs.{hears, listens};
+ghost use Rattle.stations.specs.Lending.{plain_item};
+ghost use Rattle.stations.specs.CallerFields.{AnswersOrRefuses};
+ghost use Rattle.std.specs.Prelude.{◌≡◌, [], ◌∷◌, List, ℕ, drop, replicate, IfOk, IsTrue, ◌↔◌};
+
+use crate::event::Kind;
+use hdlc::{Deframer, write_frame};
+use raster::packed::Order;
+use run_tables::BitWriter;
+use signals::{Side, Signal};
+use stations::{Answerer, AnswererIn, Caller, CallerIn, Item, Turn};
+use std::alloc::{AllocError, Global};
+use std::marker::Model;
+
+/// What a signal is that a station sends.
+fn kind_of(signal: &Signal) -> Kind
+    requires { IsWritable (plain signal.now) }
+    ensures { signal_kind (plain signal.now) ≡ Some result }
+{
+    match signal {
+        Signal::Dis(_) => Kind::Dis,
+        Signal::Dcs(_) => Kind::Dcs,
+        Signal::Cfr => Kind::Cfr,
+        Signal::Ftt => Kind::Ftt,
+        Signal::Fcd { number, .. } => Kind::Fcd(*number),
+        Signal::Rcp => Kind::Rcp,
+        Signal::Pps { .. } => Kind::Pps,
+        Signal::Ppr(_) => Kind::Ppr,
+        Signal::Mcf => Kind::Mcf,
+        Signal::Rnr => Kind::Rnr,
+        Signal::Rr => Kind::Rr,
+        Signal::Dcn | Signal::Other(_) => Kind::Dcn,
+    }
+}
+
+/// Whether an item is a training check.
+fn is_check(kind: Kind) -> bool
+    ensures { IsTrue result ↔ (kind ≡ Kind.Training) }
+{
+    matches!(kind, Kind::Training)
+}
+
+/// The octets of the frame that says a signal, as a station sends it. Errs where memory is refused.
+fn frame_octets(
+    alloc: Global,
+    signal: &Signal,
+    side: Side,
+    last: bool,
+) -> Result<Vec<u8>, AllocError>
+    requires { IsWritable (plain signal.now) }
+    ensures { IfOk result (λ octets. Carries octets.items (plain signal.now)) }
+{
+    let content = signals::write(signal, side, last);
+    let mut writer = BitWriter::new(alloc, Order::LsbFirst);
+    write_frame(content.as_slice(), &mut writer)?;
+    Ok(writer.into_octets())
+}
+
+/// The octets of a training check. Errs where memory is refused.
+fn training_octets(alloc: Global, count: u32) -> Result<Vec<u8>, AllocError>
+    ensures { IfOk result (λ octets. octets.items ≡ replicate count 0) }
+{
+    let mut octets = Vec::new(alloc);
+    octets.resize(count as usize, 0)?;
+    Ok(octets)
+}
+
+/// The caller hears the signal whose frame came last.
+fn caller_hears(deframer: &mut Deframer, caller: &mut Caller) -> Result<Turn, AllocError>
+    ensures rest { deframer.new ≡ record deframer.old { queue = drop 1 deframer.old.queue } }
+    ensures heard { (content : List ℕ) (signal : PlainSignal) → deframer.old.queue ≡ content ∷ [] → read_content content ≡ Ok signal → AnswersOrRefuses caller.old caller.new result (λ t. caller_step t (hears signal)) }
+{
+    let Some(content) = deframer.next() else {
+        return Ok(Turn::Silent);
+    };
+    let Ok(signal) = signals::read(content) else {
+        return Ok(Turn::Silent);
+    };
+    caller.step(CallerIn::Heard(signal))
+}
+
+/// The answerer hears the signal whose frame came last.
+fn answerer_hears(deframer: &mut Deframer, answerer: &mut Answerer) -> Result<Turn, AllocError>
+    ensures rest { deframer.new ≡ record deframer.old { queue = drop 1 deframer.old.queue } }
+    ensures heard { (content : List ℕ) (signal : PlainSignal) → deframer.old.queue ≡ content ∷ [] → read_content content ≡ Ok signal → StepsOrRefuses answerer.old answerer.new result (answerer_step answerer.old (listens signal)) }
+{
+    let Some(content) = deframer.next() else {
+        return Ok(Turn::Silent);
+    };
+    let Ok(signal) = signals::read(content) else {
+        return Ok(Turn::Silent);
+    };
+    answerer.step(AnswererIn::Heard(signal))
+}
+
+/// An item under way: the octets of a frame or of a training check.
+#[derive(Drop)]
+pub(crate) struct UnderWay {
+    kind: Kind,
+    octets: Vec<u8>,
+}
+
+impl Model for UnderWay {
+    ghost use Rattle.stations.specs.Inputs.{PlainItem};
+    ghost use Rattle.line_sim.specs.Octets.{item_said, IsItem};
+
+    ghost Value = { PlainItem };
+
+    ghost view = { λ i. item_said i.kind i.octets.items };
+
+    ghost invariant = { λ i. IsItem i.kind i.octets.items };
+}
+
+impl UnderWay {
+    /// An item as a station sends it. Errs where memory is refused.
+    pub(crate) fn new(alloc: Global, side: Side, item: Item<'_>) -> Result<UnderWay, AllocError>
+        requires { CanBeWritten (plain_item item) }
+        ensures { IfOk result (λ made. made ≡ plain_item item.entry) }
+    {
+        hdlc::laws::frame_grows();
+        signals::laws::reads_what_is_written();
+        match item {
+            Item::Frame { signal, last } => {
+                let octets = frame_octets(alloc, &signal, side, last)?;
+                let kind = kind_of(&signal);
+                Ok(UnderWay { kind, octets })
+            }
+            Item::Training(count) => {
+                let octets = training_octets(alloc, count)?;
+                let kind = Kind::Training;
+                Ok(UnderWay { kind, octets })
+            }
+        }
+    }
+
+    /// What it is.
+    pub(crate) fn kind(&self) -> Kind
+        ensures { kind_of self.now ≡ Some result }
+    {
+        hdlc::laws::frame_grows();
+        signals::laws::reads_what_is_written();
+        self.kind
+    }
+
+    /// Comes to the caller. Errs where memory is refused: the caller has not heard it.
+    pub(crate) fn come_to_caller(
+        &self,
+        deframer: &mut Deframer,
+        caller: &mut Caller,
+    ) -> Result<Turn, AllocError>
+        requires { IsIdle deframer.old }
+        ensures idle { IsIdle deframer.new }
+        ensures heard { CallerHears self.now caller.old caller.new result }
+    {
+        hdlc::laws::frame_grows();
+        hdlc::laws::next_stands();
+        signals::laws::reads_what_is_written();
+        if is_check(self.kind) {
+            return Ok(Turn::Silent);
+        }
+        deframer.feed(&self.octets)?;
+        caller_hears(deframer, caller)
+    }
+
+    /// Comes to the answerer. Errs where memory is refused: the answerer has not heard it.
+    pub(crate) fn come_to_answerer(
+        &self,
+        deframer: &mut Deframer,
+        answerer: &mut Answerer,
+    ) -> Result<Turn, AllocError>
+        requires { IsIdle deframer.old }
+        ensures idle { IsIdle deframer.new }
+        ensures heard { AnswererHears self.now answerer.old answerer.new result }
+    {
+        hdlc::laws::frame_grows();
+        hdlc::laws::next_stands();
+        signals::laws::reads_what_is_written();
+        if is_check(self.kind) {
+            return answerer.step(AnswererIn::Training(&self.octets));
+        }
+        deframer.feed(&self.octets)?;
+        answerer_hears(deframer, answerer)
+    }
+
+    /// All octets of a training check become FF.
+    pub(crate) fn spoil(&mut self)
+        ensures { self.new ∷ [] ≡ spoiled (self.old ∷ []) }
+    {
+        if is_check(self.kind) {
+            self.octets.fill(0xFF);
+        }
+    }
+}
