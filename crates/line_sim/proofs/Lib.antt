@@ -1,4 +1,13 @@
+pub mod Between
+pub mod Runs
+pub mod Beginning
+pub mod Politely
+pub mod FullPages
+pub mod Fcds
+pub mod Reaching
 pub mod Counting
+pub mod Sent
+pub mod Acting
 pub mod Sending
 pub mod Frames
 pub mod Items

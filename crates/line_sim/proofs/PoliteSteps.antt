@@ -1,5 +1,5 @@
 -- A polite run makes deliveries and T2 alone.
-use Rattle.std.proofs.Common.{◌≡◌, ℕ, zero, suc, Bool, true, false, cond, List, [], ◌∷◌, ◌++◌, refl}
+use Rattle.std.proofs.Common.{◌≡◌, zero, suc, Bool, true, false, cond, List, [], ◌∷◌, refl}
 use Rattle.stations.specs.Inputs.{PlainItem}
 use Rattle.stations.specs.Laws.{Each}
 use Rattle.line_sim.specs.declared.event.Event.{Event}

@@ -8,3 +8,6 @@ pub mod Polite
 pub mod Counted
 pub mod Octets
 pub mod Hearing
+pub mod Standing
+pub mod Report
+pub mod Delivering

@@ -1,9 +1,19 @@
 //! The line between the two stations of a call, and what holds over every schedule.
 #![tactic(auto)]
 
+mod call;
 mod channel;
 mod event;
+mod fault;
 mod item;
 pub mod laws;
+mod polite;
+mod report;
+#[cfg(test)]
+mod tests;
+mod world;
 
 pub use crate::event::{Entry, Event, Kind};
+pub use crate::fault::WorldFault;
+pub use crate::report::Report;
+pub use crate::world::{World, run};

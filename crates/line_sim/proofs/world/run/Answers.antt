@@ -1,0 +1,21 @@
+use Rattle.std.proofs.Common.{subst, sym, take, get_or}
+use Rattle.std.proofs.lemmas.List.{take_all}
+use Rattle.line_sim.specs.declared.event.Event.TheVariants.{DeliverToAnswerer}
+use Rattle.line_sim.proofs.Runs.{Given as GivenEvents, none_given, one_given, take_next, tells_run}
+use Rattle.line_sim.proofs.world.run.Goals as goal
+
+pub loop-event-init : goal.loop-event-init
+loop-event-init c = none_given c.args.document c.args.wish c.args.caps c.in_ok-world.world c.in_ok-world.ensures.1 c.in_ok-world.ensures.2
+
+pub loop-event-preserved : goal.loop-event-preserved
+loop-event-preserved c =
+    subst (λ l. GivenEvents c.args.document c.args.wish c.args.caps l c.event-answer.new.self) (sym (take_next c.args.events.now c.loop-event.event-index DeliverToAnswerer c.loop-event-test.true))
+    (one_given c.args.document c.args.wish c.args.caps (take c.loop-event.event-index c.args.events.now) c.loop-event.world c.event-answer.new.self (get_or c.args.events.now c.loop-event.event-index DeliverToAnswerer) c.event-answer.result c.loop-event.invariant c.event-answer.ensures.ok c.event-answer.ensures.err)
+
+pub returns : goal.returns
+returns c = (
+  c.in_ok-world.ensures.0,
+  tells_run c.args.document c.args.wish c.args.caps c.args.events.now c.loop-event.world c.report.result
+      (subst (λ l. GivenEvents c.args.document c.args.wish c.args.caps l c.loop-event.world) (take_all c.loop-event.event-index c.args.events.now c.loop-event-test.false) c.loop-event.invariant)
+      c.report.ensures,
+)

@@ -1,0 +1,36 @@
+-- What deliveries make of the fields of a world.
+use Rattle.std.specs.Prelude.{ℕ, ◌≡◌, ◌≢◌, Bool, true, false, List, [], ◌∷◌, ◌++◌, Result, Ok, Err}
+use Rattle.line_sim.specs.Entries.{entries}
+use Rattle.line_sim.specs.Line.{World, Outcome, Done, run}
+use Rattle.line_sim.specs.Polite.{next_steps, polite_steps, count_deliveries}
+use Rattle.line_sim.specs.Standing.{Shows, WorldFields}
+use Rattle.line_sim.specs.declared.event.Event.{Event}
+
+-- steps were made from a world that the fields represented: they represent the one after them, and have their entries
+abbrev pub Made : WorldFields → WorldFields → World → List (Event × Outcome) → Type 0
+Made old new w steps = Shows new.call (run steps w) × (new.entries ≡ old.entries ++ entries steps w)
+
+-- of steps those before a refused event were made, and that event has another outcome
+pub record Stopped (old new : WorldFields) (w : World) (steps : List (Event × Outcome)) : Type 0 where
+  pub before : List (Event × Outcome)
+  pub event : Event
+  pub following : List (Event × Outcome)
+  pub outcome : Outcome
+  pub refused : outcome ≢ Done
+  pub steps_are : steps ≡ before ++ (event, Done) ∷ following
+  pub made : Made old new w (before ++ (event, outcome) ∷ [])
+
+-- the next delivery was made, or there is none
+abbrev pub NextDone : WorldFields → WorldFields → World → Bool → Type 0
+NextDone old new w true = Made old new w (next_steps w w.to_answerer w.to_caller) × (count_deliveries (next_steps w w.to_answerer w.to_caller) ≡ 1)
+NextDone old new w false = (new ≡ old) × (next_steps w w.to_answerer w.to_caller ≡ [])
+
+-- the same, or a growth was refused
+abbrev pub DeliversNext : {E : Type 0} → WorldFields → WorldFields → World → Result Bool E → Type 0
+DeliversNext old new w (Ok delivered) = NextDone old new w delivered
+DeliversNext old new w (Err refusal) = Stopped old new w (next_steps w w.to_answerer w.to_caller)
+
+-- a polite run of so many deliveries at most was made, or a growth was refused
+abbrev pub DeliversAll : {E : Type 0} → WorldFields → WorldFields → World → ℕ → Result ℕ E → Type 0
+DeliversAll old new w most (Ok number) = Made old new w (polite_steps most w) × (number ≡ count_deliveries (polite_steps most w))
+DeliversAll old new w most (Err refusal) = Stopped old new w (polite_steps most w)

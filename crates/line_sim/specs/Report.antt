@@ -1,0 +1,40 @@
+-- What a report tells.
+use Rattle.std.specs.Prelude.{ℕ, ◌≡◌, List, map, Result, Ok, Err}
+use Rattle.signals.specs.declared.params.Caps.{Caps}
+use Rattle.signals.specs.declared.params.Wish.{Wish}
+use Rattle.stations.specs.CallerStep.{confirmed}
+use Rattle.stations.specs.CallerFields.{AreCallable}
+use Rattle.stations.specs.Layers.{Document}
+use Rattle.line_sim.specs.Entries.{entries, marks}
+use Rattle.line_sim.specs.Line.{World, Outcome, new_world, run}
+use Rattle.line_sim.specs.Standing.{IsWorldFault}
+use Rattle.line_sim.specs.declared.event.Entry.{Entry}
+use Rattle.line_sim.specs.declared.event.Event.{Event}
+use Rattle.line_sim.specs.declared.fault.WorldFault.{WorldFault}
+use Rattle.line_sim.specs.declared.fault.WorldFault.TheVariants.{NoMemory, WidthNotCallable}
+use Rattle.line_sim.specs.declared.report.Report.{Report}
+
+-- the faults' numbers
+abbrev pub number_of : WorldFault → ℕ
+number_of NoMemory = 9
+number_of WidthNotCallable = 26
+
+-- a report tells a world and its entries
+pub record Tells (report : Report) (w : World) (entries : List Entry) : Type 0 where
+  pub pages : report.pages.items ≡ w.answerer.pages
+  pub confirmed : report.confirmed ≡ confirmed w.caller
+  pub caller_end : report.caller_end ≡ w.caller.ending
+  pub answerer_end : report.answerer_end ≡ w.answerer.ending
+  pub refused : report.refused ≡ marks entries
+  pub transcript : report.transcript.items ≡ entries
+
+-- a report of a run of such events, each with some outcome
+pub record TellsRun (document : Document) (wish : Wish) (caps : Caps) (events : List Event) (report : Report) : Type 0 where
+  pub steps : List (Event × Outcome)
+  pub given : map (λ step. step.0) steps ≡ events
+  pub tells : Tells report (run steps (new_world document wish caps)) (entries steps (new_world document wish caps))
+
+-- the report of a run, unless there is no world
+abbrev pub RunsTo : Document → Wish → Caps → List Event → Result Report WorldFault → Type 0
+RunsTo document wish caps events (Ok report) = AreCallable document × TellsRun document wish caps events report
+RunsTo document wish caps events (Err fault) = IsWorldFault document fault

@@ -1,0 +1,224 @@
+//! Both stations and what is under way, and what one event does to them.
+
+ghost use Rattle.line_sim.specs.Entries.{caller_said};
+ghost use Rattle.line_sim.specs.Standing.{Acts, AnswererAnswers, AnswererMayAnswer, AnswererSends, AnswererTimer, AnswererWrites, CallerAnswers, CallerMayAnswer, CallerSends, CallerTimer, CallerWrites, EventWrites};
+ghost use Rattle.stations.specs.CallerStep.{Caller as CallerTuple, caller_items};
+ghost use Rattle.stations.specs.Inputs.{answerer_input, caller_input};
+ghost use Rattle.stations.specs.CallerFields.{Represents};
+ghost use Rattle.std.specs.Prelude.{◌≡◌, IsTrue, ◌↔◌, length};
+
+use crate::channel::{Channel, fcd_count};
+use crate::event::{Entry, Event, Kind};
+use stations::{Answerer, AnswererIn, Caller, CallerIn, Turn};
+use std::alloc::AllocError;
+
+/// The entry of an event that no station answers.
+fn unanswered(event: Event, item: Option<Kind>, refused: bool) -> Entry
+    ensures { result ≡ record { event = event; item = item; turn = Turn.Silent; fcds = 0; refused = refused } }
+{
+    Entry {
+        event,
+        item,
+        turn: Turn::Silent,
+        fcds: 0,
+        refused,
+    }
+}
+
+/// Whether a turn is silent.
+fn is_silent(turn: &Turn) -> bool
+    ensures { IsTrue result ↔ (turn.now ≡ Turn.Silent) }
+{
+    matches!(turn, Turn::Silent)
+}
+
+/// A map of a burst has 32 octets. Nothing runs.
+fn has_32_octets(map: &[u8; 32])
+    ensures { length map.now ≡ 32 }
+{}
+
+/// Both stations, and what is under way to each.
+#[derive(Drop)]
+pub struct Call {
+    pub(crate) caller: Caller,
+    pub(crate) answerer: Answerer,
+    pub(crate) to_answerer: Channel,
+    pub(crate) to_caller: Channel,
+}
+
+impl Call {
+    /// How many FCDs a turn of the caller has.
+    fn fcds(&self, turn: &Turn) -> u16
+        ensures { (t : CallerTuple) → Represents self.now.caller t → result ≡ (caller_said turn.now (caller_items t turn.now)).fcds }
+    {
+        match turn {
+            Turn::Burst(map) => {
+                has_32_octets(map);
+                fcd_count(self.caller.frames(turn))
+            }
+            _ => 0,
+        }
+    }
+
+    /// The caller transmits its items of a turn, which empties the list that leads to it. Answers
+    /// whether memory was refused: then the items that were made are under way.
+    fn caller_sends(&mut self, turn: &Turn) -> bool
+        requires { CallerWrites self.old turn.now }
+        ensures { CallerSends self.old self.new turn.now result }
+    {
+        if is_silent(turn) {
+            return false;
+        }
+        self.to_caller.clear();
+        self.to_answerer.send(self.caller.frames(turn)).is_err()
+    }
+
+    /// The answerer transmits its items of a turn, which empties the list that leads to it. Answers
+    /// whether memory was refused: then the items that were made are under way.
+    fn answerer_sends(&mut self, turn: &Turn) -> bool
+        requires { AnswererWrites self.old turn.now }
+        ensures { AnswererSends self.old self.new turn.now result }
+    {
+        if is_silent(turn) {
+            return false;
+        }
+        self.to_answerer.clear();
+        self.to_caller.send(self.answerer.frames(turn)).is_err()
+    }
+
+    /// The caller has answered an event.
+    fn caller_answers(
+        &mut self,
+        event: Event,
+        item: Option<Kind>,
+        answered: Result<Turn, AllocError>,
+    ) -> Entry
+        requires { CallerMayAnswer self.old answered }
+        ensures { CallerAnswers self.old self.new event item answered result }
+    {
+        match answered {
+            Ok(turn) => {
+                let fcds = self.fcds(&turn);
+                let refused = self.caller_sends(&turn);
+                Entry {
+                    event,
+                    item,
+                    turn,
+                    fcds,
+                    refused,
+                }
+            }
+            Err(_) => unanswered(event, item, true),
+        }
+    }
+
+    /// The answerer has answered an event.
+    fn answerer_answers(
+        &mut self,
+        event: Event,
+        item: Option<Kind>,
+        answered: Result<Turn, AllocError>,
+    ) -> Entry
+        requires { AnswererMayAnswer self.old answered }
+        ensures { AnswererAnswers self.old self.new event item answered result }
+    {
+        match answered {
+            Ok(turn) => {
+                let refused = self.answerer_sends(&turn);
+                Entry {
+                    event,
+                    item,
+                    turn,
+                    fcds: 0,
+                    refused,
+                }
+            }
+            Err(_) => unanswered(event, item, true),
+        }
+    }
+
+    /// The first item under way to the caller comes.
+    fn deliver_to_caller(&mut self) -> Entry
+        requires { EventWrites self.old Event.DeliverToCaller }
+        ensures { Acts self.old self.new Event.DeliverToCaller result }
+    {
+        let item = self.to_caller.head();
+        let answered = self.to_caller.deliver_to_caller(&mut self.caller);
+        self.caller_answers(Event::DeliverToCaller, item, answered)
+    }
+
+    /// The first item under way to the answerer comes.
+    fn deliver_to_answerer(&mut self) -> Entry
+        requires { EventWrites self.old Event.DeliverToAnswerer }
+        ensures { Acts self.old self.new Event.DeliverToAnswerer result }
+    {
+        let item = self.to_answerer.head();
+        let answered = self.to_answerer.deliver_to_answerer(&mut self.answerer);
+        self.answerer_answers(Event::DeliverToAnswerer, item, answered)
+    }
+
+    /// One of the caller's timers runs out.
+    fn caller_timer(&mut self, event: Event, input: CallerIn<'_>) -> Entry
+        requires timer { CallerTimer event (caller_input input) }
+        requires writes { EventWrites self.old event }
+        ensures { Acts self.old self.new event result }
+    {
+        let answered = self.caller.step(input);
+        self.caller_answers(event, None, answered)
+    }
+
+    /// One of the answerer's timers runs out, or it is told whether it can take pages.
+    fn answerer_timer(&mut self, event: Event, input: AnswererIn<'_>) -> Entry
+        requires timer { AnswererTimer event (answerer_input input) }
+        requires writes { EventWrites self.old event }
+        ensures { Acts self.old self.new event result }
+    {
+        let answered = self.answerer.step(input);
+        self.answerer_answers(event, None, answered)
+    }
+
+    /// The first item under way to the answerer is lost.
+    fn lose_to_answerer(&mut self) -> Entry
+        ensures { Acts self.old self.new Event.LoseToAnswerer result }
+    {
+        let item = self.to_answerer.head();
+        self.to_answerer.lose();
+        unanswered(Event::LoseToAnswerer, item, false)
+    }
+
+    /// The first item under way to the caller is lost.
+    fn lose_to_caller(&mut self) -> Entry
+        ensures { Acts self.old self.new Event.LoseToCaller result }
+    {
+        let item = self.to_caller.head();
+        self.to_caller.lose();
+        unanswered(Event::LoseToCaller, item, false)
+    }
+
+    /// A training check that is first under way to the answerer is spoiled.
+    fn spoil(&mut self) -> Entry
+        ensures { Acts self.old self.new Event.Spoil result }
+    {
+        self.to_answerer.spoil();
+        unanswered(Event::Spoil, None, false)
+    }
+
+    /// What an event does, and its entry.
+    pub(crate) fn act(&mut self, event: Event) -> Entry
+        requires { EventWrites self.old event }
+        ensures { Acts self.old self.new event result }
+    {
+        match event {
+            Event::DeliverToAnswerer => self.deliver_to_answerer(),
+            Event::DeliverToCaller => self.deliver_to_caller(),
+            Event::LoseToAnswerer => self.lose_to_answerer(),
+            Event::LoseToCaller => self.lose_to_caller(),
+            Event::Spoil => self.spoil(),
+            Event::CallerTimeout => self.caller_timer(event, CallerIn::Timeout),
+            Event::CallerT5 => self.caller_timer(event, CallerIn::T5),
+            Event::AnswererT1 => self.answerer_timer(event, AnswererIn::T1),
+            Event::AnswererT2 => self.answerer_timer(event, AnswererIn::T2),
+            Event::Busy(busy) => self.answerer_timer(event, AnswererIn::Busy(busy)),
+        }
+    }
+}

@@ -1,0 +1,91 @@
+//! A call in which all that is under way comes.
+
+ghost use Rattle.line_sim.specs.Delivering.{DeliversAll, DeliversNext};
+ghost use Rattle.line_sim.specs.Line.{World as WorldValue};
+ghost use Rattle.line_sim.specs.Polite.{is_between_groups};
+ghost use Rattle.line_sim.specs.Standing.{Shows};
+ghost use Rattle.std.specs.Prelude.{◌≡◌, [], IsTrue, ◌↔◌};
+
+use crate::call::Call;
+use crate::event::Event;
+use crate::world::World;
+use std::alloc::AllocError;
+
+impl Call {
+    /// Whether a group is through and another one follows: neither station has ended, the caller waits
+    /// for another DIS and the answerer for a DCS.
+    fn is_between_groups(&self) -> bool
+        ensures { (w : WorldValue) → Shows self.now w → result ≡ is_between_groups w }
+    {
+        if self.caller.end().is_some() {
+            return false;
+        }
+        if self.answerer.end().is_some() {
+            return false;
+        }
+        if !self.caller.between_groups() {
+            return false;
+        }
+        self.answerer.in_phase_b()
+    }
+}
+
+impl World {
+    /// Whether nothing is under way to the answerer.
+    fn is_clear_to_answerer(&self) -> bool
+        ensures { IsTrue result ↔ (self.now.call.to_answerer ≡ []) }
+    {
+        self.call.to_answerer.is_empty()
+    }
+
+    /// Whether nothing is under way to the caller.
+    fn is_clear_to_caller(&self) -> bool
+        ensures { IsTrue result ↔ (self.now.call.to_caller ≡ []) }
+    {
+        self.call.to_caller.is_empty()
+    }
+
+    /// Whether a group is through and another one follows.
+    fn is_between_groups(&self) -> bool
+        ensures { (w : WorldValue) → Shows self.now.call w → result ≡ is_between_groups w }
+    {
+        self.call.is_between_groups()
+    }
+
+    /// The next delivery, if there is one; between groups the answerer sends its DIS again, which is
+    /// delivered. Answers whether there was one. Errs where a growth is refused.
+    fn deliver_next(&mut self) -> Result<bool, AllocError>
+        ensures { (w : WorldValue) → Shows self.old.call w → DeliversNext self.old self.new w result }
+    {
+        if !self.is_clear_to_answerer() {
+            self.event(Event::DeliverToAnswerer)?;
+            return Ok(true);
+        }
+        if !self.is_clear_to_caller() {
+            self.event(Event::DeliverToCaller)?;
+            return Ok(true);
+        }
+        if !self.is_between_groups() {
+            return Ok(false);
+        }
+        self.event(Event::AnswererT2)?;
+        self.event(Event::DeliverToCaller)?;
+        Ok(true)
+    }
+
+    /// Delivers what is under way, in order, until nothing is or so many items were delivered. Where a
+    /// group of pages is through and another one follows, the answerer's T2 begins it, which has its
+    /// entry and isn't counted. Answers the number of deliveries. Errs at the first refused event.
+    pub fn polite(&mut self, most: u64) -> Result<u64, AllocError>
+        ensures { (w : WorldValue) → Shows self.old.call w → DeliversAll self.old self.new w most result }
+    {
+        let mut delivered = 0;
+        while delivered < most {
+            if !self.deliver_next()? {
+                return Ok(delivered);
+            }
+            delivered += 1;
+        }
+        Ok(delivered)
+    }
+}

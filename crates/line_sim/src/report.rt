@@ -1,0 +1,20 @@
+use crate::event::Entry;
+use raster::Page;
+use stations::End;
+
+/// What has become of a call.
+#[derive(Drop)]
+pub struct Report {
+    /// The pages that the answerer has stored, in order.
+    pub pages: Vec<Page>,
+    /// How many pages the caller counts as confirmed.
+    pub confirmed: u64,
+    /// Why the call ended for the caller, if it has.
+    pub caller_end: Option<End>,
+    /// Why the call ended for the answerer, if it has.
+    pub answerer_end: Option<End>,
+    /// In how many events of the transcript a growth was refused.
+    pub refused: u64,
+    /// What the events were, in order; an event that found no room for its entry isn't among them.
+    pub transcript: Vec<Entry>,
+}

@@ -1,0 +1,159 @@
+//! A world: a caller, an answerer and the half-duplex line between them.
+
+ghost use Rattle.line_sim.specs.Line.{World as WorldValue, Outcome, new_world};
+ghost use Rattle.line_sim.specs.Report.{RunsTo, Tells};
+ghost use Rattle.line_sim.specs.Standing.{Becomes, BecomesSome, NewWorld, Shows};
+ghost use Rattle.stations.specs.Laws.{Each};
+ghost use Rattle.stations.specs.Layers.{IsFullPage};
+ghost use Rattle.std.specs.Prelude.{◌≡◌, ◌<◌, ◌++◌, ◌∷◌, [], true, OnOk, OnErr, IfOk, vec_len, vec_capacity};
+
+use crate::call::Call;
+use crate::channel::Channel;
+use crate::event::{Entry, Event};
+use crate::fault::WorldFault;
+use crate::laws::headline;
+use crate::report::Report;
+use raster::Document;
+use signals::{Caps, Side, Wish};
+use stations::{Answerer, Caller};
+use std::alloc::{AllocError, Global};
+use std::marker::Model;
+
+/// A caller and an answerer, what is under way between them, and a transcript of all events. Of each
+/// event it is told what happens, so every schedule can be run.
+#[derive(Drop)]
+pub struct World {
+    pub(crate) call: Call,
+    transcript: Vec<Entry>,
+    refused: u64,
+}
+
+impl Model for World {
+    ghost use Rattle.line_sim.specs.Standing.{WorldFields};
+
+    ghost Value = { WorldFields };
+
+    ghost view = { λ w. record { call = w.call; entries = w.transcript.items } };
+
+    ghost use Rattle.line_sim.specs.Standing.{IsReached};
+    ghost use Rattle.line_sim.specs.Entries.{marks};
+    ghost use Rattle.stations.specs.Laws.{Each};
+    ghost use Rattle.stations.specs.Layers.{IsFullPage};
+    ghost use Rattle.std.specs.Prelude.{◌≡◌};
+
+    ghost invariant = { λ w. IsReached (record { call = w.call; entries = w.transcript.items }) × (w.refused ≡ marks w.transcript.items) };
+}
+
+impl World {
+    /// A world at the start of a call: the answerer's DIS is under way. Errs where memory is refused,
+    /// and where the width of a page is none that a call can have.
+    pub fn new(
+        alloc: Global,
+        document: Document,
+        wish: Wish,
+        caps: Caps,
+    ) -> Result<World, WorldFault>
+        requires receiver { caps.receiver ≡ true }
+        requires ecm { caps.ecm ≡ true }
+        ensures { NewWorld document wish caps result }
+    {
+        has_full_pages(&document);
+        let caller = Caller::new(alloc, document, wish)?;
+        let (answerer, turn) = Answerer::new(alloc, caps);
+        let to_answerer = Channel::new(alloc, Side::Caller);
+        let mut to_caller = Channel::new(alloc, Side::Answerer);
+        to_caller.send(answerer.frames(&turn))?;
+        let call = Call {
+            caller,
+            answerer,
+            to_answerer,
+            to_caller,
+        };
+        Ok(World {
+            call,
+            transcript: Vec::new(alloc),
+            refused: 0,
+        })
+    }
+
+    /// One event. Errs where a growth is refused: without room for its entry nothing happens; else a
+    /// delivery or another input is lost, or of what is sent only what was made is under way, which the
+    /// entry marks.
+    pub fn event(&mut self, event: Event) -> Result<(), AllocError>
+        ensures ok { OnOk result (Becomes self.old self.new event Outcome.Done) }
+        ensures err { OnErr result (BecomesSome self.old self.new event) }
+    {
+        headline();
+        let Ok(()) = self.transcript.reserve(1) else {
+            return Err(AllocError);
+        };
+        let entry = self.call.act(event);
+        note(&mut self.transcript, entry);
+        if entry.refused {
+            self.refused += 1;
+            return Err(AllocError);
+        }
+        Ok(())
+    }
+
+    /// What has become of the call.
+    pub fn report(self) -> Report
+        ensures { (w : WorldValue) → Shows self.call w → Tells result w self.entries }
+    {
+        let World {
+            call,
+            transcript,
+            refused,
+        } = self;
+        let confirmed = call.caller.confirmed();
+        let caller_end = call.caller.end();
+        let answerer_end = call.answerer.end();
+        Report {
+            pages: call.answerer.into_pages(),
+            confirmed,
+            caller_end,
+            answerer_end,
+            refused,
+            transcript,
+        }
+    }
+}
+
+/// Each page of a document has rows, all of its width, and not too many.
+fn has_full_pages(document: &Document)
+    ensures { Each IsFullPage document.now }
+{
+    for page in document.pages() {
+        let _rows = page.rows();
+    }
+}
+
+/// An entry more, for which there is room.
+fn note(transcript: &mut Vec<Entry>, entry: Entry)
+    requires { vec_len transcript.old < vec_capacity transcript.old }
+    ensures { transcript.new.items ≡ transcript.old.items ++ entry ∷ [] }
+{
+    let Ok(()) = transcript.push(entry) else {
+        unreachable!();
+    };
+}
+
+/// Runs a call: a new world is given each event, in order, and goes on after a refused one. Errs only
+/// where there is no new world.
+pub fn run(
+    alloc: Global,
+    document: Document,
+    wish: Wish,
+    caps: Caps,
+    events: &[Event],
+) -> Result<Report, WorldFault>
+    requires receiver { caps.receiver ≡ true }
+    requires ecm { caps.ecm ≡ true }
+    ensures { RunsTo document wish caps events.now result }
+{
+    let mut world = World::new(alloc, document, wish, caps)?;
+    for event in events {
+        let _answer = world.event(*event);
+    }
+    Ok(world.report())
+}
