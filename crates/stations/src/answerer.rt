@@ -23,6 +23,9 @@ use signals::{Caps, PageEnd, Params, Signal, allows, training_good};
 use std::alloc::{AllocError, Global};
 use std::marker::Model;
 
+#[cfg(test)]
+mod tests;
+
 /// Whether two marks are the same.
 fn is_same(mark: Mark, other: Mark) -> bool
     ensures { result ≡ same_mark mark other }

@@ -30,6 +30,9 @@ use signals::{Caps, Modems, PageEnd, PageWidth, Params, Signal, Speed, Wish, agr
 use std::alloc::{AllocError, Global};
 use std::marker::Model;
 
+#[cfg(test)]
+mod tests;
+
 /// Whether a call can have a page's width.
 fn is_callable(page: &Page) -> bool
     ensures { IsTrue result ↔ IsSome (width_of_pixels page.now.width) }
