@@ -91,7 +91,7 @@ first_settled n = record {
   answerer_normal = λ e. cc;
 }
 
-run_same : Promised → (steps : List (Event × Outcome)) (w : World) → LineFacts w → (run steps w).caller.document ≡ w.caller.document
+pub run_same : Promised → (steps : List (Event × Outcome)) (w : World) → LineFacts w → (run steps w).caller.document ≡ w.caller.document
 run_same laws [] w f = refl
 run_same laws (step ∷ steps) w f =
     let keeps = happens_keeps laws w step.0 step.1 f in

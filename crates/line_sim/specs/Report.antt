@@ -1,12 +1,15 @@
 -- What a report tells.
-use Rattle.std.specs.Prelude.{ℕ, ◌≡◌, List, map, Result, Ok, Err}
+use Rattle.std.specs.Prelude.{ℕ, ◌≡◌, List, map, length, Result, Ok, Err}
 use Rattle.signals.specs.declared.params.Caps.{Caps}
 use Rattle.signals.specs.declared.params.Wish.{Wish}
 use Rattle.stations.specs.CallerStep.{confirmed}
 use Rattle.stations.specs.CallerFields.{AreCallable}
 use Rattle.stations.specs.Layers.{Document}
+use Rattle.line_sim.specs.Counted.{IsCounted}
 use Rattle.line_sim.specs.Entries.{entries, marks}
+use Rattle.line_sim.specs.Headline.{IsSafe}
 use Rattle.line_sim.specs.Line.{World, Outcome, new_world, run}
+use Rattle.line_sim.specs.PageMachine.{Moves, first_state, page_state}
 use Rattle.line_sim.specs.Standing.{IsWorldFault}
 use Rattle.line_sim.specs.declared.event.Entry.{Entry}
 use Rattle.line_sim.specs.declared.event.Event.{Event}
@@ -38,3 +41,11 @@ pub record TellsRun (document : Document) (wish : Wish) (caps : Caps) (events : 
 abbrev pub RunsTo : Document → Wish → Caps → List Event → Result Report WorldFault → Type 0
 RunsTo document wish caps events (Ok report) = AreCallable document × TellsRun document wish caps events report
 RunsTo document wish caps events (Err fault) = IsWorldFault document fault
+
+-- what holds of every report of a call of a document: the sender and the owner of the store can rely on it, moves of the page machine lead to what
+-- it shows, and the turns of its transcript are counted
+pub record Keeps (document : Document) (report : Report) : Type 0 where
+  pub safe : IsSafe document report.pages.items report.confirmed report.caller_end report.answerer_end
+  pub moves : Moves (length document) first_state (page_state report.pages.items report.confirmed report.caller_end report.answerer_end)
+  pub groups : ℕ
+  pub counted : IsCounted groups report.transcript.items

@@ -13,6 +13,7 @@ use Rattle.stations.specs.declared.turn.Turn.TheVariants.{Silent}
 use Rattle.line_sim.specs.Entries.{Said, says, entry_of, entries, and_entries, caller_said}
 use Rattle.line_sim.specs.Headline.{CanBeWritten}
 use Rattle.line_sim.specs.Line.{World, Outcome, Done, Cut, sent, caller_sends, answerer_sends, happens, new_world, run}
+use Rattle.line_sim.specs.PageMachine.{PageState, page_state}
 use Rattle.line_sim.specs.declared.call.Call.{Call}
 use Rattle.line_sim.specs.declared.event.Entry.{Entry}
 use Rattle.line_sim.specs.declared.event.Event.{Event}
@@ -99,6 +100,10 @@ Acts old new event entry = (outcome : Outcome) × ((w : World) → Shows old w �
 pub record WorldFields : Type 0 where
   pub call : Call
   pub entries : List Entry
+
+-- the state of the page machine that the stations show
+abbrev pub fields_state : Call → PageState
+fields_state v = page_state v.answerer.pages v.caller.page v.caller.ending v.answerer.ending
 
 -- whichever world the fields represent, they represent what an event with an outcome makes of it, and have its entry
 abbrev pub Becomes : WorldFields → WorldFields → Event → Outcome → Type 0

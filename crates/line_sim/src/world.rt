@@ -1,20 +1,22 @@
 //! A world: a caller, an answerer and the half-duplex line between them.
 
 ghost use Rattle.line_sim.specs.Line.{World as WorldValue, Outcome, new_world};
-ghost use Rattle.line_sim.specs.Report.{RunsTo, Tells};
-ghost use Rattle.line_sim.specs.Standing.{Becomes, BecomesSome, NewWorld, Shows};
+ghost use Rattle.line_sim.specs.PageMachine.{AtMostTwo};
+ghost use Rattle.line_sim.specs.Report.{Keeps, RunsTo, Tells};
+ghost use Rattle.line_sim.specs.Standing.{Becomes, BecomesSome, NewWorld, Shows, fields_state};
 ghost use Rattle.stations.specs.Laws.{Each};
 ghost use Rattle.stations.specs.Layers.{IsFullPage};
-ghost use Rattle.std.specs.Prelude.{◌≡◌, ◌<◌, ◌++◌, ◌∷◌, [], true, OnOk, OnErr, IfOk, vec_len, vec_capacity};
+ghost use Rattle.std.specs.Prelude.{◌≡◌, ◌<◌, ◌++◌, ◌∷◌, [], true, OnOk, OnErr, IfOk, length, vec_len, vec_capacity};
 
 use crate::call::Call;
 use crate::channel::Channel;
 use crate::event::{Entry, Event};
 use crate::fault::WorldFault;
-use crate::laws::headline;
+use crate::laws::{counted, headline};
 use crate::report::Report;
 use raster::Document;
 use signals::{Caps, Side, Wish};
+use stations::laws::{layers_hold, signals_hold};
 use stations::{Answerer, Caller};
 use std::alloc::{AllocError, Global};
 use std::marker::Model;
@@ -76,10 +78,8 @@ impl World {
         })
     }
 
-    /// One event. Errs where a growth is refused: without room for its entry nothing happens; else a
-    /// delivery or another input is lost, or of what is sent only what was made is under way, which the
-    /// entry marks.
-    pub fn event(&mut self, event: Event) -> Result<(), AllocError>
+    /// What an event does.
+    fn happen(&mut self, event: Event) -> Result<(), AllocError>
         ensures ok { OnOk result (Becomes self.old self.new event Outcome.Done) }
         ensures err { OnErr result (BecomesSome self.old self.new event) }
     {
@@ -96,8 +96,23 @@ impl World {
         Ok(())
     }
 
+    /// One event. Errs where a growth is refused: without room for its entry nothing happens; else a
+    /// delivery or another input is lost, or of what is sent only what was made is under way, which the
+    /// entry marks.
+    pub fn event(&mut self, event: Event) -> Result<(), AllocError>
+        ensures ok { OnOk result (Becomes self.old self.new event Outcome.Done) }
+        ensures err { OnErr result (BecomesSome self.old self.new event) }
+        ensures moves { AtMostTwo (length self.old.call.caller.document) (fields_state self.old.call) (fields_state self.new.call) }
+    {
+        headline();
+        layers_hold();
+        signals_hold();
+        let _ = &self.call;
+        self.happen(event)
+    }
+
     /// What has become of the call.
-    pub fn report(self) -> Report
+    fn told(self) -> Report
         ensures { (w : WorldValue) → Shows self.call w → Tells result w self.entries }
     {
         let World {
@@ -116,6 +131,20 @@ impl World {
             refused,
             transcript,
         }
+    }
+
+    /// What has become of the call. Whatever the events were, the pages stored are the first of the
+    /// document, each confirmed page is stored once, and a station's normal end means that all are.
+    pub fn report(self) -> Report
+        ensures tells { (w : WorldValue) → Shows self.call w → Tells result w self.entries }
+        ensures keeps { Keeps self.call.caller.document result }
+    {
+        headline();
+        counted();
+        layers_hold();
+        signals_hold();
+        let _ = &self.call;
+        self.told()
     }
 }
 
@@ -149,8 +178,12 @@ pub fn run(
 ) -> Result<Report, WorldFault>
     requires receiver { caps.receiver ≡ true }
     requires ecm { caps.ecm ≡ true }
-    ensures { RunsTo document wish caps events.now result }
+    ensures runs { RunsTo document wish caps events.now result }
+    ensures keeps { IfOk result (λ report. Keeps document report) }
 {
+    headline();
+    counted();
+    has_full_pages(&document);
     let mut world = World::new(alloc, document, wish, caps)?;
     for event in events {
         let _answer = world.event(*event);

@@ -1,0 +1,30 @@
+use Rattle.std.proofs.Common.{◌≡◌, ℕ, suc, ◌+◌, ap, ◌∙◌, ◌++◌, ◌∷◌, [], arith, sym}
+use Rattle.line_sim.specs.Entries.{marks, one_mark}
+use Rattle.line_sim.specs.Standing.{WorldFields}
+use Rattle.line_sim.proofs.Reaching.{can_write, reached_more, acts_become, marks_more, marks_few}
+use Rattle.line_sim.proofs.world.World.happen.Goals as goal
+
+pub act-entry-requires : goal.act-entry-requires
+act-entry-requires c = can_write _ c.args.event c.headline.ensures.written c.self.invariant.0
+
+pub overflow_add-self : goal.overflow_add-self
+overflow_add-self c =
+    omega (arith, c.self.invariant.1, marks_few c.self.inside.transcript.items, c.self.inside.transcript.ok.0, c.self.inside.transcript.ok.1, c.self.inside.transcript.small)
+
+pub invariant_of-self-then-entry : goal.invariant_of-self-then-entry
+invariant_of-self-then-entry c =
+    let v : WorldFields = record { call = c.self.inside.call; entries = c.self.inside.transcript.items } in
+    let noted : c.note.new.transcript.items ≡ c.self.inside.transcript.items ++ c.act-entry.result ∷ [] = c.note.ensures ∙ ap (λ l. l ++ c.act-entry.result ∷ []) c.reserve.ensures.items in (
+      reached_more v _ c.args.event c.act-entry.ensures.0 c.self.invariant.0 (acts_become v c.act-entry.new.self c.note.new.transcript.items c.args.event c.act-entry.result c.act-entry.ensures noted),
+      (let n : ℕ = c.self.inside.refused in let one : n + 1 ≡ suc n = omega arith in one) ∙
+          (ap suc c.self.invariant.1 ∙ (ap (λ b. one_mark b (marks c.self.inside.transcript.items)) (sym c.if-entry.true) ∙ (sym (marks_more c.self.inside.transcript.items c.act-entry.result) ∙ ap marks (sym noted)))),
+    )
+
+pub invariant_of-self-else-entry : goal.invariant_of-self-else-entry
+invariant_of-self-else-entry c =
+    let v : WorldFields = record { call = c.self.inside.call; entries = c.self.inside.transcript.items } in
+    let noted : c.note.new.transcript.items ≡ c.self.inside.transcript.items ++ c.act-entry.result ∷ [] = c.note.ensures ∙ ap (λ l. l ++ c.act-entry.result ∷ []) c.reserve.ensures.items in (
+      reached_more v _ c.args.event c.act-entry.ensures.0 c.self.invariant.0 (acts_become v c.act-entry.new.self c.note.new.transcript.items c.args.event c.act-entry.result c.act-entry.ensures noted),
+      c.self.invariant.1 ∙
+          (ap (λ b. one_mark b (marks c.self.inside.transcript.items)) (sym c.if-entry.false) ∙ (sym (marks_more c.self.inside.transcript.items c.act-entry.result) ∙ ap marks (sym noted))),
+    )
