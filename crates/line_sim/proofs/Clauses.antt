@@ -49,9 +49,12 @@ told_keeps : RunsMove → RunsAreSafe → RunsAreCounted → (document : Documen
 told_keeps moves safe counted document wish caps steps report full tells =
     let w : World = run steps (new_world document wish caps) in
     record {
+      wish = wish;
+      caps = caps;
+      steps = steps;
+      tells = tells;
       safe = safe_told document w report.pages.items report.confirmed report.caller_end report.answerer_end tells.pages tells.confirmed tells.caller_end tells.answerer_end (safe document wish caps steps full);
       moves = moves_told document w report.pages.items report.confirmed report.caller_end report.answerer_end tells.pages tells.confirmed tells.caller_end tells.answerer_end (moves document wish caps steps full);
-      groups = groups_begun w;
       counted = subst (IsCounted (groups_begun w)) (sym tells.transcript) (counted document wish caps steps);
     }
 

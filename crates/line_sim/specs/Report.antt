@@ -5,7 +5,7 @@ use Rattle.signals.specs.declared.params.Wish.{Wish}
 use Rattle.stations.specs.CallerStep.{confirmed}
 use Rattle.stations.specs.CallerFields.{AreCallable}
 use Rattle.stations.specs.Layers.{Document}
-use Rattle.line_sim.specs.Counted.{IsCounted}
+use Rattle.line_sim.specs.Counted.{IsCounted, groups_begun}
 use Rattle.line_sim.specs.Entries.{entries, marks}
 use Rattle.line_sim.specs.Headline.{IsSafe}
 use Rattle.line_sim.specs.Line.{World, Outcome, new_world, run}
@@ -42,10 +42,15 @@ abbrev pub RunsTo : Document → Wish → Caps → List Event → Result Report 
 RunsTo document wish caps events (Ok report) = AreCallable document × TellsRun document wish caps events report
 RunsTo document wish caps events (Err fault) = IsWorldFault document fault
 
--- what holds of every report of a call of a document: the sender and the owner of the store can rely on it, moves of the page machine lead to what
--- it shows, and the turns of its transcript are counted
+-- what holds of every report of a call of a document: it tells a run of it; the sender and the owner of the store can rely on it; moves
+-- of the page machine lead to what it shows; and the turns of its transcript are counted by the groups that the caller has begun
 pub record Keeps (document : Document) (report : Report) : Type 0 where
+  pub wish : Wish
+  pub caps : Caps
+  pub steps : List (Event × Outcome)
+  pub tells : Tells report (run steps (new_world document wish caps)) (entries steps (new_world document wish caps))
   pub safe : IsSafe document report.pages.items report.confirmed report.caller_end report.answerer_end
-  pub moves : Moves (length document) first_state (page_state report.pages.items report.confirmed report.caller_end report.answerer_end)
-  pub groups : ℕ
-  pub counted : IsCounted groups report.transcript.items
+  pub moves :
+      Moves (length document) first_state
+      (page_state report.pages.items report.confirmed report.caller_end report.answerer_end)
+  pub counted : IsCounted (groups_begun (run steps (new_world document wish caps))) report.transcript.items
