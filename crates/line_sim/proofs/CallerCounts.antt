@@ -20,7 +20,7 @@ use Rattle.stations.specs.declared.turn.Turn.{Turn}
 use Rattle.stations.specs.declared.turn.Turn.TheVariants.{Silent, Training as SendTraining, Pps as SendPps, Rr as SendRr, Dcn as SendDcn}
 use Rattle.line_sim.specs.declared.event.Kind.{Kind}
 use Rattle.line_sim.specs.Entries.{signal_kind}
-use Rattle.line_sim.specs.Counted.{is_training, is_dcn, is_rr, is_burst, is_rnr, is_cfr_or_mcf}
+use Rattle.line_sim.specs.Counted.{is_training, is_mcf, is_silent, is_dcn, is_rr, is_burst, is_rnr, is_cfr_or_mcf}
 use Rattle.line_sim.proofs.Lists.{either}
 
 -- a group is begun past the wait for a DIS, and there alone
@@ -240,6 +240,46 @@ dcs_fee law c input b =
         omega (arith, old, new, same)
     other (inr h) less = (let new = waiting_left (caller_step c input).next h.2 in let more = h.0 in omega (arith, new, more))
 
+-- no group pays
+abbrev pub no_credit : Caller → ℕ
+no_credit c = 0
+
+-- the same where an MCF that is answered in silence lets 18 follow
+abbrev pub group_refill : Option Kind → Turn → Bool
+group_refill item turn = is_mcf item && is_silent turn
+
+mcf_refills : (input : CallerInput) (turn : Turn) → EndsGroup input → turn ≡ Silent → refilled group_refill input turn ≡ true
+mcf_refills (hears mcf) turn h e = rw e refl
+mcf_refills (hears _) turn h e = absurd h
+mcf_refills timeout turn h e = absurd h
+mcf_refills t5 turn h e = absurd h
+
+pub told_fee :
+    StepsSpend → (c : Caller) (input : CallerInput) → IsBegunIn c.state c.present →
+    Fee is_training group_refill dcs_left no_credit (λ n. 18 * n) c input
+told_fee law c input b =
+    let answer = caller_step c input in
+    by_test (is_training answer.turn) _ _
+    (λ e. (let less = (law c input).training (turn_training answer.turn e) in omega (arith, less)))
+    (λ e. go (law c input).never_more (step_adds c input b).through)
+  where
+    go :
+        (dcs_left (caller_step c input).next ≤ dcs_left c) ⊎ (EndsGroup input × ((caller_step c input).next.state ≡ WaitDis)) →
+        (((caller_step c input).next.finished ≡ c.finished) × ((caller_step c input).next.state ≡ WaitDis → c.state ≡ WaitDis)) ⊎
+        ((length (caller_step c input).next.finished ≡ suc (length c.finished)) × ((caller_step c input).turn ≡ Silent) ×
+        ((caller_step c input).next.state ≡ WaitDis)) →
+        dcs_left (caller_step c input).next + 0 ≤ (dcs_left c + 0) + 18 * one (refilled group_refill input (caller_step c input).turn)
+    go (inl less) h = omega (arith, less)
+    go (inr ends) (inl h) =
+        let old = waiting_left c (h.1 ends.1) in
+        let new = waiting_left (caller_step c input).next ends.1 in
+        omega (arith, old, new)
+    go (inr ends) (inr h) =
+        let new = waiting_left (caller_step c input).next ends.1 in
+        let more : one (refilled group_refill input (caller_step c input).turn) ≡ 1 =
+        ap one (mcf_refills input (caller_step c input).turn ends.0 h.1) in
+        omega (arith, new, more)
+
 -- at most 18 are ever left
 pub few_left : StepsSpend → (c : Caller) (input : CallerInput) → dcs_left c ≤ 18 → dcs_left (caller_step c input).next ≤ 18
 few_left law c input few = go (law c input).never_more
@@ -257,9 +297,6 @@ calls_in (Some why) = 0
 
 abbrev pub calls_left : Caller → ℕ
 calls_left c = calls_in c.ending
-
-abbrev pub no_credit : Caller → ℕ
-no_credit c = 0
 
 some_end : (ending : Option End) → IsSome ending → calls_in ending ≡ 0
 some_end None h = cc

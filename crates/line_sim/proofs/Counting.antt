@@ -18,7 +18,7 @@ use Rattle.line_sim.specs.Line.{World, Outcome, sent, caller_sends, answerer_sen
 use Rattle.line_sim.specs.Line.Outcome.{Done, Nothing, InputLost, Cut}
 use Rattle.line_sim.specs.Entries.{signal_kind, item_of, head_kind, heard, unless_lost, station_says, event_says, is_refused, entry_of, and_entries, entries}
 use Rattle.line_sim.specs.Counted.{count, is_callers, is_delivery_to_caller, is_training, is_dcn, is_rr, shows_dcs, RunsAreCounted, DcsBetweenGroups}
-use Rattle.line_sim.proofs.CallerCounts.{IsBegunIn, step_adds, refilled, Fee, no_refill, dcs_credit, dcs_fee, few_left, calls_left, no_credit, dcn_fee, rr_refill, rr_fee, block_refill, block_fee}
+use Rattle.line_sim.proofs.CallerCounts.{IsBegunIn, step_adds, refilled, Fee, no_refill, dcs_credit, dcs_fee, few_left, group_refill, told_fee, calls_left, no_credit, dcn_fee, rr_refill, rr_fee, block_refill, block_fee}
 
 -- a station's answer leaves the other one
 caller_after : (turn : Turn) (w : World) (next : Caller) (items : List PlainItem) → (caller_sends turn w next items).caller ≡ next
@@ -266,11 +266,13 @@ runs_are_counted law document wish caps steps =
     let first = new_world document wish caps in
     let w = run steps first in
     let dcn = sums is_dcn no_refill calls_left no_credit (λ n. 0) refl (λ m n. refl) (λ c input b. dcn_fee law c input) steps first refl in
+    let told = sums is_training group_refill dcs_left no_credit (λ n. 18 * n) refl (λ m n. omega arith) (told_fee law) steps first refl in
     let rr = sums is_rr rr_refill rr_left no_credit (λ n. 3 * n) refl (λ m n. omega arith) (rr_fee law) steps first refl in
     let blocks = sums is_block_turn block_refill pps_left no_credit (λ n. 12 * n) refl (λ m n. omega arith)
     (block_fee law) steps first refl in
     record {
       dcs = groups_pay w.caller.state w.caller _ refl (run_begun law steps first refl) (dcs_sums law steps first refl);
+      dcs_told = omega (arith, told);
       dcn = omega (arith, dcn);
       rr = omega (arith, rr);
       blocks = omega (arith, blocks);

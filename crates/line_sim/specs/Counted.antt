@@ -5,7 +5,7 @@ use Rattle.signals.specs.declared.params.Wish.{Wish}
 use Rattle.stations.specs.Layers.{Document}
 use Rattle.stations.specs.Left.{is_block_turn}
 use Rattle.stations.specs.declared.turn.Turn.{Turn}
-use Rattle.stations.specs.declared.turn.Turn.TheVariants.{Training as SendTraining, Burst, Rr as SendRr, Dcn as SendDcn}
+use Rattle.stations.specs.declared.turn.Turn.TheVariants.{Silent, Training as SendTraining, Burst, Rr as SendRr, Dcn as SendDcn}
 use Rattle.line_sim.specs.Line.{World, Outcome, run, new_world}
 use Rattle.line_sim.specs.Entries.{entries}
 use Rattle.line_sim.specs.declared.event.Entry.{Entry}
@@ -48,7 +48,16 @@ abbrev pub is_burst : Turn → Bool
 is_burst (Burst map) = true
 is_burst _ = false
 
--- an item is RNR; CFR or MCF
+-- nothing is sent
+abbrev pub is_silent : Turn → Bool
+is_silent Silent = true
+is_silent _ = false
+
+-- an item is MCF; RNR; CFR or MCF
+abbrev pub is_mcf : Option Kind → Bool
+is_mcf (Some Mcf) = true
+is_mcf _ = false
+
 abbrev pub is_rnr : Option Kind → Bool
 is_rnr (Some Rnr) = true
 is_rnr _ = false
@@ -79,6 +88,10 @@ shows_rnr entry = is_delivery_to_caller entry.event && (is_rnr entry.item && is_
 abbrev pub shows_first_burst : Entry → Bool
 shows_first_burst entry = is_delivery_to_caller entry.event && (is_cfr_or_mcf entry.item && is_burst entry.turn)
 
+-- an MCF comes to the caller, which answers in silence: so does one that ends a group
+abbrev pub shows_group_end : Entry → Bool
+shows_group_end entry = is_delivery_to_caller entry.event && (is_mcf entry.item && is_silent entry.turn)
+
 -- the groups that the caller has begun, and those that are through; with each of these it waits for a DIS again
 abbrev pub groups_through : World → ℕ
 groups_through w = length w.caller.finished
@@ -90,6 +103,8 @@ groups_begun w = length w.caller.finished + length w.caller.present
 pub record IsCounted (groups : ℕ) (transcript : List Entry) : Type 0 where
   -- at most 18 DCS for each group begun
   pub dcs : count shows_dcs transcript ≤ 18 * groups
+  -- at most 18 DCS before the first MCF that is answered in silence, and after each
+  pub dcs_told : count shows_dcs transcript ≤ 18 * suc (count shows_group_end transcript)
   -- at most one DCN
   pub dcn : count shows_dcn transcript ≤ 1
   -- at most 3 RR for each RNR that is answered so

@@ -37,8 +37,9 @@ pub fn polite_calls()
 }
 
 /// In the transcript of every run the caller has at most 18 turns DCS for each group begun, and as many
-/// between one entry into the wait for DIS and the next; one DCN; 3 RR for each RNR that it answers so; and
-/// 12 PPS and bursts together for each burst that answers a CFR or an MCF.
+/// between one entry into the wait for DIS and the next, so also before the first MCF that it answers in
+/// silence and after each; one DCN; 3 RR for each RNR that it answers so; and 12 PPS and bursts together for
+/// each burst that answers a CFR or an MCF.
 pub fn counted()
     ensures runs { RunsAreCounted }
     ensures groups { DcsBetweenGroups }
