@@ -1,3 +1,4 @@
+pub mod Undisturbed
 pub mod Clauses
 pub mod Between
 pub mod Runs

@@ -1,8 +1,13 @@
 -- What deliveries make of the fields of a world.
-use Rattle.std.specs.Prelude.{ℕ, ◌≡◌, ◌≢◌, Bool, true, false, List, [], ◌∷◌, ◌++◌, Result, Ok, Err}
+use Rattle.std.specs.Prelude.{ℕ, ◌≡◌, ◌≢◌, ◌<◌, ◌≤◌, min, length, Bool, true, false, List, [], ◌∷◌, ◌++◌, Result, Ok, Err}
+use Rattle.signals.specs.declared.params.Caps.{Caps}
+use Rattle.signals.specs.declared.params.Params.{Params}
+use Rattle.signals.specs.declared.params.Wish.{Wish}
+use Rattle.stations.specs.Laws.{Each}
+use Rattle.stations.specs.Layers.{Document, IsFullPage}
 use Rattle.line_sim.specs.Entries.{entries}
-use Rattle.line_sim.specs.Line.{World, Outcome, Done, run}
-use Rattle.line_sim.specs.Polite.{next_steps, polite_steps, count_deliveries}
+use Rattle.line_sim.specs.Line.{World, Outcome, Done, run, new_world}
+use Rattle.line_sim.specs.Polite.{next_steps, polite_steps, count_deliveries, AreAgreed, call_length, IsThrough}
 use Rattle.line_sim.specs.Standing.{Shows, WorldFields}
 use Rattle.line_sim.specs.declared.event.Event.{Event}
 
@@ -34,3 +39,11 @@ DeliversNext old new w (Err refusal) = Stopped old new w (next_steps w w.to_answ
 abbrev pub DeliversAll : {E : Type 0} → WorldFields → WorldFields → World → ℕ → Result ℕ E → Type 0
 DeliversAll old new w most (Ok number) = Made old new w (polite_steps most w) × (number ≡ count_deliveries (polite_steps most w))
 DeliversAll old new w most (Err refusal) = Stopped old new w (polite_steps most w)
+
+-- a call from its start that nobody disturbs: where both stations agree on each page and each page's code fits a call, the number of deliveries is the
+-- lesser of the call's and those that may be made, and after all of the call's it is through
+abbrev pub GoesThrough : WorldFields → WorldFields → ℕ → ℕ → Type 0
+GoesThrough old new most number =
+    (document : Document) (wish : Wish) (caps : Caps) (groups : List Params) → Shows old.call (new_world document wish caps) → 0 < length document → Each IsFullPage document →
+    AreAgreed caps wish groups document →
+    (number ≡ min (call_length groups document) most) × (call_length groups document ≤ most → (w : World) × Shows new.call w × IsThrough document w)

@@ -1,13 +1,14 @@
 //! A call in which all that is under way comes.
 
-ghost use Rattle.line_sim.specs.Delivering.{DeliversAll, DeliversNext};
+ghost use Rattle.line_sim.specs.Delivering.{DeliversAll, DeliversNext, GoesThrough};
 ghost use Rattle.line_sim.specs.Line.{World as WorldValue};
 ghost use Rattle.line_sim.specs.Polite.{is_between_groups};
 ghost use Rattle.line_sim.specs.Standing.{Shows};
-ghost use Rattle.std.specs.Prelude.{◌≡◌, [], IsTrue, ◌↔◌};
+ghost use Rattle.std.specs.Prelude.{◌≡◌, [], IsTrue, ◌↔◌, IfOk};
 
 use crate::call::Call;
 use crate::event::Event;
+use crate::laws::polite_calls;
 use crate::world::World;
 use std::alloc::AllocError;
 
@@ -73,10 +74,8 @@ impl World {
         Ok(true)
     }
 
-    /// Delivers what is under way, in order, until nothing is or so many items were delivered. Where a
-    /// group of pages is through and another one follows, the answerer's T2 begins it, which has its
-    /// entry and isn't counted. Answers the number of deliveries. Errs at the first refused event.
-    pub fn polite(&mut self, most: u64) -> Result<u64, AllocError>
+    /// Delivers what is under way, in order, at most so many items.
+    fn deliver(&mut self, most: u64) -> Result<u64, AllocError>
         ensures { (w : WorldValue) → Shows self.old.call w → DeliversAll self.old self.new w most result }
     {
         let mut delivered = 0;
@@ -87,5 +86,16 @@ impl World {
             delivered += 1;
         }
         Ok(delivered)
+    }
+
+    /// Delivers what is under way, in order, until nothing is or so many items were delivered. Where a
+    /// group of pages is through and another one follows, the answerer's T2 begins it, which has its
+    /// entry and isn't counted. Answers the number of deliveries. Errs at the first refused event.
+    pub fn polite(&mut self, most: u64) -> Result<u64, AllocError>
+        ensures delivers { (w : WorldValue) → Shows self.old.call w → DeliversAll self.old self.new w most result }
+        ensures through { IfOk result (λ number. GoesThrough self.old self.new most number) }
+    {
+        polite_calls();
+        self.deliver(most)
     }
 }
