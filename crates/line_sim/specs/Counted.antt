@@ -31,19 +31,22 @@ abbrev pub is_delivery_to_caller : Event → Bool
 is_delivery_to_caller DeliverToCaller = true
 is_delivery_to_caller _ = false
 
--- a turn is DCS with a training check; DCN; RR; a burst
+-- a turn DCS with a training check
 abbrev pub is_training : Turn → Bool
 is_training SendTraining = true
 is_training _ = false
 
+-- a turn DCN
 abbrev pub is_dcn : Turn → Bool
 is_dcn SendDcn = true
 is_dcn _ = false
 
+-- a turn RR
 abbrev pub is_rr : Turn → Bool
 is_rr SendRr = true
 is_rr _ = false
 
+-- a turn that sends marked frames of a block
 abbrev pub is_burst : Turn → Bool
 is_burst (Burst map) = true
 is_burst _ = false
@@ -53,30 +56,35 @@ abbrev pub is_silent : Turn → Bool
 is_silent Silent = true
 is_silent _ = false
 
--- an item is MCF; RNR; CFR or MCF
+-- an MCF
 abbrev pub is_mcf : Option Kind → Bool
 is_mcf (Some Mcf) = true
 is_mcf _ = false
 
+-- an RNR
 abbrev pub is_rnr : Option Kind → Bool
 is_rnr (Some Rnr) = true
 is_rnr _ = false
 
+-- a CFR or an MCF
 abbrev pub is_cfr_or_mcf : Option Kind → Bool
 is_cfr_or_mcf (Some Cfr) = true
 is_cfr_or_mcf (Some Mcf) = true
 is_cfr_or_mcf _ = false
 
--- the caller transmits DCS with a training check; DCN; RR; a burst, or PPS alone
+-- the caller transmits DCS with a training check
 abbrev pub shows_dcs : Entry → Bool
 shows_dcs entry = is_callers entry.event && is_training entry.turn
 
+-- the same of DCN
 abbrev pub shows_dcn : Entry → Bool
 shows_dcn entry = is_callers entry.event && is_dcn entry.turn
 
+-- the same of RR
 abbrev pub shows_rr : Entry → Bool
 shows_rr entry = is_callers entry.event && is_rr entry.turn
 
+-- the same of a burst or a PPS alone
 abbrev pub shows_block : Entry → Bool
 shows_block entry = is_callers entry.event && is_block_turn entry.turn
 
@@ -92,10 +100,11 @@ shows_first_burst entry = is_delivery_to_caller entry.event && (is_cfr_or_mcf en
 abbrev pub shows_group_end : Entry → Bool
 shows_group_end entry = is_delivery_to_caller entry.event && (is_mcf entry.item && is_silent entry.turn)
 
--- the groups that the caller has begun, and those that are through; with each of these it waits for a DIS again
+-- the groups that are through; after each of them the caller waits for a DIS again
 abbrev pub groups_through : World → ℕ
 groups_through w = length w.caller.finished
 
+-- the groups that the caller has begun
 abbrev pub groups_begun : World → ℕ
 groups_begun w = length w.caller.finished + length w.caller.present
 

@@ -48,18 +48,19 @@ item_of w DeliverToCaller = head_kind w.to_caller
 item_of w LoseToCaller = head_kind w.to_caller
 item_of w _ = None
 
--- the input that a first item is to the answerer, and to the caller
+-- the input that a first item is to the answerer
 abbrev pub listened : List PlainItem → Option AnswererInput
 listened [] = None
 listened (framed signal ∷ items) = Some (listens signal)
 listened (checked octets ∷ items) = Some (trains octets)
 
+-- the input that a first item is to the caller; a training check is none
 abbrev pub heard : List PlainItem → Option CallerInput
 heard [] = None
 heard (framed signal ∷ items) = Some (hears signal)
 heard (checked octets ∷ items) = None
 
--- the input that an event is to the answerer, and to the caller, if it is one
+-- the input that an event is to the answerer, if it is one
 abbrev pub input_to_answerer : World → Event → Option AnswererInput
 input_to_answerer w DeliverToAnswerer = listened w.to_answerer
 input_to_answerer w AnswererT1 = Some t1
@@ -67,6 +68,7 @@ input_to_answerer w AnswererT2 = Some t2
 input_to_answerer w (Busy busy) = Some (is_busy busy)
 input_to_answerer w _ = None
 
+-- the input that an event is to the caller, if it is one
 abbrev pub input_to_caller : World → Event → Option CallerInput
 input_to_caller w DeliverToCaller = heard w.to_caller
 input_to_caller w CallerTimeout = Some timeout
@@ -102,10 +104,11 @@ caller_said turn items = record { turn = turn; fcds = fcds_in turn items }
 abbrev pub says : Turn → Said
 says turn = record { turn = turn; fcds = 0 }
 
--- what the caller says to an input, and what the answerer says, which sends no burst
+-- what the caller says to an input
 abbrev pub caller_says : Caller → CallerInput → Said
 caller_says c input = let answer = caller_step c input in caller_said answer.turn (caller_items answer.next answer.turn)
 
+-- what the answerer says, which sends no burst
 abbrev pub answerer_says : Answerer → AnswererInput → Said
 answerer_says s input = says (answerer_step s input).turn
 
@@ -115,6 +118,7 @@ station_says w (Some input) _ = caller_says w.caller input
 station_says w None (Some input) = answerer_says w.answerer input
 station_says w None None = says Silent
 
+-- what is said to an event with an outcome
 abbrev pub event_says : World → Event → Outcome → Said
 event_says w event outcome = station_says w (unless_lost outcome (input_to_caller w event))
     (unless_lost outcome (input_to_answerer w event))
@@ -141,11 +145,12 @@ abbrev pub entries : List (Event × Outcome) → World → List Entry
 entries [] w = []
 entries (step ∷ steps) w = and_entries (entry_of w step.0 step.1) (entries steps (happens w step.0 step.1))
 
--- the marks: how many entries show a refusal
+-- one mark more, or none
 abbrev pub one_mark : Bool → ℕ → ℕ
 one_mark true count = suc count
 one_mark false count = count
 
+-- how many entries show a refusal
 abbrev pub marks : List Entry → ℕ
 marks [] = 0
 marks (entry ∷ rest) = one_mark entry.refused (marks rest)

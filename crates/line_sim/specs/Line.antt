@@ -35,36 +35,40 @@ abbrev pub caller_sends : Turn → World → Caller → List PlainItem → World
 caller_sends Silent w next items = record w { caller = next }
 caller_sends _ w next items = record { caller = next; answerer = w.answerer; to_answerer = w.to_answerer ++ items; to_caller = [] }
 
+-- the answerer has answered; a transmission empties the list that leads to it
 abbrev pub answerer_sends : Turn → World → Answerer → List PlainItem → World
 answerer_sends Silent w next items = record w { answerer = next }
 answerer_sends _ w next items = record { caller = w.caller; answerer = next; to_answerer = []; to_caller = w.to_caller ++ items }
 
--- a station has an input and answers it
+-- the caller has an input and answers it
 abbrev pub caller_acts : World → Outcome → CallerInput → World
 caller_acts w outcome input =
     let answer = caller_step w.caller input in
     caller_sends answer.turn w answer.next (sent outcome (caller_items answer.next answer.turn))
 
+-- the answerer has an input and answers it
 abbrev pub answerer_acts : World → Outcome → AnswererInput → World
 answerer_acts w outcome input =
     let answer = answerer_step w.answerer input in
     answerer_sends answer.turn w answer.next (sent outcome (answerer_items answer.next answer.turn))
 
--- an item comes
+-- an item comes to the answerer
 abbrev pub comes_to_answerer : World → Outcome → PlainItem → World
 comes_to_answerer w outcome (framed signal) = answerer_acts w outcome (listens signal)
 comes_to_answerer w outcome (checked octets) = answerer_acts w outcome (trains octets)
 
+-- an item comes to the caller, which takes no training check
 abbrev pub comes_to_caller : World → Outcome → PlainItem → World
 comes_to_caller w outcome (framed signal) = caller_acts w outcome (hears signal)
 comes_to_caller w outcome (checked octets) = w
 
--- the head of a list is taken away, and acts unless it is lost
+-- the head of the list to the answerer is taken away, and comes to it unless it is lost
 abbrev pub delivers_to_answerer : World → Outcome → List PlainItem → World
 delivers_to_answerer w outcome [] = w
 delivers_to_answerer w InputLost (item ∷ items) = record w { to_answerer = items }
 delivers_to_answerer w outcome (item ∷ items) = comes_to_answerer (record w { to_answerer = items }) outcome item
 
+-- the same of the list to the caller
 abbrev pub delivers_to_caller : World → Outcome → List PlainItem → World
 delivers_to_caller w outcome [] = w
 delivers_to_caller w InputLost (item ∷ items) = record w { to_caller = items }
@@ -80,11 +84,12 @@ abbrev pub spoiled : List PlainItem → List PlainItem
 spoiled (checked octets ∷ items) = checked (map (λ octet. 255) octets) ∷ items
 spoiled items = items
 
--- a timer's input
+-- a timer of the caller
 abbrev pub caller_timer : World → Outcome → CallerInput → World
 caller_timer w InputLost input = w
 caller_timer w outcome input = caller_acts w outcome input
 
+-- the answerer's timer, or that it is busy or ready
 abbrev pub answerer_timer : World → Outcome → AnswererInput → World
 answerer_timer w InputLost input = w
 answerer_timer w outcome input = answerer_acts w outcome input

@@ -26,6 +26,7 @@ use Rattle.line_sim.specs.Line.{World}
 abbrev pub accepted_of : Block → Accepted
 accepted_of block = record { mark = mark_of block; ends = block.ends }
 
+-- what is remembered of a block that is asked for again
 abbrev pub asked_of : Block → Asked
 asked_of block = record { mark = mark_of block; last = last_frame_of block }
 

@@ -19,11 +19,12 @@ use Rattle.line_sim.specs.declared.event.Event.{Event}
 use Rattle.line_sim.specs.declared.event.Event.TheVariants.{DeliverToAnswerer, DeliverToCaller, AnswererT2}
 use Rattle.line_sim.specs.Line.Outcome.{Done}
 
--- the caller waits for a DIS; the answerer for a DCS
+-- the caller waits for a DIS
 abbrev pub waits_for_dis : CallerState → Bool
 waits_for_dis WaitDis = true
 waits_for_dis _ = false
 
+-- the answerer waits for a DCS
 abbrev pub waits_for_dcs : AnswererState → Bool
 waits_for_dcs PhaseB = true
 waits_for_dcs _ = false
@@ -77,6 +78,7 @@ IsPoliteEvent DeliverToCaller = Unit {0}
 IsPoliteEvent AnswererT2 = Unit {0}
 IsPoliteEvent _ = ⊥
 
+-- a polite run makes such events alone, each of them whole
 abbrev pub PoliteEvents : Type 0
 PoliteEvents = (most : ℕ) (w : World) → Each (λ (step : Event × Outcome). IsPoliteEvent step.0 × (step.1 ≡ Done)) (polite_steps most w)
 

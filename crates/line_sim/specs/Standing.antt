@@ -45,18 +45,20 @@ abbrev pub AnswererSends : Call → Call → Turn → Bool → Type 0
 AnswererSends old new turn refused =
     (outcome : Outcome) × IsSent refused outcome × ((w : World) → Shows old w → Shows new (answerer_sends turn w w.answerer (sent outcome (answerer_items w.answerer turn))))
 
--- a station that the fields represent can write the items of a turn
+-- a caller that the fields represent can write the items of a turn
 abbrev pub CallerWrites : Call → Turn → Type 0
 CallerWrites v turn = (t : Caller) × Represents v.caller t × Each CanBeWritten (caller_items t turn)
 
+-- the answerer can write the items of a turn
 abbrev pub AnswererWrites : Call → Turn → Type 0
 AnswererWrites v turn = Each CanBeWritten (answerer_items v.answerer turn)
 
--- the same of the turn that was answered, unless memory was refused
+-- the same of the turn that the caller has answered, unless memory was refused
 abbrev pub CallerMayAnswer : {E : Type 0} → Call → Result Turn E → Type 0
 CallerMayAnswer v (Ok turn) = CallerWrites v turn
 CallerMayAnswer v (Err refused) = Unit {0}
 
+-- the same of the turn that the answerer has answered
 abbrev pub AnswererMayAnswer : {E : Type 0} → Call → Result Turn E → Type 0
 AnswererMayAnswer v (Ok turn) = AnswererWrites v turn
 AnswererMayAnswer v (Err refused) = Unit {0}
@@ -76,12 +78,13 @@ abbrev pub AnswererAnswers : {E : Type 0} → Call → Call → Event → Option
 AnswererAnswers old new event item (Ok turn) entry = AnswererSends old new turn entry.refused × (entry ≡ entry_with event item (says turn) entry.refused)
 AnswererAnswers old new event item (Err refused) entry = (new ≡ old) × (entry ≡ entry_with event item (says Silent) true)
 
--- the input that an event is that is no delivery
+-- the input that an event is to the caller that is no delivery
 abbrev pub CallerTimer : Event → CallerInput → Type 0
 CallerTimer CallerTimeout input = input ≡ timeout
 CallerTimer CallerT5 input = input ≡ t5
 CallerTimer _ input = ⊥
 
+-- the input that an event is to the answerer that is no delivery
 abbrev pub AnswererTimer : Event → AnswererInput → Type 0
 AnswererTimer AnswererT1 input = input ≡ t1
 AnswererTimer AnswererT2 input = input ≡ t2
