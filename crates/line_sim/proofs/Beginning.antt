@@ -16,15 +16,20 @@ use Rattle.line_sim.specs.Line.{new_world}
 use Rattle.line_sim.specs.Standing.{Shows, IsReached}
 use Rattle.line_sim.specs.declared.call.Call.{Call}
 
-pub shows_new : (document : Document) (wish : Wish) (caps : Caps) (caller : CallerFields) (answerer : Answerer) (turn : Turn) (to_answerer to_caller start items : List PlainItem) → Represents caller (new_caller document wish no_caps no_params) →
-    answerer ≡ new_answerer caps no_params → turn ≡ Dis → to_answerer ≡ [] → start ≡ [] → items ≡ answerer_items answerer turn → to_caller ≡ start ++ items →
+pub shows_new : (document : Document) (wish : Wish) (caps : Caps) (caller : CallerFields) (answerer : Answerer) (turn : Turn)
+    (to_answerer to_caller start items : List PlainItem) → Represents caller (new_caller document wish no_caps no_params) →
+    answerer ≡ new_answerer caps no_params → turn ≡ Dis → to_answerer ≡ [] → start ≡ [] → items ≡ answerer_items answerer turn →
+    to_caller ≡ start ++ items →
     Shows (record { caller = caller; answerer = answerer; to_answerer = to_answerer; to_caller = to_caller }) (new_world document wish caps)
 shows_new document wish caps caller answerer turn to_answerer to_caller start items represents is says none begins all sent =
     let e : items ≡ framed (dis caps) ∷ [] = all ∙ (ap (answerer_items answerer) says ∙ ap (λ s. answerer_items s Dis) is) in
     record { caller = represents; answerer = sym is; to_answerer = sym none; to_caller = sym (sent ∙ (ap (λ l. l ++ items) begins ∙ e)) }
 
-pub dis_written : (caps : Caps) (answerer : Answerer) (turn : Turn) (items : List PlainItem) → turn ≡ Dis → items ≡ answerer_items answerer turn → Each CanBeWritten items
+pub dis_written : (caps : Caps) (answerer : Answerer) (turn : Turn) (items : List PlainItem) → turn ≡ Dis →
+    items ≡ answerer_items answerer turn → Each CanBeWritten items
 dis_written caps answerer turn items says all = subst (Each CanBeWritten) (sym (all ∙ ap (answerer_items answerer) says)) (tt, tt)
 
-pub reached_new : (document : Document) (wish : Wish) (caps : Caps) (call : Call) → Each IsFullPage document → Shows call (new_world document wish caps) → IsReached (record { call = call; entries = [] })
-reached_new document wish caps call full shows = record { document = document; wish = wish; caps = caps; steps = []; full = full; shows = shows; noted = refl }
+pub reached_new : (document : Document) (wish : Wish) (caps : Caps) (call : Call) → Each IsFullPage document →
+    Shows call (new_world document wish caps) → IsReached (record { call = call; entries = [] })
+reached_new document wish caps call full shows =
+    record { document = document; wish = wish; caps = caps; steps = []; full = full; shows = shows; noted = refl }

@@ -22,29 +22,36 @@ use Rattle.line_sim.proofs.WholeRuns.{run_same}
 
 -- the caller's document is the one that the world began with
 document_kept : Promised → (v : WorldFields) (r : IsReached v) → r.document ≡ v.call.caller.document
-document_kept laws v r = sym (run_same laws r.steps (new_world r.document r.wish r.caps) (new_world_facts r.document r.wish r.caps r.full)) ∙ r.shows.caller.document
+document_kept laws v r =
+    sym (run_same laws r.steps (new_world r.document r.wish r.caps) (new_world_facts r.document r.wish r.caps r.full)) ∙
+    r.shows.caller.document
 
 -- the fields show what the world shows
 state_shown : (v : Call) (w : World) → Shows v w → shown w ≡ fields_state v
 state_shown v w shows =
     ap (λ s. page_state s.pages (confirmed w.caller) w.caller.ending s.ending) shows.answerer ∙
-    (ap (λ n. page_state v.answerer.pages n w.caller.ending v.answerer.ending) shows.caller.confirms ∙ ap (λ e. page_state v.answerer.pages v.caller.page e v.answerer.ending) shows.caller.ending)
+    (ap (λ n. page_state v.answerer.pages n w.caller.ending v.answerer.ending) shows.caller.confirms ∙
+    ap (λ e. page_state v.answerer.pages v.caller.page e v.answerer.ending) shows.caller.ending)
 
-two_moves_by : Promised → EventsMove → (old new : WorldFields) (event : Event) (outcome : Outcome) → IsReached old → Becomes old new event outcome → AtMostTwo (length old.call.caller.document) (fields_state old.call) (fields_state new.call)
+two_moves_by : Promised → EventsMove → (old new : WorldFields) (event : Event) (outcome : Outcome) → IsReached old →
+    Becomes old new event outcome → AtMostTwo (length old.call.caller.document) (fields_state old.call) (fields_state new.call)
 two_moves_by laws moves old new event outcome r becomes =
     let w : World = run r.steps (new_world r.document r.wish r.caps) in
     let after : Shows new.call (happens w event outcome) = (becomes w r.shows).0 in
     subst (λ d. AtMostTwo (length d) (fields_state old.call) (fields_state new.call)) (document_kept laws old r)
     (subst (λ s. AtMostTwo (length r.document) s (fields_state new.call)) (state_shown old.call w r.shows)
-    (subst (λ s. AtMostTwo (length r.document) (shown w) s) (state_shown new.call (happens w event outcome) after) (moves r.document r.wish r.caps r.steps r.full event outcome)))
+    (subst (λ s. AtMostTwo (length r.document) (shown w) s) (state_shown new.call (happens w event outcome) after)
+    (moves r.document r.wish r.caps r.steps r.full event outcome)))
 
-pub event_moves : {E : Type 0} → Promised → EventsMove → (old new : WorldFields) (event : Event) (result : Result (Unit {0}) E) → IsReached old → OnOk result (Becomes old new event Done) → OnErr result (BecomesSome old new event) →
+pub event_moves : {E : Type 0} → Promised → EventsMove → (old new : WorldFields) (event : Event) (result : Result (Unit {0}) E) →
+    IsReached old → OnOk result (Becomes old new event Done) → OnErr result (BecomesSome old new event) →
     AtMostTwo (length old.call.caller.document) (fields_state old.call) (fields_state new.call)
 event_moves laws moves old new event (Ok done) r ok err = two_moves_by laws moves old new event Done r ok
 event_moves laws moves old new event (Err refusal) r ok err = two_moves_by laws moves old new event err.0 r err.2
 
 -- what is told of a run keeps the laws of runs
-told_keeps : RunsMove → RunsAreSafe → RunsAreCounted → (document : Document) (wish : Wish) (caps : Caps) (steps : List (Event × Outcome)) (report : Report) → Each IsFullPage document →
+told_keeps : RunsMove → RunsAreSafe → RunsAreCounted →
+    (document : Document) (wish : Wish) (caps : Caps) (steps : List (Event × Outcome)) (report : Report) → Each IsFullPage document →
     Tells report (run steps (new_world document wish caps)) (entries steps (new_world document wish caps)) → Keeps document report
 told_keeps moves safe counted document wish caps steps report full tells =
     let w : World = run steps (new_world document wish caps) in
@@ -53,16 +60,23 @@ told_keeps moves safe counted document wish caps steps report full tells =
       caps = caps;
       steps = steps;
       tells = tells;
-      safe = safe_told document w report.pages.items report.confirmed report.caller_end report.answerer_end tells.pages tells.confirmed tells.caller_end tells.answerer_end (safe document wish caps steps full);
-      moves = moves_told document w report.pages.items report.confirmed report.caller_end report.answerer_end tells.pages tells.confirmed tells.caller_end tells.answerer_end (moves document wish caps steps full);
+      safe = safe_told document w report.pages.items report.confirmed report.caller_end report.answerer_end tells.pages tells.confirmed
+          tells.caller_end tells.answerer_end (safe document wish caps steps full);
+      moves = moves_told document w report.pages.items report.confirmed report.caller_end report.answerer_end tells.pages tells.confirmed
+          tells.caller_end tells.answerer_end (moves document wish caps steps full);
       counted = subst (IsCounted (groups_begun w)) (sym tells.transcript) (counted document wish caps steps);
     }
 
-pub report_keeps : Promised → RunsMove → RunsAreSafe → RunsAreCounted → (v : WorldFields) (report : Report) → IsReached v → ((w : World) → Shows v.call w → Tells report w v.entries) → Keeps v.call.caller.document report
+pub report_keeps : Promised → RunsMove → RunsAreSafe → RunsAreCounted → (v : WorldFields) (report : Report) → IsReached v →
+    ((w : World) → Shows v.call w → Tells report w v.entries) → Keeps v.call.caller.document report
 report_keeps laws moves safe counted v report r tells =
     subst (λ d. Keeps d report) (document_kept laws v r)
     (told_keeps moves safe counted r.document r.wish r.caps r.steps report r.full
-    (subst (Tells report (run r.steps (new_world r.document r.wish r.caps))) r.noted (tells (run r.steps (new_world r.document r.wish r.caps)) r.shows)))
+    (subst (Tells report (run r.steps (new_world r.document r.wish r.caps))) r.noted
+    (tells (run r.steps (new_world r.document r.wish r.caps)) r.shows)))
 
-pub run_keeps_laws : RunsMove → RunsAreSafe → RunsAreCounted → (document : Document) (wish : Wish) (caps : Caps) (events : List Event) (report : Report) → Each IsFullPage document → TellsRun document wish caps events report → Keeps document report
-run_keeps_laws moves safe counted document wish caps events report full told = told_keeps moves safe counted document wish caps told.steps report full told.tells
+pub run_keeps_laws : RunsMove → RunsAreSafe → RunsAreCounted →
+    (document : Document) (wish : Wish) (caps : Caps) (events : List Event) (report : Report) → Each IsFullPage document →
+    TellsRun document wish caps events report → Keeps document report
+run_keeps_laws moves safe counted document wish caps events report full told =
+    told_keeps moves safe counted document wish caps told.steps report full told.tells

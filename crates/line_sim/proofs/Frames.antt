@@ -1,4 +1,5 @@
--- What is sent is what is heard: the frame of a signal is the only good content of its octets, and a receiver that takes it has that content to hand out.
+-- What is sent is what is heard: the frame of a signal is the only good content of its octets, and a receiver that takes it has that
+-- content to hand out.
 use Rattle.std.proofs.Common.{◌≡◌, ℕ, suc, ◌+◌, ◌<◌, List, [], ◌∷◌, ◌++◌, length, drop, replicate, false, refl, ap, sym, subst, ◌∙◌, inl, arith}
 use Rattle.std.proofs.lemmas.List.{length-append}
 use Rattle.std.specs.Prelude.{slice_index_or, Bool}
@@ -26,7 +27,8 @@ only_content octets content grows f =
 pub said : (octets : List ℕ) (signal : PlainSignal) → FrameGrows → ReadsWhatIsWritten → Carries octets signal → signal_said octets ≡ signal
 unfolding signal_said
 said octets signal grows reads carries =
-    ap (λ l. signal_in (read_content (slice_index_or l 0 []))) (only_content octets (content_of signal carries.side carries.last) grows carries.sent) ∙
+    ap (λ l. signal_in (read_content (slice_index_or l 0 [])))
+    (only_content octets (content_of signal carries.side carries.last) grows carries.sent) ∙
     ap signal_in (reads signal carries.side carries.last carries.writable)
 
 drop_front : {A : Type 0} (xs ys : List A) → drop (length xs) (xs ++ ys) ≡ ys
@@ -35,7 +37,8 @@ drop_front (x ∷ xs) ys = drop_front xs ys
 
 -- an idle receiver that takes a frame has its content to hand out
 pub taken : (octets content : List ℕ) (old new : Framing) → FrameGrows → IsFrameOf octets content → IsIdle old →
-    ((bits : List Bool) (handed : ℕ) → StandsAfter old bits handed → StandsAfter new (bits ++ bits_of LsbFirst octets) handed) → HasTaken new content
+    ((bits : List Bool) (handed : ℕ) → StandsAfter old bits handed → StandsAfter new (bits ++ bits_of LsbFirst octets) handed) →
+    HasTaken new content
 taken octets content old new grows f idle feeds =
     let bits : List Bool = idle.bits in
     let grown = grows bits content f.frame f.fill idle.ready f.is f.few in
@@ -46,7 +49,8 @@ taken octets content old new grows f idle feeds =
       handed = length (good bits);
       ready = grown.0;
       stands = stands;
-      one = sym (ap length grown.2 ∙ (length-append (good bits) (content ∷ []) ∙ (let n : ℕ = length (good bits) in let e : n + 1 ≡ suc n = omega arith in e)));
+      one = sym (ap length grown.2 ∙
+          (length-append (good bits) (content ∷ []) ∙ (let n : ℕ = length (good bits) in let e : n + 1 ≡ suc n = omega arith in e)));
       waits = stands.queued ∙ (ap (drop (length (good bits))) grown.2 ∙ drop_front (good bits) (content ∷ []));
     }
 

@@ -80,13 +80,17 @@ no_check dcn kind e is = cc
 no_check (other octet) kind e is = cc
 
 -- the item that octets say is the one that they carry
-pub says_carried : (kind : Kind) (octets : List ℕ) (signal : PlainSignal) → FrameGrows → ReadsWhatIsWritten → Carries octets signal → signal_kind signal ≡ Some kind → item_said kind octets ≡ framed signal
-says_carried kind octets signal grows reads carries e = said_frame kind octets (no_check signal kind e) ∙ ap framed (said octets signal grows reads carries)
+pub says_carried : (kind : Kind) (octets : List ℕ) (signal : PlainSignal) → FrameGrows → ReadsWhatIsWritten → Carries octets signal →
+    signal_kind signal ≡ Some kind → item_said kind octets ≡ framed signal
+says_carried kind octets signal grows reads carries e = said_frame kind octets (no_check signal kind e) ∙
+    ap framed (said octets signal grows reads carries)
 
-kind_by : (kind : Kind) (octets : List ℕ) → FrameGrows → ReadsWhatIsWritten → kind ≢ Training → CarriesKind kind octets → kind_of (item_said kind octets) ≡ Some kind
+kind_by : (kind : Kind) (octets : List ℕ) → FrameGrows → ReadsWhatIsWritten → kind ≢ Training → CarriesKind kind octets →
+    kind_of (item_said kind octets) ≡ Some kind
 kind_by kind octets grows reads differs h = ap kind_of (says_carried kind octets h.0 grows reads h.1 h.2) ∙ h.2
 
-pub kind_said : (kind : Kind) (octets : List ℕ) → FrameGrows → ReadsWhatIsWritten → IsItem kind octets → kind_of (item_said kind octets) ≡ Some kind
+pub kind_said : (kind : Kind) (octets : List ℕ) → FrameGrows → ReadsWhatIsWritten → IsItem kind octets →
+    kind_of (item_said kind octets) ≡ Some kind
 kind_said Training octets grows reads h = refl
 kind_said Dis octets grows reads h = kind_by Dis octets grows reads (λ e. cc) h
 kind_said Dcs octets grows reads h = kind_by Dcs octets grows reads (λ e. cc) h
@@ -108,8 +112,10 @@ pub record Heard (kind : Kind) (octets : List ℕ) (fed : Framing) : Type 0 wher
   pub reads : read_content content ≡ Ok (signal_said octets)
   pub is : item_said kind octets ≡ framed (signal_said octets)
 
-pub hears_it : (kind : Kind) (octets : List ℕ) (old fed : Framing) → FrameGrows → ReadsWhatIsWritten → kind ≢ Training → IsItem kind octets → IsIdle old →
-    ((bits : List Bool) (handed : ℕ) → StandsAfter old bits handed → StandsAfter fed (bits ++ bits_of LsbFirst octets) handed) → Heard kind octets fed
+pub hears_it : (kind : Kind) (octets : List ℕ) (old fed : Framing) → FrameGrows → ReadsWhatIsWritten → kind ≢ Training →
+    IsItem kind octets → IsIdle old →
+    ((bits : List Bool) (handed : ℕ) → StandsAfter old bits handed → StandsAfter fed (bits ++ bits_of LsbFirst octets) handed) →
+    Heard kind octets fed
 hears_it kind octets old fed grows reads differs item idle feeds =
     let h : CarriesKind kind octets = carried kind octets differs item in
     let signal : PlainSignal = h.0 in
@@ -126,9 +132,11 @@ map_constant [] = refl
 map_constant (x ∷ xs) = ap (λ ys. 255 ∷ ys) (map_constant xs)
 
 -- a training check with all its octets FF
-pub check_spoiled : (kind : Kind) (octets new : List ℕ) → kind ≡ Training → new ≡ replicate (length octets) 255 → item_said kind new ∷ [] ≡ spoiled (item_said kind octets ∷ [])
+pub check_spoiled : (kind : Kind) (octets new : List ℕ) → kind ≡ Training → new ≡ replicate (length octets) 255 →
+    item_said kind new ∷ [] ≡ spoiled (item_said kind octets ∷ [])
 check_spoiled kind octets new is e =
-    subst (λ k. item_said k new ∷ [] ≡ spoiled (item_said k octets ∷ [])) (sym is) (ap (λ l. checked l ∷ []) (e ∙ sym (map_constant octets)))
+    subst (λ k. item_said k new ∷ [] ≡ spoiled (item_said k octets ∷ [])) (sym is)
+    (ap (λ l. checked l ∷ []) (e ∙ sym (map_constant octets)))
 
 pub frame_unspoiled : (kind : Kind) (octets : List ℕ) → kind ≢ Training → item_said kind octets ∷ [] ≡ spoiled (item_said kind octets ∷ [])
 frame_unspoiled kind octets differs = rw (said_frame kind octets differs) refl

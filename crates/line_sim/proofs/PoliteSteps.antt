@@ -21,12 +21,15 @@ next_are w [] [] = between_are (is_between_groups w)
 next_are w [] (item ∷ items) = ((tt, refl), tt)
 next_are w (item ∷ items) others = ((tt, refl), tt)
 
-and_more : (steps : List (Event × Outcome)) (rest : World → List (Event × Outcome)) (w : World) → Each IsPoliteStep steps → ((v : World) → Each IsPoliteStep (rest v)) →
+and_more : (steps : List (Event × Outcome)) (rest : World → List (Event × Outcome)) (w : World) → Each IsPoliteStep steps →
+    ((v : World) → Each IsPoliteStep (rest v)) →
     Each IsPoliteStep (and_on steps rest w)
 and_more [] rest w h more = tt
-and_more (step ∷ steps) rest w h more = each_append IsPoliteStep (step ∷ steps) (rest (run (step ∷ steps) w)) h (more (run (step ∷ steps) w))
+and_more (step ∷ steps) rest w h more =
+    each_append IsPoliteStep (step ∷ steps) (rest (run (step ∷ steps) w)) h (more (run (step ∷ steps) w))
 
 pub polite_events : PoliteEvents
 polite_events zero w = tt
 polite_events (suc most) w =
-    and_more (next_steps w w.to_answerer w.to_caller) (polite_steps most) w (next_are w w.to_answerer w.to_caller) (λ v. polite_events most v)
+    and_more (next_steps w w.to_answerer w.to_caller) (polite_steps most) w (next_are w w.to_answerer w.to_caller)
+    (λ v. polite_events most v)

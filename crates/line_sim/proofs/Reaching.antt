@@ -19,7 +19,8 @@ can_write v event written r =
     let is : run (r.steps ++ (event, Done) ∷ []) start ≡ happens w event Done = run_one_more r.steps event Done start in
     (w, r.shows, subst (λ x. Each CanBeWritten x.to_answerer) is h.0, subst (λ x. Each CanBeWritten x.to_caller) is h.1)
 
-pub reached_more : (old new : WorldFields) (event : Event) (outcome : Outcome) → IsReached old → Becomes old new event outcome → IsReached new
+pub reached_more : (old new : WorldFields) (event : Event) (outcome : Outcome) → IsReached old → Becomes old new event outcome →
+    IsReached new
 reached_more old new event outcome r becomes =
     let start : World = new_world r.document r.wish r.caps in
     let h = becomes (run r.steps start) r.shows in
@@ -30,7 +31,8 @@ reached_more old new event outcome r becomes =
       steps = r.steps ++ (event, outcome) ∷ [];
       full = r.full;
       shows = subst (Shows new.call) (sym (run_one_more r.steps event outcome start)) h.0;
-      noted = h.1 ∙ (ap (λ l. l ++ and_entries (entry_of (run r.steps start) event outcome) []) r.noted ∙ sym (entries_one_more r.steps event outcome start));
+      noted = h.1 ∙ (ap (λ l. l ++ and_entries (entry_of (run r.steps start) event outcome) []) r.noted ∙
+          sym (entries_one_more r.steps event outcome start));
     }
 
 -- nothing at all has happened
@@ -38,11 +40,13 @@ append_none : (xs : List Entry) → xs ≡ xs ++ []
 append_none [] = refl
 append_none (x ∷ xs) = ap (λ l. x ∷ l) (append_none xs)
 
-pub becomes_same : (v : WorldFields) (noted : List Entry) (event : Event) → noted ≡ v.entries → Becomes v (record { call = v.call; entries = noted }) event Nothing
+pub becomes_same : (v : WorldFields) (noted : List Entry) (event : Event) → noted ≡ v.entries →
+    Becomes v (record { call = v.call; entries = noted }) event Nothing
 becomes_same v noted event is w shows = (shows, is ∙ append_none v.entries)
 
 -- an event with its entry
-pub acts_become : (v : WorldFields) (call : Call) (noted : List Entry) (event : Event) (entry : Entry) (h : Acts v.call call event entry) → noted ≡ v.entries ++ entry ∷ [] → Becomes v (record { call = call; entries = noted }) event h.0
+pub acts_become : (v : WorldFields) (call : Call) (noted : List Entry) (event : Event) (entry : Entry)
+    (h : Acts v.call call event entry) → noted ≡ v.entries ++ entry ∷ [] → Becomes v (record { call = call; entries = noted }) event h.0
 acts_become v call noted event entry h is w shows =
     let did = h.1 w shows in
     (did.0, is ∙ ap (λ e. v.entries ++ and_entries e []) (sym did.1))
@@ -51,7 +55,8 @@ refused_in : Option Entry → Bool
 refused_in None = false
 refused_in (Some entry) = entry.refused
 
-entry_refused : (w : World) (event : Event) (outcome : Outcome) (entry : Entry) → entry_of w event outcome ≡ Some entry → is_refused outcome ≡ entry.refused
+entry_refused : (w : World) (event : Event) (outcome : Outcome) (entry : Entry) → entry_of w event outcome ≡ Some entry →
+    is_refused outcome ≡ entry.refused
 unfolding refused_in
 entry_refused w event Done entry e = ap refused_in e
 entry_refused w event Nothing entry e = cc
@@ -65,12 +70,14 @@ none_refused InputLost e = cc
 none_refused (Cut made) e = cc
 
 -- its outcome by the mark of its entry
-pub was_done : (v : WorldFields) (call : Call) (event : Event) (entry : Entry) (h : Acts v.call call event entry) → IsReached v → entry.refused ≡ false → h.0 ≡ Done
+pub was_done : (v : WorldFields) (call : Call) (event : Event) (entry : Entry) (h : Acts v.call call event entry) → IsReached v →
+    entry.refused ≡ false → h.0 ≡ Done
 was_done v call event entry h r whole =
     let w : World = run r.steps (new_world r.document r.wish r.caps) in
     none_refused h.0 (entry_refused w event h.0 entry (h.1 w r.shows).1 ∙ whole)
 
-pub was_refused : (v : WorldFields) (call : Call) (event : Event) (entry : Entry) (h : Acts v.call call event entry) → IsReached v → entry.refused ≡ true → h.0 ≢ Done
+pub was_refused : (v : WorldFields) (call : Call) (event : Event) (entry : Entry) (h : Acts v.call call event entry) → IsReached v →
+    entry.refused ≡ true → h.0 ≢ Done
 was_refused v call event entry h r marked done =
     let w : World = run r.steps (new_world r.document r.wish r.caps) in
     let no : is_refused h.0 ≡ false = ap is_refused done in

@@ -19,7 +19,8 @@ none_sent start all can = record { made = 0; now_is = sym (append_nil start); le
     append_nil [] = refl
     append_nil (x ∷ xs) = ap (λ ys. x ∷ ys) (append_nil xs)
 
-take_more : (k : ℕ) (all left : List PlainItem) (item : PlainItem) → item ∷ left ≡ drop k all → (take (suc k) all ≡ take k all ++ item ∷ []) × (left ≡ drop (suc k) all)
+take_more : (k : ℕ) (all left : List PlainItem) (item : PlainItem) → item ∷ left ≡ drop k all →
+    (take (suc k) all ≡ take k all ++ item ∷ []) × (left ≡ drop (suc k) all)
 take_more zero [] left item e = absurd (cc)
 take_more zero (x ∷ all) left item e = (cc, cc)
 take_more (suc k) [] left item e = absurd (cc)
@@ -27,7 +28,8 @@ take_more (suc k) (x ∷ all) left item e =
     let h = take_more k all left item e in
     (ap (λ ys. x ∷ ys) h.0, h.1)
 
-pub one_sent : (start now all left : List PlainItem) (item : PlainItem) → HasSent start now all (item ∷ left) → HasSent start (now ++ item ∷ []) all left
+pub one_sent : (start now all left : List PlainItem) (item : PlainItem) → HasSent start now all (item ∷ left) →
+    HasSent start (now ++ item ∷ []) all left
 one_sent start now all left item h =
     let more = take_more h.made all left item h.left_is in
     record {
@@ -50,6 +52,7 @@ pub cut : (start now all left : List PlainItem) → HasSent start now all left �
 cut start now all left h = (h.made, h.now_is)
 
 -- the count is whole where no item is left
-pub all_counted : (count all : ℕ) (left : List PlainItem) → left ≡ [] → count ≤ 65535 → min 65535 (count + count_fcds left) ≡ min 65535 all → count ≡ min 65535 all
+pub all_counted : (count all : ℕ) (left : List PlainItem) → left ≡ [] → count ≤ 65535 →
+    min 65535 (count + count_fcds left) ≡ min 65535 all → count ≡ min 65535 all
 all_counted count all [] none few e = let h : count ≡ min 65535 (count + 0) = omega arith in h ∙ e
 all_counted count all (item ∷ left) none few e = absurd (cc)

@@ -5,7 +5,8 @@ use Rattle.line_sim.specs.Line.{World, new_world, run}
 use Rattle.line_sim.specs.Polite.{polite_steps, PoliteCalls}
 use Rattle.line_sim.specs.Standing.{Shows, WorldFields}
 
-pub goes_through : {E : Type 0} → PoliteCalls → (old new : WorldFields) (most : ℕ) (result : Result ℕ E) → ((w : World) → Shows old.call w → DeliversAll old new w most result) →
+pub goes_through : {E : Type 0} → PoliteCalls → (old new : WorldFields) (most : ℕ) (result : Result ℕ E) →
+    ((w : World) → Shows old.call w → DeliversAll old new w most result) →
     IfOk result (λ number. GoesThrough old new most number)
 goes_through calls old new most (Err refusal) delivers = tt
 goes_through calls old new most (Ok number) delivers = λ document wish caps groups shows some full agreed.

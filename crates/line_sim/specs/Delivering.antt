@@ -27,7 +27,8 @@ pub record Stopped (old new : WorldFields) (w : World) (steps : List (Event × O
 
 -- the next delivery was made, or there is none
 abbrev pub NextDone : WorldFields → WorldFields → World → Bool → Type 0
-NextDone old new w true = Made old new w (next_steps w w.to_answerer w.to_caller) × (count_deliveries (next_steps w w.to_answerer w.to_caller) ≡ 1)
+NextDone old new w true = Made old new w (next_steps w w.to_answerer w.to_caller) ×
+    (count_deliveries (next_steps w w.to_answerer w.to_caller) ≡ 1)
 NextDone old new w false = (new ≡ old) × (next_steps w w.to_answerer w.to_caller ≡ [])
 
 -- the same, or a growth was refused
@@ -40,10 +41,13 @@ abbrev pub DeliversAll : {E : Type 0} → WorldFields → WorldFields → World 
 DeliversAll old new w most (Ok number) = Made old new w (polite_steps most w) × (number ≡ count_deliveries (polite_steps most w))
 DeliversAll old new w most (Err refusal) = Stopped old new w (polite_steps most w)
 
--- a call from its start that nobody disturbs: where both stations agree on each page and each page's code fits a call, the number of deliveries is the
+-- a call from its start that nobody disturbs: where both stations agree on each page and each page's code fits a call, the number of
+-- deliveries is the
 -- lesser of the call's and those that may be made, and after all of the call's it is through
 abbrev pub GoesThrough : WorldFields → WorldFields → ℕ → ℕ → Type 0
 GoesThrough old new most number =
-    (document : Document) (wish : Wish) (caps : Caps) (groups : List Params) → Shows old.call (new_world document wish caps) → 0 < length document → Each IsFullPage document →
+    (document : Document) (wish : Wish) (caps : Caps) (groups : List Params) → Shows old.call (new_world document wish caps) →
+    0 < length document → Each IsFullPage document →
     AreAgreed caps wish groups document →
-    (number ≡ min (call_length groups document) most) × (call_length groups document ≤ most → (w : World) × Shows new.call w × IsThrough document w)
+    (number ≡ min (call_length groups document) most) ×
+    (call_length groups document ≤ most → (w : World) × Shows new.call w × IsThrough document w)

@@ -38,12 +38,14 @@ IsSent _ _ = ⊥
 -- the caller's items of a turn are sent, or the first of them
 abbrev pub CallerSends : Call → Call → Turn → Bool → Type 0
 CallerSends old new turn refused =
-    (outcome : Outcome) × IsSent refused outcome × ((w : World) → Shows old w → Shows new (caller_sends turn w w.caller (sent outcome (caller_items w.caller turn))))
+    (outcome : Outcome) × IsSent refused outcome ×
+    ((w : World) → Shows old w → Shows new (caller_sends turn w w.caller (sent outcome (caller_items w.caller turn))))
 
 -- the answerer's items of a turn are sent, or the first of them
 abbrev pub AnswererSends : Call → Call → Turn → Bool → Type 0
 AnswererSends old new turn refused =
-    (outcome : Outcome) × IsSent refused outcome × ((w : World) → Shows old w → Shows new (answerer_sends turn w w.answerer (sent outcome (answerer_items w.answerer turn))))
+    (outcome : Outcome) × IsSent refused outcome ×
+    ((w : World) → Shows old w → Shows new (answerer_sends turn w w.answerer (sent outcome (answerer_items w.answerer turn))))
 
 -- a caller that the fields represent can write the items of a turn
 abbrev pub CallerWrites : Call → Turn → Type 0
@@ -70,12 +72,14 @@ entry_with event item said refused = record { event = event; item = item; turn =
 -- the caller has answered an event and sends its turn; or memory was refused before
 abbrev pub CallerAnswers : {E : Type 0} → Call → Call → Event → Option Kind → Result Turn E → Entry → Type 0
 CallerAnswers old new event item (Ok turn) entry =
-    CallerSends old new turn entry.refused × ((t : Caller) → Represents old.caller t → entry ≡ entry_with event item (caller_said turn (caller_items t turn)) entry.refused)
+    CallerSends old new turn entry.refused ×
+    ((t : Caller) → Represents old.caller t → entry ≡ entry_with event item (caller_said turn (caller_items t turn)) entry.refused)
 CallerAnswers old new event item (Err refused) entry = (new ≡ old) × (entry ≡ entry_with event item (says Silent) true)
 
 -- the same of the answerer
 abbrev pub AnswererAnswers : {E : Type 0} → Call → Call → Event → Option Kind → Result Turn E → Entry → Type 0
-AnswererAnswers old new event item (Ok turn) entry = AnswererSends old new turn entry.refused × (entry ≡ entry_with event item (says turn) entry.refused)
+AnswererAnswers old new event item (Ok turn) entry = AnswererSends old new turn entry.refused ×
+    (entry ≡ entry_with event item (says turn) entry.refused)
 AnswererAnswers old new event item (Err refused) entry = (new ≡ old) × (entry ≡ entry_with event item (says Silent) true)
 
 -- the input that an event is to the caller that is no delivery
@@ -93,11 +97,13 @@ AnswererTimer _ input = ⊥
 
 -- what an event would send can be written
 abbrev pub EventWrites : Call → Event → Type 0
-EventWrites v event = (w : World) × Shows v w × Each CanBeWritten (happens w event Done).to_answerer × Each CanBeWritten (happens w event Done).to_caller
+EventWrites v event = (w : World) × Shows v w × Each CanBeWritten (happens w event Done).to_answerer ×
+    Each CanBeWritten (happens w event Done).to_caller
 
 -- an event with an outcome and its entry
 abbrev pub Acts : Call → Call → Event → Entry → Type 0
-Acts old new event entry = (outcome : Outcome) × ((w : World) → Shows old w → Shows new (happens w event outcome) × (entry_of w event outcome ≡ Some entry))
+Acts old new event entry = (outcome : Outcome) ×
+    ((w : World) → Shows old w → Shows new (happens w event outcome) × (entry_of w event outcome ≡ Some entry))
 
 -- the fields of a world
 pub record WorldFields : Type 0 where
@@ -111,7 +117,8 @@ fields_state v = page_state v.answerer.pages v.caller.page v.caller.ending v.ans
 -- whichever world the fields represent, they represent what an event with an outcome makes of it, and have its entry
 abbrev pub Becomes : WorldFields → WorldFields → Event → Outcome → Type 0
 Becomes old new event outcome =
-    (w : World) → Shows old.call w → Shows new.call (happens w event outcome) × (new.entries ≡ old.entries ++ and_entries (entry_of w event outcome) [])
+    (w : World) → Shows old.call w → Shows new.call (happens w event outcome) ×
+    (new.entries ≡ old.entries ++ and_entries (entry_of w event outcome) [])
 
 -- events with outcomes lead from a new world to the fields
 pub record IsReached (v : WorldFields) : Type 0 where

@@ -8,10 +8,12 @@ use Rattle.line_sim.proofs.world.has_full_pages.Goals as goal
 
 pub loop-page-preserved : goal.loop-page-preserved
 loop-page-preserved c =
-    All-more IsPage c.pages-page-items.result.now c.loop-page.page-index c.page-item.result c.loop-page-test.true c.loop-page.invariant (subst IsPage c.page-item.is c.rows-rows.ensures.page)
+    All-more IsPage c.pages-page-items.result.now c.loop-page.page-index c.page-item.result c.loop-page-test.true c.loop-page.invariant
+    (subst IsPage c.page-item.is c.rows-rows.ensures.page)
 
 pub returns : goal.returns
 returns c =
     each_full c.args.document.now
-    (subst (All IsPage) c.pages-page-items.ensures.pages (subst (All IsPage) (take_all c.loop-page.page-index c.pages-page-items.result.now c.loop-page-test.false) c.loop-page.invariant))
+    (subst (All IsPage) c.pages-page-items.ensures.pages
+    (subst (All IsPage) (take_all c.loop-page.page-index c.pages-page-items.result.now c.loop-page-test.false) c.loop-page.invariant))
     c.pages-page-items.ensures.document.rows

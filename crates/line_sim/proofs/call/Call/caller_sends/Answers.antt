@@ -4,4 +4,6 @@ use Rattle.line_sim.proofs.call.Call.caller_sends.Goals as goal
 
 pub returns : goal.returns
 returns c =
-    caller_sent_so c.args.self.now c.args.turn.now c.send.result c.is_err.result c.frames.result c.send.new.self c.clear.new.self (iff_false c.is_silent.ensures c.if-is_silent.false) c.is_err.ensures.value c.frames.ensures c.send.ensures.ok c.send.ensures.err c.clear.ensures
+    caller_sent_so c.args.self.now c.args.turn.now c.send.result c.is_err.result c.frames.result c.send.new.self c.clear.new.self
+    (iff_false c.is_silent.ensures c.if-is_silent.false) c.is_err.ensures.value c.frames.ensures c.send.ensures.ok c.send.ensures.err
+    c.clear.ensures

@@ -3,4 +3,5 @@ use Rattle.line_sim.proofs.call.Call.fcds.Goals as goal
 
 pub returns-in-Burst : goal.returns-in-Burst
 returns-in-Burst c t stands =
-    burst_counted c.in-Burst.map c.args.turn.now t c.frames.result c.fcd_count.result c.has_32_octets.ensures c.in-Burst.is (c.frames.ensures t stands) c.fcd_count.ensures
+    burst_counted c.in-Burst.map c.args.turn.now t c.frames.result c.fcd_count.result c.has_32_octets.ensures c.in-Burst.is
+    (c.frames.ensures t stands) c.fcd_count.ensures

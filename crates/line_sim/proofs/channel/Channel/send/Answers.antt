@@ -12,4 +12,5 @@ loop-item-preserved c =
 
 pub returns-clause-ok : goal.returns-clause-ok
 returns-clause-ok c =
-    all_sent c.args.self.now c.loop-item.self c.args.items (subst (λ l. HasSent c.args.self.now c.loop-item.self c.args.items l) c.in_default.ensures.0 c.loop-item.invariant)
+    all_sent c.args.self.now c.loop-item.self c.args.items
+    (subst (λ l. HasSent c.args.self.now c.loop-item.self c.args.items l) c.in_default.ensures.0 c.loop-item.invariant)

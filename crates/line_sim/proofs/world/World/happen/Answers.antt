@@ -9,22 +9,36 @@ act-entry-requires c = can_write _ c.args.event c.headline.ensures.written c.sel
 
 pub overflow_add-self : goal.overflow_add-self
 overflow_add-self c =
-    omega (arith, c.self.invariant.1, marks_few c.self.inside.transcript.items, c.self.inside.transcript.ok.0, c.self.inside.transcript.ok.1, c.self.inside.transcript.small)
+    omega (
+      arith,
+      c.self.invariant.1,
+      marks_few c.self.inside.transcript.items,
+      c.self.inside.transcript.ok.0,
+      c.self.inside.transcript.ok.1,
+      c.self.inside.transcript.small,
+    )
 
 pub invariant_of-self-then-entry : goal.invariant_of-self-then-entry
 invariant_of-self-then-entry c =
     let v : WorldFields = record { call = c.self.inside.call; entries = c.self.inside.transcript.items } in
-    let noted : c.note.new.transcript.items ≡ c.self.inside.transcript.items ++ c.act-entry.result ∷ [] = c.note.ensures ∙ ap (λ l. l ++ c.act-entry.result ∷ []) c.reserve.ensures.items in (
-      reached_more v _ c.args.event c.act-entry.ensures.0 c.self.invariant.0 (acts_become v c.act-entry.new.self c.note.new.transcript.items c.args.event c.act-entry.result c.act-entry.ensures noted),
+    let noted : c.note.new.transcript.items ≡ c.self.inside.transcript.items ++ c.act-entry.result ∷ [] = c.note.ensures ∙
+    ap (λ l. l ++ c.act-entry.result ∷ []) c.reserve.ensures.items in (
+      reached_more v _ c.args.event c.act-entry.ensures.0 c.self.invariant.0
+          (acts_become v c.act-entry.new.self c.note.new.transcript.items c.args.event c.act-entry.result c.act-entry.ensures noted),
       (let n : ℕ = c.self.inside.refused in let one : n + 1 ≡ suc n = omega arith in one) ∙
-          (ap suc c.self.invariant.1 ∙ (ap (λ b. one_mark b (marks c.self.inside.transcript.items)) (sym c.if-entry.true) ∙ (sym (marks_more c.self.inside.transcript.items c.act-entry.result) ∙ ap marks (sym noted)))),
+          (ap suc c.self.invariant.1 ∙
+          (ap (λ b. one_mark b (marks c.self.inside.transcript.items)) (sym c.if-entry.true) ∙
+          (sym (marks_more c.self.inside.transcript.items c.act-entry.result) ∙ ap marks (sym noted)))),
     )
 
 pub invariant_of-self-else-entry : goal.invariant_of-self-else-entry
 invariant_of-self-else-entry c =
     let v : WorldFields = record { call = c.self.inside.call; entries = c.self.inside.transcript.items } in
-    let noted : c.note.new.transcript.items ≡ c.self.inside.transcript.items ++ c.act-entry.result ∷ [] = c.note.ensures ∙ ap (λ l. l ++ c.act-entry.result ∷ []) c.reserve.ensures.items in (
-      reached_more v _ c.args.event c.act-entry.ensures.0 c.self.invariant.0 (acts_become v c.act-entry.new.self c.note.new.transcript.items c.args.event c.act-entry.result c.act-entry.ensures noted),
+    let noted : c.note.new.transcript.items ≡ c.self.inside.transcript.items ++ c.act-entry.result ∷ [] = c.note.ensures ∙
+    ap (λ l. l ++ c.act-entry.result ∷ []) c.reserve.ensures.items in (
+      reached_more v _ c.args.event c.act-entry.ensures.0 c.self.invariant.0
+          (acts_become v c.act-entry.new.self c.note.new.transcript.items c.args.event c.act-entry.result c.act-entry.ensures noted),
       c.self.invariant.1 ∙
-          (ap (λ b. one_mark b (marks c.self.inside.transcript.items)) (sym c.if-entry.false) ∙ (sym (marks_more c.self.inside.transcript.items c.act-entry.result) ∙ ap marks (sym noted))),
+          (ap (λ b. one_mark b (marks c.self.inside.transcript.items)) (sym c.if-entry.false) ∙
+          (sym (marks_more c.self.inside.transcript.items c.act-entry.result) ∙ ap marks (sym noted))),
     )
