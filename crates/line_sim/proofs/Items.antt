@@ -1,7 +1,7 @@
 -- The items under way as their octets say them.
-use Rattle.std.proofs.Common.{◌≡◌, ◌≢◌, ℕ, Bool, List, [], ◌∷◌, ◌++◌, length, map, replicate, Some, Ok, refl, ap, sym, subst, ◌∙◌}
-use Rattle.hdlc.specs.Framing.{Framing, StandsAfter}
-use Rattle.hdlc.specs.Laws.{FrameGrows}
+use Rattle.std.proofs.Common.{◌≡◌, ◌≢◌, ℕ, Bool, List, [], ◌∷◌, ◌++◌, length, map, replicate, drop, Some, Ok, refl, ap, sym, subst, ◌∙◌}
+use Rattle.hdlc.specs.Framing.{Framing, StandsAfter, IsIdle}
+use Rattle.hdlc.specs.Laws.{FrameOctetsGrow, FrameIsHeard}
 use Rattle.raster.specs.Packed.{bits_of}
 use Rattle.raster.specs.declared.packed.Order.TheVariants.{LsbFirst}
 use Rattle.signals.specs.Reading.{read_content}
@@ -10,10 +10,10 @@ use Rattle.signals.specs.Writing.{content_of, ReadsWhatIsWritten}
 use Rattle.stations.specs.Inputs.{framed, checked}
 use Rattle.line_sim.specs.Entries.{kind_of, signal_kind}
 use Rattle.line_sim.specs.Line.{spoiled}
-use Rattle.line_sim.specs.Octets.{Carries, signal_said, item_said, IsItem, IsIdle, HasTaken}
+use Rattle.line_sim.specs.Octets.{Carries, signal_said, item_said, IsItem}
 use Rattle.line_sim.specs.declared.event.Kind.{Kind}
 use Rattle.line_sim.specs.declared.event.Kind.TheVariants.{Dis, Dcs, Training, Cfr, Ftt, Fcd, Rcp, Pps, Mcf, Ppr, Rnr, Rr, Dcn}
-use Rattle.line_sim.proofs.Frames.{said, taken}
+use Rattle.line_sim.proofs.Frames.{said}
 
 -- what octets carry that aren't a training check
 abbrev pub CarriesKind : Kind → List ℕ → Type 0
@@ -80,16 +80,16 @@ no_check dcn kind e is = cc
 no_check (other octet) kind e is = cc
 
 -- the item that octets say is the one that they carry
-pub says_carried : (kind : Kind) (octets : List ℕ) (signal : PlainSignal) → FrameGrows → ReadsWhatIsWritten → Carries octets signal →
+pub says_carried : (kind : Kind) (octets : List ℕ) (signal : PlainSignal) → FrameOctetsGrow → ReadsWhatIsWritten → Carries octets signal →
     signal_kind signal ≡ Some kind → item_said kind octets ≡ framed signal
 says_carried kind octets signal grows reads carries e = said_frame kind octets (no_check signal kind e) ∙
     ap framed (said octets signal grows reads carries)
 
-kind_by : (kind : Kind) (octets : List ℕ) → FrameGrows → ReadsWhatIsWritten → kind ≢ Training → CarriesKind kind octets →
+kind_by : (kind : Kind) (octets : List ℕ) → FrameOctetsGrow → ReadsWhatIsWritten → kind ≢ Training → CarriesKind kind octets →
     kind_of (item_said kind octets) ≡ Some kind
 kind_by kind octets grows reads differs h = ap kind_of (says_carried kind octets h.0 grows reads h.1 h.2) ∙ h.2
 
-pub kind_said : (kind : Kind) (octets : List ℕ) → FrameGrows → ReadsWhatIsWritten → IsItem kind octets →
+pub kind_said : (kind : Kind) (octets : List ℕ) → FrameOctetsGrow → ReadsWhatIsWritten → IsItem kind octets →
     kind_of (item_said kind octets) ≡ Some kind
 kind_said Training octets grows reads h = refl
 kind_said Dis octets grows reads h = kind_by Dis octets grows reads (λ e. cc) h
@@ -105,24 +105,29 @@ kind_said Rnr octets grows reads h = kind_by Rnr octets grows reads (λ e. cc) h
 kind_said Rr octets grows reads h = kind_by Rr octets grows reads (λ e. cc) h
 kind_said Dcn octets grows reads h = kind_by Dcn octets grows reads (λ e. cc) h
 
--- the content that a frame's octets have is read as the signal that they say
+-- the content that a frame's octets have waits alone, and is read as the signal that they say; once it is handed out the receiver is idle
 pub record Heard (kind : Kind) (octets : List ℕ) (fed : Framing) : Type 0 where
   pub content : List ℕ
-  pub has : HasTaken fed content
+  pub waits : fed.queue ≡ content ∷ []
+  pub idle : IsIdle (record fed { queue = drop 1 fed.queue })
   pub reads : read_content content ≡ Ok (signal_said octets)
   pub is : item_said kind octets ≡ framed (signal_said octets)
 
-pub hears_it : (kind : Kind) (octets : List ℕ) (old fed : Framing) → FrameGrows → ReadsWhatIsWritten → kind ≢ Training →
+pub hears_it :
+    (kind : Kind) (octets : List ℕ) (old fed : Framing) → FrameOctetsGrow → FrameIsHeard → ReadsWhatIsWritten → kind ≢ Training →
     IsItem kind octets → IsIdle old →
     ((bits : List Bool) (handed : ℕ) → StandsAfter old bits handed → StandsAfter fed (bits ++ bits_of LsbFirst octets) handed) →
     Heard kind octets fed
-hears_it kind octets old fed grows reads differs item idle feeds =
+hears_it kind octets old fed grows hears reads differs item idle feeds =
     let h : CarriesKind kind octets = carried kind octets differs item in
     let signal : PlainSignal = h.0 in
     let carries : Carries octets signal = h.1 in
+    let content : List ℕ = content_of signal carries.side carries.last in
+    let heard = hears old fed content carries.sent.frame octets idle carries.sent.is carries.sent.filled feeds in
     record {
-      content = content_of signal carries.side carries.last;
-      has = taken octets (content_of signal carries.side carries.last) old fed grows carries.sent idle feeds;
+      content = content;
+      waits = heard.0;
+      idle = heard.1;
       reads = reads signal carries.side carries.last carries.writable ∙ ap (λ s. Ok s) (sym (said octets signal grows reads carries));
       is = said_frame kind octets differs;
     }

@@ -56,7 +56,7 @@ pub(crate) struct Channel {
 impl Model for Channel {
     ghost use Rattle.std.specs.Prelude.{List};
     ghost use Rattle.stations.specs.Inputs.{PlainItem};
-    ghost use Rattle.line_sim.specs.Octets.{IsIdle};
+    ghost use Rattle.hdlc.specs.Framing.{IsIdle};
 
     ghost Value = { List PlainItem };
 
@@ -70,6 +70,7 @@ impl Channel {
     pub(crate) fn new(alloc: Global, sender: Side) -> Channel
         ensures { result ≡ [] }
     {
+        hdlc::laws::new_is_idle();
         Channel {
             alloc,
             sender,

@@ -1,10 +1,11 @@
 //! What is under way: frames as octets, and training checks.
 
+ghost use Rattle.hdlc.specs.Framing.{IsIdle};
 ghost use Rattle.line_sim.specs.Entries.{kind_of, signal_kind};
 ghost use Rattle.line_sim.specs.Headline.{CanBeWritten};
 ghost use Rattle.line_sim.specs.Hearing.{AnswererHears, CallerHears};
 ghost use Rattle.line_sim.specs.Line.{spoiled};
-ghost use Rattle.line_sim.specs.Octets.{Carries, IsIdle};
+ghost use Rattle.line_sim.specs.Octets.{Carries};
 ghost use Rattle.signals.specs.Reading.{read_content};
 ghost use Rattle.signals.specs.Signals.{PlainSignal, plain};
 ghost use Rattle.signals.specs.Writing.{IsWritable};
@@ -129,7 +130,7 @@ impl UnderWay {
         requires { CanBeWritten (plain_item item) }
         ensures { IfOk result (λ made. made ≡ plain_item item.entry) }
     {
-        hdlc::laws::frame_grows();
+        hdlc::laws::frame_octets_grow();
         signals::laws::reads_what_is_written();
         match item {
             Item::Frame { signal, last } => {
@@ -149,7 +150,7 @@ impl UnderWay {
     pub(crate) fn kind(&self) -> Kind
         ensures { kind_of self.now ≡ Some result }
     {
-        hdlc::laws::frame_grows();
+        hdlc::laws::frame_octets_grow();
         signals::laws::reads_what_is_written();
         self.kind
     }
@@ -164,8 +165,8 @@ impl UnderWay {
         ensures idle { IsIdle deframer.new }
         ensures heard { CallerHears self.now caller.old caller.new result }
     {
-        hdlc::laws::frame_grows();
-        hdlc::laws::next_stands();
+        hdlc::laws::frame_octets_grow();
+        hdlc::laws::frame_is_heard();
         signals::laws::reads_what_is_written();
         if is_check(self.kind) {
             return Ok(Turn::Silent);
@@ -184,8 +185,8 @@ impl UnderWay {
         ensures idle { IsIdle deframer.new }
         ensures heard { AnswererHears self.now answerer.old answerer.new result }
     {
-        hdlc::laws::frame_grows();
-        hdlc::laws::next_stands();
+        hdlc::laws::frame_octets_grow();
+        hdlc::laws::frame_is_heard();
         signals::laws::reads_what_is_written();
         if is_check(self.kind) {
             return answerer.step(AnswererIn::Training(&self.octets));
