@@ -8,3 +8,4 @@ pub mod Cases
 pub mod SendingLemmas
 pub mod FieldTexts
 pub mod Places
+pub mod BitNumberLemmas

@@ -7,3 +7,4 @@ pub mod Reading
 pub mod Writing
 pub mod Saying
 pub mod Sending
+pub mod BitNumbers

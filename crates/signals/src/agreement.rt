@@ -1,4 +1,5 @@
 ghost use Rattle.signals.specs.Agreement.{agreed, lower_speed, allowed, speed_order, common_speed, first_of, after_speed, agreed_coding};
+ghost use Rattle.signals.specs.Faults.{number_of_incompatible};
 ghost use Rattle.std.specs.List.{find};
 ghost use Rattle.std.specs.Prelude.{◌≡◌, IfOk, true, length, List};
 
@@ -10,6 +11,15 @@ use thiserror::Error;
 #[derive(Clone, Copy, Debug, PartialEq, Eq, Error)]
 #[error("the stations are not compatible")]
 pub struct NotCompatible;
+
+impl NotCompatible {
+    /// The number of the fault in the list of all faults.
+    pub fn number(self) -> u8
+        ensures { result ≡ number_of_incompatible self }
+    {
+        28
+    }
+}
 
 /// The order of the speeds where both stations have V.17.
 const V17_ORDER: [Speed; 6] = [

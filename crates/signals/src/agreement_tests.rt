@@ -67,6 +67,7 @@ fn pages_agreed(rt: HostRuntime) -> Result<(), Fail> {
         agree(&narrow, &wish(Modems::V17), PageWidth::W2432, false),
         Err(NotCompatible)
     );
+    assert_eq!(rt; NotCompatible.number(), 28);
     Ok(())
 }
 

@@ -1,10 +1,12 @@
 //! Laws of the definitions. Nothing runs.
 
 ghost use Rattle.signals.specs.Agreement.{AgreedFits, AgreedIsAllowed, BeginsAtMostFiveAbove, GoesDownByOne, LoweredIsAllowed, WidthsHavePixels};
+ghost use Rattle.signals.specs.BitNumbers.{ReadsByNumber, ReadsNoOthers, dcs_numbers, dis_numbers};
 ghost use Rattle.signals.specs.Saying.{ControlsHaveTexts, ReadsWhatIsSaid};
 ghost use Rattle.signals.specs.Sending.{ModemsHaveTexts, PageEndsHaveTexts, SpeedsHaveTexts, WidthsHaveTexts, WritesTheTables};
 ghost use Rattle.signals.specs.Training.{TrainingChecksAreGood};
 ghost use Rattle.signals.specs.Writing.{ReadsWhatIsWritten, WrittenFitsAFrame};
+ghost use Rattle.signals.specs.declared.control.Control.TheVariants.{Dis, Dcs};
 
 /// A facsimile control field is known exactly where its bits are those of the signal's text, with either
 /// bit where the text has an X. ITU-T T.30, 5.3.6.1.
@@ -15,6 +17,21 @@ pub fn controls_have_texts()
 /// A content is read as a signal exactly where it says the signal.
 pub fn reads_what_is_said()
     ensures { ReadsWhatIsSaid }
+{}
+
+/// A content of a known facsimile control field is read as the signal that the octets after it show: of a
+/// DIS and a DCS the bits 10 to 32 by the numbers of the standard's table, those after bit 24 as 0 where
+/// bit 24 is 0. Where they are fewer than 3 of a DIS or a DCS, 2 of an FCD, 4 of a PPS or 32 of a PPR, it is
+/// refused with `ShortField`. ITU-T T.30, 5.3.6 and A.4.
+pub fn reads_by_number()
+    ensures { ReadsByNumber }
+{}
+
+/// Two contents of a DIS, or of a DCS, are read alike where they agree in the bits whose numbers the
+/// standard's table gives a meaning: each other bit is ignored. ITU-T T.30, 5.3.6.2.
+pub fn ignores_other_bits()
+    ensures dis { ReadsNoOthers Dis dis_numbers }
+    ensures dcs { ReadsNoOthers Dcs dcs_numbers }
 {}
 
 /// The content that is written of a signal, by either station, is read as the signal.

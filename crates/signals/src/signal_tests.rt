@@ -70,6 +70,29 @@ fn other_stations(rt: HostRuntime) {
     assert_eq!(rt; read(&fine_dcs), Ok(Signal::Dcs(fine)));
 }
 
+/// Bits 17 and 18 both 1, and bit 24 at 0.
+#[test]
+fn bits_of_a_dis(rt: HostRuntime) {
+    let both_widths = [0xFF, 0x13, 0x80, 0x00, 0x6E, 0xFB, 0x44];
+    assert_eq!(rt; read(&both_widths), Ok(Signal::Dis(answerer())));
+    let bit_24_at_0 = [0xFF, 0x13, 0x80, 0x00, 0x6E, 0x7A, 0x44];
+    let no_more = Caps {
+        t6: false,
+        ecm: false,
+        ..answerer()
+    };
+    assert_eq!(rt; read(&bit_24_at_0), Ok(Signal::Dis(no_more)));
+}
+
+/// Bit 16 without bit 31, and with it.
+#[test]
+fn bits_of_a_dcs(rt: HostRuntime) {
+    let bit_16_alone = [0xFF, 0x13, 0x83, 0x00, 0xA2, 0xF8, 0x04];
+    assert_eq!(rt; read(&bit_16_alone), Ok(Signal::Other(0x83)));
+    let bit_16_with_t6 = [0xFF, 0x13, 0x83, 0x00, 0xA2, 0xF8, 0x44];
+    assert_eq!(rt; read(&bit_16_with_t6), Ok(Signal::Dcs(fastest())));
+}
+
 #[test]
 fn digits_of_a_station(rt: HostRuntime) {
     let content = b"\xFF\x03\x4001234567890123456789";
