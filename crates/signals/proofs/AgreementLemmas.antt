@@ -1,7 +1,7 @@
 -- Lemmas on speeds and agreement.
 use Rattle.std.proofs.Common.{◌≡◌, ℕ, Bool, true, false, cond, not, ◌&&◌, ◌||◌, nat_eq, nat_le, List, [], ◌∷◌, Option, Some, None, Err, IfOk, get_or, refl, sym, ◌∙◌, ap, subst, inl, inr}
 use Rattle.std.proofs.lemmas.Bool.{cases_Bool, and_parts, eqb-true}
-use Rattle.signals.proofs.Places.{same_value}
+use Rattle.signals.proofs.ValueNumbers.{same_value}
 use Rattle.std.specs.List.{filter, find}
 use Rattle.page_code.specs.declared.coding.Coding.{Coding}
 use Rattle.page_code.specs.declared.coding.Coding.TheVariants.{OneDim, T6}
@@ -30,7 +30,8 @@ place_tells V17At14400 = refl
 pub same_speed : (a b : Speed) → nat_eq (place_of_speed a) (place_of_speed b) ≡ true → a ≡ b
 same_speed = same_value place_of_speed speed_at place_tells
 
-pub after-filter : (p : Speed → Bool) (speed : Speed) (xs : List Speed) → p speed ≡ true → after_speed speed (filter p xs) ≡ filter p (after_speed speed xs)
+pub after-filter : (p : Speed → Bool) (speed : Speed) (xs : List Speed) → p speed ≡ true
+    → after_speed speed (filter p xs) ≡ filter p (after_speed speed xs)
 after-filter p speed [] tried = refl
 after-filter p speed (x ∷ xs) tried =
     elim (cases_Bool (nat_eq (place_of_speed x) (place_of_speed speed))) [
@@ -65,9 +66,11 @@ lower-tried caps wish speed tried =
     ap first_of (after-filter (common_speed wish.modems caps.modems) speed (speed_order wish.modems caps.modems) tried)
     ∙ first_filtered (common_speed wish.modems caps.modems) (after_speed speed (speed_order wish.modems caps.modems))
 
-pub lower-untried : (caps : Caps) (wish : Wish) (speed : Speed) → common_speed wish.modems caps.modems speed ≡ false → lower_speed caps wish speed ≡ None
+pub lower-untried : (caps : Caps) (wish : Wish) (speed : Speed) → common_speed wish.modems caps.modems speed ≡ false
+    → lower_speed caps wish speed ≡ None
 unfolding lower_speed
-lower-untried caps wish speed untried = ap first_of (after-filtered (common_speed wish.modems caps.modems) speed (speed_order wish.modems caps.modems) untried)
+lower-untried caps wish speed untried =
+    ap first_of (after-filtered (common_speed wish.modems caps.modems) speed (speed_order wish.modems caps.modems) untried)
 
 pub first-passes : (p : Speed → Bool) (xs : List Speed) (speed : Speed) → first_of (filter p xs) ≡ Some speed → p speed ≡ true
 first-passes p [] speed first = cc
@@ -88,13 +91,17 @@ offers-wished caps wish = offers caps wish.coding caps.t6 refl
 pub agreed-allowed : AgreedIsAllowed
 agreed-allowed caps wish width fine = decided (takes_pages caps width fine) (first_of (tried_speeds wish.modems caps.modems)) refl refl
   where
-    decided : (takes : Bool) (first : Option Speed) → takes_pages caps width fine ≡ takes → first_of (tried_speeds wish.modems caps.modems) ≡ first →
+    decided : (takes : Bool) (first : Option Speed) → takes_pages caps width fine ≡ takes → first_of (tried_speeds wish.modems caps.modems)
+        ≡ first →
         IfOk (cond takes (at_first first caps wish width fine) (Err (record {}))) (λ params. allowed caps params ≡ true)
     decided true None e f = tt
     decided true (Some speed) e f =
-        let fineness = and_parts ((caps.receiver && caps.ecm) && nat_le (pixels_of width) (pixels_of caps.widest)) (not fine || caps.fine) e in
+        let fineness = and_parts ((caps.receiver && caps.ecm) && nat_le (pixels_of width) (pixels_of caps.widest))
+        (not fine || caps.fine) e in
         let widths = and_parts (caps.receiver && caps.ecm) (nat_le (pixels_of width) (pixels_of caps.widest)) fineness.0 in
-        let common = and_parts (supports_speed wish.modems speed) (supports_speed caps.modems speed) (first-passes (common_speed wish.modems caps.modems) (speed_order wish.modems caps.modems) speed f) in
+        let common =
+        and_parts (supports_speed wish.modems speed) (supports_speed caps.modems speed)
+        (first-passes (common_speed wish.modems caps.modems) (speed_order wish.modems caps.modems) speed f) in
         rw (common.1, widths.1, fineness.1, offers-wished caps wish) refl
     decided false first e f = tt
 
@@ -114,11 +121,12 @@ after-passes p from (x ∷ xs) speed first =
     elim (cases_Bool (p x)) [
       | inr left ↦ after-passes p from xs speed (rw left at first)
       | inl kept ↦
-          let behind : first_of (cond (nat_eq (place_of_speed x) (place_of_speed from)) (filter p xs) (after_speed from (filter p xs))) ≡ Some speed =
+          let later : first_of (cond (nat_eq (place_of_speed x) (place_of_speed from)) (filter p xs) (after_speed from (filter p xs)))
+          ≡ Some speed =
           rw kept at first in
           elim (cases_Bool (nat_eq (place_of_speed x) (place_of_speed from))) [
-            | inl same ↦ first-passes p xs speed (rw same at behind)
-            | inr other ↦ after-passes p from xs speed (rw other at behind)
+            | inl same ↦ first-passes p xs speed (rw same at later)
+            | inr other ↦ after-passes p from xs speed (rw other at later)
           ]
     ]
 
@@ -143,7 +151,8 @@ widths-have-pixels pixels width = (λ e. pixels-of pixels width e, λ e. subst (
     width-back W2048 = refl
     width-back W2432 = refl
 
-    only : (found width : PageWidth) (pixels : ℕ) → nat_eq pixels (pixels_of found) ≡ true → Some found ≡ Some width → pixels_of width ≡ pixels
+    only : (found width : PageWidth) (pixels : ℕ) → nat_eq pixels (pixels_of found) ≡ true → Some found ≡ Some width
+        → pixels_of width ≡ pixels
     only found width pixels same e = let is : found ≡ width = cc in ap pixels_of (sym is) ∙ sym (eqb-true pixels (pixels_of found) same)
 
     pixels-of : (pixels : ℕ) (width : PageWidth) → width_of_pixels pixels ≡ Some width → pixels_of width ≡ pixels

@@ -12,10 +12,10 @@ use Rattle.raster.specs.Octets.{AreOctets}
 use Rattle.raster.specs.Packed.{bit_in, bits_of}
 use Rattle.raster.specs.declared.packed.Order.TheVariants.{LsbFirst}
 use Rattle.signals.proofs.FieldTexts.{speeds-have-texts, modems-have-texts, widths-have-texts}
-use Rattle.signals.proofs.RoundTrip.{same_params, head-read}
+use Rattle.signals.proofs.WritingLemmas.{same_params, head-read}
 use Rattle.signals.proofs.SayingLemmas.{with-enough}
 use Rattle.signals.proofs.SendingLemmas.{page-ends-have-texts}
-use Rattle.signals.proofs.TextLemmas.{controls-have-texts}
+use Rattle.signals.proofs.ControlLemmas.{controls-have-texts}
 use Rattle.signals.specs.BitNumbers.{sent_bit, numbered, numbered_from, ModemsShown, widest_texts, DisShows, DcsShows, IsOctetOf, least_octets, FieldsShow, IsReadOf, ReadsByNumber, dis_numbers, dcs_numbers, ReadsNoOthers}
 use Rattle.signals.specs.Controls.{control_of}
 use Rattle.signals.specs.Reading.{field_bit, late_bit, modems_of, speed_of, widest_of, width_of, page_end_of, caps_of, params_at, params_of, dcs_or_other, pps_or_other, with_octets, read_known, read_fields, read_content}
@@ -242,7 +242,7 @@ pps-shows octet fields None small e = (refl, none)
       | inr unlike ↦ unlike
     ]
 
--- a signal that the octets after a facsimile control field show is read where they are enough
+-- a signal that an information field shows is read where it is long enough
 shown-read : (control : Control) (octet : ℕ) (fields : List ℕ) (signal : PlainSignal) → FieldsShow control octet fields signal
     → IsReadOf control octet fields (with_octets (least_octets control) fields signal)
 shown-read control octet fields signal shows = elim (cases_Bool (nat_lt (length fields) (least_octets control))) [
@@ -267,7 +267,7 @@ known-read Rnr octet fields octets = (omega arith, tt)
 known-read Rr octet fields octets = (omega arith, tt)
 known-read Dcn octet fields octets = (omega arith, tt)
 
--- what is read of a content is what its facsimile control field and the octets after it say
+-- what is read of a content is what its facsimile control field and its information field say
 known-content : (control : Control) (last : Bool) (octet : ℕ) (fields : List ℕ) → IsOctetOf control octet
     → read_content (head_of last octet ++ fields) ≡ read_known (Some control) octet fields
 unfolding read_fields

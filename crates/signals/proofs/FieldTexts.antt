@@ -2,8 +2,8 @@
 use Rattle.std.proofs.Common.{◌≡◌, ℕ, Bool, true, false, ◌||◌, nat_eq, List, [], ◌∷◌, get_or, Some, refl, sym, ◌∙◌, ap, subst}
 use Rattle.std.specs.Bool.{beq}
 use Rattle.signals.proofs.AgreementLemmas.{speed_at, place_tells}
-use Rattle.signals.proofs.Cases.{all_speeds, each_speed, all_modems, each_modems, all_widths, each_width, all_bits, each_bit}
-use Rattle.signals.proofs.Places.{same_value, is_found, found, is-found}
+use Rattle.signals.proofs.EachValue.{all_speeds, each_speed, all_modems, each_modems, all_widths, each_width, all_bits, each_bit}
+use Rattle.signals.proofs.ValueNumbers.{same_value, is_found, found, is-found}
 use Rattle.signals.proofs.SendingLemmas.{same_bits, same-bit, same-bits}
 use Rattle.signals.specs.Agreement.{place_of_speed}
 use Rattle.signals.specs.Reading.{modems_of, speed_of, width_of}
@@ -23,9 +23,11 @@ pub bits-same : (xs ys : List Bool) → xs ≡ ys → same_bits xs ys ≡ true
 bits-same xs ys e = subst (λ zs. same_bits xs zs ≡ true) e (bits-self xs)
 
 abbrev pub speed_agrees : Bool → Bool → Bool → Bool → Speed → Bool
-speed_agrees a b c d speed = beq (is_found place_of_speed speed (speed_of a b c d)) (same_bits (a ∷ b ∷ c ∷ d ∷ []) (digits (speed_text speed)))
+speed_agrees a b c d speed =
+    beq (is_found place_of_speed speed (speed_of a b c d)) (same_bits (a ∷ b ∷ c ∷ d ∷ []) (digits (speed_text speed)))
 
-pub speed-agrees : (a b c d : Bool) (speed : Speed) → is_found place_of_speed speed (speed_of a b c d) ≡ same_bits (a ∷ b ∷ c ∷ d ∷ []) (digits (speed_text speed))
+pub speed-agrees : (a b c d : Bool) (speed : Speed) → is_found place_of_speed speed (speed_of a b c d) ≡ same_bits (a ∷ b ∷ c ∷ d ∷ [])
+    (digits (speed_text speed))
 speed-agrees a b c d speed =
     same-bit _ _
     (each_speed (λ s. speed_agrees a b c d s)
@@ -63,13 +65,15 @@ is_fallback modems = nat_eq (place_of_modems modems) 0
 
 abbrev pub modems_agree : Bool → Bool → Bool → Bool → Modems → Bool
 modems_agree a b c d modems =
-    is_fallback modems || beq (is_found place_of_modems modems (Some (modems_of a b c d))) (same_bits (a ∷ b ∷ c ∷ d ∷ []) (digits (modems_text modems)))
+    is_fallback modems || beq (is_found place_of_modems modems (Some (modems_of a b c d)))
+    (same_bits (a ∷ b ∷ c ∷ d ∷ []) (digits (modems_text modems)))
 
 pub other_one : (first second : Bool) → (first || second) ≡ true → first ≡ false → second ≡ true
 other_one true second e f = cc
 other_one false second e f = e
 
-pub modems-agree : (a b c d : Bool) (modems : Modems) → is_fallback modems ≡ false → is_found place_of_modems modems (Some (modems_of a b c d)) ≡ same_bits (a ∷ b ∷ c ∷ d ∷ []) (digits (modems_text modems))
+pub modems-agree : (a b c d : Bool) (modems : Modems) → is_fallback modems ≡ false
+    → is_found place_of_modems modems (Some (modems_of a b c d)) ≡ same_bits (a ∷ b ∷ c ∷ d ∷ []) (digits (modems_text modems))
 modems-agree a b c d modems other =
     same-bit _ _
     (other_one (is_fallback modems) _
@@ -89,8 +93,10 @@ not-fallback V17 h = refl
 
 pub modems-have-texts : ModemsHaveTexts
 modems-have-texts a b c d modems other = (
-  λ found_so. same-bits _ _ (sym (modems-agree a b c d modems (not-fallback modems other)) ∙ is-found place_of_modems modems (Some (modems_of a b c d)) (ap Some found_so)),
-  λ text. same_value place_of_modems modems_at place-tells_modems (modems_of a b c d) modems (modems-agree a b c d modems (not-fallback modems other) ∙ bits-same _ _ text),
+  λ found_so. same-bits _ _ (sym (modems-agree a b c d modems (not-fallback modems other))
+      ∙ is-found place_of_modems modems (Some (modems_of a b c d)) (ap Some found_so)),
+  λ text. same_value place_of_modems modems_at place-tells_modems (modems_of a b c d) modems
+      (modems-agree a b c d modems (not-fallback modems other) ∙ bits-same _ _ text),
 )
 
 abbrev pub place_of_width : PageWidth → ℕ
@@ -109,11 +115,13 @@ place-tells_width W2432 = refl
 abbrev pub width_agrees : Bool → Bool → PageWidth → Bool
 width_agrees a b width = beq (is_found place_of_width width (width_of a b)) (same_bits (a ∷ b ∷ []) (digits (width_text width)))
 
-pub width-agrees : (a b : Bool) (width : PageWidth) → is_found place_of_width width (width_of a b) ≡ same_bits (a ∷ b ∷ []) (digits (width_text width))
+pub width-agrees : (a b : Bool) (width : PageWidth) → is_found place_of_width width (width_of a b) ≡ same_bits (a ∷ b ∷ [])
+    (digits (width_text width))
 width-agrees a b width =
     same-bit _ _
     (each_width (λ w. width_agrees a b w)
-    (each_bit (λ y. all_widths (λ w. width_agrees a y w)) (each_bit (λ x. all_bits (λ y. all_widths (λ w. width_agrees x y w))) refl a) b) width)
+    (each_bit (λ y. all_widths (λ w. width_agrees a y w)) (each_bit (λ x. all_bits (λ y. all_widths (λ w. width_agrees x y w))) refl a) b)
+    width)
 
 pub widths-have-texts : WidthsHaveTexts
 widths-have-texts a b width = (

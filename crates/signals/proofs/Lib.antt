@@ -1,11 +1,11 @@
 pub mod AgreementLemmas
 pub mod TrainingLemmas
-pub mod RoundTrip
+pub mod WritingLemmas
 pub mod SayingLemmas
-pub mod TextLemmas
+pub mod ControlLemmas
 pub mod LowerLemmas
-pub mod Cases
+pub mod EachValue
 pub mod SendingLemmas
 pub mod FieldTexts
-pub mod Places
+pub mod ValueNumbers
 pub mod BitNumberLemmas

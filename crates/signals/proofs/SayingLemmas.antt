@@ -11,13 +11,15 @@ use Rattle.signals.specs.declared.control.Control.{Control}
 use Rattle.signals.specs.declared.control.Control.TheVariants.{Dis, Dcs, Cfr, Ftt, Fcd, Rcp, Pps, Ppr, Mcf, Rnr, Rr, Dcn}
 use Rattle.signals.specs.declared.signal.PageEnd.{PageEnd}
 
--- what is answered behind a test that refuses
-pub passed : (test : Bool) (fault : SignalFault) (read : Result PlainSignal SignalFault) (signal : PlainSignal) → cond test (Err fault) read ≡ Ok signal → (test ≡ false) × (read ≡ Ok signal)
+-- what is answered after a test that refuses
+pub passed : (test : Bool) (fault : SignalFault) (read : Result PlainSignal SignalFault) (signal : PlainSignal)
+    → cond test (Err fault) read ≡ Ok signal → (test ≡ false) × (read ≡ Ok signal)
 passed true fault read signal e = cc
 passed false fault read signal e = (refl, e)
 
--- so many octets stand there, and the signal is the one that was made of them
-pub enough : (count : ℕ) (fields : List ℕ) (made signal : PlainSignal) → with_octets count fields made ≡ Ok signal → (count ≤ length fields) × (made ≡ signal)
+-- there are so many octets, and the signal is the one that was made of them
+pub enough : (count : ℕ) (fields : List ℕ) (made signal : PlainSignal) → with_octets count fields made ≡ Ok signal → (count ≤ length fields)
+    × (made ≡ signal)
 enough count fields made signal e =
     let p = passed (nat_lt (length fields) count) _ (Ok made) signal e in
     (ltb-false (length fields) count p.0, same made signal p.1)
@@ -25,30 +27,36 @@ enough count fields made signal e =
     same : (a b : PlainSignal) → ◌≡◌ {A = Result PlainSignal SignalFault} (Ok a) (Ok b) → a ≡ b
     same a b e = cc
 
-pub dcs-says : (octet : ℕ) (fields : List ℕ) (params : Option Params) → params_of fields ≡ params → 3 ≤ length fields → FieldsSay (Some Dcs) octet fields (dcs_or_other octet params)
+pub dcs-says : (octet : ℕ) (fields : List ℕ) (params : Option Params) → params_of fields ≡ params → 3 ≤ length fields
+    → FieldsSay (Some Dcs) octet fields (dcs_or_other octet params)
 dcs-says octet fields (Some params) e long = (refl, long, e)
 dcs-says octet fields None e long = (refl, (long, e))
 
-pub pps-says : (octet : ℕ) (fields : List ℕ) (ends : Option PageEnd) → page_end_of (slice_index fields 0) ≡ ends → 4 ≤ length fields → FieldsSay (Some Pps) octet fields (pps_or_other octet ends fields)
+pub pps-says : (octet : ℕ) (fields : List ℕ) (ends : Option PageEnd) → page_end_of (slice_index fields 0) ≡ ends → 4 ≤ length fields
+    → FieldsSay (Some Pps) octet fields (pps_or_other octet ends fields)
 pps-says octet fields (Some ends) e long = (refl, long, e, refl, refl, refl)
 pps-says octet fields None e long = (refl, (long, e))
 
 pub same_ok : (a b : PlainSignal) → ◌≡◌ {A = Result PlainSignal SignalFault} (Ok a) (Ok b) → a ≡ b
 same_ok a b e = cc
 
-pub known-says : (control : Option Control) (octet : ℕ) (fields : List ℕ) (signal : PlainSignal) → read_known control octet fields ≡ Ok signal → FieldsSay control octet fields signal
+pub known-says : (control : Option Control) (octet : ℕ) (fields : List ℕ) (signal : PlainSignal)
+    → read_known control octet fields ≡ Ok signal → FieldsSay control octet fields signal
 known-says None octet fields signal e = subst (FieldsSay None octet fields) (same_ok (other octet) signal e) (refl, tt)
 known-says (Some Dis) octet fields signal e =
     let p = enough 3 fields (dis (caps_of fields)) signal e in subst (FieldsSay (Some Dis) octet fields) p.1 (refl, p.0, refl)
 known-says (Some Dcs) octet fields signal e =
-    let p = enough 3 fields (dcs_or_other octet (params_of fields)) signal e in subst (FieldsSay (Some Dcs) octet fields) p.1 (dcs-says octet fields (params_of fields) refl p.0)
+    let p = enough 3 fields (dcs_or_other octet (params_of fields)) signal e in subst (FieldsSay (Some Dcs) octet fields) p.1
+    (dcs-says octet fields (params_of fields) refl p.0)
 known-says (Some Cfr) octet fields signal e = subst (FieldsSay (Some Cfr) octet fields) (same_ok cfr signal e) refl
 known-says (Some Ftt) octet fields signal e = subst (FieldsSay (Some Ftt) octet fields) (same_ok ftt signal e) refl
 known-says (Some Fcd) octet fields signal e =
-    let p = enough 2 fields (fcd (slice_index fields 0) (drop 1 fields)) signal e in subst (FieldsSay (Some Fcd) octet fields) p.1 (refl, p.0, refl, refl)
+    let p = enough 2 fields (fcd (slice_index fields 0) (drop 1 fields)) signal e in subst (FieldsSay (Some Fcd) octet fields) p.1
+    (refl, p.0, refl, refl)
 known-says (Some Rcp) octet fields signal e = subst (FieldsSay (Some Rcp) octet fields) (same_ok rcp signal e) refl
 known-says (Some Pps) octet fields signal e =
-    let p = enough 4 fields (pps_or_other octet (page_end_of (slice_index fields 0)) fields) signal e in subst (FieldsSay (Some Pps) octet fields) p.1 (pps-says octet fields (page_end_of (slice_index fields 0)) refl p.0)
+    let p = enough 4 fields (pps_or_other octet (page_end_of (slice_index fields 0)) fields) signal e in
+    subst (FieldsSay (Some Pps) octet fields) p.1 (pps-says octet fields (page_end_of (slice_index fields 0)) refl p.0)
 known-says (Some Ppr) octet fields signal e =
     let p = enough 32 fields (ppr (take 32 fields)) signal e in subst (FieldsSay (Some Ppr) octet fields) p.1 (refl, p.0, refl)
 known-says (Some Mcf) octet fields signal e = subst (FieldsSay (Some Mcf) octet fields) (same_ok mcf signal e) refl
@@ -57,10 +65,12 @@ known-says (Some Rr) octet fields signal e = subst (FieldsSay (Some Rr) octet fi
 known-says (Some Dcn) octet fields signal e = subst (FieldsSay (Some Dcn) octet fields) (same_ok dcn signal e) refl
 
 -- enough octets are read
-pub with-enough : (count : ℕ) (fields : List ℕ) (made signal : PlainSignal) → count ≤ length fields → made ≡ signal → with_octets count fields made ≡ Ok signal
+pub with-enough : (count : ℕ) (fields : List ℕ) (made signal : PlainSignal) → count ≤ length fields → made ≡ signal
+    → with_octets count fields made ≡ Ok signal
 with-enough count fields made signal long e = rw (le-ltb (length fields) count long) (ap Ok e)
 
-pub outside-read : (control : Option Control) (octet : ℕ) (fields : List ℕ) → IsOutside control fields → read_known control octet fields ≡ Ok (other octet)
+pub outside-read : (control : Option Control) (octet : ℕ) (fields : List ℕ) → IsOutside control fields
+    → read_known control octet fields ≡ Ok (other octet)
 outside-read None octet fields w = refl
 outside-read (Some Dcs) octet fields w = with-enough 3 fields _ (other octet) w.0 (ap (dcs_or_other octet) w.1)
 outside-read (Some Pps) octet fields w = with-enough 4 fields _ (other octet) w.0 (ap (λ ends. pps_or_other octet ends fields) w.1)
@@ -75,12 +85,14 @@ outside-read (Some Rnr) octet fields w = absurd w
 outside-read (Some Rr) octet fields w = absurd w
 outside-read (Some Dcn) octet fields w = absurd w
 
-pub says-known : (control : Option Control) (octet : ℕ) (fields : List ℕ) (signal : PlainSignal) → FieldsSay control octet fields signal → read_known control octet fields ≡ Ok signal
+pub says-known : (control : Option Control) (octet : ℕ) (fields : List ℕ) (signal : PlainSignal) → FieldsSay control octet fields signal
+    → read_known control octet fields ≡ Ok signal
 says-known control octet fields (dis caps) w = rw w.0 (with-enough 3 fields _ (dis caps) w.1 (ap dis w.2))
 says-known control octet fields (dcs params) w = rw w.0 (with-enough 3 fields _ (dcs params) w.1 (ap (dcs_or_other octet) w.2))
 says-known control octet fields cfr w = rw w refl
 says-known control octet fields ftt w = rw w refl
-says-known control octet fields (fcd number octets) w = rw w.0 (with-enough 2 fields _ (fcd number octets) w.1 (ap (λ n. fcd n (drop 1 fields)) w.2 ∙ ap (fcd number) w.3))
+says-known control octet fields (fcd number octets) w =
+    rw w.0 (with-enough 2 fields _ (fcd number octets) w.1 (ap (λ n. fcd n (drop 1 fields)) w.2 ∙ ap (fcd number) w.3))
 says-known control octet fields rcp w = rw w refl
 says-known control octet fields (pps ends page block last) w =
     rw w.0
@@ -120,7 +132,8 @@ read-says content signal e =
     record {
       long = ltb-false (length content) 3 f.0;
       address = eqb-true (slice_index content 0) 0xFF (not-false (nat_eq (slice_index content 0) 0xFF) b.0);
-      control = in-control (slice_index content 1) (not-false (nat_eq (slice_index content 1) 0x03 || nat_eq (slice_index content 1) 0x13) d.0);
+      control =
+          in-control (slice_index content 1) (not-false (nat_eq (slice_index content 1) 0x03 || nat_eq (slice_index content 1) 0x13) d.0);
       fields = known-says (control_of (slice_index content 2)) (slice_index content 2) (drop 3 content) signal f.1;
     }
 

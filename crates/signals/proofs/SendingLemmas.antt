@@ -1,14 +1,14 @@
 -- The bits that are sent.
 use Rattle.std.proofs.Common.{◌≡◌, ℕ, ◌<◌, Bool, true, false, ◌&&◌, List, [], ◌∷◌, ◌++◌, get_or, Option, Some, None, IfSome, codes, refl, sym, ◌∙◌, ap}
 use Rattle.std.proofs.lemmas.Bool.{and_parts, agree_below_at}
-use Rattle.signals.proofs.Places.{is_found, found, is-found}
+use Rattle.signals.proofs.ValueNumbers.{is_found, found, is-found}
 use Rattle.std.specs.Bool.{beq}
 use Rattle.std.specs.List.{flat_map}
 use Rattle.page_code.specs.declared.coding.Coding.{Coding}
 use Rattle.raster.proofs.OctetBits.{octet_bits, bits_of-flat_map}
 use Rattle.raster.specs.Packed.{bits_of}
 use Rattle.raster.specs.declared.packed.Order.TheVariants.{LsbFirst}
-use Rattle.signals.proofs.Cases.{each_speed, all_modems, each_modems, all_widths, each_width, all_codings, each_coding, all_bits, each_bit}
+use Rattle.signals.proofs.EachValue.{each_speed, all_modems, each_modems, all_widths, each_width, all_codings, each_coding, all_bits, each_bit}
 use Rattle.signals.specs.Reading.{page_end_of}
 use Rattle.signals.specs.Saying.{control_text, has_text}
 use Rattle.signals.specs.Sending.{text_bits, digits, is_caller, dis_table, dcs_table, table_bits, page_end_text, control_for, field_bits, sent_bits, WritesTheTables, PageEndsHaveTexts}
@@ -41,7 +41,8 @@ same-bit false true e = cc
 pub same-bits : (xs ys : List Bool) → same_bits xs ys ≡ true → xs ≡ ys
 same-bits [] [] e = refl
 same-bits (x ∷ xs) (y ∷ ys) e =
-    let parts = and_parts (beq x y) (same_bits xs ys) e in ap (λ b. b ∷ xs) (same-bit x y parts.0) ∙ ap (λ bs. y ∷ bs) (same-bits xs ys parts.1)
+    let parts = and_parts (beq x y) (same_bits xs ys) e in ap (λ b. b ∷ xs) (same-bit x y parts.0)
+    ∙ ap (λ bs. y ∷ bs) (same-bits xs ys parts.1)
 same-bits [] (y ∷ ys) e = cc
 same-bits (x ∷ xs) [] e = cc
 
@@ -51,7 +52,8 @@ dis_agrees receiver modems fine widest t6 ecm =
     let caps : Caps = record { receiver = receiver; modems = modems; fine = fine; widest = widest; t6 = t6; ecm = ecm } in
     same_bits (flat_map octet_bits (dis_fields caps)) (table_bits (dis_table caps))
 
-pub dis-agrees : (receiver : Bool) (modems : Modems) (fine : Bool) (widest : PageWidth) (t6 ecm : Bool) → dis_agrees receiver modems fine widest t6 ecm ≡ true
+pub dis-agrees : (receiver : Bool) (modems : Modems) (fine : Bool) (widest : PageWidth) (t6 ecm : Bool)
+    → dis_agrees receiver modems fine widest t6 ecm ≡ true
 unfolding dis_agrees
 dis-agrees receiver modems fine widest t6 ecm =
     each_bit (λ e. dis_agrees receiver modems fine widest t6 e)
@@ -59,13 +61,15 @@ dis-agrees receiver modems fine widest t6 ecm =
     (each_width (λ w. all_bits (λ t. all_bits (λ e. dis_agrees receiver modems fine w t e)))
     (each_bit (λ f. all_widths (λ w. all_bits (λ t. all_bits (λ e. dis_agrees receiver modems f w t e))))
     (each_modems (λ m. all_bits (λ f. all_widths (λ w. all_bits (λ t. all_bits (λ e. dis_agrees receiver m f w t e)))))
-    (each_bit (λ r. all_modems (λ m. all_bits (λ f. all_widths (λ w. all_bits (λ t. all_bits (λ e. dis_agrees r m f w t e)))))) refl receiver)
+    (each_bit
+    (λ r. all_modems (λ m. all_bits (λ f. all_widths (λ w. all_bits (λ t. all_bits (λ e. dis_agrees r m f w t e)))))) refl receiver)
     modems) fine) widest) t6) ecm
 
 pub dis-bits : (caps : Caps) → flat_map octet_bits (dis_fields caps) ≡ table_bits (dis_table caps)
 unfolding dis_fields dis_agrees
 dis-bits caps =
-    same-bits (flat_map octet_bits (dis_fields caps)) (table_bits (dis_table caps)) (dis-agrees caps.receiver caps.modems caps.fine caps.widest caps.t6 caps.ecm)
+    same-bits (flat_map octet_bits (dis_fields caps)) (table_bits (dis_table caps))
+    (dis-agrees caps.receiver caps.modems caps.fine caps.widest caps.t6 caps.ecm)
 
 abbrev pub dcs_agrees : Speed → Bool → PageWidth → Coding → Bool → Bool
 unfolding dcs_fields
@@ -73,7 +77,8 @@ dcs_agrees speed fine width coding small =
     let params : Params = record { speed = speed; fine = fine; width = width; coding = coding; small = small } in
     same_bits (flat_map octet_bits (dcs_fields params)) (table_bits (dcs_table params))
 
-pub dcs-agrees : (speed : Speed) (fine : Bool) (width : PageWidth) (coding : Coding) (small : Bool) → dcs_agrees speed fine width coding small ≡ true
+pub dcs-agrees : (speed : Speed) (fine : Bool) (width : PageWidth) (coding : Coding) (small : Bool)
+    → dcs_agrees speed fine width coding small ≡ true
 unfolding dcs_agrees
 dcs-agrees speed fine width coding small =
     each_bit (λ m. dcs_agrees speed fine width coding m)
@@ -86,14 +91,23 @@ dcs-agrees speed fine width coding small =
 pub dcs-bits : (params : Params) → flat_map octet_bits (dcs_fields params) ≡ table_bits (dcs_table params)
 unfolding dcs_fields dcs_agrees
 dcs-bits params =
-    same-bits (flat_map octet_bits (dcs_fields params)) (table_bits (dcs_table params)) (dcs-agrees params.speed params.fine params.width params.coding params.small)
+    same-bits (flat_map octet_bits (dcs_fields params)) (table_bits (dcs_table params))
+    (dcs-agrees params.speed params.fine params.width params.coding params.small)
 
-pub head-bits : (last x : Bool) (control : Control) (octet : ℕ) (fields : List ℕ) (bits : List Bool) → flat_map octet_bits (octet ∷ []) ≡ text_bits x (control_text control) → flat_map octet_bits fields ≡ bits →
-    flat_map octet_bits (head_of last octet ++ fields) ≡ digits (codes "11111111") ++ text_bits last (codes "1100X000") ++ text_bits x (control_text control) ++ bits
-head-bits true x control octet fields bits first rest = ap (λ c. digits (codes "11111111") ++ text_bits true (codes "1100X000") ++ c ++ flat_map octet_bits fields) first ∙ ap (λ b. digits (codes "11111111") ++ text_bits true (codes "1100X000") ++ text_bits x (control_text control) ++ b) rest
-head-bits false x control octet fields bits first rest = ap (λ c. digits (codes "11111111") ++ text_bits false (codes "1100X000") ++ c ++ flat_map octet_bits fields) first ∙ ap (λ b. digits (codes "11111111") ++ text_bits false (codes "1100X000") ++ text_bits x (control_text control) ++ b) rest
+pub head-bits : (last x : Bool) (control : Control) (octet : ℕ) (fields : List ℕ) (bits : List Bool)
+    → flat_map octet_bits (octet ∷ []) ≡ text_bits x (control_text control) → flat_map octet_bits fields ≡ bits →
+    flat_map octet_bits (head_of last octet ++ fields) ≡ digits (codes "11111111") ++ text_bits last (codes "1100X000") ++ text_bits x
+    (control_text control) ++ bits
+head-bits true x control octet fields bits first rest =
+    ap (λ c. digits (codes "11111111") ++ text_bits true (codes "1100X000") ++ c ++ flat_map octet_bits fields) first
+    ∙ ap (λ b. digits (codes "11111111") ++ text_bits true (codes "1100X000") ++ text_bits x (control_text control) ++ b) rest
+head-bits false x control octet fields bits first rest =
+    ap (λ c. digits (codes "11111111") ++ text_bits false (codes "1100X000") ++ c ++ flat_map octet_bits fields) first
+    ∙ ap (λ b. digits (codes "11111111") ++ text_bits false (codes "1100X000") ++ text_bits x (control_text control) ++ b) rest
 
-pub control-bits : (signal : PlainSignal) (side : Side) → IfSome (control_for signal) (λ control. flat_map octet_bits (control_octet signal side ∷ []) ≡ text_bits (is_caller side) (control_text control))
+pub control-bits : (signal : PlainSignal) (side : Side)
+    → IfSome (control_for signal) (λ control. flat_map octet_bits (control_octet signal side ∷ []) ≡ text_bits (is_caller side)
+    (control_text control))
 control-bits (dis caps) side = refl
 control-bits (dcs params) Caller = refl
 control-bits (dcs params) Answerer = refl
@@ -124,10 +138,14 @@ fields-bits cfr = refl
 fields-bits ftt = refl
 fields-bits (fcd number octets) = sym (bits_of-flat_map (number ∷ octets))
 fields-bits rcp = refl
-fields-bits (pps Null page block last) = ap (λ bits. text_bits true (page_end_text Null) ++ bits) (sym (bits_of-flat_map (page ∷ block ∷ last ∷ [])))
-fields-bits (pps Mps page block last) = ap (λ bits. text_bits true (page_end_text Mps) ++ bits) (sym (bits_of-flat_map (page ∷ block ∷ last ∷ [])))
-fields-bits (pps Eom page block last) = ap (λ bits. text_bits true (page_end_text Eom) ++ bits) (sym (bits_of-flat_map (page ∷ block ∷ last ∷ [])))
-fields-bits (pps Eop page block last) = ap (λ bits. text_bits true (page_end_text Eop) ++ bits) (sym (bits_of-flat_map (page ∷ block ∷ last ∷ [])))
+fields-bits (pps Null page block last) =
+    ap (λ bits. text_bits true (page_end_text Null) ++ bits) (sym (bits_of-flat_map (page ∷ block ∷ last ∷ [])))
+fields-bits (pps Mps page block last) =
+    ap (λ bits. text_bits true (page_end_text Mps) ++ bits) (sym (bits_of-flat_map (page ∷ block ∷ last ∷ [])))
+fields-bits (pps Eom page block last) =
+    ap (λ bits. text_bits true (page_end_text Eom) ++ bits) (sym (bits_of-flat_map (page ∷ block ∷ last ∷ [])))
+fields-bits (pps Eop page block last) =
+    ap (λ bits. text_bits true (page_end_text Eop) ++ bits) (sym (bits_of-flat_map (page ∷ block ∷ last ∷ [])))
 fields-bits (ppr map) = sym (bits_of-flat_map map)
 fields-bits mcf = refl
 fields-bits rnr = refl
@@ -139,9 +157,13 @@ pub writes-tables : WritesTheTables
 unfolding content_of
 writes-tables signal side last = sent (control_for signal) (control-bits signal side)
   where
-    sent : (found : Option Control) → IfSome found (λ control. flat_map octet_bits (control_octet signal side ∷ []) ≡ text_bits (is_caller side) (control_text control)) →
+    sent : (found : Option Control)
+        → IfSome found (λ control. flat_map octet_bits (control_octet signal side ∷ []) ≡ text_bits (is_caller side)
+        (control_text control)) →
         IfSome found (λ control. bits_of LsbFirst (content_of signal side last) ≡ sent_bits control signal side last)
-    sent (Some control) first = bits_of-flat_map (content_of signal side last) ∙ head-bits last (is_caller side) control (control_octet signal side) (fields_of signal) (field_bits signal) first (fields-bits signal)
+    sent (Some control) first = bits_of-flat_map (content_of signal side last)
+        ∙ head-bits last (is_caller side) control (control_octet signal side) (fields_of signal) (field_bits signal) first
+        (fields-bits signal)
     sent None first = tt
 
 abbrev pub place_of_end : PageEnd → ℕ
@@ -159,12 +181,17 @@ place-tells_end Mps = refl
 place-tells_end Eom = refl
 place-tells_end Eop = refl
 
-pub text-tells_end : (octet : ℕ) (ends : PageEnd) → octet < 256 → is_found place_of_end ends (page_end_of octet) ≡ has_text (page_end_text ends) octet
+pub text-tells_end : (octet : ℕ) (ends : PageEnd) → octet < 256 → is_found place_of_end ends (page_end_of octet)
+    ≡ has_text (page_end_text ends) octet
 unfolding page_end_of
-text-tells_end octet Null h = agree_below_at (λ o. is_found place_of_end Null (page_end_of o)) (λ o. has_text (page_end_text Null) o) 256 octet refl h
-text-tells_end octet Mps h = agree_below_at (λ o. is_found place_of_end Mps (page_end_of o)) (λ o. has_text (page_end_text Mps) o) 256 octet refl h
-text-tells_end octet Eom h = agree_below_at (λ o. is_found place_of_end Eom (page_end_of o)) (λ o. has_text (page_end_text Eom) o) 256 octet refl h
-text-tells_end octet Eop h = agree_below_at (λ o. is_found place_of_end Eop (page_end_of o)) (λ o. has_text (page_end_text Eop) o) 256 octet refl h
+text-tells_end octet Null h =
+    agree_below_at (λ o. is_found place_of_end Null (page_end_of o)) (λ o. has_text (page_end_text Null) o) 256 octet refl h
+text-tells_end octet Mps h =
+    agree_below_at (λ o. is_found place_of_end Mps (page_end_of o)) (λ o. has_text (page_end_text Mps) o) 256 octet refl h
+text-tells_end octet Eom h =
+    agree_below_at (λ o. is_found place_of_end Eom (page_end_of o)) (λ o. has_text (page_end_text Eom) o) 256 octet refl h
+text-tells_end octet Eop h =
+    agree_below_at (λ o. is_found place_of_end Eop (page_end_of o)) (λ o. has_text (page_end_text Eop) o) 256 octet refl h
 
 pub page-ends-have-texts : PageEndsHaveTexts
 page-ends-have-texts octet ends h = (

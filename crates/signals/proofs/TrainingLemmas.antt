@@ -22,15 +22,19 @@ one-zero longest run x xs zero_is = rw zero_is (omega arith)
 pub no-zero : (longest run x : ℕ) (xs : List ℕ) → x ≢ 0 → run ≤ longest → longest_on (max 0 longest) 0 xs ≡ longest_on longest run (x ∷ xs)
 no-zero longest run x xs other within = rw (ne_eqb x 0 other) (omega (arith, front-longest xs))
 
-pub zero-more : (octets : List ℕ) (i longest run : ℕ) → i < length octets → get_or octets i 0 ≡ 0 → longest_on longest run (drop i octets) ≡ longest_zeros octets →
+pub zero-more : (octets : List ℕ) (i longest run : ℕ) → i < length octets → get_or octets i 0 ≡ 0
+    → longest_on longest run (drop i octets) ≡ longest_zeros octets →
     longest_on (max (run + 1) longest) (run + 1) (drop (i + 1) octets) ≡ longest_zeros octets
 zero-more octets i longest run within zero_is before =
-    one-zero longest run (get_or octets i 0) (drop (i + 1) octets) zero_is ∙ sym (ap (longest_on longest run) (drop_more octets i 0 within)) ∙ before
+    one-zero longest run (get_or octets i 0) (drop (i + 1) octets) zero_is ∙ sym (ap (longest_on longest run) (drop_more octets i 0 within))
+    ∙ before
 
-pub zero-less : (octets : List ℕ) (i longest run : ℕ) → i < length octets → get_or octets i 0 ≢ 0 → run ≤ longest → longest_on longest run (drop i octets) ≡ longest_zeros octets →
+pub zero-less : (octets : List ℕ) (i longest run : ℕ) → i < length octets → get_or octets i 0 ≢ 0 → run ≤ longest
+    → longest_on longest run (drop i octets) ≡ longest_zeros octets →
     longest_on (max 0 longest) 0 (drop (i + 1) octets) ≡ longest_zeros octets
 zero-less octets i longest run within other run_within before =
-    no-zero longest run (get_or octets i 0) (drop (i + 1) octets) other run_within ∙ sym (ap (longest_on longest run) (drop_more octets i 0 within)) ∙ before
+    no-zero longest run (get_or octets i 0) (drop (i + 1) octets) other run_within
+    ∙ sym (ap (longest_on longest run) (drop_more octets i 0 within)) ∙ before
 
 pub front-zeros : (n : ℕ) → zeros_in_front (replicate n 0) ≡ n
 front-zeros zero = refl

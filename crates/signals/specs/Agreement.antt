@@ -85,7 +85,7 @@ abbrev pub first_of : List Speed → Option Speed
 first_of [] = None
 first_of (speed ∷ _) = Some speed
 
--- what stands behind a speed in a list
+-- what comes after a speed in a list
 abbrev pub after_speed : Speed → List Speed → List Speed
 after_speed speed [] = []
 after_speed speed (x ∷ xs) = cond (nat_eq (place_of_speed x) (place_of_speed speed)) xs (after_speed speed xs)
@@ -110,11 +110,13 @@ takes_pages caps width fine = caps.receiver && caps.ecm && nat_le (pixels_of wid
 -- how pages are sent at the first speed of a list, if it has one
 abbrev pub at_first : Option Speed → Caps → Wish → PageWidth → Bool → Result Params NotCompatible
 at_first None caps wish width fine = Err (record {})
-at_first (Some speed) caps wish width fine = Ok (record { speed = speed; fine = fine; width = width; coding = agreed_coding caps wish; small = wish.small })
+at_first (Some speed) caps wish width fine =
+    Ok (record { speed = speed; fine = fine; width = width; coding = agreed_coding caps wish; small = wish.small })
 
 -- what a caller of a wish and a station of some caps agree on for pages
 abbrev pub agreed : Caps → Wish → PageWidth → Bool → Result Params NotCompatible
-agreed caps wish width fine = cond (takes_pages caps width fine) (at_first (first_of (tried_speeds wish.modems caps.modems)) caps wish width fine) (Err (record {}))
+agreed caps wish width fine =
+    cond (takes_pages caps width fine) (at_first (first_of (tried_speeds wish.modems caps.modems)) caps wish width fine) (Err (record {}))
 
 -- the caps offer a code
 abbrev pub offers_coding : Caps → Coding → Bool
@@ -123,12 +125,14 @@ offers_coding caps T6 = caps.t6
 
 -- the caps allow parameters
 abbrev pub allowed : Caps → Params → Bool
-allowed caps params = supports_speed caps.modems params.speed && nat_le (pixels_of params.width) (pixels_of caps.widest) && (not params.fine || caps.fine) && offers_coding caps params.coding
+allowed caps params = supports_speed caps.modems params.speed && nat_le (pixels_of params.width) (pixels_of caps.widest)
+    && (not params.fine || caps.fine) && offers_coding caps params.coding
 
 -- what is agreed with any capabilities is allowed by them
 abbrev pub AgreedIsAllowed : Type 0
 AgreedIsAllowed =
-    (caps : Caps) (wish : Wish) (width : PageWidth) (fine : Bool) → IfOk (agreed caps wish width fine) (λ params. allowed caps params ≡ true)
+    (caps : Caps) (wish : Wish) (width : PageWidth) (fine : Bool)
+    → IfOk (agreed caps wish width fine) (λ params. allowed caps params ≡ true)
 
 -- what is agreed for pages has their width and is fine where they are
 abbrev pub AgreedFits : Type 0
@@ -143,14 +147,16 @@ LoweredIsAllowed =
     allowed caps params ≡ true → lower_speed caps wish params.speed ≡ Some next →
     allowed caps (record params { speed = next }) ≡ true
 
--- how many speeds of the list tried stand below a speed
+-- how many speeds of the list tried are below a speed
 abbrev pub speeds_below : Modems → Modems → Speed → ℕ
 speeds_below ours theirs speed = length (after_speed speed (tried_speeds ours theirs))
 
 -- two stations begin at most five speeds above the last of those that they try
 abbrev pub BeginsAtMostFiveAbove : Type 0
-BeginsAtMostFiveAbove = (caps : Caps) (wish : Wish) (width : PageWidth) (fine : Bool) → IfOk (agreed caps wish width fine) (λ params. speeds_below wish.modems caps.modems params.speed ≤ 5)
+BeginsAtMostFiveAbove = (caps : Caps) (wish : Wish) (width : PageWidth) (fine : Bool)
+    → IfOk (agreed caps wish width fine) (λ params. speeds_below wish.modems caps.modems params.speed ≤ 5)
 
 -- the next lower speed has one speed less below it
 abbrev pub GoesDownByOne : Type 0
-GoesDownByOne = (caps : Caps) (wish : Wish) (speed next : Speed) → lower_speed caps wish speed ≡ Some next → speeds_below wish.modems caps.modems next + 1 ≡ speeds_below wish.modems caps.modems speed
+GoesDownByOne = (caps : Caps) (wish : Wish) (speed next : Speed) → lower_speed caps wish speed ≡ Some next
+    → speeds_below wish.modems caps.modems next + 1 ≡ speeds_below wish.modems caps.modems speed

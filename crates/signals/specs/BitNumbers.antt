@@ -22,7 +22,7 @@ use Rattle.signals.specs.declared.params.PageWidth.TheVariants.{W1728, W2048, W2
 use Rattle.signals.specs.declared.params.Params.{Params}
 use Rattle.signals.specs.declared.signal.PageEnd.{PageEnd}
 
--- the bit of a number as it was sent: 1 is the first after the facsimile control field, and past the last each is 0
+-- the bit of a number as it was sent: 1 is the first of the information field, and past its last each is 0
 unfoldable pub sent_bit : List ℕ → ℕ → Bool
 sent_bit fields number = slice_index_or (bits_of LsbFirst fields) (number - 1) false
 
@@ -69,7 +69,7 @@ pub record IsOctetOf (control : Control) (octet : ℕ) : Type 0 where
   pub small : octet < 256
   pub text : has_text (control_text control) octet ≡ true
 
--- the least number of octets after a facsimile control field
+-- the least number of octets of the information field after a facsimile control field
 abbrev pub least_octets : Control → ℕ
 least_octets Dis = 3
 least_octets Dcs = 3
@@ -78,8 +78,8 @@ least_octets Pps = 4
 least_octets Ppr = 32
 least_octets _ = 0
 
--- what the octets after a facsimile control field show: a DCS whose bits show no parameters and a PPS whose second field has no
--- known text are another signal
+-- what the information field after a facsimile control field shows: a DCS whose bits show no parameters and a PPS whose first
+-- octet there has no known text are another signal
 abbrev pub FieldsShow : Control → ℕ → List ℕ → PlainSignal → Type 0
 FieldsShow Dis octet fields (dis caps) = DisShows fields caps
 FieldsShow Dcs octet fields (dcs params) = DcsShows fields params
@@ -99,7 +99,7 @@ FieldsShow Rr octet fields rr = Unit {0}
 FieldsShow Dcn octet fields dcn = Unit {0}
 FieldsShow _ _ _ _ = ⊥
 
--- what is read of a facsimile control field and the octets after it: a signal that they show, or that they are too few
+-- what is read of a facsimile control field and the information field after it: a signal that it shows, or that it is too short
 abbrev pub IsReadOf : Control → ℕ → List ℕ → Result PlainSignal SignalFault → Type 0
 IsReadOf control octet fields (Ok signal) = (least_octets control ≤ length fields) × FieldsShow control octet fields signal
 IsReadOf control octet fields (Err fault) = (length fields < least_octets control) × (fault ≡ ShortField)

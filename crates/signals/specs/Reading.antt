@@ -23,7 +23,7 @@ use Rattle.signals.specs.declared.signal.PageEnd.TheVariants.{Null, Mps, Eom, Eo
 abbrev pub with_x : ℕ → ℕ → Bool
 with_x even octet = nat_eq octet even || nat_eq octet (even + 1)
 
--- a bit of the fields, numbered from 1 in order of sending, the least significant of an octet first; 0 past them
+-- a bit of the information field, numbered from 1 in order of sending, the least significant of an octet first; 0 past them
 abbrev pub field_bit : List ℕ → ℕ → Bool
 field_bit fields number = nat_eq (bit_at (slice_index fields ((number - 1) / 8)) ((number - 1) % 8)) 1
 
@@ -99,7 +99,8 @@ params_at None _ fields = None
 unfoldable pub params_of : List ℕ → Option Params
 params_of fields =
     cond (late_bit fields 27 && not (field_bit fields 16 && not (late_bit fields 31)))
-    (params_at (speed_of (field_bit fields 11) (field_bit fields 12) (field_bit fields 13) (field_bit fields 14)) (width_of (field_bit fields 17) (field_bit fields 18)) fields)
+    (params_at (speed_of (field_bit fields 11) (field_bit fields 12) (field_bit fields 13) (field_bit fields 14))
+    (width_of (field_bit fields 17) (field_bit fields 18)) fields)
     None
 
 -- the DCS of parameters; another signal where they lie outside
@@ -107,36 +108,36 @@ abbrev pub dcs_or_other : ℕ → Option Params → PlainSignal
 dcs_or_other octet (Some params) = dcs params
 dcs_or_other octet None = other octet
 
--- the PPS of a page end and the fields behind it; another signal with another second field
+-- the PPS of a page end and the fields after it; another signal with another second field
 abbrev pub pps_or_other : ℕ → Option PageEnd → List ℕ → PlainSignal
 pps_or_other octet (Some ends) fields = pps ends (slice_index fields 1) (slice_index fields 2) (slice_index fields 3)
 pps_or_other octet None fields = other octet
 
--- a signal of at least so many octets behind its control field
+-- a signal whose information field has at least so many octets
 abbrev pub with_octets : ℕ → List ℕ → PlainSignal → Result PlainSignal SignalFault
 with_octets count fields signal = cond (nat_lt (length fields) count) (Err ShortField) (Ok signal)
 
--- a DIS by its fields
+-- a DIS by its information field
 abbrev pub read_dis : List ℕ → Result PlainSignal SignalFault
 read_dis fields = with_octets 3 fields (dis (caps_of fields))
 
--- a DCS by its fields
+-- a DCS by its information field
 abbrev pub read_dcs : ℕ → List ℕ → Result PlainSignal SignalFault
 read_dcs octet fields = with_octets 3 fields (dcs_or_other octet (params_of fields))
 
--- an FCD by its fields
+-- an FCD by its information field
 abbrev pub read_fcd : List ℕ → Result PlainSignal SignalFault
 read_fcd fields = with_octets 2 fields (fcd (slice_index fields 0) (drop 1 fields))
 
--- a PPS by its fields
+-- a PPS by its information field
 abbrev pub read_pps : ℕ → List ℕ → Result PlainSignal SignalFault
 read_pps octet fields = with_octets 4 fields (pps_or_other octet (page_end_of (slice_index fields 0)) fields)
 
--- a PPR by its fields
+-- a PPR by its information field
 abbrev pub read_ppr : List ℕ → Result PlainSignal SignalFault
 read_ppr fields = with_octets 32 fields (ppr (take 32 fields))
 
--- the signal of a control field and the fields behind it
+-- the signal of a control field and the information field after it
 abbrev pub read_known : Option Control → ℕ → List ℕ → Result PlainSignal SignalFault
 read_known None octet fields = Ok (other octet)
 read_known (Some Dis) octet fields = read_dis fields
@@ -152,7 +153,7 @@ read_known (Some Rnr) octet fields = Ok rnr
 read_known (Some Rr) octet fields = Ok rr
 read_known (Some Dcn) octet fields = Ok dcn
 
--- the signal of an octet, as a facsimile control field, and the fields behind it
+-- the signal of an octet, as a facsimile control field, and the information field after it
 unfoldable pub read_fields : ℕ → List ℕ → Result PlainSignal SignalFault
 read_fields octet fields = read_known (control_of octet) octet fields
 

@@ -28,25 +28,28 @@ has_text (letter ∷ letters) octet = (nat_eq letter 88 || nat_eq letter (48 + o
 
 -- each octet is read as the control field whose text it has
 abbrev pub ControlsHaveTexts : Type 0
-ControlsHaveTexts = (octet : ℕ) (control : Control) → octet < 256 → (control_of octet ≡ Some control) ↔ (has_text (control_text control) octet ≡ true)
+ControlsHaveTexts = (octet : ℕ) (control : Control) → octet < 256 → (control_of octet ≡ Some control)
+    ↔ (has_text (control_text control) octet ≡ true)
 
--- a DCS whose fields lie outside, or a PPS with another second field
+-- a DCS whose information field is outside, or a PPS with another second field
 abbrev pub IsOutside : Option Control → List ℕ → Type 0
 IsOutside None fields = Unit {0}
 IsOutside (Some Dcs) fields = (3 ≤ length fields) × (params_of fields ≡ None)
 IsOutside (Some Pps) fields = (4 ≤ length fields) × (page_end_of (slice_index fields 0) ≡ None)
 IsOutside (Some _) fields = ⊥
 
--- a control field, the one of an octet if it has one, and the fields behind it say a signal
+-- a control field, the one of an octet if it has one, and the information field after it say a signal
 abbrev pub FieldsSay : Option Control → ℕ → List ℕ → PlainSignal → Type 0
 FieldsSay control octet fields (dis caps) = (control ≡ Some Dis) × (3 ≤ length fields) × (caps_of fields ≡ caps)
 FieldsSay control octet fields (dcs params) = (control ≡ Some Dcs) × (3 ≤ length fields) × (params_of fields ≡ Some params)
 FieldsSay control octet fields cfr = control ≡ Some Cfr
 FieldsSay control octet fields ftt = control ≡ Some Ftt
-FieldsSay control octet fields (fcd number octets) = (control ≡ Some Fcd) × (2 ≤ length fields) × (slice_index fields 0 ≡ number) × (drop 1 fields ≡ octets)
+FieldsSay control octet fields (fcd number octets) = (control ≡ Some Fcd) × (2 ≤ length fields) × (slice_index fields 0 ≡ number)
+    × (drop 1 fields ≡ octets)
 FieldsSay control octet fields rcp = control ≡ Some Rcp
 FieldsSay control octet fields (pps ends page block last) =
-    (control ≡ Some Pps) × (4 ≤ length fields) × (page_end_of (slice_index fields 0) ≡ Some ends) × (slice_index fields 1 ≡ page) × (slice_index fields 2 ≡ block) × (slice_index fields 3 ≡ last)
+    (control ≡ Some Pps) × (4 ≤ length fields) × (page_end_of (slice_index fields 0) ≡ Some ends) × (slice_index fields 1 ≡ page)
+    × (slice_index fields 2 ≡ block) × (slice_index fields 3 ≡ last)
 FieldsSay control octet fields (ppr map) = (control ≡ Some Ppr) × (32 ≤ length fields) × (take 32 fields ≡ map)
 FieldsSay control octet fields mcf = control ≡ Some Mcf
 FieldsSay control octet fields rnr = control ≡ Some Rnr

@@ -67,7 +67,8 @@ abbrev pub is_t6 : Coding → Bool
 is_t6 OneDim = false
 is_t6 T6 = true
 
--- the bits of a DIS, each row under the number of its first bit: receiver, modems, 7.7 lines, widest page, unlimited length, 0 ms, a fourth octet, error correction, T.6
+-- the bits of a DIS, each row under the number of its first bit: receiver, modems, 7.7 lines, widest page, unlimited length, 0
+-- ms, a fourth octet, error correction, T.6
 abbrev pub dis_table : Caps → List (ℕ × List Bool)
 dis_table caps =
     (10, caps.receiver ∷ [])
@@ -81,7 +82,8 @@ dis_table caps =
     ∷ (31, caps.t6 ∷ [])
     ∷ []
 
--- the bits of a DCS, each row under the number of its first bit: receiver, speed, 7.7 lines, width, unlimited length, 0 ms, a fourth octet, error correction, small frames, T.6
+-- the bits of a DCS, each row under the number of its first bit: receiver, speed, 7.7 lines, width, unlimited length, 0 ms, a
+-- fourth octet, error correction, small frames, T.6
 abbrev pub dcs_table : Params → List (ℕ × List Bool)
 dcs_table params =
     (10, digits (codes "1"))
@@ -128,7 +130,7 @@ control_for rr = Some Rr
 control_for dcn = Some Dcn
 control_for (other _) = None
 
--- the bits behind the facsimile control field of a signal
+-- the bits of a signal's information field
 abbrev pub field_bits : PlainSignal → List Bool
 field_bits (dis caps) = table_bits (dis_table caps)
 field_bits (dcs params) = table_bits (dcs_table params)
@@ -144,11 +146,13 @@ sent_bits control signal side last =
 
 -- the bits of the content that is written of a signal, in order of sending, are those of the tables
 abbrev pub WritesTheTables : Type 0
-WritesTheTables = (signal : PlainSignal) (side : Side) (last : Bool) → IfSome (control_for signal) (λ control. bits_of LsbFirst (content_of signal side last) ≡ sent_bits control signal side last)
+WritesTheTables = (signal : PlainSignal) (side : Side) (last : Bool)
+    → IfSome (control_for signal) (λ control. bits_of LsbFirst (content_of signal side last) ≡ sent_bits control signal side last)
 
 -- each octet is read as the second field of PPS whose text it has
 abbrev pub PageEndsHaveTexts : Type 0
-PageEndsHaveTexts = (octet : ℕ) (ends : PageEnd) → octet < 256 → (page_end_of octet ≡ Some ends) ↔ (has_text (page_end_text ends) octet ≡ true)
+PageEndsHaveTexts = (octet : ℕ) (ends : PageEnd) → octet < 256 → (page_end_of octet ≡ Some ends)
+    ↔ (has_text (page_end_text ends) octet ≡ true)
 
 -- bits 11 to 14 of a DCS are read as the speed whose text they are
 abbrev pub SpeedsHaveTexts : Type 0
@@ -156,7 +160,8 @@ SpeedsHaveTexts = (a b c d : Bool) (speed : Speed) → (speed_of a b c d ≡ Som
 
 -- bits 11 to 14 of a DIS are read as the modems whose text they are, and so as the fallback where they are no other's
 abbrev pub ModemsHaveTexts : Type 0
-ModemsHaveTexts = (a b c d : Bool) (modems : Modems) → modems ≢ Fallback → (modems_of a b c d ≡ modems) ↔ (a ∷ b ∷ c ∷ d ∷ [] ≡ digits (modems_text modems))
+ModemsHaveTexts = (a b c d : Bool) (modems : Modems) → modems ≢ Fallback → (modems_of a b c d ≡ modems)
+    ↔ (a ∷ b ∷ c ∷ d ∷ [] ≡ digits (modems_text modems))
 
 -- bits 17 and 18 of a DCS are read as the width whose text they are
 abbrev pub WidthsHaveTexts : Type 0

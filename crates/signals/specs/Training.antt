@@ -18,7 +18,7 @@ bits_a_second V17At14400 = 14400
 abbrev pub training_octets : Speed → ℕ
 training_octets speed = bits_a_second speed * 3 / 2 / 8
 
--- how many octets 00 stand at a list's front
+-- how many octets 00 a list begins with
 abbrev pub zeros_in_front : List ℕ → ℕ
 zeros_in_front [] = 0
 zeros_in_front (x ∷ xs) = cond (nat_eq x 0) (zeros_in_front xs + 1) 0

@@ -59,15 +59,17 @@ page_end_octet Mps = 0x4F
 page_end_octet Eom = 0x8F
 page_end_octet Eop = 0x2F
 
--- the fields of a DIS
+-- the information field of a DIS
 unfoldable pub dis_fields : Caps → List ℕ
 dis_fields caps =
-    0 ∷ (written_or caps.receiver 0x02 + modems_octet caps.modems + written_or caps.fine 0x40) ∷ width_octet caps.widest ∷ (written_or caps.ecm 0x04 + written_or caps.t6 0x40) ∷ []
+    0 ∷ (written_or caps.receiver 0x02 + modems_octet caps.modems + written_or caps.fine 0x40) ∷ width_octet caps.widest ∷
+    (written_or caps.ecm 0x04 + written_or caps.t6 0x40) ∷ []
 
--- the fields of a DCS
+-- the information field of a DCS
 unfoldable pub dcs_fields : Params → List ℕ
 dcs_fields params =
-    0 ∷ (0x02 + speed_octet params.speed + written_or params.fine 0x40) ∷ width_octet params.width ∷ (0x04 + written_or params.small 0x08 + coding_octet params.coding) ∷ []
+    0 ∷ (0x02 + speed_octet params.speed + written_or params.fine 0x40) ∷ width_octet params.width ∷
+    (0x04 + written_or params.small 0x08 + coding_octet params.coding) ∷ []
 
 -- the octet of a signal's facsimile control field, of the station that sends
 abbrev pub control_octet : PlainSignal → Side → ℕ
@@ -85,7 +87,7 @@ control_octet rr side = octet_of Rr side
 control_octet dcn side = octet_of Dcn side
 control_octet (other octet) side = octet
 
--- the fields behind the facsimile control field of a signal
+-- the information field of a signal: the octets after its facsimile control field
 abbrev pub fields_of : PlainSignal → List ℕ
 fields_of (dis caps) = dis_fields caps
 fields_of (dcs params) = dcs_fields params
@@ -119,4 +121,5 @@ WrittenFitsAFrame = (signal : PlainSignal) (side : Side) (last : Bool) → IsWri
 
 -- the content of a signal that can be written, of either side, is read as the signal
 abbrev pub ReadsWhatIsWritten : Type 0
-ReadsWhatIsWritten = (signal : PlainSignal) (side : Side) (last : Bool) → IsWritable signal → read_content (content_of signal side last) ≡ Ok signal
+ReadsWhatIsWritten = (signal : PlainSignal) (side : Side) (last : Bool) → IsWritable signal → read_content (content_of signal side last)
+    ≡ Ok signal

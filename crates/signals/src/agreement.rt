@@ -1,3 +1,5 @@
+//! What two stations agree on, and what one of them takes.
+
 ghost use Rattle.signals.specs.Agreement.{agreed, lower_speed, allowed, speed_order, common_speed, first_of, after_speed, agreed_coding};
 ghost use Rattle.signals.specs.Faults.{number_of_incompatible};
 ghost use Rattle.std.specs.List.{find};
@@ -6,6 +8,9 @@ ghost use Rattle.std.specs.Prelude.{◌≡◌, IfOk, true, length, List};
 use crate::params::{Caps, Modems, PageWidth, Params, Speed, Wish};
 use page_code::Coding;
 use thiserror::Error;
+
+#[cfg(test)]
+mod tests;
 
 /// Two stations have no way to send the pages.
 #[derive(Clone, Copy, Debug, PartialEq, Eq, Error)]
@@ -66,7 +71,7 @@ fn first_common(ours: Modems, theirs: Modems, speeds: &[Speed]) -> Option<Speed>
         .find(|speed| is_common(ours, theirs, *speed))
 }
 
-/// What stands behind a speed; nothing where it isn't there.
+/// What comes after a speed; nothing where it isn't there.
 fn after(speeds: &[Speed], speed: Speed) -> &[Speed]
     ensures { result.now ≡ after_speed speed speeds.now }
 {

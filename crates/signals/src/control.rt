@@ -1,3 +1,5 @@
+//! The facsimile control fields and their octets.
+
 ghost use Rattle.signals.specs.Controls.{control_of, is_octet, octet_of, x_of};
 ghost use Rattle.std.specs.Prelude.{◌≡◌};
 

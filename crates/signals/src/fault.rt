@@ -1,3 +1,5 @@
+//! Why a frame's content says no signal.
+
 ghost use Rattle.signals.specs.Faults.{number_of};
 ghost use Rattle.std.specs.Prelude.{◌≡◌};
 

@@ -19,9 +19,9 @@ pub fn reads_what_is_said()
     ensures { ReadsWhatIsSaid }
 {}
 
-/// A content of a known facsimile control field is read as the signal that the octets after it show: of a
+/// A content of a known facsimile control field is read as the signal that its information field shows: of a
 /// DIS and a DCS the bits 10 to 32 by the numbers of the standard's table, those after bit 24 as 0 where
-/// bit 24 is 0. Where they are fewer than 3 of a DIS or a DCS, 2 of an FCD, 4 of a PPS or 32 of a PPR, it is
+/// bit 24 is 0. Where it has fewer than 3 octets in a DIS or a DCS, 2 in an FCD, 4 in a PPS or 32 in a PPR, it is
 /// refused with `ShortField`. ITU-T T.30, 5.3.6 and A.4.
 pub fn reads_by_number()
     ensures { ReadsByNumber }

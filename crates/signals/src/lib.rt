@@ -1,18 +1,14 @@
-//! The signals of Group 3 facsimile and what two stations agree on: ITU-T T.30, 5.3. Stands on
-//! `page_code`, for the name of a page's code.
+//! The signals of Group 3 facsimile and what two stations agree on: ITU-T T.30, 5.3. It uses `raster`, for the
+//! bits of octets, and `page_code`, for the name of a page's code.
 #![tactic(auto)]
 
 mod agreement;
-#[cfg(test)]
-mod agreement_tests;
 mod control;
 mod fault;
 pub mod laws;
 mod params;
 mod reading;
 mod signal;
-#[cfg(test)]
-mod signal_tests;
 mod training;
 mod writing;
 

@@ -1,3 +1,5 @@
+//! What a station can do, what a caller wishes, and how pages are sent.
+
 ghost use Rattle.signals.specs.Agreement.{supports_speed, place_of_speed, pixels_of, width_of_pixels};
 ghost use Rattle.std.specs.Prelude.{◌≡◌, nat_eq};
 

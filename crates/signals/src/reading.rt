@@ -1,3 +1,5 @@
+//! A frame's content read as a signal.
+
 ghost use Rattle.signals.specs.Reading.{field_bit, late_bit, modems_of, speed_of, widest_of, width_of, page_end_of, caps_of, params_of, read_dcs, read_fcd, read_pps, read_ppr, read_dis, read_fields, read_content};
 ghost use Rattle.signals.specs.Signals.{plain_read};
 ghost use Rattle.std.specs.Prelude.{◌≡◌, ◌≤◌, length};
@@ -8,8 +10,7 @@ use crate::params::{Caps, Modems, PageWidth, Params, Speed};
 use crate::signal::{PageEnd, Signal};
 use page_code::Coding;
 
-/// A bit of the fields behind the facsimile control field, numbered from 1 in order of sending; 0 past
-/// them.
+/// A bit of the information field, numbered from 1 in order of sending; 0 past the last.
 fn bit(fields: &[u8], number: usize) -> bool
     requires { 1 ≤ number }
     ensures { result ≡ field_bit fields.now number }
@@ -141,7 +142,7 @@ fn params(fields: &[u8]) -> Option<Params>
     })
 }
 
-/// A DCS by its fields.
+/// A DCS by its information field.
 fn dcs(octet: u8, fields: &[u8]) -> Result<Signal<'_>, SignalFault>
     ensures { plain_read result ≡ read_dcs octet fields.now }
 {
@@ -154,7 +155,7 @@ fn dcs(octet: u8, fields: &[u8]) -> Result<Signal<'_>, SignalFault>
     }
 }
 
-/// A PPS by its fields.
+/// A PPS by its information field.
 fn pps(octet: u8, fields: &[u8]) -> Result<Signal<'_>, SignalFault>
     ensures { plain_read result ≡ read_pps octet fields.now }
 {
@@ -172,7 +173,7 @@ fn pps(octet: u8, fields: &[u8]) -> Result<Signal<'_>, SignalFault>
     }
 }
 
-/// A PPR by its fields.
+/// A PPR by its information field.
 fn ppr(fields: &[u8]) -> Result<Signal<'_>, SignalFault>
     ensures { plain_read result ≡ read_ppr fields.now }
 {
@@ -184,7 +185,7 @@ fn ppr(fields: &[u8]) -> Result<Signal<'_>, SignalFault>
     Ok(Signal::Ppr(map))
 }
 
-/// The signal of a facsimile control field and the fields behind it.
+/// The signal of a facsimile control field and the information field after it.
 #[tactic(auto, unfolding(crate::specs::Reading::read_fields))]
 fn signal(octet: u8, fields: &[u8]) -> Result<Signal<'_>, SignalFault>
     ensures { plain_read result ≡ read_fields octet fields.now }
@@ -214,7 +215,7 @@ fn signal(octet: u8, fields: &[u8]) -> Result<Signal<'_>, SignalFault>
 }
 
 /// The signal that a frame's content says: the octets between two flags, with the stuffed bits and the
-/// check sequence taken off. What stands behind a signal's fields is ignored, save in FCD, where all is
+/// check sequence taken off. What comes after a signal's fields is ignored, save in FCD, where all is
 /// data. Errs with `BadAddress` where the address isn't FF, with `BadControl` where the control field is
 /// neither 03 nor 13, and with `ShortField` where a field is missing or cut short; the first of these
 /// from the content's front on. ITU-T T.30, 5.3.4 to 5.3.6 and A.4.

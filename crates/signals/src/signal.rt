@@ -1,4 +1,9 @@
+//! The signals of single frames, and the two stations that send them.
+
 use crate::params::{Caps, Params};
+
+#[cfg(test)]
+mod tests;
 
 /// What ends with a block: the second field of PPS. ITU-T T.30, A.4.3.
 #[derive(Clone, Copy, Debug, PartialEq, Eq)]

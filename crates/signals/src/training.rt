@@ -1,3 +1,5 @@
+//! The training check.
+
 ghost use Rattle.signals.specs.Training.{training_octets, longest_zeros, IsGoodTraining};
 ghost use Rattle.std.specs.Prelude.{◌≡◌, ◌↔◌, IsTrue, max};
 

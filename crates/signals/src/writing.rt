@@ -1,3 +1,5 @@
+//! A signal written as a frame's content.
+
 ghost use Rattle.signals.specs.Reading.{read_content};
 ghost use Rattle.signals.specs.Signals.{plain};
 ghost use Rattle.signals.specs.Writing.{IsWritable, content_of, head_of, modems_octet, speed_octet, width_octet, coding_octet, dis_fields, dcs_fields, page_end_octet, written_or};
@@ -83,7 +85,7 @@ fn page_end(ends: PageEnd) -> u8
     }
 }
 
-/// The fields of a DIS.
+/// The information field of a DIS.
 #[tactic(auto, unfolding(crate::specs::Writing::dis_fields))]
 fn dis(caps: &Caps) -> [u8; 4]
     ensures { result ≡ dis_fields caps.now }
@@ -93,7 +95,7 @@ fn dis(caps: &Caps) -> [u8; 4]
     [0, second, width(caps.widest), fourth]
 }
 
-/// The fields of a DCS.
+/// The information field of a DCS.
 #[tactic(auto, unfolding(crate::specs::Writing::dcs_fields))]
 fn dcs(params: &Params) -> [u8; 4]
     ensures { result ≡ dcs_fields params.now }
@@ -111,7 +113,7 @@ fn append(content: &mut ArrayVec<u8, 300>, octets: &[u8])
     let _all = content.try_extend_from_slice(octets);
 }
 
-/// The content of a facsimile control field and the fields behind it.
+/// The content of a facsimile control field and the information field after it.
 fn content(last: bool, control: u8, fields: &[u8]) -> ArrayVec<u8, 300>
     requires { length fields.now ≤ 297 }
     ensures { result.items ≡ head_of last control ++ fields.now }
@@ -163,7 +165,7 @@ fn content_from(signal: &Signal, side: Side, last: bool) -> ArrayVec<u8, 300>
 
 /// The content of the frame that says a signal: FF, the control field, 13 in the last frame of a
 /// transmission and 03 in each other, the facsimile control field with the first bit X of the station
-/// that sends it, and the fields. FCD has 1 to 256 octets of data, and `Other` can't be written. Takes no
+/// that sends it, and the information field. FCD has 1 to 256 octets of data, and `Other` can't be written. Takes no
 /// memory. ITU-T T.30, 5.3.4 to 5.3.6 and A.4.
 pub fn write(signal: &Signal, side: Side, last: bool) -> ArrayVec<u8, 300>
     requires { IsWritable (plain signal.now) }

@@ -8,4 +8,5 @@ returns-clause-agreed c = search (rules, first_filtered)
 
 pub returns-clause-allowed : goal.returns-clause-allowed
 returns-clause-allowed c =
-    subst (λ r. IfOk r (λ params. allowed c.args.caps.now params ≡ true)) (sym (returns-clause-agreed c)) (agreed-allowed c.args.caps.now c.args.wish.now c.args.width c.args.fine)
+    subst (λ r. IfOk r (λ params. allowed c.args.caps.now params ≡ true)) (sym (returns-clause-agreed c))
+    (agreed-allowed c.args.caps.now c.args.wish.now c.args.width c.args.fine)

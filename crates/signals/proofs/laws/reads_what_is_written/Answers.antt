@@ -1,4 +1,4 @@
-use Rattle.signals.proofs.RoundTrip.{reads-written}
+use Rattle.signals.proofs.WritingLemmas.{reads-written}
 use Rattle.signals.proofs.laws.reads_what_is_written.Goals as goal
 
 pub returns : goal.returns

@@ -22,7 +22,8 @@ loop-octet-preserved c =
           record {
             within = omega (arith, w.run-is);
             run_within = omega arith;
-            so_far = rw (greater, w.run-is) (zero-less _ _ _ _ here w.if-octet-eq0.false c.loop-octet.invariant.run_within c.loop-octet.invariant.so_far);
+            so_far = rw (greater, w.run-is)
+                (zero-less _ _ _ _ here w.if-octet-eq0.false c.loop-octet.invariant.run_within c.loop-octet.invariant.so_far);
           }
     ]
 

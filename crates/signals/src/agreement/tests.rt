@@ -1,3 +1,5 @@
+//! Worked agreements, speeds and training checks.
+
 use crate::{
     Caps, Modems, NotCompatible, PageWidth, Params, Speed, Wish, agree, allows, lower,
     training_good, training_len,

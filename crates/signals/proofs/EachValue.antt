@@ -12,7 +12,8 @@ use Rattle.signals.specs.declared.params.Speed.TheVariants.{V27At2400, V27At4800
 
 -- a test holds of each speed
 abbrev pub all_speeds : (Speed → Bool) → Bool
-all_speeds f = f V27At2400 && (f V27At4800 && (f V29At7200 && (f V29At9600 && (f V17At7200 && (f V17At9600 && (f V17At12000 && f V17At14400))))))
+all_speeds f =
+    f V27At2400 && (f V27At4800 && (f V29At7200 && (f V29At9600 && (f V17At7200 && (f V17At9600 && (f V17At12000 && f V17At14400))))))
 
 pub each_speed : (f : Speed → Bool) → all_speeds f ≡ true → (speed : Speed) → f speed ≡ true
 each_speed f e speed =

@@ -1,3 +1,5 @@
+//! Worked contents and the signals that they say.
+
 ghost use Rattle.signals.specs.Signals.{plain};
 ghost use Rattle.signals.specs.Writing.{IsWritable};
 

@@ -32,7 +32,8 @@ abbrev pub modems_in : ℕ → Modems
 modems_in octet = modems_of (bit_of octet 2) (bit_of octet 3) (bit_of octet 4) (bit_of octet 5)
 
 pub dis-second : (receiver : Bool) (modems : Modems) (fine : Bool) →
-    (bit_of (dis_second receiver modems fine) 1 ≡ receiver) × (modems_in (dis_second receiver modems fine) ≡ modems) × (bit_of (dis_second receiver modems fine) 6 ≡ fine)
+    (bit_of (dis_second receiver modems fine) 1 ≡ receiver) × (modems_in (dis_second receiver modems fine) ≡ modems)
+    × (bit_of (dis_second receiver modems fine) 6 ≡ fine)
 dis-second true Fallback true = (refl, refl, refl)
 dis-second true Fallback false = (refl, refl, refl)
 dis-second true V27 true = (refl, refl, refl)
@@ -80,7 +81,8 @@ dcs-second V17At14400 true = (refl, refl, refl)
 dcs-second V17At14400 false = (refl, refl, refl)
 
 pub third : (width : PageWidth) →
-    (widest_of (bit_of (width_octet width) 0) (bit_of (width_octet width) 1) ≡ width) × (width_of (bit_of (width_octet width) 0) (bit_of (width_octet width) 1) ≡ Some width) × (bit_of (width_octet width) 7 ≡ true)
+    (widest_of (bit_of (width_octet width) 0) (bit_of (width_octet width) 1) ≡ width)
+    × (width_of (bit_of (width_octet width) 0) (bit_of (width_octet width) 1) ≡ Some width) × (bit_of (width_octet width) 7 ≡ true)
 third W1728 = (refl, refl, refl)
 third W2048 = (refl, refl, refl)
 third W2432 = (refl, refl, refl)
@@ -98,7 +100,8 @@ abbrev pub dcs_fourth : Bool → Coding → ℕ
 dcs_fourth small coding = 0x04 + written_or small 0x08 + coding_octet coding
 
 pub dcs-fourth : (small : Bool) (coding : Coding) →
-    (bit_of (dcs_fourth small coding) 2 ≡ true) × (bit_of (dcs_fourth small coding) 3 ≡ small) × (cond (bit_of (dcs_fourth small coding) 6) T6 OneDim ≡ coding)
+    (bit_of (dcs_fourth small coding) 2 ≡ true) × (bit_of (dcs_fourth small coding) 3 ≡ small)
+    × (cond (bit_of (dcs_fourth small coding) 6) T6 OneDim ≡ coding)
 dcs-fourth true OneDim = (refl, refl, refl)
 dcs-fourth true T6 = (refl, refl, refl)
 dcs-fourth false OneDim = (refl, refl, refl)
@@ -107,9 +110,18 @@ dcs-fourth false T6 = (refl, refl, refl)
 pub and-is : (a b c : Bool) → a ≡ true → b ≡ c → (a && b) ≡ c
 and-is a b c first second = rw first second
 
-pub same_caps : (a b : Caps) → a.receiver ≡ b.receiver → a.modems ≡ b.modems → a.fine ≡ b.fine → a.widest ≡ b.widest → a.t6 ≡ b.t6 → a.ecm ≡ b.ecm → a ≡ b
+pub same_caps : (a b : Caps) → a.receiver ≡ b.receiver → a.modems ≡ b.modems → a.fine ≡ b.fine → a.widest ≡ b.widest → a.t6 ≡ b.t6
+    → a.ecm ≡ b.ecm → a ≡ b
 same_caps a b receiver modems fine widest t6 ecm =
-    let made : Bool → Modems → Bool → PageWidth → Bool → Bool → Caps = λ r m f w t e. record { receiver = r; modems = m; fine = f; widest = w; t6 = t; ecm = e } in
+    let made : Bool → Modems → Bool → PageWidth → Bool → Bool → Caps = λ r m f w t e. record {
+      receiver = r;
+      modems = m;
+      fine = f;
+      widest =
+          w;
+      t6 = t;
+      ecm = e;
+    } in
     ap (λ r. made r a.modems a.fine a.widest a.t6 a.ecm) receiver
     ∙ ap (λ m. made b.receiver m a.fine a.widest a.t6 a.ecm) modems
     ∙ ap (λ f. made b.receiver b.modems f a.widest a.t6 a.ecm) fine
@@ -119,7 +131,14 @@ same_caps a b receiver modems fine widest t6 ecm =
 
 pub same_params : (a b : Params) → a.speed ≡ b.speed → a.fine ≡ b.fine → a.width ≡ b.width → a.coding ≡ b.coding → a.small ≡ b.small → a ≡ b
 same_params a b speed fine width coding small =
-    let made : Speed → Bool → PageWidth → Coding → Bool → Params = λ s f w c m. record { speed = s; fine = f; width = w; coding = c; small = m } in
+    let made : Speed → Bool → PageWidth → Coding → Bool → Params = λ s f w c m. record {
+      speed = s;
+      fine = f;
+      width = w;
+      coding = c;
+      small =
+          m;
+    } in
     ap (λ s. made s a.fine a.width a.coding a.small) speed
     ∙ ap (λ f. made b.speed f a.width a.coding a.small) fine
     ∙ ap (λ w. made b.speed b.fine w a.coding a.small) width
@@ -143,19 +162,31 @@ params-read params =
     let fourth = dcs-fourth params.small params.coding in
     let inside : (late_bit fields 27 && not (field_bit fields 16 && not (late_bit fields 31))) ≡ true =
     and-is _ _ true (and-is _ _ true widths.2 fourth.0) (ap (λ b. not (b && not (late_bit fields 31))) second.2) in
-    ap (λ b. cond b (params_at (speed_in (dcs_second params.speed params.fine)) (width_of (field_bit fields 17) (field_bit fields 18)) fields) None) inside
+    ap (λ b. cond b
+    (params_at (speed_in (dcs_second params.speed params.fine)) (width_of (field_bit fields 17) (field_bit fields 18)) fields) None)
+    inside
     ∙ ap (λ s. params_at s (width_of (field_bit fields 17) (field_bit fields 18)) fields) second.0
     ∙ ap (λ w. params_at (Some params.speed) w fields) widths.1
-    ∙ ap Some (same_params _ params refl second.1 refl (ap (λ b. cond b T6 OneDim) (and-is _ _ _ widths.2 refl) ∙ fourth.2) (and-is _ _ params.small widths.2 fourth.1))
+    ∙ ap Some (same_params _ params refl second.1 refl (ap (λ b. cond b T6 OneDim) (and-is _ _ _ widths.2 refl) ∙ fourth.2)
+    (and-is _ _ params.small widths.2 fourth.1))
 
 pub head-read : (last : Bool) (octet : ℕ) (fields : List ℕ) → read_content (head_of last octet ++ fields) ≡ read_fields octet fields
 unfolding read_content
 head-read true octet fields =
-    rw (le-ltb (length (0xFF ∷ 0x13 ∷ octet ∷ fields)) 1 (omega arith), le-ltb (length (0xFF ∷ 0x13 ∷ octet ∷ fields)) 2 (omega arith), le-ltb (length (0xFF ∷ 0x13 ∷ octet ∷ fields)) 3 (omega arith)) refl
+    rw (
+      le-ltb (length (0xFF ∷ 0x13 ∷ octet ∷ fields)) 1 (omega arith),
+      le-ltb (length (0xFF ∷ 0x13 ∷ octet ∷ fields)) 2 (omega arith),
+      le-ltb (length (0xFF ∷ 0x13 ∷ octet ∷ fields)) 3 (omega arith),
+    ) refl
 head-read false octet fields =
-    rw (le-ltb (length (0xFF ∷ 0x03 ∷ octet ∷ fields)) 1 (omega arith), le-ltb (length (0xFF ∷ 0x03 ∷ octet ∷ fields)) 2 (omega arith), le-ltb (length (0xFF ∷ 0x03 ∷ octet ∷ fields)) 3 (omega arith)) refl
+    rw (
+      le-ltb (length (0xFF ∷ 0x03 ∷ octet ∷ fields)) 1 (omega arith),
+      le-ltb (length (0xFF ∷ 0x03 ∷ octet ∷ fields)) 2 (omega arith),
+      le-ltb (length (0xFF ∷ 0x03 ∷ octet ∷ fields)) 3 (omega arith),
+    ) refl
 
-pub fields-read : (signal : PlainSignal) (side : Side) → IsWritable signal → read_fields (control_octet signal side) (fields_of signal) ≡ Ok signal
+pub fields-read : (signal : PlainSignal) (side : Side) → IsWritable signal → read_fields (control_octet signal side) (fields_of signal)
+    ≡ Ok signal
 unfolding read_fields control_of page_end_of dis_fields dcs_fields
 fields-read (dis caps) side w = ap (λ c. Ok (dis c)) (caps-read caps)
 fields-read (dcs params) Caller w = rw (params-read params) refl
@@ -186,11 +217,12 @@ fields-read (ppr map) Caller w = rw (le-ltb (length map) 32 (omega arith), take_
 fields-read (ppr map) Answerer w = rw (le-ltb (length map) 32 (omega arith), take_all 32 map (omega arith)) refl
 fields-read (other octet) side w = absurd w
 
-pub reads-written : (signal : PlainSignal) (side : Side) (last : Bool) → IsWritable signal → read_content (content_of signal side last) ≡ Ok signal
+pub reads-written : (signal : PlainSignal) (side : Side) (last : Bool) → IsWritable signal → read_content (content_of signal side last)
+    ≡ Ok signal
 unfolding content_of
 reads-written signal side last writable = head-read last (control_octet signal side) (fields_of signal) ∙ fields-read signal side writable
 
--- so many octets at most stand behind the control field
+-- an information field has at most so many octets
 fields-fit : (signal : PlainSignal) → IsWritable signal → length (fields_of signal) ≤ 297
 unfolding dis_fields dcs_fields
 fields-fit (dis caps) w = omega arith
