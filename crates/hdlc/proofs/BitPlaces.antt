@@ -5,5 +5,6 @@ use Rattle.raster.specs.declared.packed.Order.TheVariants.{LsbFirst}
 use Rattle.raster.proofs.PackedLemmas.{bits_in_more}
 
 -- the bits up to one place more
-pub bits_in-next : (octets : List ℕ) (place : ℕ) → bits_in LsbFirst octets (place + 1) ≡ bits_in LsbFirst octets place ++ bit_in LsbFirst octets place ∷ []
+pub bits_in-next : (octets : List ℕ) (place : ℕ) → bits_in LsbFirst octets (place + 1) ≡ bits_in LsbFirst octets place
+    ++ bit_in LsbFirst octets place ∷ []
 bits_in-next octets place = bits_in_more LsbFirst octets octets place (bit_in LsbFirst octets place) (λ k h. refl) refl

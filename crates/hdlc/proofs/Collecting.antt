@@ -4,25 +4,25 @@ use Rattle.std.proofs.lemmas.List.{take_all, append-nil}
 use Rattle.std.proofs.lemmas.Bool.{ne_eqb, eq-eqb, lt-ltb, le-ltb, cases_lt, ltb-false}
 use Rattle.hdlc.specs.declared.collector.Collector.{Collector}
 use Rattle.hdlc.specs.declared.counts.Class.TheVariants.{Good, Aborted, Ragged, Short, Long, Damaged}
-use Rattle.hdlc.specs.Gaps.{clear, has_six, class_of, octets_in, checks, content}
+use Rattle.hdlc.specs.Gaps.{unstuffed, has_six, class_of, octets_in, checks, content}
 use Rattle.hdlc.specs.Assembles.{Assembles}
 use Rattle.hdlc.specs.Collects.{Collects}
-use Rattle.hdlc.proofs.Clear.{ones, ones-more, has_six-more, clear-more, length-more}
+use Rattle.hdlc.proofs.UnstuffedLemmas.{ones, ones-more, has_six-more, unstuffed-more, length-more}
 
-pub clear-none : clear [] ≡ []
-unfolding clear
-clear-none = refl
+pub unstuffed-none : unstuffed [] ≡ []
+unfolding unstuffed
+unstuffed-none = refl
 
 pub has_six-none : has_six [] ≡ false
 unfolding has_six
 has_six-none = refl
 
-pub collects_none : (c : Collector) → c.seen ≡ 0 → c.ones ≡ 0 → c.aborted ≡ false → Assembles c.clear [] → Collects c []
+pub collects_none : (c : Collector) → c.seen ≡ 0 → c.ones ≡ 0 → c.aborted ≡ false → Assembles c.unstuffed [] → Collects c []
 collects_none c seen ones aborted old = record {
   seen = seen;
   ones = ones;
   aborted = aborted ∙ sym has_six-none;
-  clear = rw clear-none old;
+  unstuffed = rw unstuffed-none old;
 }
 
 -- the counts of one bit more
@@ -61,28 +61,30 @@ seen_more c new b gap old counts =
     counts.seen (omega arith) ∙ omega arith
 
 -- a bit directly after five 1 bits is left out
-pub collects_stuffed : (c new : Collector) (b : Bool) (gap : List Bool) → Collects c gap → Counted c b new → 5 ≤ c.ones → new.clear ≡ c.clear → Collects new (gap ++ b ∷ [])
+pub collects_stuffed : (c new : Collector) (b : Bool) (gap : List Bool) → Collects c gap → Counted c b new → 5 ≤ c.ones
+    → new.unstuffed ≡ c.unstuffed → Collects new (gap ++ b ∷ [])
 collects_stuffed c new b gap old counts five same =
     let e : c.ones ≡ min 6 (ones gap) = old.ones in
     let out : nat_lt (ones gap) 5 ≡ false = le-ltb (ones gap) 5 (omega arith) in
-    let kept : clear (gap ++ b ∷ []) ≡ clear gap = clear-more gap b ∙ (rw out (append-nil (clear gap))) in
+    let kept : unstuffed (gap ++ b ∷ []) ≡ unstuffed gap = unstuffed-more gap b ∙ (rw out (append-nil (unstuffed gap))) in
     record {
       seen = seen_more c new b gap old counts;
       ones = ones_more c new b gap old counts;
       aborted = aborted_more c new b gap old counts;
-      clear = rw (kept, same) old.clear;
+      unstuffed = rw (kept, same) old.unstuffed;
     }
 
-pub collects_clear : (c new : Collector) (b : Bool) (gap : List Bool) → Collects c gap → Counted c b new → c.ones < 5 → Assembles new.clear (clear gap ++ b ∷ []) → Collects new (gap ++ b ∷ [])
-collects_clear c new b gap old counts few more =
+pub collects_unstuffed : (c new : Collector) (b : Bool) (gap : List Bool) → Collects c gap → Counted c b new → c.ones < 5
+    → Assembles new.unstuffed (unstuffed gap ++ b ∷ []) → Collects new (gap ++ b ∷ [])
+collects_unstuffed c new b gap old counts few more =
     let e : c.ones ≡ min 6 (ones gap) = old.ones in
     let in_ : nat_lt (ones gap) 5 ≡ true = lt-ltb (ones gap) 5 (omega arith) in
-    let grown : clear (gap ++ b ∷ []) ≡ clear gap ++ b ∷ [] = clear-more gap b ∙ (rw in_ refl) in
+    let grown : unstuffed (gap ++ b ∷ []) ≡ unstuffed gap ++ b ∷ [] = unstuffed-more gap b ∙ (rw in_ refl) in
     record {
       seen = seen_more c new b gap old counts;
       ones = ones_more c new b gap old counts;
       aborted = aborted_more c new b gap old counts;
-      clear = rw grown more;
+      unstuffed = rw grown more;
     }
 
 good_is_not_long : (a b c d e : Bool) → cond a Aborted (cond b Ragged (cond c Short (cond d Long (cond e Damaged Good)))) ≡ Good → d ≡ false
@@ -92,22 +94,29 @@ good_is_not_long false false true d e h = cc
 good_is_not_long false false false true e h = cc
 good_is_not_long false false false false e h = refl
 
-whole_is : (c : Collector) (gap : List Bool) → Collects c gap → nat_lt 302 (length (octets_in gap)) ≡ false → c.clear.whole.items ≡ octets_in gap
-whole_is c gap old e = let le : length (octets_in gap) ≤ 302 = ltb-false 302 (length (octets_in gap)) e in old.clear.whole ∙ take_all 302 (octets_in gap) le
+whole_is : (c : Collector) (gap : List Bool) → Collects c gap → nat_lt 302 (length (octets_in gap)) ≡ false
+    → c.unstuffed.whole.items ≡ octets_in gap
+whole_is c gap old e = let le : length (octets_in gap) ≤ 302 = ltb-false 302 (length (octets_in gap)) e in old.unstuffed.whole
+    ∙ take_all 302 (octets_in gap) le
 
 -- the content of a good gap
-pub good_content : (c : Collector) (gap : List Bool) (n : ℕ) → Collects c gap → class_of gap ≡ Good → n ≡ length c.clear.whole.items - 2 → take n c.clear.whole.items ≡ content gap
+pub good_content : (c : Collector) (gap : List Bool) (n : ℕ) → Collects c gap → class_of gap ≡ Good → n ≡ length c.unstuffed.whole.items - 2
+    → take n c.unstuffed.whole.items ≡ content gap
 good_content c gap n old fine size =
-    let is : c.clear.whole.items ≡ octets_in gap = whole_is c gap old (good_is_not_long (has_six gap) (not (nat_eq (length (clear gap) % 8) 0)) (nat_lt (length (octets_in gap)) 5) (nat_lt 302 (length (octets_in gap))) (not (checks (octets_in gap))) fine) in
+    let is : c.unstuffed.whole.items ≡ octets_in gap =
+    whole_is c gap old (good_is_not_long (has_six gap) (not (nat_eq (length (unstuffed gap) % 8) 0)) (nat_lt (length (octets_in gap)) 5)
+    (nat_lt 302 (length (octets_in gap))) (not (checks (octets_in gap))) fine) in
     rw (size, is) refl
 
 -- past the other classes the check sequence decides
-pub class_checked : (c : Collector) (gap : List Bool) → Collects c gap → c.aborted ≡ false → c.clear.part ≡ 0 → 5 ≤ length c.clear.whole.items → c.clear.long ≡ false → class_of gap ≡ cond (not (checks c.clear.whole.items)) Damaged Good
+pub class_checked : (c : Collector) (gap : List Bool) → Collects c gap → c.aborted ≡ false → c.unstuffed.part ≡ 0
+    → 5 ≤ length c.unstuffed.whole.items → c.unstuffed.long ≡ false
+    → class_of gap ≡ cond (not (checks c.unstuffed.whole.items)) Damaged Good
 class_checked c gap old aborted part five long =
     let one : has_six gap ≡ false = sym old.aborted ∙ aborted in
-    let two : nat_eq (length (clear gap) % 8) 0 ≡ true = eq-eqb (length (clear gap) % 8) 0 (sym old.clear.part ∙ part) in
-    let four : nat_lt 302 (length (octets_in gap)) ≡ false = sym old.clear.long ∙ long in
-    let is : c.clear.whole.items ≡ octets_in gap = whole_is c gap old four in
+    let two : nat_eq (length (unstuffed gap) % 8) 0 ≡ true = eq-eqb (length (unstuffed gap) % 8) 0 (sym old.unstuffed.part ∙ part) in
+    let four : nat_lt 302 (length (octets_in gap)) ≡ false = sym old.unstuffed.long ∙ long in
+    let is : c.unstuffed.whole.items ≡ octets_in gap = whole_is c gap old four in
     let size : 5 ≤ length (octets_in gap) = rw (← is) five in
     let three : nat_lt (length (octets_in gap)) 5 ≡ false = le-ltb (length (octets_in gap)) 5 size in
     rw (one, two, three, four, is) refl

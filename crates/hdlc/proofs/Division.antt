@@ -12,7 +12,7 @@ use Rattle.raster.specs.Octets.{number}
 use Rattle.hdlc.specs.Fcs.{xor, add, divisor, remainder, sixteen, check_bits, fcs_of, check_octets}
 use Rattle.hdlc.specs.Register.{shift_in, crc_bit}
 use Rattle.hdlc.proofs.BitPlaces.{bits_in-next}
-use Rattle.hdlc.proofs.Clear.{sixteen_bits}
+use Rattle.hdlc.proofs.UnstuffedLemmas.{sixteen_bits}
 
 xor_false : (x : Bool) → xor x false ≡ x
 xor_false true = refl
@@ -39,7 +39,8 @@ add_assoc [] ys zs h = refl
 add_assoc (x ∷ xs) [] [] h = refl
 add_assoc (x ∷ xs) [] (z ∷ zs) h = absurd (omega arith)
 add_assoc (x ∷ xs) (y ∷ ys) [] h = refl
-add_assoc (x ∷ xs) (y ∷ ys) (z ∷ zs) h = ap (λ b. b ∷ add (add xs ys) zs) (xor_assoc x y z) ∙ ap (λ bs. xor x (xor y z) ∷ bs) (add_assoc xs ys zs (omega arith))
+add_assoc (x ∷ xs) (y ∷ ys) (z ∷ zs) h = ap (λ b. b ∷ add (add xs ys) zs) (xor_assoc x y z)
+    ∙ ap (λ bs. xor x (xor y z) ∷ bs) (add_assoc xs ys zs (omega arith))
 
 length-add : (xs ys : List Bool) → length (add xs ys) ≡ length xs
 length-add [] ys = refl
@@ -64,13 +65,16 @@ add_zeros (suc n) [] h = absurd (omega arith)
 add_zeros (suc n) (x ∷ xs) h = ap (λ ys. x ∷ ys) (add_zeros n xs (omega arith))
 
 -- the long division leaves what the register holds after all bits
-pub register_divides : (bits register : List Bool) → length register ≡ 16 → remainder (length bits) (add (bits ++ sixteen false) register) ≡ fold shift_in register bits
+pub register_divides : (bits register : List Bool) → length register ≡ 16 → remainder (length bits) (add (bits ++ sixteen false) register)
+    ≡ fold shift_in register bits
 register_divides [] register h = add_zeros 16 register h
 register_divides (b ∷ bits) [] h = absurd (omega arith)
 register_divides (b ∷ bits) (r ∷ register) h =
     step (xor b r) ∙ register_divides bits (shift_in (r ∷ register) b) (length-shift_in (r ∷ register) b h)
   where
-    step : (t : Bool) → remainder (length bits) (cond t (add (add (bits ++ sixteen false) register) divisor) (add (bits ++ sixteen false) register)) ≡ remainder (length bits) (add (bits ++ sixteen false) (cond t (add (register ++ false ∷ []) divisor) (register ++ false ∷ [])))
+    step : (t : Bool)
+        → remainder (length bits) (cond t (add (add (bits ++ sixteen false) register) divisor) (add (bits ++ sixteen false) register))
+        ≡ remainder (length bits) (add (bits ++ sixteen false) (cond t (add (register ++ false ∷ []) divisor) (register ++ false ∷ [])))
     step true =
         let size : length divisor ≤ length (register ++ false ∷ []) = rw length-append (omega arith) in
         ap (λ xs. remainder (length bits) (add xs divisor)) (sym (add-push_zero (bits ++ sixteen false) register)) ∙
@@ -90,7 +94,8 @@ number-add : (xs ys : List Bool) → length xs ≡ length ys → number (add xs 
 number-add [] [] h = refl
 number-add [] (y ∷ ys) h = absurd (omega arith)
 number-add (x ∷ xs) [] h = absurd (omega arith)
-number-add (x ∷ xs) (y ∷ ys) h = step x y (number-add xs ys (omega arith)) ∙ (sym (xor_block 1 (number xs) (number ys) (cond x 1 0) (cond y 1 0) (low x) (low y)) ∙ both)
+number-add (x ∷ xs) (y ∷ ys) h = step x y (number-add xs ys (omega arith))
+    ∙ (sym (xor_block 1 (number xs) (number ys) (cond x 1 0) (cond y 1 0) (low x) (low y)) ∙ both)
   where
     low : (x : Bool) → cond x 1 0 < 2 ^ 1
     low true = omega arith
@@ -105,13 +110,15 @@ number-add (x ∷ xs) (y ∷ ys) h = step x y (number-add xs ys (omega arith)) �
     bit false true = refl
     bit false false = refl
 
-    step : (x y : Bool) → number (add xs ys) ≡ bit_xor (number xs) (number ys) → cond (xor x y) 1 0 + 2 * number (add xs ys) ≡ bit_xor (number xs) (number ys) * 2 ^ 1 + bit_xor (cond x 1 0) (cond y 1 0)
+    step : (x y : Bool) → number (add xs ys) ≡ bit_xor (number xs) (number ys) → cond (xor x y) 1 0 + 2 * number (add xs ys)
+        ≡ bit_xor (number xs) (number ys) * 2 ^ 1 + bit_xor (cond x 1 0) (cond y 1 0)
     step x y rest = rw (rest, bit x y) (omega arith)
 
     swap : (x : Bool) (zs : List Bool) → number zs * 2 ^ 1 + cond x 1 0 ≡ cond x 1 0 + 2 * number zs
     swap x zs = omega arith
 
-    both : bit_xor (number xs * 2 ^ 1 + cond x 1 0) (number ys * 2 ^ 1 + cond y 1 0) ≡ bit_xor (cond x 1 0 + 2 * number xs) (cond y 1 0 + 2 * number ys)
+    both : bit_xor (number xs * 2 ^ 1 + cond x 1 0) (number ys * 2 ^ 1 + cond y 1 0) ≡ bit_xor (cond x 1 0 + 2 * number xs)
+        (cond y 1 0 + 2 * number ys)
     both = rw (swap x xs, swap y ys) refl
 
 number-push_zero : (xs : List Bool) → number (xs ++ false ∷ []) ≡ number xs
@@ -134,13 +141,16 @@ number-shift_in register b h = rw (first_is register) (go (xor b (nat_eq (number
     size : length (drop 1 register ++ false ∷ []) ≡ length divisor
     size = rw (length-append, length-drop, h) refl
 
-    go : (t : Bool) → number (cond t (add (drop 1 register ++ false ∷ []) divisor) (drop 1 register ++ false ∷ [])) ≡ cond t (bit_xor (number register / 2) 0x8408) (number register / 2)
+    go : (t : Bool) → number (cond t (add (drop 1 register ++ false ∷ []) divisor) (drop 1 register ++ false ∷ []))
+        ≡ cond t (bit_xor (number register / 2) 0x8408) (number register / 2)
     go true = number-add (drop 1 register ++ false ∷ []) divisor size ∙ ap (λ n. bit_xor n 0x8408) (number-rest register)
     go false = number-rest register
 
-pub number-fold : (bits register : List Bool) → length register ≡ 16 → number (fold shift_in register bits) ≡ fold crc_bit (number register) bits
+pub number-fold : (bits register : List Bool) → length register ≡ 16
+    → number (fold shift_in register bits) ≡ fold crc_bit (number register) bits
 number-fold [] register h = refl
-number-fold (b ∷ bits) register h = number-fold bits (shift_in register b) (length-shift_in register b h) ∙ ap (λ r. fold crc_bit r bits) (number-shift_in register b h)
+number-fold (b ∷ bits) register h = number-fold bits (shift_in register b) (length-shift_in register b h)
+    ∙ ap (λ r. fold crc_bit r bits) (number-shift_in register b h)
 
 number-not : (xs : List Bool) (n : ℕ) → length xs ≡ n → number (map not xs) + number xs + 1 ≡ 2 ^ n
 number-not [] n h = rw (sym h) refl
@@ -167,17 +177,20 @@ pub length-check_bits : (bits : List Bool) → length (check_bits bits) ≡ 16
 length-check_bits bits = rw (check_bits_is bits, length-map) (length-fold bits (sixteen true) refl)
 
 -- one bit on
-pub register_more : (octets : List ℕ) (place register : ℕ) → register ≡ fold crc_bit 65535 (bits_in LsbFirst octets place) → crc_bit register (bit_in LsbFirst octets place) ≡ fold crc_bit 65535 (bits_in LsbFirst octets (place + 1))
+pub register_more : (octets : List ℕ) (place register : ℕ) → register ≡ fold crc_bit 65535 (bits_in LsbFirst octets place)
+    → crc_bit register (bit_in LsbFirst octets place) ≡ fold crc_bit 65535 (bits_in LsbFirst octets (place + 1))
 register_more octets place register is =
     let bits : List Bool = bits_in LsbFirst octets place in
     let bit : Bool = bit_in LsbFirst octets place in
-    ap (λ r. crc_bit r bit) is ∙ (sym (fold-append crc_bit 65535 bits (bit ∷ [])) ∙ ap (fold crc_bit 65535) (sym (bits_in-next octets place)))
+    ap (λ r. crc_bit r bit) is
+    ∙ (sym (fold-append crc_bit 65535 bits (bit ∷ [])) ∙ ap (fold crc_bit 65535) (sym (bits_in-next octets place)))
 
 -- the low octet of the check sequence is sent first
 pub check_octets_are : (octets : List ℕ) → check_octets octets ≡ fcs_of octets % 256 ∷ fcs_of octets / 256 ∷ []
 check_octets_are octets = sixteen_bits (check_bits (bits_of LsbFirst octets)) (length-check_bits (bits_of LsbFirst octets))
 
-pub checks_number : (sent : List ℕ) (octets : List ℕ) → length sent ≡ 2 → ((k : ℕ) → get_or sent k 0 < 256) → nat_eq (get_or sent 0 0 + 256 * (get_or sent 1 0 + 256 * 0)) (fcs_of octets) ≡ pointwise nat_eq sent (check_octets octets)
+pub checks_number : (sent : List ℕ) (octets : List ℕ) → length sent ≡ 2 → ((k : ℕ) → get_or sent k 0 < 256)
+    → nat_eq (get_or sent 0 0 + 256 * (get_or sent 1 0 + 256 * 0)) (fcs_of octets) ≡ pointwise nat_eq sent (check_octets octets)
 checks_number [] octets h small = absurd (omega arith)
 checks_number (x ∷ []) octets h small = absurd (omega arith)
 checks_number (x ∷ y ∷ z ∷ rest) octets h small = absurd (omega arith)

@@ -7,7 +7,7 @@ use Rattle.std.proofs.lemmas.List.Elements.{filter-append}
 use Rattle.std.proofs.lemmas.Bool.{cases_lt}
 use Rattle.run_tables.specs.Texts.{begins}
 use Rattle.hdlc.specs.Flags.{flag, flag_at, flags, neighbours, pairs_from, between}
-use Rattle.hdlc.specs.Standing.{recent, last_of, last_from, last_flag}
+use Rattle.hdlc.specs.OpenGap.{recent, last_of, last_from, last_flag}
 
 pub begins-append : (t xs ys : List Bool) → length t ≤ length xs → begins t (xs ++ ys) ≡ begins t xs
 begins-append [] xs ys h = refl
@@ -26,12 +26,14 @@ range_more a (suc n) =
     let next : a + 1 + n ≡ a + suc n = omega arith in
     ap (λ xs. a ∷ xs) (range_more (a + 1) n ∙ ap (λ j. range_with_len (a + 1) n ++ j ∷ []) next)
 
-pub filter_range_more : (p : ℕ → Bool) (n : ℕ) → filter p (range_with_len 0 (suc n)) ≡ filter p (range_with_len 0 n) ++ cond (p n) (n ∷ []) []
+pub filter_range_more : (p : ℕ → Bool) (n : ℕ) → filter p (range_with_len 0 (suc n)) ≡ filter p (range_with_len 0 n) ++ cond (p n)
+    (n ∷ []) []
 filter_range_more p n =
     let next : 0 + n ≡ n = omega arith in
     ap (filter p) (range_more 0 n ∙ ap (λ j. range_with_len 0 n ++ j ∷ []) next) ∙ filter-append p (range_with_len 0 n) (n ∷ [])
 
-pub filter_range_agree : (p q : ℕ → Bool) (n : ℕ) → ((k : ℕ) → k < n → p k ≡ q k) → filter p (range_with_len 0 n) ≡ filter q (range_with_len 0 n)
+pub filter_range_agree : (p q : ℕ → Bool) (n : ℕ) → ((k : ℕ) → k < n → p k ≡ q k)
+    → filter p (range_with_len 0 n) ≡ filter q (range_with_len 0 n)
 filter_range_agree p q zero same = refl
 filter_range_agree p q (suc n) same =
     filter_range_more p n ∙
@@ -45,7 +47,8 @@ recent-more fill bits b =
     let long : List Bool = fill ∷ fill ∷ fill ∷ fill ∷ fill ∷ fill ∷ fill ∷ fill ∷ bits in
     let size : length (bits ++ b ∷ []) ≡ length bits + 1 = length-append bits (b ∷ []) in
     let within : length bits + 1 ≤ length long = omega arith in
-    ap (λ n. drop n (long ++ b ∷ [])) size ∙ (drop-append-le (length bits + 1) long (b ∷ []) within ∙ ap (λ xs. xs ++ b ∷ []) (sym (drop-drop 1 (length bits) long)))
+    ap (λ n. drop n (long ++ b ∷ [])) size
+    ∙ (drop-append-le (length bits + 1) long (b ∷ []) within ∙ ap (λ xs. xs ++ b ∷ []) (sym (drop-drop 1 (length bits) long)))
 
 pub length-recent : (fill : Bool) (bits : List Bool) → length (recent fill bits) ≡ 8
 unfolding recent
@@ -58,7 +61,8 @@ recent_long fill bits h =
     let split : length bits ≡ 8 + (length bits - 8) = omega arith in
     ap (λ n. drop n long) split ∙ sym (drop-drop (length bits - 8) 8 long)
 
-no_flag_in_fill : (n : ℕ) (bits : List Bool) → n < 8 → begins flag (drop n (true ∷ true ∷ true ∷ true ∷ true ∷ true ∷ true ∷ true ∷ bits)) ≡ false
+no_flag_in_fill : (n : ℕ) (bits : List Bool) → n < 8 → begins flag (drop n (true ∷ true ∷ true ∷ true ∷ true ∷ true ∷ true ∷ true ∷ bits))
+    ≡ false
 no_flag_in_fill zero bits h = refl
 no_flag_in_fill (suc zero) bits h = refl
 no_flag_in_fill (suc (suc zero)) bits h = refl
@@ -78,14 +82,16 @@ unfolding flags
 flags_none bits h =
     let none : length bits - 7 ≡ 0 = omega arith in ap (λ n. filter (flag_at bits) (range_with_len 0 n)) none
 
-flags-more_long : (bits : List Bool) (b : Bool) → 7 ≤ length bits → flags (bits ++ b ∷ []) ≡ flags bits ++ cond (begins flag (recent true (bits ++ b ∷ []))) ((length bits - 7) ∷ []) []
+flags-more_long : (bits : List Bool) (b : Bool) → 7 ≤ length bits
+    → flags (bits ++ b ∷ []) ≡ flags bits ++ cond (begins flag (recent true (bits ++ b ∷ []))) ((length bits - 7) ∷ []) []
 unfolding flags
 flags-more_long bits b many =
     let size : length (bits ++ b ∷ []) ≡ length bits + 1 = length-append bits (b ∷ []) in
     let long : 8 ≤ length (bits ++ b ∷ []) = omega arith in
     let at : length (bits ++ b ∷ []) - 8 ≡ length bits - 7 = omega arith in
     let room : length (bits ++ b ∷ []) - 7 ≡ suc (length bits - 7) = omega arith in
-    let last : recent true (bits ++ b ∷ []) ≡ drop (length bits - 7) (bits ++ b ∷ []) = recent_long true (bits ++ b ∷ []) long ∙ ap (λ n. drop n (bits ++ b ∷ [])) at in
+    let last : recent true (bits ++ b ∷ []) ≡ drop (length bits - 7) (bits ++ b ∷ []) = recent_long true (bits ++ b ∷ []) long
+    ∙ ap (λ n. drop n (bits ++ b ∷ [])) at in
     ap (λ n. filter (flag_at (bits ++ b ∷ [])) (range_with_len 0 n)) room ∙
     (filter_range_more (flag_at (bits ++ b ∷ [])) (length bits - 7) ∙
     (ap (λ front. front ++ cond (flag_at (bits ++ b ∷ []) (length bits - 7)) ((length bits - 7) ∷ []) [])
@@ -93,7 +99,8 @@ flags-more_long bits b many =
     ap (λ r. filter (flag_at bits) (range_with_len 0 (length bits - 7)) ++ cond (begins flag r) ((length bits - 7) ∷ []) []) (sym last)))
 
 -- one bit more: a flag more exactly where the last eight bits are one
-pub flags-more : (bits : List Bool) (b : Bool) → flags (bits ++ b ∷ []) ≡ flags bits ++ cond (begins flag (recent true (bits ++ b ∷ []))) ((length bits - 7) ∷ []) []
+pub flags-more : (bits : List Bool) (b : Bool) → flags (bits ++ b ∷ []) ≡ flags bits ++ cond (begins flag (recent true (bits ++ b ∷ [])))
+    ((length bits - 7) ∷ []) []
 flags-more bits b = elim (cases_lt (length bits) 7) [
   | inl few ↦
       let size : length (bits ++ b ∷ []) ≡ length bits + 1 = length-append bits (b ∷ []) in
@@ -119,7 +126,9 @@ Below-push n (y ∷ xs) b x h all = (all.0, Below-push n xs b x h all.1)
 
 pub Below-filter : (p : ℕ → Bool) (n : ℕ) → Below n (filter p (range_with_len 0 n))
 Below-filter p zero = tt
-Below-filter p (suc n) = rw (filter_range_more p n) (Below-push (suc n) (filter p (range_with_len 0 n)) (p n) n (omega arith) (Below-weaken n (suc n) (filter p (range_with_len 0 n)) (omega arith) (Below-filter p n)))
+Below-filter p (suc n) =
+    rw (filter_range_more p n) (Below-push (suc n) (filter p (range_with_len 0 n)) (p n) n (omega arith)
+    (Below-weaken n (suc n) (filter p (range_with_len 0 n)) (omega arith) (Below-filter p n)))
 
 pub flags_below : (bits : List Bool) → Below (length bits - 7) (flags bits)
 unfolding flags
@@ -162,14 +171,16 @@ last_of-push (p ∷ ps) q = ap Some (last_from-push p ps q)
 between-append : (bits ys : List Bool) (p q : ℕ) → q ≤ length bits → between (bits ++ ys) (p, q) ≡ between bits (p, q)
 between-append bits ys p q h = ap (drop (p + 8)) (take-append-le q bits ys h)
 
-pairs-append : (bits ys : List Bool) (p : ℕ) (ps : List ℕ) → Below (length bits) ps → map (between (bits ++ ys)) (pairs_from p ps) ≡ map (between bits) (pairs_from p ps)
+pairs-append : (bits ys : List Bool) (p : ℕ) (ps : List ℕ) → Below (length bits) ps → map (between (bits ++ ys)) (pairs_from p ps)
+    ≡ map (between bits) (pairs_from p ps)
 pairs-append bits ys p [] all = refl
 pairs-append bits ys p (q ∷ qs) all =
     let first : q < length bits = all.0 in
     ap (λ g. g ∷ map (between (bits ++ ys)) (pairs_from q qs)) (between-append bits ys p q (omega arith)) ∙
     ap (λ gs. between bits (p, q) ∷ gs) (pairs-append bits ys q qs all.1)
 
-pub between-same : (bits ys : List Bool) → map (between (bits ++ ys)) (neighbours (flags bits)) ≡ map (between bits) (neighbours (flags bits))
+pub between-same : (bits ys : List Bool) → map (between (bits ++ ys)) (neighbours (flags bits)) ≡ map (between bits)
+    (neighbours (flags bits))
 between-same bits ys = go (flags bits) (flags_below bits)
   where
     go : (ps : List ℕ) → Below (length bits - 7) ps → map (between (bits ++ ys)) (neighbours ps) ≡ map (between bits) (neighbours ps)

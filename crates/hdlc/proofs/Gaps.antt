@@ -11,10 +11,11 @@ use Rattle.hdlc.specs.Laws.{GoodContentsStay}
 use Rattle.hdlc.specs.Gaps.{good, count_of, class_of, is_class, content}
 use Rattle.hdlc.specs.declared.counts.Class.{Class}
 use Rattle.hdlc.specs.declared.counts.Class.TheVariants.{Good}
-use Rattle.hdlc.specs.Standing.{recent, last_of, last_flag, unclosed, unclosed_after, settled, settled_after, held, held_after, begun, at_flag}
+use Rattle.hdlc.specs.OpenGap.{recent, last_of, last_flag, unclosed, unclosed_after, settled, settled_after, held, held_after, begun, at_flag}
 use Rattle.hdlc.proofs.Flags.{flags-more, recent_long, recent_short, last_flag_within, neighbours-push, last_of-push, between-same, closing}
 
-pub last_flag-more : (bits : List Bool) (b : Bool) → last_flag (bits ++ b ∷ []) ≡ cond (at_flag (bits ++ b ∷ [])) (Some (length bits - 7)) (last_flag bits)
+pub last_flag-more : (bits : List Bool) (b : Bool) → last_flag (bits ++ b ∷ []) ≡ cond (at_flag (bits ++ b ∷ [])) (Some (length bits - 7))
+    (last_flag bits)
 last_flag-more bits b = ap last_of (flags-more bits b) ∙ go (at_flag (bits ++ b ∷ []))
   where
     go : (f : Bool) → last_of (flags bits ++ cond f ((length bits - 7) ∷ []) []) ≡ cond f (Some (length bits - 7)) (last_flag bits)
@@ -32,7 +33,8 @@ begun-more bits b = ap is_some (last_flag-more bits b) ∙ go (at_flag (bits ++ 
 pub settled_is : (bits : List Bool) → settled bits ≡ unclosed bits ++ cond (nat_eq (held bits) 8) (get_or (recent true bits) 0 true ∷ []) []
 settled_is bits = go (last_flag bits) refl
   where
-    some : (p : ℕ) → p + 8 ≤ length bits → drop (p + 8) (take (length bits - 7) bits) ≡ drop (p + 8) (take (length bits - 8) bits) ++ cond (nat_eq (min 8 (length bits - (p + 8))) 8) (get_or (recent true bits) 0 true ∷ []) []
+    some : (p : ℕ) → p + 8 ≤ length bits → drop (p + 8) (take (length bits - 7) bits) ≡ drop (p + 8) (take (length bits - 8) bits) ++ cond
+        (nat_eq (min 8 (length bits - (p + 8))) 8) (get_or (recent true bits) 0 true ∷ []) []
     some p within = elim (cases_lt (length bits) (p + 16)) [
       | inl early ↦
           let le7 : length bits - 7 ≤ length bits = omega arith in
@@ -49,12 +51,14 @@ settled_is bits = go (last_flag bits) refl
           let full : nat_eq (min 8 (length bits - (p + 8))) 8 ≡ true = eq-eqb _ _ (omega arith) in
           let plain : length bits - 8 + 0 ≡ length bits - 8 = omega arith in
           let oldest : get_or (recent true bits) 0 true ≡ get_or bits (length bits - 8) true =
-          ap (λ r. get_or r 0 true) (recent_long true bits (omega arith)) ∙ (get_or-drop (length bits - 8) bits 0 true ∙ ap (λ k. get_or bits k true) plain) in
+          ap (λ r. get_or r 0 true) (recent_long true bits (omega arith))
+          ∙ (get_or-drop (length bits - 8) bits 0 true ∙ ap (λ k. get_or bits k true) plain) in
           rw (full, oldest, next, take_more bits (length bits - 8) true at)
           (drop-append-le (p + 8) (take (length bits - 8) bits) (get_or bits (length bits - 8) true ∷ []) room)
     ]
 
-    go : (o : Option ℕ) → last_flag bits ≡ o → settled_after bits o ≡ unclosed_after bits o ++ cond (nat_eq (held_after bits o) 8) (get_or (recent true bits) 0 true ∷ []) []
+    go : (o : Option ℕ) → last_flag bits ≡ o → settled_after bits o ≡ unclosed_after bits o ++ cond (nat_eq (held_after bits o) 8)
+        (get_or (recent true bits) 0 true ∷ []) []
     go None e = refl
     go (Some p) e = some p (last_flag_within bits p e)
 
@@ -87,7 +91,8 @@ at_flag_long bits e = elim (cases_lt (length bits) 8) [
   | inr long ↦ long
 ]
 
-pub held-more : (bits : List Bool) (b : Bool) → held (bits ++ b ∷ []) ≡ cond (at_flag (bits ++ b ∷ [])) 0 (cond (begun bits) (min 8 (held bits + 1)) 0)
+pub held-more : (bits : List Bool) (b : Bool)
+    → held (bits ++ b ∷ []) ≡ cond (at_flag (bits ++ b ∷ [])) 0 (cond (begun bits) (min 8 (held bits + 1)) 0)
 held-more bits b = ap (held_after (bits ++ b ∷ [])) (last_flag-more bits b) ∙ go (at_flag (bits ++ b ∷ [])) refl
   where
     size : length (bits ++ b ∷ []) ≡ length bits + 1
@@ -99,7 +104,8 @@ held-more bits b = ap (held_after (bits ++ b ∷ [])) (last_flag-more bits b) �
         let within : p + 8 ≤ length bits = last_flag_within bits p e in
         rw size (let m : min 8 (length bits + 1 - (p + 8)) ≡ min 8 (min 8 (length bits - (p + 8)) + 1) = omega arith in m)
 
-    go : (f : Bool) → at_flag (bits ++ b ∷ []) ≡ f → held_after (bits ++ b ∷ []) (cond f (Some (length bits - 7)) (last_flag bits)) ≡ cond f 0 (cond (begun bits) (min 8 (held bits + 1)) 0)
+    go : (f : Bool) → at_flag (bits ++ b ∷ []) ≡ f → held_after (bits ++ b ∷ []) (cond f (Some (length bits - 7)) (last_flag bits))
+        ≡ cond f 0 (cond (begun bits) (min 8 (held bits + 1)) 0)
     go true e =
         let long : 8 ≤ length (bits ++ b ∷ []) = at_flag_long (bits ++ b ∷ []) e in
         let is : length (bits ++ b ∷ []) ≡ length bits + 1 = size in
@@ -107,9 +113,11 @@ held-more bits b = ap (held_after (bits ++ b ∷ [])) (last_flag-more bits b) �
     go false e = kept (last_flag bits) refl
 
 -- one bit more: a gap more where it ends a flag and the gap has eight bits or more
-pub gaps-more : (bits : List Bool) (b : Bool) → gaps (bits ++ b ∷ []) ≡ gaps bits ++ cond (at_flag (bits ++ b ∷ []) && nat_lt 7 (length (settled bits))) (settled bits ∷ []) []
+pub gaps-more : (bits : List Bool) (b : Bool)
+    → gaps (bits ++ b ∷ []) ≡ gaps bits ++ cond (at_flag (bits ++ b ∷ []) && nat_lt 7 (length (settled bits))) (settled bits ∷ []) []
 unfolding gaps
-gaps-more bits b = ap (λ ps. filter counted (map (between (bits ++ b ∷ [])) (neighbours ps))) (flags-more bits b) ∙ go (at_flag (bits ++ b ∷ []))
+gaps-more bits b = ap (λ ps. filter counted (map (between (bits ++ b ∷ [])) (neighbours ps))) (flags-more bits b)
+    ∙ go (at_flag (bits ++ b ∷ []))
   where
     counted : List Bool → Bool
     counted gap = nat_lt 7 (length gap)
@@ -120,13 +128,15 @@ gaps-more bits b = ap (λ ps. filter counted (map (between (bits ++ b ∷ [])) (
     old : List (List Bool)
     old = map (between bits) (neighbours (flags bits))
 
-    new : (o : Option ℕ) → filter counted (map (between (bits ++ b ∷ [])) (closing o end)) ≡ cond (nat_lt 7 (length (settled_after bits o))) (settled_after bits o ∷ []) []
+    new : (o : Option ℕ) → filter counted (map (between (bits ++ b ∷ [])) (closing o end)) ≡ cond (nat_lt 7 (length (settled_after bits o)))
+        (settled_after bits o ∷ []) []
     new None = refl
     new (Some p) =
         let same : take end (bits ++ b ∷ []) ≡ take end bits = take-append-le end bits (b ∷ []) (omega arith) in
         ap (λ g. filter counted (drop (p + 8) g ∷ [])) same
 
-    go : (f : Bool) → filter counted (map (between (bits ++ b ∷ [])) (neighbours (flags bits ++ cond f (end ∷ []) []))) ≡ filter counted old ++ cond (f && nat_lt 7 (length (settled bits))) (settled bits ∷ []) []
+    go : (f : Bool) → filter counted (map (between (bits ++ b ∷ [])) (neighbours (flags bits ++ cond f (end ∷ []) []))) ≡ filter counted old
+        ++ cond (f && nat_lt 7 (length (settled bits))) (settled bits ∷ []) []
     go true =
         ap (λ ps. filter counted (map (between (bits ++ b ∷ [])) ps)) (neighbours-push (flags bits) end) ∙
         (ap (filter counted) (map-append (between (bits ++ b ∷ [])) (neighbours (flags bits)) (closing (last_flag bits) end)) ∙
@@ -141,7 +151,8 @@ gaps-more bits b = ap (λ ps. filter counted (map (between (bits ++ b ∷ [])) (
 abbrev pub closes : List Bool → Bool → Bool
 closes bits b = at_flag (bits ++ b ∷ []) && nat_lt 7 (length (settled bits))
 
-pub good-more : (bits : List Bool) (b : Bool) → good (bits ++ b ∷ []) ≡ good bits ++ cond (closes bits b && is_class Good (class_of (settled bits))) (content (settled bits) ∷ []) []
+pub good-more : (bits : List Bool) (b : Bool)
+    → good (bits ++ b ∷ []) ≡ good bits ++ cond (closes bits b && is_class Good (class_of (settled bits))) (content (settled bits) ∷ []) []
 good-more bits b = ap (λ gs. map content (filter fine gs)) (gaps-more bits b) ∙ go (closes bits b)
   where
     fine : List Bool → Bool
@@ -151,7 +162,8 @@ good-more bits b = ap (λ gs. map content (filter fine gs)) (gaps-more bits b) �
     one true = refl
     one false = refl
 
-    go : (f : Bool) → map content (filter fine (gaps bits ++ cond f (settled bits ∷ []) [])) ≡ good bits ++ cond (f && fine (settled bits)) (content (settled bits) ∷ []) []
+    go : (f : Bool) → map content (filter fine (gaps bits ++ cond f (settled bits ∷ []) [])) ≡ good bits ++ cond (f && fine (settled bits))
+        (content (settled bits) ∷ []) []
     go true =
         ap (map content) (filter-append fine (gaps bits) (settled bits ∷ [])) ∙
         (map-append content (filter fine (gaps bits)) (cond (fine (settled bits)) (settled bits ∷ []) []) ∙
@@ -161,11 +173,17 @@ good-more bits b = ap (λ gs. map content (filter fine gs)) (gaps-more bits b) �
 pub good_stays : GoodContentsStay
 good_stays bits [] = ([], ap good (append-nil bits) ∙ sym (append-nil (good bits)))
 good_stays bits (b ∷ more) =
-    let rest = good_stays (bits ++ b ∷ []) more in
-    (_, ap good (sym (append_assoc bits (b ∷ []) more)) ∙ (rest.1 ∙ (ap (λ xs. xs ++ rest.0) (good-more bits b) ∙ append_assoc (good bits) _ rest.0)))
+    let rest = good_stays (bits ++ b ∷ []) more in (
+      _,
+      ap good (sym (append_assoc bits (b ∷ []) more))
+          ∙ (rest.1 ∙ (ap (λ xs. xs ++ rest.0) (good-more bits b) ∙ append_assoc (good bits) _ rest.0)),
+    )
 
-pub count-more : (class : Class) (bits : List Bool) (b : Bool) → count_of class (bits ++ b ∷ []) ≡ count_of class bits + cond (closes bits b && is_class class (class_of (settled bits))) 1 0
-count-more class bits b = ap (count_by fits) (gaps-more bits b) ∙ (sum_by-append (λ gap. cond (fits gap) 1 0) (gaps bits) (cond (closes bits b) (settled bits ∷ []) []) ∙ ap (λ n. count_of class bits + n) (go (closes bits b)))
+pub count-more : (class : Class) (bits : List Bool) (b : Bool) → count_of class (bits ++ b ∷ []) ≡ count_of class bits + cond
+    (closes bits b && is_class class (class_of (settled bits))) 1 0
+count-more class bits b = ap (count_by fits) (gaps-more bits b)
+    ∙ (sum_by-append (λ gap. cond (fits gap) 1 0) (gaps bits) (cond (closes bits b) (settled bits ∷ []) [])
+    ∙ ap (λ n. count_of class bits + n) (go (closes bits b)))
   where
     fits : List Bool → Bool
     fits gap = is_class class (class_of gap)

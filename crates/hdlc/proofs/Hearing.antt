@@ -5,11 +5,11 @@ use Rattle.raster.specs.Packed.{bits_of, FillsOctets}
 use Rattle.raster.specs.declared.packed.Order.TheVariants.{LsbFirst}
 use Rattle.hdlc.specs.Flags.{flags, gaps}
 use Rattle.hdlc.specs.Frames.{IsReady}
-use Rattle.hdlc.specs.Framing.{Framing, StandsAfter, IsIdle}
+use Rattle.hdlc.specs.DeframerState.{DeframerState, IsAfter, IsIdle}
 use Rattle.hdlc.specs.Gaps.{good}
 use Rattle.hdlc.specs.Laws.{FrameOctetsGrow, NewIsIdle, FrameIsHeard}
-use Rattle.hdlc.proofs.Joined.{frame_grows}
-use Rattle.hdlc.proofs.Steps.{next_stands}
+use Rattle.hdlc.proofs.FrameGrowsLemmas.{frame_grows}
+use Rattle.hdlc.proofs.DeframerPartsLemmas.{next_stands}
 
 pub octets_grow : FrameOctetsGrow
 octets_grow bits content frame octets ready is fills =
@@ -18,7 +18,7 @@ octets_grow bits content frame octets ready is fills =
 
 pub new_idle : NewIsIdle
 unfolding flags gaps
-new_idle framing fresh = record { bits = []; ready = inl refl; stands = fresh }
+new_idle state fresh = record { bits = []; ready = inl refl; after = fresh }
 
 pub frame_heard : FrameIsHeard
 frame_heard old fed content frame octets idle is fills step =
@@ -26,10 +26,10 @@ frame_heard old fed content frame octets idle is fills step =
     let all : List Bool = bits ++ bits_of LsbFirst octets in
     let grown : IsReady all × (good all ≡ good bits ++ content ∷ []) =
     octets_grow bits content frame octets idle.ready is fills in
-    let stands : StandsAfter fed all (length (good bits)) = step bits (length (good bits)) idle.stands in
+    let taken : IsAfter fed all (length (good bits)) = step bits (length (good bits)) idle.after in
     let size : length (good all) ≡ length (good bits) + 1 = ap length grown.1 ∙ length-append (good bits) (content ∷ []) in
     let queue : fed.queue ≡ content ∷ [] =
-    stands.queued ∙ (ap (drop (length (good bits))) grown.1 ∙ drop_at (good bits) (content ∷ []) (length (good bits)) refl) in
-    let after : Framing = record fed { queue = drop 1 fed.queue } in
-    let next : StandsAfter after all (length (good bits) + 1) = next_stands fed all (length (good bits)) stands (omega arith) in
-    (queue, record { bits = all; ready = grown.0; stands = subst (λ n. StandsAfter after all n) (sym size) next })
+    taken.queued ∙ (ap (drop (length (good bits))) grown.1 ∙ drop_at (good bits) (content ∷ []) (length (good bits)) refl) in
+    let after : DeframerState = record fed { queue = drop 1 fed.queue } in
+    let next : IsAfter after all (length (good bits) + 1) = next_stands fed all (length (good bits)) taken (omega arith) in
+    (queue, record { bits = all; ready = grown.0; after = subst (λ n. IsAfter after all n) (sym size) next })

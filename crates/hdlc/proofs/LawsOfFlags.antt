@@ -1,4 +1,4 @@
--- The flags are the places where a flag stands.
+-- The flags are the places where there is a flag.
 use Rattle.std.proofs.Common.{◌≡◌, ℕ, zero, suc, ◌-◌, ◌<◌, ◌≤◌, Bool, true, List, [], ◌∷◌, length, drop, cond, arith, inl, inr}
 use Rattle.std.specs.Bool.{beq}
 use Rattle.std.specs.List.{Contains, filter, range_with_len}
@@ -31,9 +31,15 @@ fits_kept p (suc n) k h e = elim (cases_eq k n) [
   | inl is ↦
       let last : p n ≡ true = rw (← is) e in
       rw (filter_range_more p n, last, is) (Contains-push (filter p (range_with_len 0 n)) n)
-  | inr isnt ↦ rw (filter_range_more p n) (Contains-append_left (filter p (range_with_len 0 n)) (cond (p n) (n ∷ []) []) k (fits_kept p n k (omega arith) e))
+  | inr isnt ↦
+      rw (filter_range_more p n) (Contains-append_left (filter p (range_with_len 0 n)) (cond (p n) (n ∷ []) []) k
+      (fits_kept p n k (omega arith) e))
 ]
 
 pub flags_stand : FlagsStand
 unfolding flags
-flags_stand bits place = (kept_fits (flag_at bits) (range_with_len 0 (length bits - 7)) place, λ e. fits_kept (flag_at bits) (length bits - 7) place (flag_room bits place e) e)
+flags_stand bits place = (
+  kept_fits (flag_at bits) (range_with_len 0 (length bits - 7)) place,
+  λ e. fits_kept (flag_at bits) (length bits - 7) place
+      (flag_room bits place e) e,
+)

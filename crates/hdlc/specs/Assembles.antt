@@ -2,7 +2,7 @@
 use Rattle.std.specs.Prelude.{◌≡◌, ◌%◌, Bool, false, List, length, take, nat_lt}
 use Rattle.hdlc.specs.declared.assembler.Assembler.{Assembler}
 use Rattle.raster.specs.Octets.{number, octets_of}
-use Rattle.hdlc.specs.Standing.{recent}
+use Rattle.hdlc.specs.OpenGap.{recent}
 
 -- what an assembler keeps of the bits that it was given
 pub record Assembles (a : Assembler) (bits : List Bool) : Type 0 where

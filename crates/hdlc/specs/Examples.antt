@@ -6,7 +6,7 @@ use Rattle.run_tables.specs.Codes.{text}
 use Rattle.hdlc.specs.declared.counts.Class.TheVariants.{Aborted, Ragged, Short, Damaged}
 use Rattle.hdlc.specs.Fcs.{fcs_of, check_octets}
 use Rattle.hdlc.specs.Flags.{flags, gaps}
-use Rattle.hdlc.specs.Gaps.{clear, good, count_of}
+use Rattle.hdlc.specs.Gaps.{unstuffed, good, count_of}
 
 -- the frame of a message confirmation (MCF) as octets, the least significant bit first
 abbrev pub message_confirmation : List ℕ
@@ -23,7 +23,7 @@ pub record AreExamples : Type 0 where
   pub check_confirmation : check_octets (0xFF ∷ 0x13 ∷ 0x8C ∷ []) ≡ 0xA2 ∷ 0xF1 ∷ []
   pub check_ready : check_octets (0xFF ∷ 0x13 ∷ 0x84 ∷ []) ≡ 0xEA ∷ 0x7D ∷ []
   -- eight 1 bits as they are stuffed
-  pub stuffed : clear (text (codes "111110111")) ≡ replicate 8 true
+  pub stuffed : unstuffed (text (codes "111110111")) ≡ replicate 8 true
   -- a good frame, a damaged one, an aborted one, and one that ends inside an octet
   pub good_frame : good (bits_of LsbFirst message_confirmation) ≡ (0xFF ∷ 0x13 ∷ 0x8C ∷ []) ∷ []
   pub damaged : count_of Damaged (bits_of LsbFirst one_bit_wrong) ≡ 1

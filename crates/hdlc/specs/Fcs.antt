@@ -15,12 +15,12 @@ add [] ys = []
 add (x ∷ xs) [] = x ∷ xs
 add (x ∷ xs) (y ∷ ys) = xor x y ∷ add xs ys
 
--- the generator behind its first term: 1 at 4, 11 and 16 places behind a bit
+-- the generator after its first term: 1 at 4, 11 and 16 places after a bit
 abbrev pub divisor : List Bool
 divisor = false ∷ false ∷ false ∷ true ∷ false ∷ false ∷ false ∷ false ∷ false ∷ false ∷ true ∷ false ∷ false ∷ false ∷ false ∷ true ∷ []
 
--- From the front, each of so many bits that is then 1 is inverted, together with those 4, 11 and 16 places behind it; the
--- bits behind them are left.
+-- From the front, each of so many bits that is then 1 is inverted, together with those 4, 11 and 16 places after it; the
+-- bits after them are left.
 abbrev pub remainder : ℕ → List Bool → List Bool
 remainder zero bits = bits
 remainder (suc n) [] = []

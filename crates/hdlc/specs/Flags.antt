@@ -7,7 +7,7 @@ use Rattle.run_tables.specs.Texts.{begins}
 abbrev pub flag : List Bool
 flag = false ∷ true ∷ true ∷ true ∷ true ∷ true ∷ true ∷ false ∷ []
 
--- a flag stands at a place
+-- there is a flag at a place
 abbrev pub flag_at : List Bool → ℕ → Bool
 flag_at bits place = begins flag (drop place bits)
 
@@ -15,7 +15,7 @@ flag_at bits place = begins flag (drop place bits)
 unfoldable pub flags : List Bool → List ℕ
 flags bits = filter (flag_at bits) (range_with_len 0 (length bits - 7))
 
--- a place with the first of those behind it, that one with the next, and so on
+-- a place with the first of those after it, that one with the next, and so on
 abbrev pub pairs_from : ℕ → List ℕ → List (ℕ × ℕ)
 pairs_from p [] = []
 pairs_from p (q ∷ qs) = (p, q) ∷ pairs_from q qs

@@ -1,11 +1,11 @@
--- A written frame, and bits behind which one may follow (ISO/IEC 13239, frame structure; ITU-T T.30, 5.3).
+-- A written frame, and bits that one may follow (ISO/IEC 13239, frame structure; ITU-T T.30, 5.3).
 use Rattle.std.specs.Prelude.{ℕ, ◌≡◌, ◌≤◌, ◌⊎◌, Bool, false, List, [], ◌∷◌, ◌++◌, replicate}
 use Rattle.std.specs.List.{suffix_len}
 use Rattle.raster.specs.Packed.{bits_of}
 use Rattle.raster.specs.declared.packed.Order.TheVariants.{LsbFirst}
 use Rattle.hdlc.specs.Fcs.{check_octets}
 use Rattle.hdlc.specs.Flags.{flag, gaps}
-use Rattle.hdlc.specs.Gaps.{clear, good}
+use Rattle.hdlc.specs.Gaps.{unstuffed, good}
 
 -- A flag, bits and a flag, whose only gap is good and has the content. Without the stuffed ones the bits are those of the
 -- content and its check sequence; after five 1 bits at their end a 0 bit is stuffed too.
@@ -14,7 +14,7 @@ pub record IsFrame (content : List ℕ) (frame : List Bool) : Type 0 where
   pub is : frame ≡ flag ++ body ++ flag
   pub only : gaps frame ≡ body ∷ []
   pub holds : good frame ≡ content ∷ []
-  pub sent : clear body ≡ bits_of LsbFirst (content ++ check_octets content)
+  pub sent : unstuffed body ≡ bits_of LsbFirst (content ++ check_octets content)
   pub stuffed : suffix_len (λ bit. bit) body ≤ 4
 
 -- bits that end with a flag and at most seven 0 bits

@@ -9,21 +9,21 @@ use Rattle.raster.specs.Octets.{octets_of}
 use Rattle.hdlc.specs.Fcs.{check_octets}
 use Rattle.hdlc.specs.Flags.{gaps}
 
--- how many 1 bits in a row stand directly before a place
+-- how many 1 bits in a row are directly before a place
 abbrev pub ones_before : List Bool → ℕ → ℕ
 ones_before gap place = suffix_len (λ bit. bit) (take place gap)
 
--- the clear bits: those that don't stand directly after five 1 bits in a row (such a one is stuffed)
-unfoldable pub clear : List Bool → List Bool
-clear gap = map (λ place. get_or gap place false) (filter (λ place. nat_lt (ones_before gap place) 5) (range_with_len 0 (length gap)))
+-- the unstuffed bits: those that aren't directly after five 1 bits in a row (such a one is stuffed)
+unfoldable pub unstuffed : List Bool → List Bool
+unstuffed gap = map (λ place. get_or gap place false) (filter (λ place. nat_lt (ones_before gap place) 5) (range_with_len 0 (length gap)))
 
--- six 1 bits in a row stand somewhere
+-- there are six 1 bits in a row
 unfoldable pub has_six : List Bool → Bool
 has_six gap = list_any (λ place. nat_lt 5 (ones_before gap place)) (range_with_len 0 (length gap + 1))
 
--- the octets of the clear bits
+-- the octets of the unstuffed bits
 abbrev pub octets_in : List Bool → List ℕ
-octets_in gap = octets_of (clear gap)
+octets_in gap = octets_of (unstuffed gap)
 
 -- the octets before the last two
 abbrev pub content : List Bool → List ℕ
@@ -37,7 +37,7 @@ checks octets = pointwise nat_eq (drop (length octets - 2) octets) (check_octets
 abbrev pub class_of : List Bool → Class
 class_of gap =
     if has_six gap then Aborted
-    else if not (nat_eq (length (clear gap) % 8) 0) then Ragged
+    else if not (nat_eq (length (unstuffed gap) % 8) 0) then Ragged
     else if nat_lt (length (octets_in gap)) 5 then Short
     else if nat_lt 302 (length (octets_in gap)) then Long
     else if not (checks (octets_in gap)) then Damaged

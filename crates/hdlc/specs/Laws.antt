@@ -5,22 +5,22 @@ use Rattle.raster.specs.Packed.{bits_of, FillsOctets}
 use Rattle.raster.specs.declared.packed.Order.TheVariants.{LsbFirst}
 use Rattle.hdlc.specs.Flags.{flag, flag_at, flags, gaps}
 use Rattle.hdlc.specs.Gaps.{good}
-use Rattle.hdlc.specs.Framing.{Framing, StandsAfter, IsIdle}
+use Rattle.hdlc.specs.DeframerState.{DeframerState, IsAfter, IsIdle}
 use Rattle.hdlc.specs.Frames.{IsFrame, IsReady}
 
--- the flags are the places where a flag stands, and no other
+-- the flags are the places where there is a flag, and no other
 abbrev pub FlagsStand : Type 0
 FlagsStand = (bits : List Bool) (place : ℕ) → Contains (flags bits) place ↔ (flag_at bits place ≡ true)
 
--- after a flag all else is forgotten: the gaps behind it don't depend on what stood before
+-- after a flag all else is forgotten: the gaps after it don't depend on what came before
 abbrev pub FlagForgets : Type 0
-FlagForgets = (before behind : List Bool) → gaps ((before ++ flag) ++ behind) ≡ gaps (before ++ flag) ++ gaps (flag ++ behind)
+FlagForgets = (before later : List Bool) → gaps ((before ++ flag) ++ later) ≡ gaps (before ++ flag) ++ gaps (flag ++ later)
 
--- bits that follow leave the good contents that there are, and may bring more behind them
+-- bits that follow leave the good contents that there are, and may bring more after them
 abbrev pub GoodContentsStay : Type 0
 GoodContentsStay = (bits more : List Bool) → (new : List (List ℕ)) × (good (bits ++ more) ≡ good bits ++ new)
 
--- A frame and 0 bits to an octet, behind bits that are empty or end with a flag and at most seven 0 bits, leave them so; the
+-- A frame and 0 bits to an octet, after bits that are empty or end with a flag and at most seven 0 bits, leave them so; the
 -- gaps grow by the frame's only gap, and so the good contents by its content alone.
 abbrev pub FrameGrows : Type 0
 FrameGrows = (bits : List Bool) (content : List ℕ) (frame : List Bool) (zeros : ℕ) → IsReady bits → IsFrame content frame → zeros ≤ 7
@@ -39,21 +39,22 @@ OneFrame = (content : List ℕ) (one other : List Bool) → IsFrame content one 
 
 -- a deframer's queue begins with the first good content that was not handed out
 abbrev pub NextWaits : Type 0
-NextWaits = (framing : Framing) (bits : List Bool) (handed : ℕ) → StandsAfter framing bits handed → slice_get framing.queue 0 ≡ slice_get (good bits) handed
+NextWaits = (state : DeframerState) (bits : List Bool) (handed : ℕ) → IsAfter state bits handed
+    → slice_get state.queue 0 ≡ slice_get (good bits) handed
 
--- without the first of its queue it stands after the same bits, with one content more handed out
+-- without the first of its queue it is the state after the same bits, with one content more handed out
 abbrev pub NextStands : Type 0
-NextStands = (framing : Framing) (bits : List Bool) (handed : ℕ) → StandsAfter framing bits handed → handed < length (good bits)
-    → StandsAfter (record framing { queue = drop 1 framing.queue }) bits (handed + 1)
+NextStands = (state : DeframerState) (bits : List Bool) (handed : ℕ) → IsAfter state bits handed → handed < length (good bits)
+    → IsAfter (record state { queue = drop 1 state.queue }) bits (handed + 1)
 
 -- a deframer that has taken no bits is idle
 abbrev pub NewIsIdle : Type 0
-NewIsIdle = (framing : Framing) → StandsAfter framing [] 0 → IsIdle framing
+NewIsIdle = (state : DeframerState) → IsAfter state [] 0 → IsIdle state
 
 -- An idle deframer that is fed the octets that hold a frame has the frame's content waiting and no other; once that is handed
 -- out it is idle again.
 abbrev pub FrameIsHeard : Type 0
-FrameIsHeard = (old fed : Framing) (content : List ℕ) (frame : List Bool) (octets : List ℕ) → IsIdle old
+FrameIsHeard = (old fed : DeframerState) (content : List ℕ) (frame : List Bool) (octets : List ℕ) → IsIdle old
     → IsFrame content frame → FillsOctets LsbFirst frame octets
-    → ((bits : List Bool) (handed : ℕ) → StandsAfter old bits handed → StandsAfter fed (bits ++ bits_of LsbFirst octets) handed)
+    → ((bits : List Bool) (handed : ℕ) → IsAfter old bits handed → IsAfter fed (bits ++ bits_of LsbFirst octets) handed)
     → (fed.queue ≡ content ∷ []) × IsIdle (record fed { queue = drop 1 fed.queue })

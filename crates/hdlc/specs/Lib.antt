@@ -3,10 +3,10 @@ pub mod Flags
 pub mod Gaps
 pub mod Frames
 pub mod Laws
-pub mod Standing
+pub mod OpenGap
 pub mod Kept
-pub mod Stands
-pub mod Framing
+pub mod DeframerParts
+pub mod DeframerState
 pub mod Register
 pub mod Assembles
 pub mod Collects

@@ -1,10 +1,10 @@
--- What stands in a bit writer while the text of a frame is written.
+-- What a bit writer has while the text of a frame is written.
 use Rattle.std.specs.Prelude.{ℕ, ◌≡◌, ◌≤◌, Bool, false, List, [], ◌++◌, Some}
 use Rattle.std.specs.List.{suffix_len}
 use Rattle.raster.specs.Packed.{Bits}
 use Rattle.hdlc.specs.Flags.{flag, gaps}
-use Rattle.hdlc.specs.Gaps.{has_six, clear}
-use Rattle.hdlc.specs.Standing.{last_flag}
+use Rattle.hdlc.specs.Gaps.{has_six, unstuffed}
+use Rattle.hdlc.specs.OpenGap.{last_flag}
 
 -- nothing but the flag in front has come
 pub record Alone (xs : List Bool) : Type 0 where
@@ -16,7 +16,7 @@ pub record Written (pre bits : List Bool) (count : ℕ) : Type 0 where
   pub alone : Alone (flag ++ pre)
   pub ends : suffix_len (λ bit. bit) pre ≡ count
   pub six : has_six pre ≡ false
-  pub clear : clear pre ≡ bits
+  pub unstuffed : unstuffed pre ≡ bits
 
 -- the bits of a writer: what stood there, a flag, and the stuffed text of some bits
 pub record IsWriting (all start bits : List Bool) (count : ℕ) : Type 0 where

@@ -18,7 +18,7 @@ pub fn shifted(register: u8, bit: bool) -> u8
 
 /// Puts bits together to octets, the least significant bit first, and keeps the first 302 of them:
 /// as many as a frame may have with its check sequence.
-#[derive(Drop)]
+#[derive(Debug, Drop)]
 pub struct Assembler {
     /// How many bits came after the last whole octet.
     pub(crate) part: u8,
@@ -44,8 +44,8 @@ impl Assembler {
         }
     }
 
-    /// The same, of its own.
-    pub fn fork(&self) -> Self
+    /// A copy, so that a refusal leaves the original as it was.
+    pub fn copy(&self) -> Self
         ensures { result ≡ self.now }
     {
         let mut whole = ArrayVec::new();

@@ -7,6 +7,9 @@ ghost use Rattle.std.specs.Prelude.{◌≡◌};
 
 use raster::packed::{Order, bit_of};
 
+#[cfg(test)]
+mod tests;
+
 /// A register of 16 bits takes one bit more.
 fn crc_bit(register: u16, bit: bool) -> u16
     ensures { result ≡ crc_bit register bit }

@@ -31,7 +31,7 @@ fn ones_after(ones: u8, bit: bool) -> u8
 }
 
 /// What is kept of the bits of a gap whose end has not come.
-#[derive(Drop)]
+#[derive(Debug, Drop)]
 pub struct Collector {
     /// How many bits there are, up to eight.
     pub(crate) seen: u8,
@@ -40,7 +40,7 @@ pub struct Collector {
     /// Six 1 bits in a row have come.
     pub(crate) aborted: bool,
     /// The bits without the stuffed ones.
-    pub(crate) clear: Assembler,
+    pub(crate) unstuffed: Assembler,
 }
 
 impl Collector {
@@ -52,23 +52,23 @@ impl Collector {
             seen: 0,
             ones: 0,
             aborted: false,
-            clear: Assembler::new(),
+            unstuffed: Assembler::new(),
         }
     }
 
-    /// The same, of its own.
-    pub fn fork(&self) -> Self
+    /// A copy, so that a refusal leaves the original as it was.
+    pub fn copy(&self) -> Self
         ensures { result ≡ self.now }
     {
         Collector {
             seen: self.seen,
             ones: self.ones,
             aborted: self.aborted,
-            clear: self.clear.fork(),
+            unstuffed: self.unstuffed.copy(),
         }
     }
 
-    /// One bit more: stuffed where it stands directly after five 1 bits in a row.
+    /// One bit more: stuffed where it comes directly after five 1 bits in a row.
     pub fn push(&mut self, bit: bool)
         ensures { (gap : List Bool) → Collects self.old gap → Collects self.new (gap ++ bit ∷ []) }
     {
@@ -79,7 +79,7 @@ impl Collector {
         if stuffed {
             return;
         }
-        self.clear.push(bit);
+        self.unstuffed.push(bit);
     }
 
     /// The class of the gap, if it ends here.
@@ -89,16 +89,16 @@ impl Collector {
         if self.aborted {
             return Class::Aborted;
         }
-        if self.clear.part != 0 {
+        if self.unstuffed.part != 0 {
             return Class::Ragged;
         }
-        if self.clear.whole.len() < 5 {
+        if self.unstuffed.whole.len() < 5 {
             return Class::Short;
         }
-        if self.clear.long {
+        if self.unstuffed.long {
             return Class::Long;
         }
-        if !checked(self.clear.whole.as_slice()) {
+        if !checked(self.unstuffed.whole.as_slice()) {
             return Class::Damaged;
         }
         Class::Good
@@ -108,7 +108,7 @@ impl Collector {
     pub fn content(&self) -> &[u8]
         ensures { (gap : List Bool) → Collects self.now gap → class_of gap ≡ Good → result.now ≡ content gap }
     {
-        let count = self.clear.whole.len();
-        &self.clear.whole.as_slice()[..count.saturating_sub(2)]
+        let count = self.unstuffed.whole.len();
+        &self.unstuffed.whole.as_slice()[..count.saturating_sub(2)]
     }
 }

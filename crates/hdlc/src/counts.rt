@@ -1,7 +1,7 @@
 //! The classes of gaps, and how many there were of each.
 
 ghost use Rattle.hdlc.specs.Gaps.{is_class};
-ghost use Rattle.hdlc.specs.Stands.{count_in};
+ghost use Rattle.hdlc.specs.DeframerParts.{count_in};
 ghost use Rattle.hdlc.specs.declared.counts.Class.{Class as AnyClass};
 ghost use Rattle.std.specs.Prelude.{◌≡◌, ◌+◌, ◌≤◌, min, cond};
 
@@ -66,7 +66,8 @@ impl Counts {
 
     /// One gap more of a class.
     pub(crate) fn add(&mut self, class: Class)
-        ensures { (each : AnyClass) → count_in self.old each ≤ u64.MAX → count_in self.new each ≡ min u64.MAX (count_in self.old each + cond (is_class each class) 1 0) }
+        ensures { (each : AnyClass) → count_in self.old each ≤ u64.MAX
+            → count_in self.new each ≡ min u64.MAX (count_in self.old each + cond (is_class each class) 1 0) }
     {
         match class {
             Class::Good => self.good = self.good.saturating_add(1),

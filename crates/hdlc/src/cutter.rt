@@ -3,8 +3,8 @@
 ghost use Rattle.hdlc.specs.Collects.{Collects};
 ghost use Rattle.hdlc.specs.Contents.{contents_of};
 ghost use Rattle.hdlc.specs.Gaps.{class_of, is_class, content};
-ghost use Rattle.hdlc.specs.Standing.{settled};
-ghost use Rattle.hdlc.specs.Stands.{Cuts, Stands, Grows, count_in};
+ghost use Rattle.hdlc.specs.OpenGap.{settled};
+ghost use Rattle.hdlc.specs.DeframerParts.{Cuts, PartsAfter, Grows, count_in};
 ghost use Rattle.hdlc.specs.declared.counts.Class.{Class as AnyClass};
 ghost use Rattle.std.specs.Prelude.{ℕ, ◌≡◌, ◌+◌, ◌/◌, ◌≤◌, ◌++◌, ◌∷◌, ◌&&◌, [], List, Bool, cond, min, nat_lt, length, OnOk};
 
@@ -15,13 +15,13 @@ use std::alloc::{AllocError, Global};
 use std::collections::VecDeque;
 
 /// What is kept of the bits: the last eight, and what the open gap has of those before them.
-#[derive(Drop)]
+#[derive(Debug, Drop)]
 pub struct Cutter {
     /// A flag has come.
     pub(crate) begun: bool,
     /// How many of the last eight bits came after the last flag.
     pub(crate) held: u8,
-    /// The last eight bits, the newest the most significant; 1 bits stand before the first.
+    /// The last eight bits, the newest the most significant; 1 bits before the first.
     pub(crate) window: u8,
     /// The bits after the last flag that left the window.
     pub(crate) gap: Collector,
@@ -51,15 +51,15 @@ impl Cutter {
         }
     }
 
-    /// The same, of its own.
-    pub fn fork(&self) -> Self
+    /// A copy, so that a refusal leaves the original as it was.
+    pub fn copy(&self) -> Self
         ensures { result ≡ self.now }
     {
         Cutter {
             begun: self.begun,
             held: self.held,
             window: self.window,
-            gap: self.gap.fork(),
+            gap: self.gap.copy(),
         }
     }
 
@@ -87,9 +87,11 @@ fn close(
     alloc: Global,
 ) -> Result<(), AllocError>
     ensures counted { (bits : List Bool) → Collects gap.now bits → (class : AnyClass) → count_in counts.old class ≤ u64.MAX
-        → count_in counts.new class ≡ min u64.MAX (count_in counts.old class + cond (nat_lt 7 (length bits) && is_class class (class_of bits)) 1 0) }
+        → count_in counts.new class
+        ≡ min u64.MAX (count_in counts.old class + cond (nat_lt 7 (length bits) && is_class class (class_of bits)) 1 0) }
     ensures ok { OnOk result ((bits : List Bool) → Collects gap.now bits
-        → contents_of queue.new.items ≡ contents_of queue.old.items ++ cond (nat_lt 7 (length bits) && is_class Class.Good (class_of bits)) (content bits ∷ []) []) }
+        → contents_of queue.new.items
+        ≡ contents_of queue.old.items ++ cond (nat_lt 7 (length bits) && is_class Class.Good (class_of bits)) (content bits ∷ []) []) }
     ensures keeps { Grows queue.old.items queue.new.items }
 {
     if gap.seen < 8 {
@@ -114,8 +116,8 @@ pub fn take_bit(
     alloc: Global,
     bit: bool,
 ) -> Result<(), AllocError>
-    ensures ok { OnOk result ((bits : List Bool) (handed : ℕ) → Stands cutter.old counts.old (contents_of queue.old.items) bits handed
-        → Stands cutter.new counts.new (contents_of queue.new.items) (bits ++ bit ∷ []) handed) }
+    ensures ok { OnOk result ((bits : List Bool) (handed : ℕ) → PartsAfter cutter.old counts.old (contents_of queue.old.items) bits handed
+        → PartsAfter cutter.new counts.new (contents_of queue.new.items) (bits ++ bit ∷ []) handed) }
     ensures keeps { Grows queue.old.items queue.new.items }
 {
     cutter.shift(bit);

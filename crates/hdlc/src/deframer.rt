@@ -2,9 +2,9 @@
 
 ghost use Rattle.raster.specs.Packed.{bits_of};
 ghost use Rattle.raster.specs.declared.packed.Order.TheVariants.{LsbFirst};
-ghost use Rattle.hdlc.specs.Framing.{StandsAfter};
+ghost use Rattle.hdlc.specs.DeframerState.{IsAfter};
 ghost use Rattle.hdlc.specs.Gaps.{good, count_of};
-ghost use Rattle.hdlc.specs.Stands.{count_in};
+ghost use Rattle.hdlc.specs.DeframerParts.{count_in};
 ghost use Rattle.hdlc.specs.contracts.deframer.Deframer.{the_row};
 ghost use Rattle.hdlc.specs.declared.counts.Class.{Class as AnyClass};
 ghost use Rattle.std.specs.Borrow.{sem};
@@ -18,10 +18,13 @@ use std::alloc::{AllocError, Global};
 use std::collections::VecDeque;
 use std::marker::Model;
 
+#[cfg(test)]
+mod tests;
+
 /// Finds frames in bits that come in any pieces, and hands out the contents of the good ones, the
 /// oldest first (ISO/IEC 13239, frame structure). What it gives depends on all bits together alone,
 /// not on where the pieces are cut.
-#[derive(Drop)]
+#[derive(Debug, Drop)]
 pub struct Deframer {
     alloc: Global,
     cutter: Cutter,
@@ -31,12 +34,12 @@ pub struct Deframer {
 }
 
 impl Model for Deframer {
-    ghost use Rattle.hdlc.specs.Framing.{Framing};
+    ghost use Rattle.hdlc.specs.DeframerState.{DeframerState};
 
-    ghost Value = { Framing };
+    ghost Value = { DeframerState };
 
     ghost use Rattle.hdlc.specs.Contents.{contents_of};
-    ghost use Rattle.hdlc.specs.Stands.{kept_in};
+    ghost use Rattle.hdlc.specs.DeframerParts.{kept_in};
 
     ghost view = { λ d. record { kept = kept_in d.cutter; counts = d.counts; queue = contents_of d.queue.items } };
 }
@@ -44,7 +47,7 @@ impl Model for Deframer {
 impl Deframer {
     /// A deframer that has taken no bits. Takes no memory; what it keeps later comes from `alloc`.
     pub fn new(alloc: Global) -> Self
-        ensures { StandsAfter result [] 0 }
+        ensures { IsAfter result [] 0 }
     {
         Deframer {
             alloc,
@@ -58,10 +61,11 @@ impl Deframer {
     /// Takes the next bits: those of the octets, the least significant of each first. Errs where
     /// memory is refused for a content, which changes nothing.
     pub fn feed(&mut self, piece: &[u8]) -> Result<(), AllocError>
-        ensures ok { OnOk result ((bits : List Bool) (handed : ℕ) → StandsAfter self.old bits handed → StandsAfter self.new (bits ++ bits_of LsbFirst piece.now) handed) }
+        ensures ok { OnOk result ((bits : List Bool) (handed : ℕ) → IsAfter self.old bits handed
+            → IsAfter self.new (bits ++ bits_of LsbFirst piece.now) handed) }
         ensures err { OnErr result (self.new ≡ self.old) }
     {
-        let mut cutter = self.cutter.fork();
+        let mut cutter = self.cutter.copy();
         let mut counts = self.counts;
         let before = self.queue.len();
         for place in 0..8 * piece.len() as u128 {
@@ -88,8 +92,9 @@ impl Deframer {
         ensures* after { sem 𝓛 (Rests the_row self.entry (λ new. new ≡ record self.old { queue = drop 1 self.old.queue })) }
         ensures some { IfSome result (λ content. slice_get self.old.queue 0 ≡ Some content.now) }
         ensures none { IfNone result (slice_get self.old.queue 0 ≡ None) }
-        ensures content { (bits : List Bool) (handed : ℕ) → StandsAfter self.old bits handed → IfSome result (λ content. slice_get (good bits) handed ≡ Some content.now) }
-        ensures end { (bits : List Bool) (handed : ℕ) → StandsAfter self.old bits handed → IfNone result (handed ≡ length (good bits)) }
+        ensures content { (bits : List Bool) (handed : ℕ) → IsAfter self.old bits handed
+            → IfSome result (λ content. slice_get (good bits) handed ≡ Some content.now) }
+        ensures end { (bits : List Bool) (handed : ℕ) → IsAfter self.old bits handed → IfNone result (handed ≡ length (good bits)) }
     {
         self.lent = self.queue.pop_front();
         self.lent.as_deref()
@@ -98,8 +103,9 @@ impl Deframer {
     /// How many gaps of eight bits or more there were of each class; bits before the first flag and
     /// after the last one are no gap. Each count stays at 2^64 - 1 once it is there.
     pub fn counts(&self) -> Counts
-        ensures { (bits : List Bool) (handed : ℕ) → StandsAfter self.now bits handed → (class : AnyClass) → count_in result class ≡ min u64.MAX (count_of class bits) }
+        ensures { (bits : List Bool) (handed : ℕ) → IsAfter self.now bits handed
+            → (class : AnyClass) → count_in result class ≡ min u64.MAX (count_of class bits) }
     {
-        self.counts // as they stand after all bits so far
+        self.counts
     }
 }

@@ -14,11 +14,15 @@ use raster::packed::{Order, bit_of};
 use run_tables::BitWriter;
 use std::alloc::AllocError;
 
-/// Writes one bit of the text between two flags, behind so many 1 bits in a row, and a 0 bit after
+#[cfg(test)]
+mod tests;
+
+/// Writes one bit of the text between two flags, after so many 1 bits in a row, and a 0 bit after
 /// the fifth 1 bit. Answers how many 1 bits in a row then end the text.
 fn write_bit(writer: &mut BitWriter, ones: u8, bit: bool) -> Result<u8, AllocError>
     ensures keeps { Extends writer.old writer.new }
-    ensures ok { IfOk result (λ count. (start bits : List Bool) → IsWriting writer.old.bits start bits ones → IsWriting writer.new.bits start (bits ++ bit ∷ []) count) }
+    ensures ok { IfOk result (λ count. (start bits : List Bool) → IsWriting writer.old.bits start bits ones
+        → IsWriting writer.new.bits start (bits ++ bit ∷ []) count) }
 {
     writer.push(bit)?;
     if !bit {
@@ -34,7 +38,8 @@ fn write_bit(writer: &mut BitWriter, ones: u8, bit: bool) -> Result<u8, AllocErr
 /// Writes the bits of octets, the least significant of each first, as `write_bit` does.
 fn write_octets(writer: &mut BitWriter, ones: u8, octets: &[u8]) -> Result<u8, AllocError>
     ensures keeps { Extends writer.old writer.new }
-    ensures ok { IfOk result (λ count. (start bits : List Bool) → IsWriting writer.old.bits start bits ones → IsWriting writer.new.bits start (bits ++ bits_of LsbFirst octets.now) count) }
+    ensures ok { IfOk result (λ count. (start bits : List Bool) → IsWriting writer.old.bits start bits ones
+        → IsWriting writer.new.bits start (bits ++ bits_of LsbFirst octets.now) count) }
 {
     let mut count = ones;
     for place in 0..8 * octets.len() as u128 {
@@ -60,7 +65,7 @@ fn write_flag(writer: &mut BitWriter) -> Result<(), AllocError>
     Ok(())
 }
 
-/// Writes a frame. An `Err` may leave a part of it behind the bits that were there.
+/// Writes a frame. An `Err` may leave a part of it after the bits that were there.
 fn write_all(writer: &mut BitWriter, content: &[u8]) -> Result<(), AllocError>
     requires least { 3 ≤ length content.now }
     requires most { length content.now ≤ 300 }

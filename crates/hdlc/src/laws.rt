@@ -3,17 +3,17 @@
 ghost use Rattle.hdlc.specs.Laws.{FlagsStand, FlagForgets, GoodContentsStay, FrameGrows, FrameOctetsGrow, OneFrame, NextWaits, NextStands, NewIsIdle, FrameIsHeard};
 ghost use Rattle.hdlc.specs.Examples.{AreExamples};
 
-/// The flags of bits are exactly the places where a flag stands.
+/// The flags of bits are exactly the places where there is a flag.
 pub fn flags_stand()
     ensures { FlagsStand }
 {}
 
-/// After a flag all else is forgotten: the gaps behind it don't depend on what stood before.
+/// After a flag all else is forgotten: the gaps after it don't depend on what came before.
 pub fn flag_forgets()
     ensures { FlagForgets }
 {}
 
-/// Bits that follow leave the good contents that there are, and may bring more behind them.
+/// Bits that follow leave the good contents that there are, and may bring more after them.
 pub fn good_contents_stay()
     ensures { GoodContentsStay }
 {}
@@ -40,7 +40,7 @@ pub fn next_waits()
     ensures { NextWaits }
 {}
 
-/// After a content was handed out a deframer stands after the same bits, with one more handed out.
+/// After a content was handed out a deframer has the state after the same bits, with one more handed out.
 pub fn next_stands()
     ensures { NextStands }
 {}

@@ -1,5 +1,5 @@
 //! Frames of HDLC as facsimile stations send them (ISO/IEC 13239; ITU-T T.30, 5.3): contents written
-//! as bits between flags, and found again in bits that come in any pieces. Stands on `raster` and
+//! as bits between flags, and found again in bits that come in any pieces. It uses `raster` and
 //! `run_tables`.
 #![tactic(auto)]
 
@@ -11,8 +11,6 @@ mod cutter;
 mod deframer;
 mod frame;
 pub mod laws;
-#[cfg(test)]
-mod tests;
 
 pub use crate::check_sequence::fcs;
 pub use crate::counts::{Class, Counts};

@@ -1,6 +1,6 @@
 -- The items under way as their octets say them.
 use Rattle.std.proofs.Common.{◌≡◌, ◌≢◌, ℕ, Bool, List, [], ◌∷◌, ◌++◌, length, map, replicate, drop, Some, Ok, refl, ap, sym, subst, ◌∙◌}
-use Rattle.hdlc.specs.Framing.{Framing, StandsAfter, IsIdle}
+use Rattle.hdlc.specs.DeframerState.{DeframerState, IsAfter, IsIdle}
 use Rattle.hdlc.specs.Laws.{FrameOctetsGrow, FrameIsHeard}
 use Rattle.raster.specs.Packed.{bits_of}
 use Rattle.raster.specs.declared.packed.Order.TheVariants.{LsbFirst}
@@ -106,7 +106,7 @@ kind_said Rr octets grows reads h = kind_by Rr octets grows reads (λ e. cc) h
 kind_said Dcn octets grows reads h = kind_by Dcn octets grows reads (λ e. cc) h
 
 -- the content that a frame's octets have waits alone, and is read as the signal that they say; once it is handed out the receiver is idle
-pub record Heard (kind : Kind) (octets : List ℕ) (fed : Framing) : Type 0 where
+pub record Heard (kind : Kind) (octets : List ℕ) (fed : DeframerState) : Type 0 where
   pub content : List ℕ
   pub waits : fed.queue ≡ content ∷ []
   pub idle : IsIdle (record fed { queue = drop 1 fed.queue })
@@ -114,9 +114,9 @@ pub record Heard (kind : Kind) (octets : List ℕ) (fed : Framing) : Type 0 wher
   pub is : item_said kind octets ≡ framed (signal_said octets)
 
 pub hears_it :
-    (kind : Kind) (octets : List ℕ) (old fed : Framing) → FrameOctetsGrow → FrameIsHeard → ReadsWhatIsWritten → kind ≢ Training →
+    (kind : Kind) (octets : List ℕ) (old fed : DeframerState) → FrameOctetsGrow → FrameIsHeard → ReadsWhatIsWritten → kind ≢ Training →
     IsItem kind octets → IsIdle old →
-    ((bits : List Bool) (handed : ℕ) → StandsAfter old bits handed → StandsAfter fed (bits ++ bits_of LsbFirst octets) handed) →
+    ((bits : List Bool) (handed : ℕ) → IsAfter old bits handed → IsAfter fed (bits ++ bits_of LsbFirst octets) handed) →
     Heard kind octets fed
 hears_it kind octets old fed grows hears reads differs item idle feeds =
     let h : CarriesKind kind octets = carried kind octets differs item in

@@ -56,7 +56,7 @@ pub(crate) struct Channel {
 impl Model for Channel {
     ghost use Rattle.std.specs.Prelude.{List};
     ghost use Rattle.stations.specs.Inputs.{PlainItem};
-    ghost use Rattle.hdlc.specs.Framing.{IsIdle};
+    ghost use Rattle.hdlc.specs.DeframerState.{IsIdle};
 
     ghost Value = { List PlainItem };
 

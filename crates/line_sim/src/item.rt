@@ -1,6 +1,6 @@
 //! What is under way: frames as octets, and training checks.
 
-ghost use Rattle.hdlc.specs.Framing.{IsIdle};
+ghost use Rattle.hdlc.specs.DeframerState.{IsIdle};
 ghost use Rattle.line_sim.specs.Entries.{kind_of, signal_kind};
 ghost use Rattle.line_sim.specs.Headline.{CanBeWritten};
 ghost use Rattle.line_sim.specs.Hearing.{AnswererHears, CallerHears};

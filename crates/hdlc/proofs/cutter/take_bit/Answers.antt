@@ -1,19 +1,20 @@
 use Rattle.std.proofs.Common.{◌≡◌, refl, arith}
 use Rattle.hdlc.specs.Contents.{contents_of}
-use Rattle.hdlc.specs.Standing.{settled}
-use Rattle.hdlc.proofs.Steps.{stands_wait, stands_flag}
+use Rattle.hdlc.specs.OpenGap.{settled}
+use Rattle.hdlc.proofs.DeframerPartsLemmas.{parts_wait, parts_flag}
 use Rattle.hdlc.proofs.cutter.take_bit.Goals as goal
 
 pub returns-then-cutter-ne126-clause-ok : goal.returns-then-cutter-ne126-clause-ok
 returns-then-cutter-ne126-clause-ok c bits handed old =
     let isnt : c.shift.new.self.window ≡ 126 → ⊥ = λ e. omega arith in
-    stands_wait c.args.cutter.now c.shift.new.self _ c.args.counts.now (contents_of c.args.queue.now.items) c.args.bit bits handed old
+    parts_wait c.args.cutter.now c.shift.new.self _ c.args.counts.now (contents_of c.args.queue.now.items) c.args.bit bits handed old
     (record { begun = c.shift.ensures.begun; held = c.shift.ensures.held; window = c.shift.ensures.window; gap = c.shift.ensures.gap })
     isnt refl c.held_after-cutter.ensures refl refl
 
 pub returns-clause-ok : goal.returns-clause-ok
 returns-clause-ok c bits handed old =
-    stands_flag c.args.cutter.now c.shift.new.self _ c.args.counts.now c.close.new.counts (contents_of c.args.queue.now.items) (contents_of c.close.new.queue.items) c.args.bit bits handed old
+    parts_flag c.args.cutter.now c.shift.new.self _ c.args.counts.now c.close.new.counts (contents_of c.args.queue.now.items)
+    (contents_of c.close.new.queue.items) c.args.bit bits handed old
     (record { begun = c.shift.ensures.begun; held = c.shift.ensures.held; window = c.shift.ensures.window; gap = c.shift.ensures.gap })
     (omega arith) refl refl refl c.new-cutter.ensures
     (record {

@@ -2,7 +2,7 @@ use Rattle.std.proofs.Common.{◌++◌, refl}
 use Rattle.raster.specs.Packed.{bits_in}
 use Rattle.raster.specs.declared.packed.Order.TheVariants.{LsbFirst}
 use Rattle.hdlc.proofs.Extending.{extends_none, extends_twice}
-use Rattle.hdlc.proofs.Steps.{piece_none, piece_more}
+use Rattle.hdlc.proofs.DeframerPartsLemmas.{piece_none, piece_more}
 use Rattle.hdlc.proofs.frame.write_octets.Goals as goal
 
 pub loop-place-init : goal.loop-place-init
@@ -15,5 +15,7 @@ pub loop-place-preserved : goal.loop-place-preserved
 loop-place-preserved c = record {
   keeps = extends_twice _ _ _ c.loop-place.invariant.keeps c.write_bit.ensures.keeps;
   writes = λ start bits old.
-      rw (piece_more bits c.args.octets.now c.loop-place.place, ← c.bit_of.ensures) (c.in_ok-count.ensures.ok start (bits ++ bits_in LsbFirst c.args.octets.now c.loop-place.place) (c.loop-place.invariant.writes start bits old));
+      rw (piece_more bits c.args.octets.now c.loop-place.place, ← c.bit_of.ensures)
+      (c.in_ok-count.ensures.ok start (bits ++ bits_in LsbFirst c.args.octets.now c.loop-place.place)
+      (c.loop-place.invariant.writes start bits old));
 }

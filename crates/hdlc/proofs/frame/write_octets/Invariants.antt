@@ -7,5 +7,6 @@ use Rattle.hdlc.proofs.frame.write_octets.Given as goal
 abbrev pub invariant-loop-place : goal.invariant-loop-place
 invariant-loop-place l = record {
   keeps : Extends l.fn.writer l.writer;
-  writes : (start bits : List Bool) → IsWriting l.fn.writer.bits start bits l.ones → IsWriting l.writer.bits start (bits ++ bits_in LsbFirst l.octets l.place) l.count;
+  writes : (start bits : List Bool) → IsWriting l.fn.writer.bits start bits l.ones
+      → IsWriting l.writer.bits start (bits ++ bits_in LsbFirst l.octets l.place) l.count;
 }

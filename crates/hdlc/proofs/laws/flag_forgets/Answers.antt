@@ -1,4 +1,4 @@
-use Rattle.hdlc.proofs.Joined.{gaps_split as law}
+use Rattle.hdlc.proofs.FrameGrowsLemmas.{gaps_split as law}
 use Rattle.hdlc.proofs.laws.flag_forgets.Goals as goal
 
 pub returns : goal.returns

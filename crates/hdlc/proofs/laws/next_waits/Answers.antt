@@ -1,4 +1,4 @@
-use Rattle.hdlc.proofs.Steps.{next_content as law}
+use Rattle.hdlc.proofs.DeframerPartsLemmas.{next_content as law}
 use Rattle.hdlc.proofs.laws.next_waits.Goals as goal
 
 pub returns : goal.returns

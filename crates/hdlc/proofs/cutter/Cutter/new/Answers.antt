@@ -1,5 +1,5 @@
 use Rattle.std.proofs.Common.{refl}
-use Rattle.hdlc.proofs.Steps.{cuts_none}
+use Rattle.hdlc.proofs.DeframerPartsLemmas.{cuts_none}
 use Rattle.hdlc.proofs.cutter.Cutter.new.Goals as goal
 
 pub returns : goal.returns

@@ -1,6 +1,6 @@
 use Rattle.std.proofs.Common.{arith}
-use Rattle.hdlc.specs.Standing.{unclosed}
-use Rattle.hdlc.proofs.Steps.{settled_full}
+use Rattle.hdlc.specs.OpenGap.{unclosed}
+use Rattle.hdlc.proofs.DeframerPartsLemmas.{settled_full}
 use Rattle.hdlc.proofs.cutter.Cutter.shift.Goals as goal
 
 pub returns-clause-gap : goal.returns-clause-gap

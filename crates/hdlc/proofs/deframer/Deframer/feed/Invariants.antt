@@ -2,13 +2,14 @@ use Rattle.std.proofs.Common.{◌≡◌, ◌++◌, ℕ, List, Bool}
 use Rattle.raster.specs.Packed.{bits_in}
 use Rattle.raster.specs.declared.packed.Order.TheVariants.{LsbFirst}
 use Rattle.hdlc.specs.Contents.{contents_of}
-use Rattle.hdlc.specs.Framing.{StandsAfter}
-use Rattle.hdlc.specs.Stands.{Stands, Grows}
+use Rattle.hdlc.specs.DeframerState.{IsAfter}
+use Rattle.hdlc.specs.DeframerParts.{PartsAfter, Grows}
 use Rattle.hdlc.proofs.deframer.Deframer.feed.Given as goal
 
 abbrev pub invariant-loop-place : goal.invariant-loop-place
 invariant-loop-place l = record {
-  stands : (bits : List Bool) (handed : ℕ) → StandsAfter l.fn.self bits handed → Stands l.cutter l.counts (contents_of l.self-inside.queue.items) (bits ++ bits_in LsbFirst l.piece l.place) handed;
+  taken : (bits : List Bool) (handed : ℕ) → IsAfter l.fn.self bits handed
+      → PartsAfter l.cutter l.counts (contents_of l.self-inside.queue.items) (bits ++ bits_in LsbFirst l.piece l.place) handed;
   keeps : Grows l.initial.self-inside.queue.items l.self-inside.queue.items;
   cutter : l.self-inside.cutter ≡ l.initial.self-inside.cutter;
   counts : l.self-inside.counts ≡ l.initial.self-inside.counts;

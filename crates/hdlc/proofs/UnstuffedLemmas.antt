@@ -1,4 +1,4 @@
--- The clear bits, six 1 bits in a row and octets, one bit more; registers of eight bits as numbers.
+-- The unstuffed bits, six 1 bits in a row and octets, one bit more; registers of eight bits as numbers.
 use Rattle.std.proofs.Common.{◌≡◌, ℕ, zero, suc, ◌+◌, ◌-◌, ◌*◌, ◌/◌, ◌%◌, ◌^◌, ◌<◌, ◌≤◌, Bool, true, false, ◌||◌, List, [], ◌∷◌, ◌++◌, length, take, drop, map, cond, get_or, refl, ap, sym, ◌∙◌, arith, inl, inr, nat_eq, nat_lt, pow-suc}
 use Rattle.std.specs.List.{range_with_len, filter, list_any, suffix_len, prefix_len}
 use Rattle.std.proofs.lemmas.List.{drop-append-le, take-append-le, take_all, length-drop, length-append, append-nil, length-take-le, map-append, get_or_append_left, get_or_push, reverse-append, take-append-drop}
@@ -9,8 +9,8 @@ use Rattle.std.specs.Bool.{beq}
 use Rattle.raster.specs.Octets.{number, octet_at, octets_of}
 use Rattle.run_tables.specs.Texts.{begins}
 use Rattle.hdlc.specs.Flags.{flag}
-use Rattle.hdlc.specs.Gaps.{ones_before, clear, has_six}
-use Rattle.hdlc.specs.Standing.{recent, at_flag}
+use Rattle.hdlc.specs.Gaps.{ones_before, unstuffed, has_six}
+use Rattle.hdlc.specs.OpenGap.{recent, at_flag}
 use Rattle.hdlc.proofs.Flags.{range_more, filter_range_more, filter_range_agree, Below, Below-filter, recent-more, length-recent, recent_long}
 
 -- how many 1 bits in a row end the bits
@@ -27,18 +27,19 @@ map_below : {X : Type 0} (f g : ℕ → X) (n : ℕ) (xs : List ℕ) → Below n
 map_below f g n [] all same = refl
 map_below f g n (x ∷ xs) all same = ap (λ y. y ∷ map f xs) (same x all.0) ∙ ap (λ ys. g x ∷ ys) (map_below f g n xs all.1 same)
 
--- one bit more: it is kept unless it stands directly after five 1 bits
-pub clear-more : (gap : List Bool) (b : Bool) → clear (gap ++ b ∷ []) ≡ clear gap ++ cond (nat_lt (ones gap) 5) (b ∷ []) []
-unfolding clear
-clear-more gap b =
+-- one bit more: it is kept unless it comes directly after five 1 bits
+pub unstuffed-more : (gap : List Bool) (b : Bool) → unstuffed (gap ++ b ∷ []) ≡ unstuffed gap ++ cond (nat_lt (ones gap) 5) (b ∷ []) []
+unfolding unstuffed
+unstuffed-more gap b =
     ap (λ n. map read (filter test (range_with_len 0 n))) (length-more gap b) ∙
     (ap (map read) (filter_range_more test (length gap)) ∙
     (ap (λ ks. map read (ks ++ cond (test (length gap)) (length gap ∷ []) [])) (filter_range_agree test old_test (length gap) same) ∙
     (map-append read (filter old_test (range_with_len 0 (length gap))) (cond (test (length gap)) (length gap ∷ []) []) ∙
     (ap (λ xs. xs ++ map read (cond (test (length gap)) (length gap ∷ []) []))
-    (map_below read old_read (length gap) (filter old_test (range_with_len 0 (length gap))) (Below-filter old_test (length gap)) (λ k h. get_or_append_left gap (b ∷ []) false k h)) ∙
-    (ap (λ t. clear_old ++ map read (cond t (length gap ∷ []) [])) last ∙
-    ap (λ xs. clear_old ++ xs) (one (nat_lt (ones gap) 5)))))))
+    (map_below read old_read (length gap) (filter old_test (range_with_len 0 (length gap))) (Below-filter old_test (length gap))
+    (λ k h. get_or_append_left gap (b ∷ []) false k h)) ∙
+    (ap (λ t. unstuffed_old ++ map read (cond t (length gap ∷ []) [])) last ∙
+    ap (λ xs. unstuffed_old ++ xs) (one (nat_lt (ones gap) 5)))))))
   where
     read : ℕ → Bool
     read place = get_or (gap ++ b ∷ []) place false
@@ -52,8 +53,8 @@ clear-more gap b =
     old_test : ℕ → Bool
     old_test place = nat_lt (ones_before gap place) 5
 
-    clear_old : List Bool
-    clear_old = map old_read (filter old_test (range_with_len 0 (length gap)))
+    unstuffed_old : List Bool
+    unstuffed_old = map old_read (filter old_test (range_with_len 0 (length gap)))
 
     same : (k : ℕ) → k < length gap → test k ≡ old_test k
     same k h = ap (λ xs. nat_lt (ones xs) 5) (take-append-le k gap (b ∷ []) (omega arith))
@@ -75,7 +76,8 @@ any_range_more p n =
     or_false true = refl
     or_false false = refl
 
-any_range_agree : (p q : ℕ → Bool) (n : ℕ) → ((k : ℕ) → k < n → p k ≡ q k) → list_any p (range_with_len 0 n) ≡ list_any q (range_with_len 0 n)
+any_range_agree : (p q : ℕ → Bool) (n : ℕ) → ((k : ℕ) → k < n → p k ≡ q k)
+    → list_any p (range_with_len 0 n) ≡ list_any q (range_with_len 0 n)
 any_range_agree p q zero same = refl
 any_range_agree p q (suc n) same =
     any_range_more p n ∙
@@ -108,9 +110,11 @@ has_six-more gap b =
     same k h = ap (λ xs. nat_lt 5 (ones xs)) (take-append-le k gap (b ∷ []) (omega arith))
 
     last : test (suc (length gap)) ≡ nat_lt 5 (ones (gap ++ b ∷ []))
-    last = ap (λ xs. nat_lt 5 (ones xs)) (take_all (suc (length gap)) (gap ++ b ∷ []) (let e : length (gap ++ b ∷ []) ≡ suc (length gap) = length-more gap b in omega arith))
+    last = ap (λ xs. nat_lt 5 (ones xs)) (take_all (suc (length gap)) (gap ++ b ∷ []) (let e : length (gap ++ b ∷ []) ≡ suc (length gap) =
+        length-more gap b in omega arith))
 
-map_range_agree : {X : Type 0} (f g : ℕ → X) (n : ℕ) → ((k : ℕ) → k < n → f k ≡ g k) → map f (range_with_len 0 n) ≡ map g (range_with_len 0 n)
+map_range_agree : {X : Type 0} (f g : ℕ → X) (n : ℕ) → ((k : ℕ) → k < n → f k ≡ g k)
+    → map f (range_with_len 0 n) ≡ map g (range_with_len 0 n)
 map_range_agree f g zero same = refl
 map_range_agree f g (suc n) same =
     ap (map f) (rest n) ∙ (map-append f (range_with_len 0 n) (n ∷ []) ∙
@@ -128,7 +132,8 @@ octet_at-append bits ys i h =
     ap (λ xs. number (take 8 xs)) (drop-append-le (8 * i) bits ys within) ∙ ap number (take-append-le 8 (drop (8 * i) bits) ys room)
 
 -- one bit more: an octet more where it is the eighth, and that is the number of the last eight
-pub octets_of-more : (bits : List Bool) (b : Bool) → octets_of (bits ++ b ∷ []) ≡ octets_of bits ++ cond (nat_eq (length bits % 8) 7) (number (recent false (bits ++ b ∷ [])) ∷ []) []
+pub octets_of-more : (bits : List Bool) (b : Bool) → octets_of (bits ++ b ∷ []) ≡ octets_of bits ++ cond (nat_eq (length bits % 8) 7)
+    (number (recent false (bits ++ b ∷ [])) ∷ []) []
 unfolding octets_of
 octets_of-more bits b = elim (cases_eq (length bits % 8) 7) [
   | inl whole ↦
@@ -151,11 +156,13 @@ octets_of-more bits b = elim (cases_eq (length bits % 8) 7) [
       let size : length (bits ++ b ∷ []) ≡ suc (length bits) = length-more bits b in
       let count : length (bits ++ b ∷ []) / 8 ≡ length bits / 8 = omega arith in
       rw (ne_eqb (length bits % 8) 7 part)
-      (ap (λ n. map (octet_at (bits ++ b ∷ [])) (range_with_len 0 n)) count ∙ (same ∙ sym (append-nil (map (octet_at bits) (range_with_len 0 (length bits / 8))))))
+      (ap (λ n. map (octet_at (bits ++ b ∷ [])) (range_with_len 0 n)) count
+      ∙ (same ∙ sym (append-nil (map (octet_at bits) (range_with_len 0 (length bits / 8))))))
 ]
   where
     same : map (octet_at (bits ++ b ∷ [])) (range_with_len 0 (length bits / 8)) ≡ map (octet_at bits) (range_with_len 0 (length bits / 8))
-    same = map_range_agree (octet_at (bits ++ b ∷ [])) (octet_at bits) (length bits / 8) (λ i h. octet_at-append bits (b ∷ []) i (omega arith))
+    same = map_range_agree (octet_at (bits ++ b ∷ [])) (octet_at bits) (length bits / 8)
+        (λ i h. octet_at-append bits (b ∷ []) i (omega arith))
 
 pub length-octets_of : (bits : List Bool) → length (octets_of bits) ≡ length bits / 8
 unfolding octets_of
@@ -179,7 +186,8 @@ number-more [] b h = absurd (omega arith)
 number-more (true ∷ w) b h = seven w b (omega arith) ∙ ap (λ n. n + cond b 128 0) (omega arith)
 number-more (false ∷ w) b h = seven w b (omega arith) ∙ ap (λ n. n + cond b 128 0) (omega arith)
 
-pub number-recent : (fill : Bool) (bits : List Bool) (b : Bool) → number (recent fill (bits ++ b ∷ [])) ≡ number (recent fill bits) / 2 + cond b 128 0
+pub number-recent : (fill : Bool) (bits : List Bool) (b : Bool)
+    → number (recent fill (bits ++ b ∷ [])) ≡ number (recent fill bits) / 2 + cond b 128 0
 number-recent fill bits b = ap number (recent-more fill bits b) ∙ number-more (recent fill bits) b (length-recent fill bits)
 
 same_from_number : (xs ys : List Bool) → length xs ≡ length ys → number xs ≡ number ys → xs ≡ ys
@@ -250,9 +258,11 @@ sixteen_bits bits h =
     let le : 8 ≤ length bits = omega arith in
     let size : length (take 8 bits) ≡ 8 = length-take-le 8 bits le in
     let low : number (take 8 bits) < 256 = number_fits (take 8 bits) 8 (omega arith) in
-    let whole : number (take 8 bits ++ drop 8 bits) ≡ number (take 8 bits) + number (drop 8 bits) * 256 = number-append (take 8 bits) (drop 8 bits) 8 size in
+    let whole : number (take 8 bits ++ drop 8 bits) ≡ number (take 8 bits) + number (drop 8 bits) * 256 =
+    number-append (take 8 bits) (drop 8 bits) 8 size in
     let is : number bits ≡ number (take 8 bits) + number (drop 8 bits) * 256 = ap number (sym (take-append-drop 8 bits)) ∙ whole in
     let rest : length (drop 8 bits) ≤ 8 = rw length-drop (omega arith) in
     let first : number (take 8 bits) ≡ number bits % 256 = omega arith in
     let second : number (take 8 (drop 8 bits)) ≡ number bits / 256 = ap number (take_all 8 (drop 8 bits) rest) ∙ omega arith in
-    ap (λ n. map (octet_at bits) (range_with_len 0 (n / 8))) h ∙ (ap (λ x. x ∷ number (take 8 (drop 8 bits)) ∷ []) first ∙ ap (λ x. number bits % 256 ∷ x ∷ []) second)
+    ap (λ n. map (octet_at bits) (range_with_len 0 (n / 8))) h
+    ∙ (ap (λ x. x ∷ number (take 8 (drop 8 bits)) ∷ []) first ∙ ap (λ x. number bits % 256 ∷ x ∷ []) second)

@@ -18,13 +18,13 @@ use Rattle.raster.specs.Octets.{number}
 use Rattle.hdlc.specs.Flags.{flags, gaps}
 use Rattle.hdlc.specs.Gaps.{good, count_of, class_of, is_class, content}
 use Rattle.hdlc.specs.Contents.{contents_of}
-use Rattle.hdlc.specs.Standing.{begun, held, recent, unclosed, settled, at_flag, last_flag, held_after}
+use Rattle.hdlc.specs.OpenGap.{begun, held, recent, unclosed, settled, at_flag, last_flag, held_after}
 use Rattle.hdlc.specs.Collects.{Collects}
-use Rattle.hdlc.specs.Framing.{Framing, StandsAfter}
+use Rattle.hdlc.specs.DeframerState.{DeframerState, IsAfter}
 use Rattle.hdlc.specs.Kept.{Kept}
-use Rattle.hdlc.specs.Stands.{Cuts, Stands, Grows, count_in}
+use Rattle.hdlc.specs.DeframerParts.{Cuts, PartsAfter, Grows, count_in}
 use Rattle.hdlc.proofs.BitPlaces.{bits_in-next}
-use Rattle.hdlc.proofs.Clear.{number-recent, at_flag_is, oldest_is}
+use Rattle.hdlc.proofs.UnstuffedLemmas.{number-recent, at_flag_is, oldest_is}
 use Rattle.hdlc.proofs.Gaps.{settled_is, unclosed-more, held-more, begun-more, good-more, count-more}
 
 pub cuts_none : (cutter : Cutter) → cutter.begun ≡ false → cutter.held ≡ 0 → cutter.window ≡ 255 → Collects cutter.gap [] → Cuts cutter []
@@ -32,7 +32,8 @@ unfolding flags recent
 cuts_none cutter begun held window gap = record { begun = begun; held = held; window = window; gap = gap }
 
 -- what leaves a full register joins the gap
-pub settled_full : (cutter : Cutter) (bits : List Bool) → Cuts cutter bits → cutter.held ≡ 8 → settled bits ≡ unclosed bits ++ nat_eq (cutter.window % 2) 1 ∷ []
+pub settled_full : (cutter : Cutter) (bits : List Bool) → Cuts cutter bits → cutter.held ≡ 8
+    → settled bits ≡ unclosed bits ++ nat_eq (cutter.window % 2) 1 ∷ []
 settled_full cutter bits cuts full =
     let e : nat_eq (held bits) 8 ≡ true = eq-eqb (held bits) 8 (sym cuts.held ∙ full) in
     settled_is bits ∙ (rw (e, oldest_is bits, cuts.window) refl)
@@ -49,7 +50,8 @@ pub record Shifted (cutter : Cutter) (b : Bool) (mid : Cutter) : Type 0 where
   pub window : mid.window ≡ cutter.window / 2 + cond b 128 0
   pub gap : (bits : List Bool) → Cuts cutter bits → Collects mid.gap (settled bits)
 
-window_more : (cutter mid : Cutter) (b : Bool) (bits : List Bool) → Cuts cutter bits → Shifted cutter b mid → mid.window ≡ number (recent true (bits ++ b ∷ []))
+window_more : (cutter mid : Cutter) (b : Bool) (bits : List Bool) → Cuts cutter bits → Shifted cutter b mid
+    → mid.window ≡ number (recent true (bits ++ b ∷ []))
 window_more cutter mid b bits cuts shifted = shifted.window ∙ (ap (λ n. n / 2 + cond b 128 0) cuts.window ∙ sym (number-recent true bits b))
 
 held_small : (bits : List Bool) → held bits ≤ 8
@@ -62,21 +64,27 @@ held_small bits = go (last_flag bits)
 held_le : (bits : List Bool) (cutter : Cutter) → Cuts cutter bits → cutter.held ≤ 8
 held_le bits cutter cuts = rw cuts.held (held_small bits)
 
-counts_more : (class : Class) (old n d new m : ℕ) → old ≡ min (2 ^ 64 - 1) n → (old ≤ 2 ^ 64 - 1 → new ≡ min (2 ^ 64 - 1) (old + d)) → m ≡ n + d → new ≡ min (2 ^ 64 - 1) m
+counts_more : (class : Class) (old n d new m : ℕ) → old ≡ min (2 ^ 64 - 1) n → (old ≤ 2 ^ 64 - 1 → new ≡ min (2 ^ 64 - 1) (old + d))
+    → m ≡ n + d → new ≡ min (2 ^ 64 - 1) m
 counts_more class old n d new m e f g = let h : new ≡ min (2 ^ 64 - 1) (old + d) = f (omega arith) in omega arith
 
 -- no flag ends with the bit
-pub stands_wait : (cutter mid new : Cutter) (counts : Counts) (queue : List (List ℕ)) (b : Bool) (bits : List Bool) (handed : ℕ) → Stands cutter counts queue bits handed → Shifted cutter b mid → (mid.window ≡ 126 → ⊥) → new.begun ≡ mid.begun → (mid.held ≤ 8 → new.held ≡ cond mid.begun (min 8 (mid.held + 1)) 0) → new.window ≡ mid.window → new.gap ≡ mid.gap → Stands new counts queue (bits ++ b ∷ []) handed
-stands_wait cutter mid new counts queue b bits handed old shifted isnt new_begun new_held new_window new_gap =
+pub parts_wait : (cutter mid new : Cutter) (counts : Counts) (queue : List (List ℕ)) (b : Bool) (bits : List Bool) (handed : ℕ)
+    → PartsAfter cutter counts queue bits handed → Shifted cutter b mid → (mid.window ≡ 126 → ⊥) → new.begun ≡ mid.begun
+    → (mid.held ≤ 8 → new.held ≡ cond mid.begun (min 8 (mid.held + 1)) 0) → new.window ≡ mid.window → new.gap ≡ mid.gap
+    → PartsAfter new counts queue (bits ++ b ∷ []) handed
+parts_wait cutter mid new counts queue b bits handed old shifted isnt new_begun new_held new_window new_gap =
     let cuts : Cuts cutter bits = old.cuts in
     let window : mid.window ≡ number (recent true (bits ++ b ∷ [])) = window_more cutter mid b bits cuts shifted in
-    let no : at_flag (bits ++ b ∷ []) ≡ false = at_flag_is (bits ++ b ∷ []) ∙ ne_eqb (number (recent true (bits ++ b ∷ []))) 126 (λ e. isnt (window ∙ e)) in
+    let no : at_flag (bits ++ b ∷ []) ≡ false =
+    at_flag_is (bits ++ b ∷ []) ∙ ne_eqb (number (recent true (bits ++ b ∷ []))) 126 (λ e. isnt (window ∙ e)) in
     let le : mid.held ≤ 8 = rw shifted.held (held_le bits cutter cuts) in
     let good_same : good (bits ++ b ∷ []) ≡ good bits = good-more bits b ∙ (rw no (append-nil (good bits))) in
     record {
       cuts = record {
         begun = new_begun ∙ (shifted.begun ∙ (cuts.begun ∙ sym (begun-more bits b ∙ (rw no refl))));
-        held = new_held le ∙ (ap (λ n. cond mid.begun (min 8 (n + 1)) 0) (shifted.held ∙ cuts.held) ∙ (ap (λ x. cond x (min 8 (held bits + 1)) 0) (shifted.begun ∙ cuts.begun) ∙ sym (held-more bits b ∙ (rw no refl))));
+        held = new_held le ∙ (ap (λ n. cond mid.begun (min 8 (n + 1)) 0) (shifted.held ∙ cuts.held)
+            ∙ (ap (λ x. cond x (min 8 (held bits + 1)) 0) (shifted.begun ∙ cuts.begun) ∙ sym (held-more bits b ∙ (rw no refl))));
         window = new_window ∙ window;
         gap = rw (unclosed-more bits b, no, new_gap) (shifted.gap bits cuts);
       };
@@ -87,16 +95,23 @@ stands_wait cutter mid new counts queue b bits handed old shifted isnt new_begun
 
 -- what a gap that ends adds to the counts and to the queue
 pub record Closes (gap : List Bool) (counts new_counts : Counts) (queue new_queue : List (List ℕ)) : Type 0 where
-  pub counted : (class : Class) → count_in counts class ≤ 2 ^ 64 - 1 → count_in new_counts class ≡ min (2 ^ 64 - 1) (count_in counts class + cond (nat_lt 7 (length gap) && is_class class (class_of gap)) 1 0)
+  pub counted : (class : Class) → count_in counts class ≤ 2 ^ 64 - 1
+      → count_in new_counts class ≡ min (2 ^ 64 - 1)
+      (count_in counts class + cond (nat_lt 7 (length gap) && is_class class (class_of gap)) 1 0)
   pub queued : new_queue ≡ queue ++ cond (nat_lt 7 (length gap) && is_class Good (class_of gap)) (content gap ∷ []) []
 
 -- a flag ends with the bit
-pub stands_flag : (cutter mid new : Cutter) (counts new_counts : Counts) (queue new_queue : List (List ℕ)) (b : Bool) (bits : List Bool) (handed : ℕ) → Stands cutter counts queue bits handed → Shifted cutter b mid → mid.window ≡ 126 → new.begun ≡ true → new.held ≡ 0 → new.window ≡ mid.window → Collects new.gap [] → Closes (settled bits) counts new_counts queue new_queue → Stands new new_counts new_queue (bits ++ b ∷ []) handed
-stands_flag cutter mid new counts new_counts queue new_queue b bits handed old shifted is new_begun new_held new_window new_gap closes_ =
+pub parts_flag : (cutter mid new : Cutter) (counts new_counts : Counts) (queue new_queue : List (List ℕ)) (b : Bool) (bits : List Bool)
+    (handed : ℕ) → PartsAfter cutter counts queue bits handed → Shifted cutter b mid → mid.window ≡ 126 → new.begun ≡ true → new.held ≡ 0
+    → new.window ≡ mid.window → Collects new.gap [] → Closes (settled bits) counts new_counts queue new_queue
+    → PartsAfter new new_counts new_queue (bits ++ b ∷ []) handed
+parts_flag cutter mid new counts new_counts queue new_queue b bits handed old shifted is new_begun new_held new_window new_gap closes_ =
     let cuts : Cuts cutter bits = old.cuts in
     let window : mid.window ≡ number (recent true (bits ++ b ∷ [])) = window_more cutter mid b bits cuts shifted in
-    let yes_ : at_flag (bits ++ b ∷ []) ≡ true = at_flag_is (bits ++ b ∷ []) ∙ eq-eqb (number (recent true (bits ++ b ∷ []))) 126 (sym window ∙ is) in
-    let added : List (List ℕ) = cond (nat_lt 7 (length (settled bits)) && is_class Good (class_of (settled bits))) (content (settled bits) ∷ []) [] in
+    let yes_ : at_flag (bits ++ b ∷ []) ≡ true =
+    at_flag_is (bits ++ b ∷ []) ∙ eq-eqb (number (recent true (bits ++ b ∷ []))) 126 (sym window ∙ is) in
+    let added : List (List ℕ) =
+    cond (nat_lt 7 (length (settled bits)) && is_class Good (class_of (settled bits))) (content (settled bits) ∷ []) [] in
     let good_more : good (bits ++ b ∷ []) ≡ good bits ++ added = good-more bits b ∙ (rw yes_ refl) in
     let size : length (good bits ++ added) ≡ length (good bits) + length added = length-append (good bits) added in
     let within : handed ≤ length (good bits) = old.within in
@@ -107,9 +122,13 @@ stands_flag cutter mid new counts new_counts queue new_queue b bits handed old s
         window = new_window ∙ window;
         gap = rw (unclosed-more bits b, yes_) new_gap;
       };
-      counted = λ class. counts_more class (count_in counts class) (count_of class bits) (cond (nat_lt 7 (length (settled bits)) && is_class class (class_of (settled bits))) 1 0) _ _ (old.counted class) (closes_.counted class) (count-more class bits b ∙ (rw yes_ refl));
+      counted =
+          λ class. counts_more class (count_in counts class) (count_of class bits)
+          (cond (nat_lt 7 (length (settled bits)) && is_class class (class_of (settled bits))) 1 0) _ _ (old.counted class)
+          (closes_.counted class) (count-more class bits b ∙ (rw yes_ refl));
       within = rw good_more (omega arith);
-      queued = closes_.queued ∙ (ap (λ q. q ++ added) old.queued ∙ (sym (drop-append-le handed (good bits) added within) ∙ ap (drop handed) (sym good_more)));
+      queued = closes_.queued
+          ∙ (ap (λ q. q ++ added) old.queued ∙ (sym (drop-append-le handed (good bits) added within) ∙ ap (drop handed) (sym good_more)));
     }
 
 pub good_only : (class : Class) → is_class Good class ≡ true → class ≡ Good
@@ -120,32 +139,43 @@ good_only Short e = absurd (false≢true e)
 good_only Long e = absurd (false≢true e)
 good_only Damaged e = absurd (false≢true e)
 
-pub good_closes : (gap : List Bool) (queue new : List (List ℕ)) (octets : List ℕ) (long fine : Bool) → long ≡ true → fine ≡ true → new ≡ queue ++ octets ∷ [] → octets ≡ content gap → new ≡ queue ++ cond (long && fine) (content gap ∷ []) []
+pub good_closes : (gap : List Bool) (queue new : List (List ℕ)) (octets : List ℕ) (long fine : Bool) → long ≡ true → fine ≡ true
+    → new ≡ queue ++ octets ∷ [] → octets ≡ content gap → new ≡ queue ++ cond (long && fine) (content gap ∷ []) []
 good_closes gap queue new octets long fine l f e o = rw (l, f) (e ∙ ap (λ xs. queue ++ xs ∷ []) o)
 
-pub contents_push : (frames : List (Vec ℕ Global)) (frame : Vec ℕ Global) → contents_of (frames ++ frame ∷ []) ≡ contents_of frames ++ frame.items ∷ []
+pub contents_push : (frames : List (Vec ℕ Global)) (frame : Vec ℕ Global)
+    → contents_of (frames ++ frame ∷ []) ≡ contents_of frames ++ frame.items ∷ []
 contents_push frames frame = map-append (λ f. f.items) frames (frame ∷ [])
 
 pub grows_twice : {A : Type 0} (old mid new : List A) → Grows old mid → Grows mid new → Grows old new
-grows_twice old mid new first second = record { rest = first.rest ++ second.rest; is = second.is ∙ (ap (λ xs. xs ++ second.rest) first.is ∙ append_assoc old first.rest second.rest) }
+grows_twice old mid new first second =
+    record {
+      rest = first.rest ++ second.rest;
+      is =
+          second.is ∙ (ap (λ xs. xs ++ second.rest) first.is ∙ append_assoc old first.rest second.rest);
+    }
 
 pub grows_cut : {A : Type 0} (old new : List A) (n : ℕ) → Grows old new → n ≡ length old → take n new ≡ old
 grows_cut old new n grows size = ap (take n) grows.is ∙ take_at old grows.rest n (sym size)
 
 -- the bits of a piece up to one place more
-pub piece_more : (bits : List Bool) (octets : List ℕ) (place : ℕ) → bits ++ bits_in LsbFirst octets (place + 1) ≡ (bits ++ bits_in LsbFirst octets place) ++ bit_in LsbFirst octets place ∷ []
-piece_more bits octets place = ap (λ xs. bits ++ xs) (bits_in-next octets place) ∙ sym (append_assoc bits (bits_in LsbFirst octets place) (bit_in LsbFirst octets place ∷ []))
+pub piece_more : (bits : List Bool) (octets : List ℕ) (place : ℕ) → bits ++ bits_in LsbFirst octets (place + 1)
+    ≡ (bits ++ bits_in LsbFirst octets place) ++ bit_in LsbFirst octets place ∷ []
+piece_more bits octets place = ap (λ xs. bits ++ xs) (bits_in-next octets place)
+    ∙ sym (append_assoc bits (bits_in LsbFirst octets place) (bit_in LsbFirst octets place ∷ []))
 
 pub piece_none : (bits : List Bool) (octets : List ℕ) → bits ++ bits_in LsbFirst octets 0 ≡ bits
 piece_none bits octets = rw (bits_in-none LsbFirst octets) (append-nil bits)
 
-pub stands_none : (cutter : Cutter) (counts : Counts) (queue : List (List ℕ)) → Cuts cutter [] → ((class : Class) → count_in counts class ≡ 0) → queue ≡ [] → Stands cutter counts queue [] 0
+pub parts_none : (cutter : Cutter) (counts : Counts) (queue : List (List ℕ)) → Cuts cutter []
+    → ((class : Class) → count_in counts class ≡ 0) → queue ≡ [] → PartsAfter cutter counts queue [] 0
 unfolding flags gaps
-stands_none cutter counts queue cuts zeros none = record { cuts = cuts; counted = zeros; within = omega arith; queued = none }
+parts_none cutter counts queue cuts zeros none = record { cuts = cuts; counted = zeros; within = omega arith; queued = none }
 
 -- the next content, and what is left of them
-pub next_content : (framing : Framing) (bits : List Bool) (handed : ℕ) → StandsAfter framing bits handed → slice_get framing.queue 0 ≡ slice_get (good bits) handed
-next_content framing bits handed old = ap (λ q. slice_get q 0) old.queued ∙ go (good bits) handed
+pub next_content : (state : DeframerState) (bits : List Bool) (handed : ℕ) → IsAfter state bits handed
+    → slice_get state.queue 0 ≡ slice_get (good bits) handed
+next_content state bits handed old = ap (λ q. slice_get q 0) old.queued ∙ go (good bits) handed
   where
     go : (contents : List (List ℕ)) (n : ℕ) → slice_get (drop n contents) 0 ≡ slice_get contents n
     go [] zero = refl
@@ -153,37 +183,43 @@ next_content framing bits handed old = ap (λ q. slice_get q 0) old.queued ∙ g
     go (x ∷ xs) zero = refl
     go (x ∷ xs) (suc n) = go xs n
 
-pub next_stands : (framing : Framing) (bits : List Bool) (handed : ℕ) → StandsAfter framing bits handed → handed < length (good bits) → StandsAfter (record framing { queue = drop 1 framing.queue }) bits (handed + 1)
-next_stands framing bits handed old more = record {
+pub next_stands : (state : DeframerState) (bits : List Bool) (handed : ℕ) → IsAfter state bits handed → handed < length (good bits)
+    → IsAfter (record state { queue = drop 1 state.queue }) bits (handed + 1)
+next_stands state bits handed old more = record {
   kept = old.kept;
   counted = old.counted;
   within = omega arith;
   queued = ap (drop 1) old.queued ∙ drop-drop 1 handed (good bits);
 }
 
-pub framing_same : (a b : Framing) → a.kept ≡ b.kept → a.counts ≡ b.counts → a.queue ≡ b.queue → a ≡ b
-framing_same a b kept counts queue =
-    let one : Kept → Framing = λ x. record { kept = x; counts = a.counts; queue = a.queue } in
-    let two : Counts → Framing = λ x. record { kept = b.kept; counts = x; queue = a.queue } in
-    let three : List (List ℕ) → Framing = λ x. record { kept = b.kept; counts = b.counts; queue = x } in
+pub state_same : (a b : DeframerState) → a.kept ≡ b.kept → a.counts ≡ b.counts → a.queue ≡ b.queue → a ≡ b
+state_same a b kept counts queue =
+    let one : Kept → DeframerState = λ x. record { kept = x; counts = a.counts; queue = a.queue } in
+    let two : Counts → DeframerState = λ x. record { kept = b.kept; counts = x; queue = a.queue } in
+    let three : List (List ℕ) → DeframerState = λ x. record { kept = b.kept; counts = b.counts; queue = x } in
     ap one kept ∙ (ap two counts ∙ ap three queue)
 
 pub contents_drop : (frames rest : List (Vec ℕ Global)) → rest ≡ drop 1 frames → contents_of rest ≡ drop 1 (contents_of frames)
 contents_drop [] rest e = ap contents_of e
 contents_drop (x ∷ xs) rest e = ap contents_of e
 
-pub content_if : (lent : Option (Bor (List ℕ))) (x y : Option (List ℕ)) → IfSome lent (λ content. x ≡ Some content.now) → x ≡ y → IfSome lent (λ content. y ≡ Some content.now)
+pub content_if : (lent : Option (Bor (List ℕ))) (x y : Option (List ℕ)) → IfSome lent (λ content. x ≡ Some content.now) → x ≡ y
+    → IfSome lent (λ content. y ≡ Some content.now)
 content_if None x y h e = tt
 content_if (Some b) x y h e = sym e ∙ h
 
-pub lent_some : (items rest : List (Vec ℕ Global)) (popped : Option (Vec ℕ Global)) (lent : Option (Bor (List ℕ))) (front : Option (List ℕ)) → items ≡ option_to_list popped ++ rest → option_map (λ y. y.now) lent ≡ option_map vec_items popped → slice_get (contents_of items) 0 ≡ front → IfSome lent (λ content. front ≡ Some content.now)
+pub lent_some : (items rest : List (Vec ℕ Global)) (popped : Option (Vec ℕ Global)) (lent : Option (Bor (List ℕ))) (front : Option (List ℕ))
+    → items ≡ option_to_list popped ++ rest → option_map (λ y. y.now) lent ≡ option_map vec_items popped
+    → slice_get (contents_of items) 0 ≡ front → IfSome lent (λ content. front ≡ Some content.now)
 lent_some items rest popped None front e f g = tt
 lent_some items rest None (Some b) front e f g = cc
 lent_some items rest (Some x) (Some b) front e f g =
     let is : b.now ≡ x.items = cc in
     sym g ∙ (ap (λ xs. slice_get (contents_of xs) 0) e ∙ ap Some (sym is))
 
-pub lent_none : (items rest : List (Vec ℕ Global)) (popped : Option (Vec ℕ Global)) (lent : Option (Bor (List ℕ))) (front : Option (List ℕ)) → items ≡ option_to_list popped ++ rest → rest ≡ drop 1 items → option_map (λ y. y.now) lent ≡ option_map vec_items popped → slice_get (contents_of items) 0 ≡ front → IfNone lent (front ≡ None)
+pub lent_none : (items rest : List (Vec ℕ Global)) (popped : Option (Vec ℕ Global)) (lent : Option (Bor (List ℕ))) (front : Option (List ℕ))
+    → items ≡ option_to_list popped ++ rest → rest ≡ drop 1 items → option_map (λ y. y.now) lent ≡ option_map vec_items popped
+    → slice_get (contents_of items) 0 ≡ front → IfNone lent (front ≡ None)
 lent_none items rest popped (Some b) front e r f g = tt
 lent_none items rest (Some x) None front e r f g = cc
 lent_none [] rest None None front e r f g = sym g
@@ -195,9 +231,10 @@ past_end (x ∷ xs) zero e = cc
 past_end (x ∷ xs) (suc n) e = let rest : length xs ≤ n = past_end xs n e in omega arith
 
 -- where nothing waits, all good contents were handed out
-pub nothing_waits : (framing : Framing) (bits : List Bool) (handed : ℕ) (lent : Option (Bor (List ℕ))) → StandsAfter framing bits handed → IfNone lent (slice_get framing.queue 0 ≡ None) → IfNone lent (handed ≡ length (good bits))
-nothing_waits framing bits handed (Some b) old h = tt
-nothing_waits framing bits handed None old h =
-    let past : length (good bits) ≤ handed = past_end (good bits) handed (sym (next_content framing bits handed old) ∙ h) in
+pub nothing_waits : (state : DeframerState) (bits : List Bool) (handed : ℕ) (lent : Option (Bor (List ℕ))) → IsAfter state bits handed
+    → IfNone lent (slice_get state.queue 0 ≡ None) → IfNone lent (handed ≡ length (good bits))
+nothing_waits state bits handed (Some b) old h = tt
+nothing_waits state bits handed None old h =
+    let past : length (good bits) ≤ handed = past_end (good bits) handed (sym (next_content state bits handed old) ∙ h) in
     let within : handed ≤ length (good bits) = old.within in
     omega arith

@@ -1,14 +1,14 @@
--- What of all bits so far decides how the next one counts: the last flag's place, the last eight bits, and the bits of
--- the gap that is open. The clauses of a deframer name this; no definition of a frame does.
+-- The gap that is open after all bits so far: the last flag's place, the last eight bits, which may belong to the next
+-- flag, and the bits between. The clauses of a deframer name this; no definition of a frame does.
 use Rattle.std.specs.Prelude.{ℕ, ◌+◌, ◌-◌, Bool, true, List, [], ◌∷◌, length, take, drop, min, Option, Some, None, is_some}
 use Rattle.run_tables.specs.Texts.{begins}
 use Rattle.hdlc.specs.Flags.{flags, flag}
 
--- the last eight bits; before the first bit stand eight of a fill
+-- the last eight bits; before the first bit there are eight of a fill
 unfoldable pub recent : Bool → List Bool → List Bool
 recent fill bits = drop (length bits) (fill ∷ fill ∷ fill ∷ fill ∷ fill ∷ fill ∷ fill ∷ fill ∷ bits)
 
--- the last of a place and those behind it
+-- the last of a place and those after it
 abbrev pub last_from : ℕ → List ℕ → ℕ
 last_from p [] = p
 last_from p (q ∷ qs) = last_from q qs
@@ -18,7 +18,7 @@ abbrev pub last_of : List ℕ → Option ℕ
 last_of [] = None
 last_of (p ∷ ps) = Some (last_from p ps)
 
--- where the last flag stands
+-- the place of the last flag
 abbrev pub last_flag : List Bool → Option ℕ
 last_flag bits = last_of (flags bits)
 

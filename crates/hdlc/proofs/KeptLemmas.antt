@@ -3,17 +3,28 @@ use Rattle.std.proofs.Common.{◌≡◌, ℕ, Bool, List, refl, ap, sym, subst}
 use Rattle.hdlc.specs.declared.counts.Counts.{Counts}
 use Rattle.hdlc.specs.declared.cutter.Cutter.{Cutter}
 use Rattle.hdlc.specs.Collects.{Collects}
-use Rattle.hdlc.specs.Framing.{Framing, StandsAfter}
+use Rattle.hdlc.specs.DeframerState.{DeframerState, IsAfter}
 use Rattle.hdlc.specs.Kept.{Kept, kept_of}
-use Rattle.hdlc.specs.Standing.{unclosed}
-use Rattle.hdlc.specs.Stands.{Cuts, Stands, kept_in}
+use Rattle.hdlc.specs.OpenGap.{unclosed}
+use Rattle.hdlc.specs.DeframerParts.{Cuts, PartsAfter, kept_in}
 
 kept_is : (cutter : Cutter) (bits : List Bool) → Cuts cutter bits → kept_in cutter ≡ kept_of bits
 unfolding kept_of
 kept_is cutter bits cuts =
     let gap : Collects cutter.gap (unclosed bits) = cuts.gap in
-    let clear = gap.clear in
-    rw (cuts.begun, cuts.held, cuts.window, gap.seen, gap.ones, gap.aborted, clear.whole, clear.long, clear.part, clear.window) refl
+    let unstuffed = gap.unstuffed in
+    rw (
+      cuts.begun,
+      cuts.held,
+      cuts.window,
+      gap.seen,
+      gap.ones,
+      gap.aborted,
+      unstuffed.whole,
+      unstuffed.long,
+      unstuffed.part,
+      unstuffed.window,
+    ) refl
 
 cuts_are : (cutter : Cutter) (bits : List Bool) → kept_in cutter ≡ kept_of bits → Cuts cutter bits
 unfolding kept_of
@@ -25,7 +36,7 @@ cuts_are cutter bits e = record {
     seen = ap (λ (k : Kept). k.seen) e;
     ones = ap (λ (k : Kept). k.ones) e;
     aborted = ap (λ (k : Kept). k.aborted) e;
-    clear = record {
+    unstuffed = record {
       part = ap (λ (k : Kept). k.part) e;
       window = ap (λ (k : Kept). k.ending) e;
       whole = ap (λ (k : Kept). k.octets) e;
@@ -35,21 +46,21 @@ cuts_are cutter bits e = record {
 }
 
 -- a deframer with these registers
-abbrev pub framing_of : Cutter → Counts → List (List ℕ) → Framing
-framing_of cutter counts queue = record { kept = kept_in cutter; counts = counts; queue = queue }
+abbrev pub state_of : Cutter → Counts → List (List ℕ) → DeframerState
+state_of cutter counts queue = record { kept = kept_in cutter; counts = counts; queue = queue }
 
-pub stands_seen : (cutter : Cutter) (counts : Counts) (queue : List (List ℕ)) (bits : List Bool) (handed : ℕ)
-    → Stands cutter counts queue bits handed → StandsAfter (framing_of cutter counts queue) bits handed
-stands_seen cutter counts queue bits handed s = record {
+pub parts_seen : (cutter : Cutter) (counts : Counts) (queue : List (List ℕ)) (bits : List Bool) (handed : ℕ)
+    → PartsAfter cutter counts queue bits handed → IsAfter (state_of cutter counts queue) bits handed
+parts_seen cutter counts queue bits handed s = record {
   kept = kept_is cutter bits s.cuts;
   counted = s.counted;
   within = s.within;
   queued = s.queued;
 }
 
-pub stands_inside : (cutter : Cutter) (counts : Counts) (queue : List (List ℕ)) (bits : List Bool) (handed : ℕ) (framing : Framing)
-    → framing_of cutter counts queue ≡ framing → StandsAfter framing bits handed → Stands cutter counts queue bits handed
-stands_inside cutter counts queue bits handed framing view stands =
-    let P : Framing → Type 0 = λ f. StandsAfter f bits handed in
-    let s : StandsAfter (framing_of cutter counts queue) bits handed = subst P (sym view) stands in
+pub parts_inside : (cutter : Cutter) (counts : Counts) (queue : List (List ℕ)) (bits : List Bool) (handed : ℕ) (state : DeframerState)
+    → state_of cutter counts queue ≡ state → IsAfter state bits handed → PartsAfter cutter counts queue bits handed
+parts_inside cutter counts queue bits handed state view taken =
+    let P : DeframerState → Type 0 = λ f. IsAfter f bits handed in
+    let s : IsAfter (state_of cutter counts queue) bits handed = subst P (sym view) taken in
     record { cuts = cuts_are cutter bits s.kept; counted = s.counted; within = s.within; queued = s.queued }

@@ -1,4 +1,4 @@
--- What the deframer's registers have of the bits so far.
+-- What the parts of a deframer, its cutter, counts and queue, have of the bits so far.
 use Rattle.std.specs.Prelude.{ℕ, ◌≡◌, ◌-◌, ◌^◌, ◌≤◌, Bool, true, List, ◌++◌, length, min, drop}
 use Rattle.hdlc.specs.declared.counts.Class.{Class}
 use Rattle.hdlc.specs.declared.counts.Class.TheVariants.{Good, Aborted, Ragged, Short, Long, Damaged}
@@ -6,7 +6,7 @@ use Rattle.hdlc.specs.declared.counts.Counts.{Counts}
 use Rattle.hdlc.specs.declared.cutter.Cutter.{Cutter}
 use Rattle.raster.specs.Octets.{number}
 use Rattle.hdlc.specs.Gaps.{good, count_of}
-use Rattle.hdlc.specs.Standing.{begun, held, recent, unclosed}
+use Rattle.hdlc.specs.OpenGap.{begun, held, recent, unclosed}
 use Rattle.hdlc.specs.Collects.{Collects}
 use Rattle.hdlc.specs.Kept.{Kept}
 
@@ -35,15 +35,15 @@ kept_in cutter = record {
   seen = cutter.gap.seen;
   ones = cutter.gap.ones;
   aborted = cutter.gap.aborted;
-  octets = cutter.gap.clear.whole.items;
-  long = cutter.gap.clear.long;
-  part = cutter.gap.clear.part;
-  ending = cutter.gap.clear.window;
+  octets = cutter.gap.unstuffed.whole.items;
+  long = cutter.gap.unstuffed.long;
+  part = cutter.gap.unstuffed.part;
+  ending = cutter.gap.unstuffed.window;
 }
 
 -- After these bits, of whose good contents so many were handed out, this is kept, these are the counts, and these
 -- contents wait.
-pub record Stands (cutter : Cutter) (counts : Counts) (queue : List (List ℕ)) (bits : List Bool) (handed : ℕ) : Type 0 where
+pub record PartsAfter (cutter : Cutter) (counts : Counts) (queue : List (List ℕ)) (bits : List Bool) (handed : ℕ) : Type 0 where
   pub cuts : Cuts cutter bits
   pub counted : (class : Class) → count_in counts class ≡ min (2 ^ 64 - 1) (count_of class bits)
   pub within : handed ≤ length (good bits)

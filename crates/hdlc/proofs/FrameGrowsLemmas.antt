@@ -1,4 +1,4 @@
--- After a flag all else is forgotten; frames behind idle bits.
+-- After a flag all else is forgotten; frames after idle bits.
 use Rattle.std.proofs.Common.{◌≡◌, ℕ, zero, suc, ◌+◌, ◌-◌, ◌≤◌, Bool, true, false, ◌&&◌, ◌||◌, List, [], ◌∷◌, ◌++◌, length, drop, map, cond, min, get_or, refl, ap, sym, ◌∙◌, arith, inl, inr, nat_eq, nat_lt, append_assoc, replicate}
 use Rattle.std.specs.List.{filter}
 use Rattle.std.proofs.lemmas.List.{append-nil, length-append, map-append, drop_at}
@@ -9,7 +9,7 @@ use Rattle.hdlc.specs.Flags.{flag, flags, gaps}
 use Rattle.hdlc.specs.Gaps.{good, class_of, is_class, content}
 use Rattle.hdlc.specs.Frames.{IsFrame, EndsIdle, IsReady}
 use Rattle.hdlc.specs.Laws.{FrameGrows}
-use Rattle.hdlc.specs.Standing.{recent, begun, held, unclosed, settled, at_flag}
+use Rattle.hdlc.specs.OpenGap.{recent, begun, held, unclosed, settled, at_flag}
 use Rattle.hdlc.proofs.Flags.{recent-more, recent_long}
 use Rattle.hdlc.proofs.Gaps.{settled_is, unclosed-more, held-more, begun-more, gaps-more}
 
@@ -35,19 +35,25 @@ flag_same a b x s = ap (begins flag) (recent_same a b x s)
 same_more : (a b : List Bool) (x : Bool) → SameState a b → SameState (a ++ x ∷ []) (b ++ x ∷ [])
 same_more a b x s = record {
   recent = recent_same a b x s;
-  begun = begun-more a x ∙ (ap (λ f. f || begun a) (flag_same a b x s) ∙ (ap (λ y. at_flag (b ++ x ∷ []) || y) s.begun ∙ sym (begun-more b x)));
+  begun = begun-more a x
+      ∙ (ap (λ f. f || begun a) (flag_same a b x s) ∙ (ap (λ y. at_flag (b ++ x ∷ []) || y) s.begun ∙ sym (begun-more b x)));
   held =
       held-more a x ∙ (ap (λ f. cond f 0 (cond (begun a) (min 8 (held a + 1)) 0)) (flag_same a b x s) ∙
       (ap (λ y. cond (at_flag (b ++ x ∷ [])) 0 (cond y (min 8 (held a + 1)) 0)) s.begun ∙
       (ap (λ n. cond (at_flag (b ++ x ∷ [])) 0 (cond (begun b) (min 8 (n + 1)) 0)) s.held ∙ sym (held-more b x))));
-  unclosed = unclosed-more a x ∙ (ap (λ f. cond f [] (settled a)) (flag_same a b x s) ∙ (ap (λ g. cond (at_flag (b ++ x ∷ [])) [] g) (settled_same a b s) ∙ sym (unclosed-more b x)));
+  unclosed =
+      unclosed-more a x
+      ∙ (ap (λ f. cond f [] (settled a)) (flag_same a b x s) ∙ (ap (λ g. cond (at_flag (b ++ x ∷ [])) [] g) (settled_same a b s)
+      ∙ sym (unclosed-more b x)));
 }
 
 -- more bits add the same gaps after both
-joined : (ys a b : List Bool) → SameState a b → (more : List (List Bool)) × (gaps (a ++ ys) ≡ gaps a ++ more) × (gaps (b ++ ys) ≡ gaps b ++ more)
+joined : (ys a b : List Bool) → SameState a b → (more : List (List Bool)) × (gaps (a ++ ys) ≡ gaps a ++ more)
+    × (gaps (b ++ ys) ≡ gaps b ++ more)
 joined [] a b s = ([], ap gaps (append-nil a) ∙ sym (append-nil (gaps a)), ap gaps (append-nil b) ∙ sym (append-nil (gaps b)))
 joined (y ∷ ys) a b s =
-    let rest : (more : List (List Bool)) × (gaps ((a ++ y ∷ []) ++ ys) ≡ gaps (a ++ y ∷ []) ++ more) × (gaps ((b ++ y ∷ []) ++ ys) ≡ gaps (b ++ y ∷ []) ++ more) = joined ys (a ++ y ∷ []) (b ++ y ∷ []) (same_more a b y s) in
+    let rest : (more : List (List Bool)) × (gaps ((a ++ y ∷ []) ++ ys) ≡ gaps (a ++ y ∷ []) ++ more)
+    × (gaps ((b ++ y ∷ []) ++ ys) ≡ gaps (b ++ y ∷ []) ++ more) = joined ys (a ++ y ∷ []) (b ++ y ∷ []) (same_more a b y s) in
     let one : List (List Bool) = cond (at_flag (b ++ y ∷ []) && nat_lt 7 (length (settled b))) (settled b ∷ []) [] in
     let here : gaps (a ++ y ∷ []) ≡ gaps a ++ one =
     gaps-more a y ∙ (ap (λ f. gaps a ++ cond (f && nat_lt 7 (length (settled a))) (settled a ∷ []) []) (flag_same a b y s) ∙
@@ -111,9 +117,11 @@ idle (suc (suc (suc (suc (suc (suc (suc (suc n)))))))) h = absurd (omega arith)
 
 -- 0 bits after a flag add nothing
 frame_idle : (front : List Bool) (n : ℕ) → n ≤ 7 → gaps ((front ++ flag) ++ replicate n false) ≡ gaps (front ++ flag)
-frame_idle front n h = gaps_split front (replicate n false) ∙ (ap (λ g. gaps (front ++ flag) ++ g) (idle n h).0 ∙ append-nil (gaps (front ++ flag)))
+frame_idle front n h = gaps_split front (replicate n false)
+    ∙ (ap (λ g. gaps (front ++ flag) ++ g) (idle n h).0 ∙ append-nil (gaps (front ++ flag)))
 
-gaps_frame_idle : (content : List ℕ) (frame : List Bool) (n : ℕ) → IsFrame content frame → n ≤ 7 → gaps (frame ++ replicate n false) ≡ gaps frame
+gaps_frame_idle : (content : List ℕ) (frame : List Bool) (n : ℕ) → IsFrame content frame → n ≤ 7
+    → gaps (frame ++ replicate n false) ≡ gaps frame
 gaps_frame_idle content frame n f h = ap (λ x. gaps (x ++ replicate n false)) f.is ∙ (frame_idle (flag ++ f.body) n h ∙ ap gaps (sym f.is))
 
 two_flags : (f pad tail : List Bool) → f ++ (pad ++ (f ++ tail)) ≡ ((f ++ pad) ++ f) ++ tail
@@ -123,33 +131,44 @@ gaps_none : gaps [] ≡ []
 unfolding gaps flags
 gaps_none = refl
 
-gaps_after_idle : (bits : List Bool) (content : List ℕ) (frame : List Bool) (n : ℕ) → EndsIdle bits → IsFrame content frame → n ≤ 7 → gaps (bits ++ (frame ++ replicate n false)) ≡ gaps bits ++ gaps frame
+gaps_after_idle : (bits : List Bool) (content : List ℕ) (frame : List Bool) (n : ℕ) → EndsIdle bits → IsFrame content frame → n ≤ 7
+    → gaps (bits ++ (frame ++ replicate n false)) ≡ gaps bits ++ gaps frame
 gaps_after_idle bits content frame n idle_ f h =
     let pad : List Bool = replicate idle_.zeros false in
     let tail : List Bool = (f.body ++ flag) ++ replicate n false in
     let split_frame : frame ++ replicate n false ≡ flag ++ tail = ap (λ x. x ++ replicate n false) f.is ∙ simp append_assoc in
-    let whole : bits ++ (frame ++ replicate n false) ≡ (idle_.front ++ flag) ++ (pad ++ (flag ++ tail)) = ap (λ x. x ++ (frame ++ replicate n false)) idle_.is ∙ (ap (λ x. (idle_.front ++ flag ++ pad) ++ x) split_frame ∙ simp append_assoc) in
+    let whole : bits ++ (frame ++ replicate n false) ≡ (idle_.front ++ flag) ++ (pad ++ (flag ++ tail)) =
+    ap (λ x. x ++ (frame ++ replicate n false)) idle_.is
+    ∙ (ap (λ x. (idle_.front ++ flag ++ pad) ++ x) split_frame ∙ simp append_assoc) in
     let inner : flag ++ (pad ++ (flag ++ tail)) ≡ ((flag ++ pad) ++ flag) ++ tail = two_flags flag pad tail in
     let quiet : gaps (flag ++ (pad ++ (flag ++ tail))) ≡ gaps frame =
-    ap gaps inner ∙ (gaps_split (flag ++ pad) tail ∙ (ap (λ g. g ++ gaps (flag ++ tail)) (idle idle_.zeros idle_.few).1 ∙ (ap gaps (sym split_frame) ∙ gaps_frame_idle content frame n f h))) in
+    ap gaps inner
+    ∙ (gaps_split (flag ++ pad) tail ∙ (ap (λ g. g ++ gaps (flag ++ tail)) (idle idle_.zeros idle_.few).1
+    ∙ (ap gaps (sym split_frame) ∙ gaps_frame_idle content frame n f h))) in
     let before : gaps bits ≡ gaps (idle_.front ++ flag) = ap gaps idle_.is ∙ frame_idle idle_.front idle_.zeros idle_.few in
-    ap gaps whole ∙ (gaps_split idle_.front (pad ++ (flag ++ tail)) ∙ (ap (λ g. gaps (idle_.front ++ flag) ++ g) quiet ∙ ap (λ g. g ++ gaps frame) (sym before)))
+    ap gaps whole
+    ∙ (gaps_split idle_.front (pad ++ (flag ++ tail))
+    ∙ (ap (λ g. gaps (idle_.front ++ flag) ++ g) quiet ∙ ap (λ g. g ++ gaps frame) (sym before)))
 
-gaps_after : (bits : List Bool) (content : List ℕ) (frame : List Bool) (n : ℕ) → IsReady bits → IsFrame content frame → n ≤ 7 → gaps (bits ++ (frame ++ replicate n false)) ≡ gaps bits ++ gaps frame
+gaps_after : (bits : List Bool) (content : List ℕ) (frame : List Bool) (n : ℕ) → IsReady bits → IsFrame content frame → n ≤ 7
+    → gaps (bits ++ (frame ++ replicate n false)) ≡ gaps bits ++ gaps frame
 gaps_after bits content frame n (inl none) f h =
-    ap (λ x. gaps (x ++ (frame ++ replicate n false))) none ∙ (gaps_frame_idle content frame n f h ∙ (sym (ap (λ g. g ++ gaps frame) gaps_none) ∙ ap (λ x. gaps x ++ gaps frame) (sym none)))
+    ap (λ x. gaps (x ++ (frame ++ replicate n false))) none
+    ∙ (gaps_frame_idle content frame n f h ∙ (sym (ap (λ g. g ++ gaps frame) gaps_none) ∙ ap (λ x. gaps x ++ gaps frame) (sym none)))
 gaps_after bits content frame n (inr idle_) f h = gaps_after_idle bits content frame n idle_ f h
 
 -- good contents follow the gaps
 good_after : (whole bits frame : List Bool) → gaps whole ≡ gaps bits ++ gaps frame → good whole ≡ good bits ++ good frame
 good_after whole bits frame e =
     ap (λ gs. map content (filter fine gs)) e ∙
-    (ap (map content) (filter-append fine (gaps bits) (gaps frame)) ∙ map-append content (filter fine (gaps bits)) (filter fine (gaps frame)))
+    (ap (map content) (filter-append fine (gaps bits) (gaps frame))
+    ∙ map-append content (filter fine (gaps bits)) (filter fine (gaps frame)))
   where
     fine : List Bool → Bool
     fine gap = is_class Good (class_of gap)
 
-ends_idle : (bits : List Bool) (content : List ℕ) (frame : List Bool) (n : ℕ) → IsFrame content frame → n ≤ 7 → EndsIdle (bits ++ (frame ++ replicate n false))
+ends_idle : (bits : List Bool) (content : List ℕ) (frame : List Bool) (n : ℕ) → IsFrame content frame → n ≤ 7
+    → EndsIdle (bits ++ (frame ++ replicate n false))
 ends_idle bits content frame n f h = record {
   front = bits ++ (flag ++ f.body);
   zeros = n;

@@ -1,6 +1,8 @@
+//! Frames found in bits that come in any pieces, and the classes of gaps.
+
 ghost use Rattle.std.specs.Prelude.{◌≤◌, length};
 
-use crate::{Counts, Deframer, fcs, write_frame};
+use crate::{Counts, Deframer, write_frame};
 use run_tables::{BitWriter, Order};
 use std::alloc::{AllocError, Global};
 use std::test::Fail;
@@ -74,23 +76,6 @@ fn counted_zeros(alloc: Global, octets: u32, more: u32) -> Result<Counts, AllocE
         writer.push(*digit == b'1')?;
     }
     Ok(one_by_one(alloc, &writer.into_octets())?.counts())
-}
-
-#[test]
-fn check_sequences(rt: HostRuntime) {
-    assert_eq!(rt; fcs(b"123456789"), 0x906E);
-    assert_eq!(rt; fcs(&CONFIRMATION), 0xF1A2);
-    assert_eq!(rt; fcs(&[0xFF, 0x13, 0x84]), 0x7DEA);
-    assert_eq!(rt; fcs(&[]), 0);
-}
-
-#[test]
-fn written_as_in_the_standard(rt: HostRuntime) -> Result<(), Fail> {
-    let mut writer = BitWriter::new(rt.alloc(), Order::LsbFirst);
-    write_frame(&CONFIRMATION, &mut writer)?;
-    assert_eq!(rt; writer.bits(), 58);
-    assert_eq!(rt; writer.into_octets().as_slice(), FRAME.as_slice());
-    Ok(())
 }
 
 #[test]
