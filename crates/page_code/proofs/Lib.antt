@@ -8,6 +8,7 @@ pub mod T4PageLaws
 pub mod T4WorkedRows
 pub mod T4Readings
 pub mod EolReads
+pub mod PageAnswers
 pub mod OneDimReads
 pub mod OneDimWrites
 pub mod T6WorkedRows

@@ -18,7 +18,7 @@ use Rattle.page_code.specs.T4Fronts.{PageState, PageLook, by_eol, put, zeros_bef
 use Rattle.page_code.specs.T4Fronts.PageItem.{eol, coded}
 use Rattle.page_code.specs.T4Fronts.PageState.{first, row_start, in_row, row_end}
 use Rattle.page_code.specs.T4Laws.{IsLongestFront}
-use Rattle.page_code.specs.T4Reading.{GivesPage, SeesEol}
+use Rattle.page_code.specs.T4Reading.{SeesEol}
 use Rattle.page_code.specs.PageCodes.{GivesRows, IsOnlyAnswer, ReadsItsCode, ReadsPage, RefusesPage}
 use Rattle.page_code.specs.declared.eol.Eol.TheVariants.{Stands}
 use Rattle.run_tables.specs.Fronts.Look.{go, stop, refuse}
@@ -68,65 +68,6 @@ pub eol_goes : (width : ℕ) (bits : List Bool) (place eol_bits : ℕ) (rows : L
 eol_goes width bits place eol_bits rows sees =
     let same : sees.0 + 1 ≡ eol_bits = sym sees.3 in
     reading_at_eol width (row_end rows) (row_start rows) bits place sees.0 sees.1 (sees.2, refl) ∙ ap (λ (n : ℕ). reading width (row_start rows) (place + n) (drop (place + n) bits)) same
-
--- no page is refused for want of memory
-by_eol_memory : (o : Option ℕ) (none : PageLook) (there : ℕ → PageLook) (other : PageLook) → (none ≡ refuse NoMemory → ⊥) → ((n : ℕ) → there n ≡ refuse NoMemory → ⊥) → (other ≡ refuse NoMemory → ⊥) → by_eol o none there other ≡ refuse NoMemory → ⊥
-by_eol_memory None none there other a b c e = a e
-by_eol_memory (Some n) none there other a b c e = seen (ltb n 11) e
-  where
-    seen : (t : Bool) → cond t other (there n) ≡ refuse NoMemory → ⊥
-    seen true e = c e
-    seen false e = b n e
-
-ends_memory : (rows : List (List Color)) (n : ℕ) → ends_with rows n ≡ refuse NoMemory → ⊥
-ends_memory [] n e = cc
-ends_memory (row ∷ rows) n e = cc
-
-row_memory : (width : ℕ) (rows : List (List Color)) (pixels : List Color) (color : Color) (makeup : Option ℕ) (x : List Bool) → look_in_row width rows pixels color makeup x ≡ refuse NoMemory → ⊥
-row_memory width rows pixels color makeup x e = code_memory coded (λ row. put rows (whole row)) (λ more next high. put rows (inside more next high)) width pixels color makeup x e
-
-look_memory : (width : ℕ) (s : PageState) (x : List Bool) → look width s x ≡ refuse NoMemory → ⊥
-look_memory width first x e = by_eol_memory (zeros_before x) (refuse NoRows) (λ n. go (eol n) (row_start [])) (look_in_row width [] [] White None x) (λ h. cc) (λ n h. cc) (row_memory width [] [] White None x) e
-look_memory width (row_start rows) x e = by_eol_memory (zeros_before x) (ends_with rows 0) (λ n. ends_with rows (bits_of_five x)) (cond (ltb (length rows) 20000) (look_in_row width rows [] White None x) (refuse TooManyCodedRows)) (ends_memory rows 0) (λ n. ends_memory rows (bits_of_five x)) (room (ltb (length rows) 20000)) e
-  where
-    room : (b : Bool) → cond b (look_in_row width rows [] White None x) (refuse TooManyCodedRows) ≡ refuse NoMemory → ⊥
-    room true h = row_memory width rows [] White None x h
-    room false h = cc
-look_memory width (in_row rows pixels color makeup) x e = row_memory width rows pixels color makeup x e
-look_memory width (row_end rows) x e = by_eol_memory (zeros_before x) (stop rows 0) (λ n. go (eol n) (row_start rows)) (refuse BadCode) (λ h. cc) (λ n h. cc) (λ h. cc) e
-
-page_memory : (width : ℕ) (bits : List Bool) (place : ℕ) → read_page width bits ≡ Err (place, NoMemory) → ⊥
-page_memory width bits place e =
-    let longest = refuses_at_longest width bits place NoMemory e in
-    look_memory width longest.front.end longest.front.rest longest.kind_is
-
--- what the reader's answer says of the bits
-pub gives_reads : (width : ℕ) (fine : Bool) (bits : List Bool) (result : Result (PagePixels × ℕ) CodeFault) → IsWidth width → GivesPage width fine bits result → IfOk result (λ read. ReadsPage ReadsAs width fine bits read.0 read.1)
-gives_reads width fine bits (Ok read) wide gives = record { width_is = gives.0; fine_is = gives.1; reads = (reads_pages_exactly width bits read.0.rows read.1 wide).0 gives.2 }
-gives_reads width fine bits (Err fault) wide gives = tt
-
-pub gives_only : (width : ℕ) (fine : Bool) (bits : List Bool) (result : Result (PagePixels × ℕ) CodeFault) → IsWidth width → GivesPage width fine bits result → IsOnlyAnswer ReadsAs width bits result
-gives_only width fine bits (Ok read) wide gives rows used reads =
-    let both : ◌≡◌ {A = Result (List (List Color) × ℕ) (ℕ × CodeFaultKind)} (Ok (read.0.rows, read.1)) (Ok (rows, used)) = sym gives.2 ∙ (reads_pages_exactly width bits rows used wide).1 reads in
-    let pair : ◌≡◌ {A = List (List Color) × ℕ} (read.0.rows, read.1) (rows, used) = cc in
-    (ap (λ (p : List (List Color) × ℕ). p.0) pair, ap (λ (p : List (List Color) × ℕ). p.1) pair)
-gives_only width fine bits (Err fault) wide (inl memory) rows used reads = ap (λ (f : CodeFault). f.kind) memory
-gives_only width fine bits (Err fault) wide (inr e) rows used reads = absurd (refuses_no_page width bits fault.place fault.kind rows used wide e reads)
-
-pub gives_refuses : (width : ℕ) (fine : Bool) (bits : List Bool) (result : Result (PagePixels × ℕ) CodeFault) → IsWidth width → GivesPage width fine bits result → IfErr result (λ fault. fault.kind ≢ NoMemory → RefusesPage ReadsAs IsLongestFront width bits fault)
-gives_refuses width fine bits (Ok read) wide gives = tt
-gives_refuses width fine bits (Err fault) wide (inl memory) = λ other. absurd (other (ap (λ (f : CodeFault). f.kind) memory))
-gives_refuses width fine bits (Err fault) wide (inr e) = λ other. record { longest = refuses_at_longest width bits fault.place fault.kind e; none = λ rows used reads. refuses_no_page width bits fault.place fault.kind rows used wide e reads }
-
-pub gives_rows : (width : ℕ) (fine : Bool) (bits : List Bool) (result : Result (PagePixels × ℕ) CodeFault) → GivesPage width fine bits result → GivesRows (read_page width bits) result
-gives_rows width fine bits (Ok read) gives = gives.2
-gives_rows width fine bits (Err fault) (inl memory) = λ differs. absurd (differs (ap (λ (f : CodeFault). f.kind) memory))
-gives_rows width fine bits (Err fault) (inr e) = λ differs. e
-
-pub gives_memory : (width : ℕ) (fine : Bool) (bits : List Bool) (result : Result (PagePixels × ℕ) CodeFault) → GivesPage width fine bits result → IfErr result (λ fault. fault.kind ≡ NoMemory → fault.place ≡ 0)
-gives_memory width fine bits (Ok read) gives = tt
-gives_memory width fine bits (Err fault) (inl memory) = λ same. ap (λ (f : CodeFault). f.place) memory
-gives_memory width fine bits (Err fault) (inr e) = λ same. absurd (page_memory width bits fault.place (e ∙ ap (λ (k : CodeFaultKind). Err (fault.place, k)) same))
 
 -- the law of the code
 pub reads_its_code : ReadsItsCode (λ width rows. page_text rows) ReadsAs

@@ -2,7 +2,6 @@
 use Rattle.std.proofs.Common.{ℕ, suc, ◌≡◌, ◌+◌, ◌-◌, ◌<◌, ◌≤◌, ◌⊎◌, inl, inr, Bool, true, false, ◌&&◌, not, List, [], ◌∷◌, ◌++◌, length, drop, replicate, Some, None, refl, ap, subst, sym, ◌∙◌, arith, cond, nat_eq, length-append, drop-cons, add-one}
 use Rattle.std.specs.Prelude.{Option, Contains, Result, Ok, Err, OnOk, slice_get, slice_index_or}
 use Rattle.std.specs.Option.{option_map}
-use Rattle.std.specs.Result.{is_err}
 use Rattle.std.proofs.lemmas.Bool.{lt-ltb, le-ltb, ne_eqb, cases_eq}
 use Rattle.std.proofs.lemmas.List.{drop-drop, length-drop, length-map, length-replicate, append-nil}
 use Rattle.std.proofs.lemmas.Option.{slice_get_cases}
@@ -15,7 +14,7 @@ use Rattle.run_tables.specs.declared.fault.CodeFaultKind.{CodeFaultKind}
 use Rattle.run_tables.specs.declared.fault.CodeFaultKind.TheVariants.{NoMemory, BadCode, Truncated, Backwards, PastEnd, EmptyHorizontal}
 use Rattle.run_tables.specs.declared.reader.Among.TheVariants.{AllCodes, TerminatingCodes}
 use Rattle.run_tables.specs.Codes.{code_text, text}
-use Rattle.run_tables.specs.CodeReading.{first_runs, PicksCode}
+use Rattle.run_tables.specs.CodeReading.{first_runs, PicksCode, BeginsRun, RefusesCodeWithin, ReadsRunWithin}
 use Rattle.run_tables.specs.Reading.{Reading, rest_of}
 use Rattle.run_tables.specs.Texts.{begins, all_zero, pick, is_cut}
 use Rattle.run_tables.specs.Fronts.Look.{refuse}
@@ -25,26 +24,23 @@ use Rattle.run_tables.specs.RowFronts.RunItem.{run_item as run_code}
 use Rattle.run_tables.proofs.TextLemmas.{pick_sound, begins_split}
 use Rattle.run_tables.proofs.CodeLooks.{code_positive}
 use Rattle.run_tables.proofs.RowReads.{pick_items, cut_items}
+use Rattle.page_code.specs.declared.t6_a0.A0.{A0}
 use Rattle.page_code.specs.declared.t6_read.Start.TheVariants.{Row, End, Refused}
 use Rattle.page_code.specs.declared.t6_mode.Shift.{Shift}
 use Rattle.page_code.specs.declared.t6_mode.Shift.TheVariants.{V0, VR1, VR2, VR3, VL1, VL2, VL3}
 use Rattle.page_code.specs.declared.t6_mode.ModeCode.{ModeCode}
 use Rattle.page_code.specs.declared.t6_mode.ModeCode.TheVariants.{Pass, Horizontal, Vertical}
-use Rattle.page_code.specs.T6Positions.{CodingLine, line_begin, white_line, right_of_a0, filled_to, IsFirstTo, IsB1, b1_of, b2_of}
+use Rattle.page_code.specs.T6Positions.{a0_of, right_of, CodingLine, line_begin, white_line, right_of_a0, filled_to, IsFirstTo, IsB1, b1_of, b2_of}
 use Rattle.page_code.specs.T6Modes.{to_right, to_left, eofb, behind_runs}
 use Rattle.page_code.specs.T6Fronts.{mode_code_text, mode_codes, PageSoFar, PageState, page_begin, row_added, behind_mode, after_mode, run_color, behind_run, after_run, found_run, look_run, reading}
 use Rattle.page_code.specs.T6Fronts.PageItem.{run_item}
 use Rattle.page_code.specs.T6Fronts.PageState.{between, inside, running}
-use Rattle.page_code.specs.T6Reading.{ReadsMode, HasRoom, ReadsRun, LeadsOn, ReadsHorizontal, StepsOn, ReadsRow, SeesStart, missing_mode}
+use Rattle.page_code.specs.T6Reading.{ReadsMode, HasRoom, ReadsRun, LeadsOn, MovesTo, ReadsHorizontal, ReadsPageOn, StepsOn, ReadsRow, SeesStart, missing_mode}
 use Rattle.page_code.specs.T6Writing.{reference_at}
 use Rattle.page_code.proofs.T6Places.{b1_is, b2_is}
 use Rattle.page_code.proofs.T6Prescribed.{other_twice}
 use Rattle.page_code.proofs.T6ReadsAll.{vertical_stands}
 use Rattle.page_code.proofs.T6Readings.{reading_go, reading_refuse, mode_read, mode_refused, mode_missing, behind_mode_short, behind_mode_whole, reading_row_begins, reading_eofb}
-
-pub on_ok_at : {T E : Type 0} (r : Result T E) (P : Type 0) → is_err r ≡ false → OnOk r P → P
-on_ok_at (Ok x) P e h = h
-on_ok_at (Err y) P e h = cc
 
 -- Mode codes
 
@@ -159,7 +155,7 @@ went_on color makeup old run found =
     (some, omega (arith, some, ap length there.1, length-append (code_text color run) (drop (length (code_text color run)) (rest_of old)), length-drop old.place old.bits))
 
 -- a run of one code
-pub low_run_read : (color : Color) (room : ℕ) (old new : Reading) (run : ℕ) → PicksCode color AllCodes old new (Ok run) → run ≤ room → run < 64 → ReadsRun color room old new (Ok run)
+low_run_read : (color : Color) (room : ℕ) (old new : Reading) (run : ℕ) → PicksCode color AllCodes old new (Ok run) → run ≤ room → run < 64 → ReadsRun color room old new (Ok run)
 low_run_read color room old new run picks fits low =
     let on = went_on color None old run picks.0 in
     let none_before : 0 + run ≡ run = omega arith in
@@ -173,7 +169,7 @@ low_run_read color room old new run picks fits low =
     )
 
 -- behind a make-up code that fits
-pub high_run_read : (color : Color) (room : ℕ) (old mid : Reading) (high : ℕ) → PicksCode color AllCodes old mid (Ok high) → high ≤ room → 64 ≤ high → (mid.bits ≡ old.bits) × (old.place < mid.place) × ((width : ℕ) (page : PageSoFar) (line : CodingLine) (first : Option ℕ) → HasRoom width line first color room → reading width (running page line first None) old.place (rest_of old) ≡ reading width (running page line first (Some high)) mid.place (rest_of mid))
+high_run_read : (color : Color) (room : ℕ) (old mid : Reading) (high : ℕ) → PicksCode color AllCodes old mid (Ok high) → high ≤ room → 64 ≤ high → (mid.bits ≡ old.bits) × (old.place < mid.place) × ((width : ℕ) (page : PageSoFar) (line : CodingLine) (first : Option ℕ) → HasRoom width line first color room → reading width (running page line first None) old.place (rest_of old) ≡ reading width (running page line first (Some high)) mid.place (rest_of mid))
 high_run_read color room old mid high picks fits up =
     let on = went_on color None old high picks.0 in
     subst (λ (m : Reading). (m.bits ≡ old.bits) × (old.place < m.place) × ((width : ℕ) (page : PageSoFar) (line : CodingLine) (first : Option ℕ) → HasRoom width line first color room → reading width (running page line first None) old.place (rest_of old) ≡ reading width (running page line first (Some high)) m.place (rest_of m))) (sym picks.1) (
@@ -183,7 +179,7 @@ high_run_read color room old mid high picks fits up =
     )
 
 -- a run of two codes
-pub both_run_read : (color : Color) (room : ℕ) (old mid new : Reading) (high low : ℕ) → PicksCode color AllCodes old mid (Ok high) → 64 ≤ high → PicksCode color TerminatingCodes mid new (Ok low) → low < 64 → high + low ≤ room → ReadsRun color room old new (Ok (high + low))
+both_run_read : (color : Color) (room : ℕ) (old mid new : Reading) (high low : ℕ) → PicksCode color AllCodes old mid (Ok high) → 64 ≤ high → PicksCode color TerminatingCodes mid new (Ok low) → low < 64 → high + low ≤ room → ReadsRun color room old new (Ok (high + low))
 both_run_read color room old mid new high low picks up picks' down fits =
     let front = high_run_read color room old mid high picks (omega arith) up in
     let on = went_on color (Some high) mid low picks'.0 in
@@ -197,26 +193,43 @@ both_run_read color room old mid new high low picks up picks' down fits =
     )
 
 -- the run's first code is refused
-pub first_run_refused : (color : Color) (room : ℕ) (old new : Reading) (fault : CodeFault) → PicksCode color AllCodes old new (Err fault) → ReadsRun color room old new (Err fault)
+first_run_refused : (color : Color) (room : ℕ) (old new : Reading) (fault : CodeFault) → PicksCode color AllCodes old new (Err fault) → ReadsRun color room old new (Err fault)
 first_run_refused color room old new fault picks width page line first has =
     rw picks.1 (code_missing width page line first None color has.0 old.place (rest_of old) picks.0)
 
 -- the run's first code passes the width
-pub first_run_long : (color : Color) (room : ℕ) (old mid new : Reading) (run : ℕ) → PicksCode color AllCodes old mid (Ok run) → room < run → ReadsRun color room old new (Err (record { place = old.place; kind = PastEnd }))
+first_run_long : (color : Color) (room : ℕ) (old mid new : Reading) (run : ℕ) → PicksCode color AllCodes old mid (Ok run) → room < run → ReadsRun color room old new (Err (record { place = old.place; kind = PastEnd }))
 first_run_long color room old mid new run picks long width page line first has =
     code_refused width page line first None color has.0 old.place (rest_of old) run PastEnd picks.0 (long_leads width page line first None run (omega (arith, has.1)))
 
 -- behind a make-up code no terminating code stands
-pub second_run_refused : (color : Color) (room : ℕ) (old mid new : Reading) (high : ℕ) (fault : CodeFault) → PicksCode color AllCodes old mid (Ok high) → high ≤ room → 64 ≤ high → PicksCode color TerminatingCodes mid new (Err fault) → ReadsRun color room old new (Err fault)
+second_run_refused : (color : Color) (room : ℕ) (old mid new : Reading) (high : ℕ) (fault : CodeFault) → PicksCode color AllCodes old mid (Ok high) → high ≤ room → 64 ≤ high → PicksCode color TerminatingCodes mid new (Err fault) → ReadsRun color room old new (Err fault)
 second_run_refused color room old mid new high fault picks fits up picks' width page line first has =
     (high_run_read color room old mid high picks fits up).2 width page line first has ∙
     rw picks'.1 (code_missing width page line first (Some high) color has.0 mid.place (rest_of mid) picks'.0)
 
 -- a terminating code behind a make-up code passes the width
-pub second_run_long : (color : Color) (room : ℕ) (old mid new last : Reading) (high low : ℕ) → PicksCode color AllCodes old mid (Ok high) → high ≤ room → 64 ≤ high → PicksCode color TerminatingCodes mid new (Ok low) → room < high + low → ReadsRun color room old last (Err (record { place = mid.place; kind = PastEnd }))
+second_run_long : (color : Color) (room : ℕ) (old mid new last : Reading) (high low : ℕ) → PicksCode color AllCodes old mid (Ok high) → high ≤ room → 64 ≤ high → PicksCode color TerminatingCodes mid new (Ok low) → room < high + low → ReadsRun color room old last (Err (record { place = mid.place; kind = PastEnd }))
 second_run_long color room old mid new last high low picks fits up picks' long width page line first has =
     (high_run_read color room old mid high picks fits up).2 width page line first has ∙
     code_refused width page line first (Some high) color has.0 mid.place (rest_of mid) low PastEnd picks'.0 (long_leads width page line first (Some high) low (omega (arith, has.1)))
+
+-- a code that is refused
+first_refuses : (color : Color) (room : ℕ) (old new : Reading) (fault : CodeFault) → RefusesCodeWithin color AllCodes room PastEnd old fault → ReadsRun color room old new (Err fault)
+first_refuses color room old new fault (inl none) = first_run_refused color room old none.0 fault none.1
+first_refuses color room old new fault (inr long) = subst (λ (f : CodeFault). ReadsRun color room old new (Err f)) (sym long.4) (first_run_long color room old long.1 new long.0 long.2 long.3)
+
+second_refuses : (color : Color) (room : ℕ) (old mid new : Reading) (high : ℕ) (fault : CodeFault) → BeginsRun color room old mid high → RefusesCodeWithin color TerminatingCodes (room - high) PastEnd mid fault → ReadsRun color room old new (Err fault)
+second_refuses color room old mid new high fault begins (inl none) = second_run_refused color room old mid none.0 high fault begins.0 begins.2 begins.1 none.1
+second_refuses color room old mid new high fault begins (inr long) = subst (λ (f : CodeFault). ReadsRun color room old new (Err f)) (sym long.4) (second_run_long color room old mid long.1 new high long.0 begins.0 begins.2 begins.1 long.2 (omega (arith, long.3, begins.2)))
+
+-- a run, in the words of reading the page
+pub within_page : (color : Color) (room : ℕ) (old new : Reading) (result : Result ℕ CodeFault) → ReadsRunWithin color room PastEnd old new result → ReadsRun color room old new result
+within_page color room old new (Ok run) (inl ends) = low_run_read color room old new run ends.0 ends.2 ends.1
+within_page color room old new (Ok run) (inr both) =
+    subst (λ (n : ℕ). ReadsRun color room old new (Ok n)) (sym both.5) (both_run_read color room old both.2 new both.0 both.1 both.3.0 both.3.1 both.4.0 both.4.1 (omega (arith, both.3.2, both.4.2)))
+within_page color room old new (Err fault) (inl first) = first_refuses color room old new fault first
+within_page color room old new (Err fault) (inr second) = second_refuses color room old second.1 new second.0 fault second.2 second.3
 
 -- Pass mode and the vertical modes
 
@@ -230,14 +243,14 @@ right_bounds line = seen line.begun
     seen true = (omega arith, omega arith)
     seen false = (omega arith, omega arith)
 
-module _ (reference : List Color) (line : CodingLine) (short : length line.pixels < length reference) (color : Color) (color_is : color ≡ other line.color) (from : ℕ) (from_is : from ≡ right_of_a0 line) (b1 : ℕ) (first : IsFirstTo reference color from b1) where
+module _ (reference : List Color) (line : CodingLine) (short : length line.pixels < length reference) (a0 : A0) (a0_is : a0 ≡ a0_of line) (b1 : ℕ) (first : IsFirstTo reference (other a0.color) (right_of a0) b1) where
   is_b1 : IsB1 reference line b1
-  is_b1 = subst (λ (c : Color). IsFirstTo reference c (right_of_a0 line) b1) color_is (subst (λ (n : ℕ). IsFirstTo reference color n b1) from_is first)
+  is_b1 = subst (λ (a : A0). IsFirstTo reference (other a.color) (right_of a) b1) a0_is first
 
   b1_right : right_of_a0 line ≤ b1
   b1_right = elim (cases_eq b1 (length reference)) [ inl e ↦ omega (arith, (right_bounds line).1) | inr ne ↦ (is_b1.changing (omega (arith, is_b1.bound))).0 ]
 
-  pub pass_leads : (b2 place : ℕ) (mid next : CodingLine) → IsNextChange reference (b1 + 1) b2 → place ≡ length line.pixels → mid ≡ record { pixels = line.pixels ++ replicate (b2 - place) line.color; begun = true; color = other line.color } → next ≡ record { pixels = mid.pixels ++ replicate 0 mid.color; begun = true; color = other mid.color } → LeadsOn reference line next Pass (Ok tt)
+  pub pass_leads : (b2 place : ℕ) (mid next : CodingLine) → IsNextChange reference (b1 + 1) b2 → place ≡ length line.pixels → mid ≡ record { pixels = line.pixels ++ replicate (b2 - place) line.color; begun = true; color = other line.color } → next ≡ record { pixels = mid.pixels ++ replicate 0 mid.color; begun = true; color = other mid.color } → LeadsOn reference line next Pass
   unfolding after_mode
   pass_leads b2 place mid next is_b2 place_is is_mid is_next =
       let up : b1 ≤ b2 = elim (cases_eq b2 (length reference)) [ inl e ↦ omega (arith, is_b1.bound) | inr ne ↦ omega (arith, (is_b2.changing (omega (arith, is_b2.bound))).0) ] in
@@ -246,7 +259,7 @@ module _ (reference : List Color) (line : CodingLine) (short : length line.pixel
       let filled : mid ≡ record { pixels = filled_to line b2; begun = true; color = other line.color } = is_mid ∙ ap (λ n. record { pixels = line.pixels ++ replicate (b2 - n) line.color; begun = true; color = other line.color }) place_is in
       let turned : next ≡ behind = is_next ∙ (ap (λ (m : CodingLine). record { pixels = m.pixels ++ []; begun = true; color = other m.color }) filled ∙ (ap (λ l. record { pixels = l; begun = true; color = other (other line.color) }) (append-nil (filled_to line b2)) ∙ ap (λ (c : Color). record { pixels = filled_to line b2; begun = true; color = c }) (other_twice line.color))) in
       let b2_there : b2 ≡ b2_of reference line = b2_is reference line b1 b2 is_b1 is_b2 in
-      subst (λ (n : CodingLine). LeadsOn reference line n Pass (Ok tt)) (sym turned) (
+      subst (λ (n : CodingLine). LeadsOn reference line n Pass) (sym turned) (
         omega (arith, count_filled line b2 low, is_b2.bound),
         λ page is. rw (is, ← b2_there, le-ltb b2 (right_of_a0 line) (omega (arith, b1_right)), le-ltb (length reference) b2 is_b2.bound) refl,
       )
@@ -255,21 +268,21 @@ module _ (reference : List Color) (line : CodingLine) (short : length line.pixel
     b1_there : b1 ≡ b1_of reference line
     b1_there = b1_is reference line b1 is_b1
 
-    pub backwards_leads : (next : CodingLine) → b1 + to_right shift < right_of_a0 line + to_left shift → LeadsOn reference line next (Vertical shift) (Err Backwards)
+    pub backwards_leads : (place : ℕ) (next : CodingLine) → b1 + to_right shift < right_of_a0 line + to_left shift → MovesTo reference place line next (Vertical shift) (Err (record { place = place; kind = Backwards }))
     unfolding after_mode
-    backwards_leads next back = inr (λ page is. rw (is, ← b1_there, lt-ltb (b1 + to_right shift) (right_of_a0 line + to_left shift) back) refl)
+    backwards_leads place next back = inr (refl, λ page is. rw (is, ← b1_there, lt-ltb (b1 + to_right shift) (right_of_a0 line + to_left shift) back) refl)
 
-    pub past_leads : (next : CodingLine) → right_of_a0 line + to_left shift ≤ b1 + to_right shift → length reference + to_left shift < b1 + to_right shift → LeadsOn reference line next (Vertical shift) (Err PastEnd)
+    pub past_leads : (place : ℕ) (next : CodingLine) → right_of_a0 line + to_left shift ≤ b1 + to_right shift → length reference + to_left shift < b1 + to_right shift → MovesTo reference place line next (Vertical shift) (Err (record { place = place; kind = PastEnd }))
     unfolding after_mode
-    past_leads next right past = inr (λ page is. rw (is, ← b1_there, le-ltb (b1 + to_right shift) (right_of_a0 line + to_left shift) right, lt-ltb (length reference + to_left shift) (b1 + to_right shift) past) refl)
+    past_leads place next right past = inr (refl, λ page is. rw (is, ← b1_there, le-ltb (b1 + to_right shift) (right_of_a0 line + to_left shift) right, lt-ltb (length reference + to_left shift) (b1 + to_right shift) past) refl)
 
-    pub vertical_leads : (a1 place : ℕ) (next : CodingLine) → a1 ≡ b1 + to_right shift - to_left shift → right_of_a0 line + to_left shift ≤ b1 + to_right shift → a1 ≤ length reference → place ≡ length line.pixels → next ≡ record { pixels = line.pixels ++ replicate (a1 - place) line.color; begun = true; color = other line.color } → LeadsOn reference line next (Vertical shift) (Ok tt)
+    pub vertical_leads : (a1 place : ℕ) (next : CodingLine) → a1 ≡ b1 + to_right shift - to_left shift → right_of_a0 line + to_left shift ≤ b1 + to_right shift → a1 ≤ length reference → place ≡ length line.pixels → next ≡ record { pixels = line.pixels ++ replicate (a1 - place) line.color; begun = true; color = other line.color } → LeadsOn reference line next (Vertical shift)
     unfolding after_mode
     vertical_leads a1 place next a1_is right within place_is is_next =
         let behind : CodingLine = record { pixels = filled_to line a1; begun = true; color = other line.color } in
         let there : next ≡ behind = is_next ∙ ap (λ n. record { pixels = line.pixels ++ replicate (a1 - n) line.color; begun = true; color = other line.color }) place_is in
         let low : length line.pixels ≤ a1 = omega (arith, (right_bounds line).0) in
-        subst (λ (n : CodingLine). LeadsOn reference line n (Vertical shift) (Ok tt)) (sym there) (
+        subst (λ (n : CodingLine). LeadsOn reference line n (Vertical shift)) (sym there) (
           omega (arith, count_filled line a1 low),
           λ page is. rw (is, ← b1_there, le-ltb (b1 + to_right shift) (right_of_a0 line + to_left shift) right, le-ltb (length reference + to_left shift) (b1 + to_right shift) (omega arith), ← a1_is) refl,
         )
@@ -328,17 +341,21 @@ mode_behind code old mid within reads =
       omega (arith, split.1, ap length split.0, ap length split.2, length-append (mode_code_text code) (rest_of mid), length-drop old.place old.bits, text_some code),
     )
 
-pub mode_steps : (reference : List Color) (old mid : Reading) (line next : CodingLine) (code : ModeCode) → old.place ≤ length old.bits → ReadsMode old mid (Ok code) → LeadsOn reference line next code (Ok tt) → StepsOn reference old mid line next (Ok tt)
+pub mode_steps : (reference : List Color) (old mid : Reading) (line next : CodingLine) (code : ModeCode) → old.place ≤ length old.bits → ReadsMode old mid (Ok code) → LeadsOn reference line next code → StepsOn reference old mid line next (Ok tt)
 mode_steps reference old mid line next code within reads leads =
     let split = mode_split code old mid reads in
     let on = mode_behind code old mid within reads in
     (split.0, on.0, on.1, leads.0, λ page is. mode_read (length reference) page line code (behind_mode (length reference) page next) old.place (rest_of old) (rest_of mid) (mode_stands code) split.2 (leads.1 page is) ∙ ap (λ (n : ℕ). reading (length reference) (behind_mode (length reference) page next) n (rest_of mid)) (sym split.1))
 
-pub mode_stays : (reference : List Color) (old mid : Reading) (line next : CodingLine) (code : ModeCode) (kind : CodeFaultKind) → ReadsMode old mid (Ok code) → LeadsOn reference line next code (Err kind) → StepsOn reference old mid line next (Err (record { place = old.place; kind = kind }))
-mode_stays reference old mid line next code kind reads (inl memory) = inl memory
-mode_stays reference old mid line next code kind reads (inr leads) =
+mode_stays : (reference : List Color) (old mid : Reading) (line next : CodingLine) (code : ModeCode) (fault : CodeFault) → ReadsMode old mid (Ok code) → MovesTo reference old.place line next code (Err fault) → StepsOn reference old mid line next (Err fault)
+mode_stays reference old mid line next code fault reads (inl memory) = inl memory
+mode_stays reference old mid line next code fault reads (inr leads) =
     let split = mode_split code old mid reads in
-    inr (λ page is. mode_refused (length reference) page line code kind old.place (rest_of old) (rest_of mid) (mode_stands code) split.2 (leads page is))
+    inr (λ page is. mode_refused (length reference) page line code fault.kind old.place (rest_of old) (rest_of mid) (mode_stands code) split.2 (leads.1 page is) ∙ ap (λ (n : ℕ). Err (n, fault.kind)) (sym leads.0))
+
+pub vertical_steps : (reference : List Color) (place : ℕ) (old mid : Reading) (line next : CodingLine) (code : ModeCode) (result : Result (Unit {0}) CodeFault) → place ≡ old.place → old.place ≤ length old.bits → ReadsMode old mid (Ok code) → MovesTo reference place line next code result → StepsOn reference old mid line next result
+vertical_steps reference place old mid line next code (Ok done) is within reads moves = mode_steps reference old mid line next code within reads moves
+vertical_steps reference place old mid line next code (Err fault) is within reads moves = mode_stays reference old mid line next code fault reads (subst (λ (n : ℕ). MovesTo reference n line next code (Err fault)) is moves)
 
 pub mode_absent : (reference : List Color) (old mid : Reading) (line next : CodingLine) (fault : CodeFault) → ReadsMode old mid (Err fault) → StepsOn reference old mid line next (Err fault)
 mode_absent reference old mid line next fault reads = rw reads.0 (inr (λ page is. mode_missing (length reference) page line old.place (rest_of old) (missing_mode (rest_of old)) reads.1 refl))
@@ -433,3 +450,7 @@ page_more width start old new white row rows more is even before sees reads =
 
 pub page_more_even : (width : ℕ) (white row : List Color) (rows more : List (List Color)) → more ≡ rows ++ row ∷ [] → length row ≡ width → length (reference_at white more (length more)) ≡ width
 page_more_even width white row rows more is wide = ap (λ (m : List (List Color)). length (reference_at white m (length m))) is ∙ (ap (λ (r : List Color). length r) (last_added white row rows) ∙ wide)
+
+-- a whole page that is refused
+pub whole_refused : (width : ℕ) (fine : Bool) (bits : List Bool) (start new : Reading) (fault : CodeFault) → start ≡ record { bits = bits; place = 0 } → ReadsPageOn width fine start new (Err fault) → (fault.kind ≡ NoMemory) ⊎ (reading width (page_begin width) 0 bits ≡ Err (fault.place, fault.kind))
+whole_refused width fine bits start new fault is reads = subst (λ (r : Reading). ReadsPageOn width fine r new (Err fault)) is reads

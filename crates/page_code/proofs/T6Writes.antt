@@ -11,9 +11,9 @@ use Rattle.raster.specs.Packed.{Bits}
 use Rattle.raster.specs.Changes.{color_at, color_before, IsNextChange}
 use Rattle.run_tables.specs.Codes.{run_text}
 use Rattle.run_tables.specs.Written.{Appends}
-use Rattle.page_code.specs.declared.t6_write.CodedTo.{CodedTo}
+use Rattle.page_code.specs.declared.t6_a0.A0.{A0}
 use Rattle.page_code.specs.declared.t6_mode.Shift.{Shift}
-use Rattle.page_code.specs.T6Positions.{CodingLine, white_line, right_of_a0, IsFirstTo, IsB1, IsB2, b1_of, b2_of}
+use Rattle.page_code.specs.T6Positions.{CodingLine, white_line, right_of_a0, right_of, IsFirstTo, IsB1, IsB2, b1_of, b2_of}
 use Rattle.page_code.specs.T6Modes.{vertical_text, pass_text, horizontal_text, eofb, Mode, mode_text}
 use Rattle.page_code.specs.T6Modes.Mode.{pass, vertical, horizontal}
 use Rattle.page_code.specs.T6Code.{verticals, vertical_to, a1_of, prescribed, moved, line_code, row_code, rows_code, page_code}
@@ -145,7 +145,7 @@ appends_on a b x y z one two =
     let with_bits : List Bool → Bits = λ l. record { order = x.order; bits = l } in
     two ∙ (ap (λ (w : Bits). record w { bits = w.bits ++ b }) one ∙ ap with_bits (append_assoc x.bits a b))
 
-module _ (reference row : List Color) (even : length reference ≡ length row) (to : CodedTo) (coded : IsCodedTo row to) (from a1 b1 b2 : ℕ) (from_is : from ≡ to.place + cond to.begun 1 0) (is_a1 : IsNextChange row from a1) (is_b1 : IsFirstTo reference (other to.color) from b1) (is_b2 : IsNextChange reference (b1 + 1) b2) where
+module _ (reference row : List Color) (even : length reference ≡ length row) (to : A0) (coded : IsCodedTo row to) (from a1 b1 b2 : ℕ) (from_is : from ≡ right_of to) (is_a1 : IsNextChange row from a1) (is_b1 : IsFirstTo reference (other to.color) (right_of to) b1) (is_b2 : IsNextChange reference (b1 + 1) b2) where
   count : length (take to.place row) ≡ to.place
   count = length-take-le to.place row coded.within
 
@@ -156,10 +156,10 @@ module _ (reference row : List Color) (even : length reference ≡ length row) (
   next_a1 = subst (λ n. IsNextChange row n a1) (sym right_is) is_a1
 
   first_b1 : IsB1 reference (line_to row to) b1
-  first_b1 = subst (λ n. IsFirstTo reference (other to.color) n b1) (sym right_is) is_b1
+  first_b1 = subst (λ n. IsFirstTo reference (other to.color) n b1) (ap (λ (n : ℕ). n + cond to.begun 1 0) (sym count)) is_b1
 
   -- a mode that is prescribed was written
-  wrote : (mode : Mode) (text : List Bool) (next : CodedTo) (before after : Bits) → prescribed reference row (line_to row to) ≡ mode → mode_text to.color mode ≡ text → Appends text before after → moved reference row (line_to row to) mode ≡ line_to row next → next.place ≤ length row → WritesMode reference row to next before after
+  wrote : (mode : Mode) (text : List Bool) (next : A0) (before after : Bits) → prescribed reference row (line_to row to) ≡ mode → mode_text to.color mode ≡ text → Appends text before after → moved reference row (line_to row to) mode ≡ line_to row next → next.place ≤ length row → WritesMode reference row to next before after
   wrote mode text next before after is spells appends moves within = record {
     writes = subst (λ (t : List Bool). Appends t before after) (sym (ap (mode_text to.color) is ∙ spells)) appends;
     moves = sym (ap (moved reference row (line_to row to)) is ∙ moves);
@@ -186,7 +186,7 @@ pub coded_to_begin : (row : List Color) → IsCodedTo row (record { place = 0; b
 coded_to_begin row = record { within = omega arith; stands = begin_stands row }
 
 -- one mode more of a row
-pub row_on : (reference row : List Color) (old new : CodedTo) (before after start : Bits) (so_far : List Bool) → length reference ≡ length row → IsCodedTo row old → old.place < length row → WritesMode reference row old new before after → before ≡ record start { bits = start.bits ++ so_far } → so_far ++ line_code (length row + 1) reference row (line_to row old) ≡ row_code reference row → IsCodedTo row new × (length row + 1 - right_of_a0 (line_to row new) < length row + 1 - right_of_a0 (line_to row old)) × ((all : List Bool) × (after ≡ record start { bits = start.bits ++ all }) × (all ++ line_code (length row + 1) reference row (line_to row new) ≡ row_code reference row))
+pub row_on : (reference row : List Color) (old new : A0) (before after start : Bits) (so_far : List Bool) → length reference ≡ length row → IsCodedTo row old → old.place < length row → WritesMode reference row old new before after → before ≡ record start { bits = start.bits ++ so_far } → so_far ++ line_code (length row + 1) reference row (line_to row old) ≡ row_code reference row → IsCodedTo row new × (length row + 1 - right_of_a0 (line_to row new) < length row + 1 - right_of_a0 (line_to row old)) × ((all : List Bool) × (after ≡ record start { bits = start.bits ++ all }) × (all ++ line_code (length row + 1) reference row (line_to row new) ≡ row_code reference row))
 row_on reference row old new before after start so_far even coded short wrote is rest =
     let line : CodingLine = line_to row old in
     let inside : length line.pixels < length row = omega (arith, length-take-le old.place row coded.within) in
@@ -200,7 +200,7 @@ row_on reference row old new before after start so_far even coded short wrote is
     )
 
 -- a whole row
-pub row_end : (reference row : List Color) (to : CodedTo) (after start : Bits) (so_far : List Bool) → IsCodedTo row to → length row ≤ to.place → after ≡ record start { bits = start.bits ++ so_far } → so_far ++ line_code (length row + 1) reference row (line_to row to) ≡ row_code reference row → Appends (row_code reference row) start after
+pub row_end : (reference row : List Color) (to : A0) (after start : Bits) (so_far : List Bool) → IsCodedTo row to → length row ≤ to.place → after ≡ record start { bits = start.bits ++ so_far } → so_far ++ line_code (length row + 1) reference row (line_to row to) ≡ row_code reference row → Appends (row_code reference row) start after
 row_end reference row to after start so_far coded whole is rest =
     let full : length (take to.place row) ≡ length row = length-take-le to.place row coded.within ∙ omega (arith, coded.within) in
     let all : so_far ≡ row_code reference row = sym (append-nil so_far) ∙ (ap (λ l. so_far ++ l) (sym (line_code_end reference row (line_to row to) full)) ∙ rest) in

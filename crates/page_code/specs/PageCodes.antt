@@ -1,5 +1,5 @@
 -- What writing and reading a page answer, whichever the code is.
-use Rattle.std.specs.Prelude.{ℕ, ◌≡◌, ◌≤◌, ◌<◌, ◌++◌, Bool, List, length, All, Result, Ok, Err, MatchResult, ◌≢◌}
+use Rattle.std.specs.Prelude.{ℕ, ◌≡◌, ◌≤◌, ◌<◌, ◌++◌, Bool, List, length, All, Result, Ok, Err, MatchResult, ◌≢◌, ◌⊎◌}
 use Rattle.raster.specs.declared.packed.Order.{Order}
 use Rattle.raster.specs.declared.row.Color.{Color}
 use Rattle.raster.specs.Packed.{FillsOctets}
@@ -34,6 +34,11 @@ IsOnlyAnswer Reads width bits result =
 abbrev pub GivesRows : Result (List (List Color) × ℕ) (ℕ × CodeFaultKind) → Result (PagePixels × ℕ) CodeFault → Type 0
 GivesRows outcome (Ok read) = outcome ≡ Ok (read.0.rows, read.1)
 GivesRows outcome (Err fault) = fault.kind ≢ NoMemory → outcome ≡ Err (fault.place, fault.kind)
+
+-- the page and the bits used are what reading gives; or the refusal is, unless memory was refused
+abbrev pub GivesPage : Result (List (List Color) × ℕ) (ℕ × CodeFaultKind) → ℕ → Bool → Result (PagePixels × ℕ) CodeFault → Type 0
+GivesPage outcome width fine (Ok read) = (read.0.width ≡ width) × (read.0.fine ≡ fine) × (outcome ≡ Ok (read.0.rows, read.1))
+GivesPage outcome width fine (Err fault) = (fault.kind ≡ NoMemory) ⊎ (outcome ≡ Err (fault.place, fault.kind))
 
 -- the code of a page, followed by any bits, reads as the page with the code's length
 abbrev pub ReadsItsCode : (ℕ → List (List Color) → List Bool) → (ℕ → List Bool → List (List Color) → ℕ → Type 0) → Type 0

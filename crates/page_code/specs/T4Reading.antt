@@ -34,9 +34,4 @@ BeginsPage bits (Err fault) = (width : ℕ) → read_page width bits ≡ Err (fa
 abbrev pub ReadsRowOfPage : List Bool → ℕ → PagePixels → PagePixels → Result ℕ CodeFault → Type 0
 ReadsRowOfPage bits place old new (Ok behind) =
     (behind ≤ length bits) × (new.width ≡ old.width) × (new.fine ≡ old.fine) × (length new.rows ≡ length old.rows + 1) × (reading old.width (row_start old.rows) place (drop place bits) ≡ reading old.width (row_end new.rows) behind (drop behind bits))
-ReadsRowOfPage bits place old new (Err fault) = (fault ≡ record { place = 0; kind = NoMemory }) ⊎ (reading old.width (row_start old.rows) place (drop place bits) ≡ Err (fault.place, fault.kind))
-
--- the page and the bits used are what reading the bits gives; or the refusal is, or memory was refused
-abbrev pub GivesPage : ℕ → Bool → List Bool → Result (PagePixels × ℕ) CodeFault → Type 0
-GivesPage width fine bits (Ok read) = (read.0.width ≡ width) × (read.0.fine ≡ fine) × (read_page width bits ≡ Ok (read.0.rows, read.1))
-GivesPage width fine bits (Err fault) = (fault ≡ record { place = 0; kind = NoMemory }) ⊎ (read_page width bits ≡ Err (fault.place, fault.kind))
+ReadsRowOfPage bits place old new (Err fault) = (fault.kind ≡ NoMemory) ⊎ (reading old.width (row_start old.rows) place (drop place bits) ≡ Err (fault.place, fault.kind))

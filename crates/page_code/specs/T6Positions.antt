@@ -3,6 +3,7 @@ use Rattle.std.specs.Prelude.{ℕ, zero, suc, ◌≡◌, ◌+◌, ◌-◌, ◌<�
 use Rattle.raster.specs.declared.row.Color.{Color}
 use Rattle.raster.specs.declared.row.Color.TheVariants.{White, Black}
 use Rattle.raster.specs.Pixels.{other}
+use Rattle.page_code.specs.declared.t6_a0.A0.{A0}
 use Rattle.raster.specs.Changes.{color_at, color_before, IsChanging, IsNextChange}
 
 -- the reference line of a page's first row: an imaginary white line
@@ -22,6 +23,14 @@ line_begin = record { pixels = []; begun = false; color = White }
 -- the least place to the right of a0
 abbrev pub right_of_a0 : CodingLine → ℕ
 right_of_a0 line = length line.pixels + (if line.begun then 1 else 0)
+
+-- a0 of a coding line
+abbrev pub a0_of : CodingLine → A0
+a0_of line = record { place = length line.pixels; begun = line.begun; color = line.color }
+
+-- the least place to the right of an a0
+abbrev pub right_of : A0 → ℕ
+right_of a0 = a0.place + (if a0.begun then 1 else 0)
 
 -- the line up to a place, a0's color from a0 on
 abbrev pub filled_to : CodingLine → ℕ → List Color

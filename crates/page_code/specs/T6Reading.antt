@@ -45,11 +45,16 @@ ReadsRun color room old new (Ok run) =
 ReadsRun color room old new (Err fault) =
     (width : ℕ) (page : PageSoFar) (line : CodingLine) (first : Option ℕ) → HasRoom width line first color room → reading width (running page line first None) old.place (rest_of old) ≡ Err (fault.place, fault.kind)
 
--- the mode code leads on to the next line, or is refused, or memory is
-abbrev pub LeadsOn : List Color → CodingLine → CodingLine → ModeCode → Result (Unit {0}) CodeFaultKind → Type 0
-LeadsOn reference line next code (Ok done) =
+-- the mode code leads on to the next line
+abbrev pub LeadsOn : List Color → CodingLine → CodingLine → ModeCode → Type 0
+LeadsOn reference line next code =
     (length next.pixels ≤ length reference) × ((page : PageSoFar) → page.reference ≡ reference → after_mode (length reference) page line code ≡ Ok (behind_mode (length reference) page next))
-LeadsOn reference line next code (Err kind) = (kind ≡ NoMemory) ⊎ ((page : PageSoFar) → page.reference ≡ reference → after_mode (length reference) page line code ≡ Err kind)
+
+-- the mode code at a place leads on, or is refused there, or memory is
+abbrev pub MovesTo : List Color → ℕ → CodingLine → CodingLine → ModeCode → Result (Unit {0}) CodeFault → Type 0
+MovesTo reference place line next code (Ok done) = LeadsOn reference line next code
+MovesTo reference place line next code (Err fault) =
+    (fault.kind ≡ NoMemory) ⊎ ((fault.place ≡ place) × ((page : PageSoFar) → page.reference ≡ reference → after_mode (length reference) page line code ≡ Err fault.kind))
 
 -- the two runs of horizontal mode were read; or they are refused, or memory is
 abbrev pub ReadsHorizontal : ℕ → Reading → Reading → CodingLine → CodingLine → Result (Unit {0}) CodeFault → Type 0
@@ -86,8 +91,3 @@ abbrev pub ReadsPageOn : ℕ → Bool → Reading → Reading → Result PagePix
 ReadsPageOn width fine old new (Ok page) =
     (page.width ≡ width) × (page.fine ≡ fine) × (new.bits ≡ old.bits) × (new.place ≤ length new.bits) × (reading width (page_begin width) old.place (rest_of old) ≡ Ok (page.rows, new.place))
 ReadsPageOn width fine old new (Err fault) = (fault.kind ≡ NoMemory) ⊎ (reading width (page_begin width) old.place (rest_of old) ≡ Err (fault.place, fault.kind))
-
--- the page and the bits used are what reading the bits gives; or the refusal is, or memory was refused
-abbrev pub GivesPage : ℕ → Bool → List Bool → Result (PagePixels × ℕ) CodeFault → Type 0
-GivesPage width fine bits (Ok read) = (read.0.width ≡ width) × (read.0.fine ≡ fine) × (read_page width bits ≡ Ok (read.0.rows, read.1))
-GivesPage width fine bits (Err fault) = (fault ≡ record { place = 0; kind = NoMemory }) ⊎ (read_page width bits ≡ Err (fault.place, fault.kind))

@@ -4,7 +4,7 @@ use Rattle.raster.specs.declared.row.Color.{Color}
 use Rattle.raster.specs.Packed.{Bits}
 use Rattle.raster.specs.Changes.{color_before}
 use Rattle.run_tables.specs.Written.{Appends}
-use Rattle.page_code.specs.declared.t6_write.CodedTo.{CodedTo}
+use Rattle.page_code.specs.declared.t6_a0.A0.{A0}
 use Rattle.page_code.specs.T6Positions.{CodingLine, right_of_a0}
 use Rattle.page_code.specs.T6Modes.{mode_text}
 use Rattle.page_code.specs.T6Code.{prescribed, moved}
@@ -16,16 +16,16 @@ pub record Stands (row : List Color) (line : CodingLine) : Type 0 where
   pub before : length line.pixels < length row → color_before row (right_of_a0 line) ≡ line.color
 
 -- the coding line of a row that was coded up to a0
-abbrev pub line_to : List Color → CodedTo → CodingLine
+abbrev pub line_to : List Color → A0 → CodingLine
 line_to row to = record { pixels = take to.place row; begun = to.begun; color = to.color }
 
 -- the row was coded up to a place of its
-pub record IsCodedTo (row : List Color) (to : CodedTo) : Type 0 where
+pub record IsCodedTo (row : List Color) (to : A0) : Type 0 where
   pub within : to.place ≤ length row
   pub stands : Stands row (line_to row to)
 
 -- the prescribed mode was written, and a0 was moved by it
-pub record WritesMode (reference row : List Color) (old new : CodedTo) (before after : Bits) : Type 0 where
+pub record WritesMode (reference row : List Color) (old new : A0) (before after : Bits) : Type 0 where
   pub writes : Appends (mode_text old.color (prescribed reference row (line_to row old))) before after
   pub moves : line_to row new ≡ moved reference row (line_to row old) (prescribed reference row (line_to row old))
   pub within : new.place ≤ length row

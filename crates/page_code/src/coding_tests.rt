@@ -1,3 +1,5 @@
+//! Tests of pages in either code.
+
 use super::*;
 use raster::packed::Order;
 use raster::{Page, RasterFault, Row};

@@ -10,12 +10,13 @@ pub mod laws;
 mod one_dim;
 #[cfg(test)]
 mod one_dim_tests;
+mod page;
 pub mod t4_laws;
 mod t6;
+mod t6_a0;
 pub mod t6_laws;
 mod t6_line;
 mod t6_mode;
-mod t6_position;
 mod t6_read;
 #[cfg(test)]
 mod t6_tests;

@@ -1,13 +1,15 @@
-ghost use Rattle.page_code.specs.T4Fronts.{CodeStands};
+ghost use Rattle.page_code.specs.PageCodes.{GivesPage};
+ghost use Rattle.page_code.specs.T4Fronts.{CodeStands, read_page as read_bits};
 ghost use Rattle.page_code.specs.T4Pages.{rows_text, eols_text, rtc};
-ghost use Rattle.page_code.specs.T4Reading.{BeginsPage, GivesPage, ReadsRowOfPage, SeesStart};
+ghost use Rattle.page_code.specs.T4Reading.{BeginsPage, ReadsRowOfPage, SeesStart};
 ghost use Rattle.raster.specs.Packed.{Bits, bits_of};
 ghost use Rattle.raster.specs.Pixels.{IsWidth};
 ghost use Rattle.raster.specs.declared.row.Color.{Color};
-ghost use Rattle.std.specs.Prelude.{◌≡◌, ◌≢◌, ◌≤◌, ◌<◌, ◌+◌, ◌*◌, ◌++◌, ◌∷◌, [], ℕ, List, length, drop, MatchResult, IfOk, IfErr, OnOk, OnErr, Ok, Err, IsTrue, ◌↔◌, All};
+ghost use Rattle.std.specs.Prelude.{◌≡◌, ◌≤◌, ◌<◌, ◌+◌, ◌*◌, ◌++◌, ◌∷◌, [], ℕ, List, length, drop, OnOk, All};
 
 use crate::coding::PageCode;
 use crate::eol::{Eol, behind_five_eols, eol_at};
+use crate::page::push_row;
 use raster::packed::Order;
 use raster::{MOST_ROWS, Page, Row};
 use run_tables::{BitReader, BitWriter, CodeFault, CodeFaultKind};
@@ -58,19 +60,6 @@ fn start_at(octets: &[u8], order: Order, place: u128, rows: usize) -> Start
     }
 }
 
-fn refusal(place: u128, kind: CodeFaultKind) -> CodeFault
-    ensures { result ≡ record { place = place; kind = kind } }
-{
-    CodeFault { place, kind }
-}
-
-/// Whether memory was refused.
-fn is_memory(kind: CodeFaultKind) -> bool
-    ensures { IsTrue result ↔ (kind ≡ CodeFaultKind.NoMemory) }
-{
-    kind == CodeFaultKind::NoMemory
-}
-
 /// The place where the first row begins: at the beginning, or behind one EOL.
 fn first_row(octets: &[u8], order: Order) -> Result<u128, CodeFault>
     ensures { BeginsPage (bits_of order octets.now) result }
@@ -78,12 +67,11 @@ fn first_row(octets: &[u8], order: Order) -> Result<u128, CodeFault>
     match eol_at(octets, order, 0) {
         Eol::Stands(bits) => Ok(bits),
         Eol::Absent => Ok(0),
-        Eol::OnlyZeros => Err(refusal(0, CodeFaultKind::NoRows)),
+        Eol::OnlyZeros => Err(CodeFault::new(0, CodeFaultKind::NoRows)),
     }
 }
 
-/// Reads the row at a place into the page, and answers the place behind it. An error leaves the page
-/// as it was.
+/// Reads the row at a place into the page, and answers the place after it.
 #[tactic(auto, using(raster::proofs::PackedLemmas::views))]
 fn read_row(
     alloc: Global,
@@ -99,20 +87,9 @@ fn read_row(
     ensures { ReadsRowOfPage (bits_of order octets.now) place page.old page.new result }
 {
     let mut reader = BitReader::at(octets, order, place);
-    let row = match reader.read_row_1d(alloc, page.width()) {
-        Ok(row) => row,
-        Err(fault) => {
-            return Err(if is_memory(fault.kind) {
-                refusal(0, CodeFaultKind::NoMemory)
-            } else {
-                fault
-            });
-        }
-    };
-    match page.push_row(row) {
-        Ok(()) => Ok(reader.place()),
-        Err(_) => Err(refusal(0, CodeFaultKind::NoMemory)),
-    }
+    let row = reader.read_row_1d(alloc, page.width())?;
+    push_row(page, row)?;
+    Ok(reader.place())
 }
 
 /// Writes the return to control: six EOLs (ITU-T T.4, 4.1.4).
@@ -140,7 +117,6 @@ fn write_rows(alloc: Global, rows: &[Row], bits: &mut BitWriter) -> Result<(), A
 impl PageCode for OneDim {
     ghost use Rattle.page_code.specs.T4Pages.{ReadsAs, page_text};
     ghost use Rattle.page_code.specs.T4Laws.{IsLongestFront};
-    ghost use Rattle.page_code.specs.T4Fronts.{read_page as read_bits};
 
     ghost code = { λ width rows. page_text rows };
 
@@ -169,7 +145,10 @@ impl PageCode for OneDim {
         width: u32,
         fine: bool,
     ) -> Result<(Page, u128), CodeFault> {
-        read_page(alloc, octets, order, width, fine)
+        match read_page(alloc, octets, order, width, fine) {
+            Ok(answer) => Ok(answer),
+            Err(fault) => Err(fault.begun_at(0)),
+        }
     }
 
     fn reads_its_code() {}
@@ -185,27 +164,21 @@ fn read_page(
     fine: bool,
 ) -> Result<(Page, u128), CodeFault>
     requires { IsWidth width }
-    ensures { GivesPage width fine (bits_of order octets.now) result }
+    ensures { GivesPage (read_bits width (bits_of order octets.now)) width fine result }
 {
     let mut page = Page::new(alloc, width, fine).unwrap();
-    let mut place = match first_row(octets, order) {
-        Ok(place) => place,
-        Err(fault) => return Err(fault),
-    };
+    let mut place = first_row(octets, order)?;
     loop {
         match start_at(octets, order, place, page.rows().len()) {
             Start::Row => {}
             Start::End(used) => return Ok((page, used)),
-            Start::Refused(kind) => return Err(refusal(place, kind)),
+            Start::Refused(kind) => return Err(CodeFault::new(place, kind)),
         }
-        let behind = match read_row(alloc, octets, order, place, &mut page) {
-            Ok(behind) => behind,
-            Err(fault) => return Err(fault),
-        };
-        match eol_at(octets, order, behind) {
-            Eol::Stands(bits) => place = behind + bits,
-            Eol::OnlyZeros => return Ok((page, behind)),
-            Eol::Absent => return Err(refusal(behind, CodeFaultKind::BadCode)),
+        let row_end = read_row(alloc, octets, order, place, &mut page)?;
+        match eol_at(octets, order, row_end) {
+            Eol::Stands(bits) => place = row_end + bits,
+            Eol::OnlyZeros => return Ok((page, row_end)),
+            Eol::Absent => return Err(CodeFault::new(row_end, CodeFaultKind::BadCode)),
         }
     }
 }

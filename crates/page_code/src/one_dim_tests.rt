@@ -1,24 +1,17 @@
+//! Tests of pages in the one-dimensional code.
+
 use super::*;
 use raster::{Page, RasterFault, Row};
 use run_tables::{BitWriter, CodeFault, CodeFaultKind, Order};
 use std::alloc::{AllocError, Global};
 use std::test::Fail;
 
-const EOL: &str = "000000000001";
+const EOL: &[u8] = b"000000000001";
 
-/// Appends the bits of the digits `0` and `1`; the spaces between them stand for nothing.
-fn push_digits(bits: &mut BitWriter, digits: &str) -> Result<(), AllocError> {
-    for digit in digits.as_bytes() {
-        if *digit != b' ' {
-            bits.push(*digit == b'1')?;
-        }
-    }
-    Ok(())
-}
-
+/// The octets of the bits that the digits `0` and `1` write.
 fn octets_of(alloc: Global, digits: &str) -> Result<Vec<u8>, AllocError> {
     let mut bits = BitWriter::new(alloc, Order::MsbFirst);
-    push_digits(&mut bits, digits)?;
+    bits.push_digits(digits.as_bytes())?;
     Ok(bits.into_octets())
 }
 
@@ -121,17 +114,13 @@ fn pages_are_read(rt: HostRuntime) -> Result<(), Fail> {
     let alloc = rt.alloc();
     let row = [2, 2, 4].as_slice();
     for (digits, used, runs) in [
-        ("0111 11 1011", 10, row),
-        ("000000000001 0111 11 1011", 22, row),
-        ("0000 000000000001 0111 11 1011 000000 00000000", 26, row),
-        ("0111 11 1011 000000000001 0000000000", 22, row),
-        ("0111 11 1011 000 000000000001 0000", 25, row),
-        ("0111 11 1011 000000000001 0000 000000000001", 38, row),
-        (
-            "0111 11 1011 0 000000000001 10011 0000000",
-            28,
-            &[2, 2, 4, 8],
-        ),
+        ("0111111011", 10, row),
+        ("0000000000010111111011", 22, row),
+        ("0000000000000001011111101100000000000000", 26, row),
+        ("01111110110000000000010000000000", 22, row),
+        ("01111110110000000000000010000", 25, row),
+        ("01111110110000000000010000000000000001", 38, row),
+        ("01111110110000000000001100110000000", 28, &[2, 2, 4, 8]),
     ] {
         let (own, count) = read_digits(alloc, digits)?;
         assert_eq!(rt; count, used, "{digits}");
@@ -140,17 +129,17 @@ fn pages_are_read(rt: HostRuntime) -> Result<(), Fail> {
     Ok(())
 }
 
-// Behind the end stand 1 bits.
+// 1 bits follow the end.
 #[test]
 fn six_eols_at_most_end_a_page(rt: HostRuntime) -> Result<(), Fail> {
     let alloc = rt.alloc();
     for (eols, used) in [(2, 46), (3, 58), (4, 70), (5, 82), (6, 94), (7, 94)] {
         let mut bits = BitWriter::new(alloc, Order::MsbFirst);
-        push_digits(&mut bits, "000000000001 0111 11 1011")?;
+        bits.push_digits(b"0000000000010111111011")?;
         for _ in 0..eols {
-            push_digits(&mut bits, EOL)?;
+            bits.push_digits(EOL)?;
         }
-        push_digits(&mut bits, "111")?;
+        bits.push_digits(b"111")?;
         let octets = bits.into_octets();
         let (page, count) = OneDim::decode(alloc, &octets, Order::MsbFirst, 8, false)?;
         assert_eq!(rt; count, used, "{eols}");
@@ -165,28 +154,24 @@ fn refusals_have_place_and_kind(rt: HostRuntime) -> Result<(), Fail> {
     for (digits, place, kind) in [
         ("", 0, CodeFaultKind::NoRows),
         ("00000000", 0, CodeFaultKind::NoRows),
-        ("000000000001 0000 00000000", 12, CodeFaultKind::NoRows),
-        ("000000000001 000000000001", 12, CodeFaultKind::NoRows),
-        ("000000000001 00000000 1000", 12, CodeFaultKind::BadCode),
-        ("000000000001 1010 00000000", 12, CodeFaultKind::RunTooLong),
-        ("00010111 11101100", 0, CodeFaultKind::RunTooLong),
-        ("00000000001 0111 11 1011", 0, CodeFaultKind::BadCode),
-        ("0111 11 1011 1", 10, CodeFaultKind::BadCode),
-        ("0111 11 1011 00000000001", 10, CodeFaultKind::BadCode),
-        (
-            "0111 11 1011 000000000001 00001",
-            22,
-            CodeFaultKind::RunTooLong,
-        ),
-        ("000000000001 1000", 16, CodeFaultKind::Truncated),
-        ("000000000001 0111 11 000000", 18, CodeFaultKind::Truncated),
-        ("000000000001 1000 00000000", 16, CodeFaultKind::BadCode),
-        ("1000 000000000001", 4, CodeFaultKind::BadCode),
+        ("000000000001000000000000", 12, CodeFaultKind::NoRows),
+        ("000000000001000000000001", 12, CodeFaultKind::NoRows),
+        ("000000000001000000001000", 12, CodeFaultKind::BadCode),
+        ("000000000001101000000000", 12, CodeFaultKind::RunTooLong),
+        ("0001011111101100", 0, CodeFaultKind::RunTooLong),
+        ("000000000010111111011", 0, CodeFaultKind::BadCode),
+        ("01111110111", 10, CodeFaultKind::BadCode),
+        ("011111101100000000001", 10, CodeFaultKind::BadCode),
+        ("011111101100000000000100001", 22, CodeFaultKind::RunTooLong),
+        ("0000000000011000", 16, CodeFaultKind::Truncated),
+        ("000000000001011111000000", 18, CodeFaultKind::Truncated),
+        ("000000000001100000000000", 16, CodeFaultKind::BadCode),
+        ("1000000000000001", 4, CodeFaultKind::BadCode),
     ] {
         let octets = octets_of(alloc, digits)?;
         match OneDim::decode(alloc, &octets, Order::MsbFirst, 8, false) {
             Ok(_) => assert!(rt; false, "{digits} is read"),
-            Err(fault) => assert_eq!(rt; fault, CodeFault { place, kind }, "{digits}"),
+            Err(fault) => assert_eq!(rt; fault, CodeFault::new(place, kind), "{digits}"),
         }
     }
     Ok(())
@@ -197,7 +182,7 @@ fn at_most_20000_rows_are_read(rt: HostRuntime) -> Result<(), Fail> {
     let alloc = rt.alloc();
     let mut bits = BitWriter::new(alloc, Order::MsbFirst);
     for _ in 0..20001 {
-        push_digits(&mut bits, "000000000001 000111")?;
+        bits.push_digits(b"000000000001000111")?;
     }
     let mut octets = bits.into_octets();
     assert_eq!(rt; octets.len(), 45003);
@@ -205,10 +190,7 @@ fn at_most_20000_rows_are_read(rt: HostRuntime) -> Result<(), Fail> {
         Ok(_) => assert!(rt; false, "20001 rows are read"),
         Err(fault) => assert_eq!(rt;
             fault,
-            CodeFault {
-                place: 360012,
-                kind: CodeFaultKind::TooManyCodedRows,
-            }
+            CodeFault::new(360012, CodeFaultKind::TooManyCodedRows)
         ),
     }
     // 20,000 rows, and then eight 0 bits.

@@ -1,8 +1,12 @@
-ghost use Rattle.page_code.specs.T6Positions.{line_begin, right_of_a0};
+//! The coding line that is read, up to a0 (ITU-T T.6, 2.2.1).
+
+ghost use Rattle.page_code.specs.T6Positions.{a0_of, line_begin};
 ghost use Rattle.raster.specs.Pixels.{IsWidth, other};
 ghost use Rattle.std.specs.Prelude.{◌≡◌, ◌≤◌, ◌+◌, ◌++◌, IfOk, OnOk, length, replicate, true};
 
-use raster::{Color, Row};
+use crate::page::row_of;
+use crate::t6_a0::A0;
+use raster::Row;
 use std::alloc::{AllocError, Global};
 use std::marker::Model;
 
@@ -10,9 +14,7 @@ use std::marker::Model;
 #[derive(Drop)]
 pub(crate) struct Line {
     runs: Vec<u32>,
-    place: u32,
-    begun: bool,
-    color: Color,
+    a0: A0,
 }
 
 impl Model for Line {
@@ -24,9 +26,9 @@ impl Model for Line {
 
     ghost Value = { CodingLine };
 
-    ghost view = { λ line. record { pixels = colored White line.runs.items; begun = line.begun; color = line.color } };
+    ghost view = { λ line. record { pixels = colored White line.runs.items; begun = line.a0.begun; color = line.a0.color } };
 
-    ghost invariant = { λ line. (line.place ≡ length (colored White line.runs.items)) × GoesOnWith line.runs.items line.color × (line.place ≤ 2432) };
+    ghost invariant = { λ line. (line.a0.place ≡ length (colored White line.runs.items)) × GoesOnWith line.runs.items line.a0.color × (line.a0.place ≤ 2432) };
 }
 
 impl Line {
@@ -36,47 +38,25 @@ impl Line {
     {
         Line {
             runs: Vec::new(alloc),
-            place: 0,
-            begun: false,
-            color: Color::White,
+            a0: A0::begin(),
         }
     }
 
-    /// The number of pixels so far.
-    pub(crate) fn place(&self) -> u32
-        ensures place { result ≡ length self.now.pixels }
-        ensures range { result ≤ 2432 }
+    /// a0, which is after the pixels so far.
+    pub(crate) fn a0(&self) -> A0
+        ensures is { result ≡ a0_of self.now }
+        ensures range { result.place ≤ 2432 }
     {
-        self.place
+        self.a0
     }
 
-    /// a0's color.
-    pub(crate) fn color(&self) -> Color
-        ensures { result ≡ self.now.color }
-    {
-        self.color
-    }
-
-    /// The least place to the right of a0.
-    pub(crate) fn right_of_a0(&self) -> u32
-        ensures { result ≡ right_of_a0 self.now }
-    {
-        if self.begun {
-            self.place + 1
-        } else {
-            self.place
-        }
-    }
-
-    /// Appends a run of a0's color, and moves a0 behind it, to the other color.
+    /// Appends a run of a0's color, and moves a0 after it, to the other color.
     pub(crate) fn push_run(&mut self, run: u32) -> Result<(), AllocError>
         requires { length self.old.pixels + run ≤ 2432 }
         ensures { OnOk result (self.new ≡ record { pixels = self.old.pixels ++ replicate run self.old.color; begun = true; color = other self.old.color }) }
     {
         self.runs.push(run)?;
-        self.place += run;
-        self.begun = true;
-        self.color = self.color.other();
+        self.a0 = A0::on_line(self.a0.place + run, self.a0.color.other());
         Ok(())
     }
 
@@ -85,9 +65,6 @@ impl Line {
         requires { IsWidth (length self.pixels) }
         ensures { IfOk result (λ row. row ≡ self.pixels) }
     {
-        match Row::from_runs(alloc, &self.runs) {
-            Ok(row) => Ok(row),
-            Err(_) => Err(AllocError),
-        }
+        row_of(alloc, &self.runs)
     }
 }

@@ -1,18 +1,21 @@
+//! Reading of a page in the two-dimensional code (ITU-T T.6, 2.2).
+
 ghost use Rattle.page_code.specs.T6Fronts.{mode_code_text, mode_codes};
 ghost use Rattle.page_code.specs.T6Positions.{white_line};
-ghost use Rattle.page_code.specs.T6Reading.{LeadsOn, ReadsHorizontal, ReadsMode, ReadsPageOn, ReadsRow, ReadsRun, SeesStart, StepsOn, missing_mode};
+ghost use Rattle.page_code.specs.T6Reading.{LeadsOn, MovesTo, ReadsHorizontal, ReadsMode, ReadsPageOn, ReadsRow, SeesStart, StepsOn, missing_mode};
 ghost use Rattle.page_code.specs.T6Writing.{reference_at};
 ghost use Rattle.raster.specs.Pixels.{IsWidth};
 ghost use Rattle.run_tables.specs.Reading.{rest_of};
 ghost use Rattle.run_tables.specs.Texts.{all_zero, is_cut};
-ghost use Rattle.std.specs.Prelude.{◌≡◌, ◌≤◌, ◌<◌, ◌+◌, [], length};
+ghost use Rattle.std.specs.Prelude.{◌≡◌, ◌≤◌, ◌<◌, ◌+◌, [], OnOk, length};
 
+use crate::page::{push_row, row_of};
+use crate::t6_a0::b2;
 use crate::t6_line::Line;
 use crate::t6_mode::{EOFB, ModeCode, Shift};
-use crate::t6_position::next_change_to;
-use raster::{Color, MOST_ROWS, Page, Row};
-use run_tables::{Among, BitReader, CodeFault, CodeFaultKind};
-use std::alloc::Global;
+use raster::{MOST_ROWS, Page, Row};
+use run_tables::{BitReader, CodeFault, CodeFaultKind};
+use std::alloc::{AllocError, Global};
 
 /// The mode codes.
 const MODE_CODES: [ModeCode; 9] = [
@@ -95,10 +98,7 @@ fn no_mode(reader: &BitReader) -> CodeFault
     } else {
         CodeFaultKind::BadCode
     };
-    CodeFault {
-        place: reader.place(),
-        kind,
-    }
+    CodeFault::new(reader.place(), kind)
 }
 
 /// The next mode code (ITU-T T.6, 2.2.2).
@@ -116,84 +116,36 @@ fn next_mode(reader: &mut BitReader) -> Result<ModeCode, CodeFault>
     Err(no_mode(reader))
 }
 
-/// The refusal of a run code that takes its row past the width.
-fn past_end(place: u128) -> CodeFault
-    ensures { result ≡ record { place = place; kind = CodeFaultKind.PastEnd } }
-{
-    CodeFault {
-        place,
-        kind: CodeFaultKind::PastEnd,
-    }
-}
-
-/// The next run of horizontal mode, of at most so many pixels.
-fn next_run(reader: &mut BitReader, color: Color, room: u32) -> Result<u32, CodeFault>
-    ensures { ReadsRun color room reader.old reader.new result }
-{
-    let place = reader.place();
-    let high = match reader.next_code(color, Among::AllCodes) {
-        Ok(run) => run,
-        Err(fault) => return Err(fault),
-    };
-    if high > room {
-        return Err(past_end(place));
-    }
-    if high < 64 {
-        return Ok(high);
-    }
-    let behind = reader.place();
-    let low = match reader.next_code(color, Among::TerminatingCodes) {
-        Ok(run) => run,
-        Err(fault) => return Err(fault),
-    };
-    if low > room - high {
-        return Err(past_end(behind));
-    }
-    Ok(high + low)
-}
-
 /// Pass mode: a0 goes under b2.
-fn pass(reference: &Row, line: &mut Line) -> Result<(), CodeFaultKind>
+fn pass(reference: &Row, line: &mut Line) -> Result<(), AllocError>
     requires { length line.old.pixels < length reference.now }
-    ensures { LeadsOn reference.now line.old line.new ModeCode.Pass result }
+    ensures { OnOk result (LeadsOn reference.now line.old line.new ModeCode.Pass) }
 {
-    let _width = reference.width();
-    let place = line.place();
-    let from = line.right_of_a0();
-    let color = line.color().other();
-    let b1 = next_change_to(reference, color, from);
-    let b2 = reference.next_change(b1 + 1);
-    if line.push_run(b2 - place).is_err() {
-        return Err(CodeFaultKind::NoMemory);
-    }
-    if line.push_run(0).is_err() {
-        return Err(CodeFaultKind::NoMemory);
-    }
-    Ok(())
+    let a0 = line.a0();
+    let b1 = a0.b1(reference);
+    let b2 = b2(reference, b1);
+    line.push_run(b2 - a0.place)?;
+    line.push_run(0)
 }
 
-/// A vertical mode: a0 goes to a1.
-fn vertical(reference: &Row, shift: Shift, line: &mut Line) -> Result<(), CodeFaultKind>
+/// The vertical mode at a bit: a0 goes to a1.
+fn vertical(place: u128, reference: &Row, shift: Shift, line: &mut Line) -> Result<(), CodeFault>
     requires { length line.old.pixels < length reference.now }
-    ensures { LeadsOn reference.now line.old line.new (ModeCode.Vertical shift) result }
+    ensures { MovesTo reference.now place line.old line.new (ModeCode.Vertical shift) result }
 {
-    let width = reference.width();
-    let place = line.place();
-    let from = line.right_of_a0();
-    let color = line.color().other();
-    let b1 = next_change_to(reference, color, from);
+    let a0 = line.a0();
+    let from = a0.right();
+    let b1 = a0.b1(reference);
     let right = shift.right();
     let left = shift.left();
     if b1 + right < from + left {
-        return Err(CodeFaultKind::Backwards);
+        return Err(CodeFault::new(place, CodeFaultKind::Backwards));
     }
     let a1 = b1 + right - left;
-    if a1 > width {
-        return Err(CodeFaultKind::PastEnd);
+    if a1 > reference.width() {
+        return Err(CodeFault::new(place, CodeFaultKind::PastEnd));
     }
-    if line.push_run(a1 - place).is_err() {
-        return Err(CodeFaultKind::NoMemory);
-    }
+    line.push_run(a1 - a0.place)?;
     Ok(())
 }
 
@@ -203,40 +155,18 @@ fn horizontal(reader: &mut BitReader, width: u32, line: &mut Line) -> Result<(),
     requires width { width ≤ 2432 }
     ensures { ReadsHorizontal width reader.old reader.new line.old line.new result }
 {
-    let place = line.place();
-    let color = line.color();
-    let first = match next_run(reader, color, width - place) {
-        Ok(run) => run,
-        Err(fault) => return Err(fault),
-    };
-    let behind = reader.place();
-    let second = match next_run(reader, color.other(), width - place - first) {
-        Ok(run) => run,
-        Err(fault) => return Err(fault),
-    };
+    let a0 = line.a0();
+    let other = a0.color.other();
+    let room = width - a0.place;
+    let first = reader.read_run_within(a0.color, room, CodeFaultKind::PastEnd)?;
+    let after = reader.place();
+    let second = reader.read_run_within(other, room - first, CodeFaultKind::PastEnd)?;
     if first + second == 0 {
-        return Err(CodeFault {
-            place: behind,
-            kind: CodeFaultKind::EmptyHorizontal,
-        });
+        return Err(CodeFault::new(after, CodeFaultKind::EmptyHorizontal));
     }
-    if line.push_run(first).is_err() {
-        return Err(no_memory(behind));
-    }
-    if line.push_run(second).is_err() {
-        return Err(no_memory(behind));
-    }
+    line.push_run(first)?;
+    line.push_run(second)?;
     Ok(())
-}
-
-/// The refusal where memory was refused.
-fn no_memory(place: u128) -> CodeFault
-    ensures { result ≡ record { place = place; kind = CodeFaultKind.NoMemory } }
-{
-    CodeFault {
-        place,
-        kind: CodeFaultKind::NoMemory,
-    }
 }
 
 /// One mode of a row (ITU-T T.6, 2.2.2).
@@ -245,20 +175,11 @@ fn read_mode(reader: &mut BitReader, reference: &Row, line: &mut Line) -> Result
     ensures { StepsOn reference.now reader.old reader.new line.old line.new result }
 {
     let place = reader.place();
-    let code = match next_mode(reader) {
-        Ok(code) => code,
-        Err(fault) => return Err(fault),
-    };
+    let code = next_mode(reader)?;
     match code {
-        ModeCode::Pass => match pass(reference, line) {
-            Ok(()) => Ok(()),
-            Err(kind) => Err(CodeFault { place, kind }),
-        },
+        ModeCode::Pass => Ok(pass(reference, line)?),
         ModeCode::Horizontal => horizontal(reader, reference.width(), line),
-        ModeCode::Vertical(shift) => match vertical(reference, shift, line) {
-            Ok(()) => Ok(()),
-            Err(kind) => Err(CodeFault { place, kind }),
-        },
+        ModeCode::Vertical(shift) => vertical(place, reference, shift, line),
     }
 }
 
@@ -266,19 +187,13 @@ fn read_mode(reader: &mut BitReader, reference: &Row, line: &mut Line) -> Result
 fn read_row(alloc: Global, reader: &mut BitReader, reference: &Row) -> Result<Row, CodeFault>
     ensures { ReadsRow reference.now reader.old reader.new result }
 {
-    let start = reader.place();
+    let _start = reader.place(); // tells the proof that it is within the bits
     let width = reference.width();
     let mut line = Line::new(alloc);
-    while line.place() < width {
-        match read_mode(reader, reference, &mut line) {
-            Ok(()) => {}
-            Err(fault) => return Err(fault),
-        }
+    while line.a0().place < width {
+        read_mode(reader, reference, &mut line)?;
     }
-    match line.into_row(alloc) {
-        Ok(row) => Ok(row),
-        Err(_) => Err(no_memory(start)),
-    }
+    Ok(line.into_row(alloc)?)
 }
 
 /// The next row, after the last of these rows or after a white row.
@@ -307,30 +222,24 @@ fn read_rows(
     requires empty { empty.rows ≡ [] }
     ensures { ReadsPageOn empty.width empty.fine reader.old reader.new result }
 {
-    let _start = reader.place();
+    let _start = reader.place(); // tells the proof that it is within the bits
     let mut page = empty;
     loop {
         let place = reader.place();
         match start_at(reader, page.rows().len()) {
+            Start::Row => {}
             Start::End => {
                 reader.skip(EOFB.len());
                 return Ok(page);
             }
-            Start::Refused(kind) => return Err(CodeFault { place, kind }),
-            Start::Row => {}
+            Start::Refused(kind) => return Err(CodeFault::new(place, kind)),
         }
-        let row = match next_row(alloc, reader, white, page.rows()) {
-            Ok(row) => row,
-            Err(fault) => return Err(fault),
-        };
-        match page.push_row(row) {
-            Ok(()) => {}
-            Err(_) => return Err(no_memory(place)),
-        }
+        let row = next_row(alloc, reader, white, page.rows())?;
+        push_row(&mut page, row)?;
     }
 }
 
-/// A page of this width (ITU-T T.6, 2.2). After an error the reader stands somewhere in the page.
+/// A page of this width (ITU-T T.6, 2.2). After an error the reader is somewhere in the page.
 pub(crate) fn read_page(
     alloc: Global,
     reader: &mut BitReader,
@@ -340,12 +249,7 @@ pub(crate) fn read_page(
     requires { IsWidth width }
     ensures { ReadsPageOn width fine reader.old reader.new result }
 {
-    let start = reader.place();
-    let Ok(page) = Page::new(alloc, width, fine) else {
-        return Err(no_memory(start));
-    };
-    let Ok(white) = Row::from_runs(alloc, &[width]) else {
-        return Err(no_memory(start));
-    };
+    let page = Page::new(alloc, width, fine).unwrap();
+    let white = row_of(alloc, &[width])?;
     read_rows(alloc, reader, &white, page)
 }

@@ -1,3 +1,5 @@
+//! Tests of pages in the two-dimensional code.
+
 ghost use Rattle.raster.specs.Pixels.{IsWidth};
 
 use crate::{PageCode, T6};
@@ -29,14 +31,12 @@ fn code_of(alloc: Global, page: &Page, order: Order) -> Result<Vec<u8>, RasterFa
 fn read(alloc: Global, octets: &[u8], order: Order, width: u32) -> Result<(usize, u128), CodeFault>
     requires { IsWidth width }
 {
-    match T6::decode(alloc, octets, order, width, false) {
-        Ok((page, used)) => Ok((page.rows().len(), used)),
-        Err(fault) => Err(fault),
-    }
+    let (page, used) = T6::decode(alloc, octets, order, width, false)?;
+    Ok((page.rows().len(), used))
 }
 
 fn refused(place: u128, kind: CodeFaultKind) -> Result<(usize, u128), CodeFault> {
-    Err(CodeFault { place, kind })
+    Err(CodeFault::new(place, kind))
 }
 
 #[test]
@@ -114,7 +114,7 @@ fn rows_without_a_pass(rt: HostRuntime) -> Result<(), Fail> {
 fn refusals_inside_a_row(rt: HostRuntime) -> Result<(), Fail> {
     let alloc = rt.alloc();
     let msb = Order::MsbFirst;
-    // Six 0 bits behind a mode.
+    // Six 0 bits after a mode.
     assert_eq!(rt;
         read(alloc, &[0xE0, 0x80], msb, 8),
         refused(10, CodeFaultKind::BadCode)
@@ -124,7 +124,7 @@ fn refusals_inside_a_row(rt: HostRuntime) -> Result<(), Fail> {
         read(alloc, &[0x33, 0x40], msb, 8),
         refused(8, CodeFaultKind::PastEnd)
     );
-    // Seven 0 bits behind a make-up code.
+    // Seven 0 bits after a make-up code.
     assert_eq!(rt;
         read(alloc, &[0x3B, 0x00], msb, 1728),
         refused(8, CodeFaultKind::BadCode)

@@ -1,43 +1,16 @@
+//! Writing of a page in the two-dimensional code (ITU-T T.6, 2.2).
+
 ghost use Rattle.page_code.specs.T6Code.{page_code, row_code, rows_code, verticals, vertical_to};
 ghost use Rattle.page_code.specs.T6Writing.{IsCodedTo, WritesMode, reference_at, row_at};
-ghost use Rattle.run_tables.specs.Codes.{text};
 ghost use Rattle.run_tables.specs.Written.{Appends};
-ghost use Rattle.std.specs.Prelude.{◌≡◌, ◌≤◌, ◌<◌, ◌+◌, All, length, OnOk, true, if◌then◌else◌};
+ghost use Rattle.std.specs.Prelude.{◌≡◌, ◌≤◌, ◌<◌, ◌+◌, All, length, OnOk};
 
+use crate::page::row_of;
+use crate::t6_a0::{A0, b2};
 use crate::t6_mode::{EOFB, ModeCode, Shift};
-use crate::t6_position::next_change_to;
-use raster::{Color, Page, Row};
+use raster::{Page, Row};
 use run_tables::BitWriter;
 use std::alloc::{AllocError, Global};
-
-/// How far a row is coded: a0, whether it is on the row yet, and its color (ITU-T T.6, 2.2.1).
-#[derive(Clone, Copy, Debug, PartialEq, Eq)]
-pub(crate) struct CodedTo {
-    pub(crate) place: u32,
-    pub(crate) begun: bool,
-    pub(crate) color: Color,
-}
-
-impl CodedTo {
-    /// a0 is on the row, at this place and of this color.
-    fn on_row(place: u32, color: Color) -> Self
-        ensures { result ≡ record { place = place; begun = true; color = color } }
-    {
-        CodedTo {
-            place,
-            begun: true,
-            color,
-        }
-    }
-}
-
-/// The least place to the right of a0.
-fn right_of(to: CodedTo) -> u32
-    requires { to.place ≤ 2432 }
-    ensures { result ≡ to.place + (if to.begun then 1 else 0) }
-{
-    if to.begun { to.place + 1 } else { to.place }
-}
 
 /// The vertical mode that leads from b1 to a1, where there is one (ITU-T T.6, 2.2.3).
 fn shift_to(b1: u32, a1: u32) -> Option<Shift>
@@ -69,49 +42,38 @@ fn shift_to(b1: u32, a1: u32) -> Option<Shift>
     None
 }
 
-/// Appends the bits that the digits `0` and `1` stand for.
-fn write_text(writer: &mut BitWriter, digits: &[u8]) -> Result<(), AllocError>
-    ensures { OnOk result (Appends (text digits.now) writer.old writer.new) }
-{
-    for digit in digits {
-        writer.push(*digit == b'1')?;
-    }
-    Ok(())
-}
-
 /// Appends the prescribed mode, and moves a0.
 fn write_mode(
     writer: &mut BitWriter,
     reference: &Row,
     row: &Row,
-    to: &mut CodedTo,
+    a0: &mut A0,
 ) -> Result<(), AllocError>
     requires even { length reference.now ≡ length row.now }
-    requires coded { IsCodedTo row.now to.old }
-    requires short { to.old.place < length row.now }
-    ensures { OnOk result (WritesMode reference.now row.now to.old to.new writer.old writer.new) }
+    requires coded { IsCodedTo row.now a0.old }
+    requires short { a0.old.place < length row.now }
+    ensures { OnOk result (WritesMode reference.now row.now a0.old a0.new writer.old writer.new) }
 {
-    let _width = row.width();
-    let from = right_of(*to);
-    let color = to.color;
-    let a1 = row.next_change(from);
-    let b1 = next_change_to(reference, color.other(), from);
-    let b2 = reference.next_change(b1 + 1);
+    let _width = row.width(); // tells the proof that it is at most 2,432
+    let color = a0.color;
+    let a1 = row.next_change(a0.right());
+    let b1 = a0.b1(reference);
+    let b2 = b2(reference, b1);
     if b2 < a1 {
-        write_text(writer, ModeCode::Pass.digits())?;
-        *to = CodedTo::on_row(b2, color);
+        writer.push_digits(ModeCode::Pass.digits())?;
+        *a0 = A0::on_line(b2, color);
         return Ok(());
     }
     if let Some(shift) = shift_to(b1, a1) {
-        write_text(writer, shift.digits())?;
-        *to = CodedTo::on_row(a1, color.other());
+        writer.push_digits(shift.digits())?;
+        *a0 = A0::on_line(a1, color.other());
         return Ok(());
     }
     let a2 = row.next_change(a1 + 1);
-    write_text(writer, ModeCode::Horizontal.digits())?;
-    writer.write_run(color, a1 - to.place)?;
+    writer.push_digits(ModeCode::Horizontal.digits())?;
+    writer.write_run(color, a1 - a0.place)?;
     writer.write_run(color.other(), a2 - a1)?;
-    *to = CodedTo::on_row(a2, color);
+    *a0 = A0::on_line(a2, color);
     Ok(())
 }
 
@@ -121,13 +83,9 @@ fn write_row(writer: &mut BitWriter, reference: &Row, row: &Row) -> Result<(), A
     ensures { OnOk result (Appends (row_code reference.now row.now) writer.old writer.new) }
 {
     let width = row.width();
-    let mut to = CodedTo {
-        place: 0,
-        begun: false,
-        color: Color::White,
-    };
-    while to.place < width {
-        write_mode(writer, reference, row, &mut to)?;
+    let mut a0 = A0::begin();
+    while a0.place < width {
+        write_mode(writer, reference, row, &mut a0)?;
     }
     Ok(())
 }
@@ -168,9 +126,8 @@ pub(crate) fn write_page(
 ) -> Result<(), AllocError>
     ensures { OnOk result (Appends (page_code page.now.width page.now.rows) writer.old writer.new) }
 {
-    let Ok(white) = Row::from_runs(alloc, &[page.width()]) else {
-        return Err(AllocError);
-    };
-    write_rows(writer, &white, page.rows())?;
-    write_text(writer, EOFB)
+    let rows = page.rows();
+    let white = row_of(alloc, &[page.width()])?;
+    write_rows(writer, &white, rows)?;
+    writer.push_digits(EOFB)
 }

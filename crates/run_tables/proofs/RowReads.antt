@@ -1,5 +1,5 @@
 -- Reading a row run by run.
-use Rattle.std.proofs.Common.{◌≢◌, subst, length-append, ltb, ℕ, ◌≡◌, ◌+◌, ◌<◌, ◌≤◌, Bool, true, false, List, [], ◌∷◌, ◌++◌, map, length, drop, replicate, Some, None, refl, ap, sym, ◌∙◌, arith, cond, inl, inr}
+use Rattle.std.proofs.Common.{◌≢◌, subst, length-append, ltb, ℕ, ◌≡◌, ◌+◌, ◌-◌, ◌<◌, ◌≤◌, Bool, true, false, List, [], ◌∷◌, ◌++◌, map, length, drop, replicate, Some, None, refl, ap, sym, ◌∙◌, arith, cond, inl, inr}
 use Rattle.std.specs.Prelude.{Option, Result, Ok, Err, if◌then◌else◌, Vec}
 use Rattle.std.specs.List.{range_with_len}
 use Rattle.std.specs.Option.{option_map}
@@ -12,12 +12,13 @@ use Rattle.raster.specs.Pixels.{other}
 use Rattle.run_tables.specs.declared.fault.CodeFaultKind.{CodeFaultKind}
 use Rattle.run_tables.specs.declared.fault.CodeFaultKind.TheVariants.{BadCode, Truncated, RunTooLong, NoMemory}
 use Rattle.run_tables.specs.Codes.{code_text, run_at}
-use Rattle.run_tables.specs.CodeReading.{first_runs, PicksCode}
+use Rattle.run_tables.specs.CodeReading.{first_runs, PicksCode, BeginsRun, RefusesCodeWithin, ReadsRunWithin}
 use Rattle.run_tables.specs.Reading.{Reading, rest_of}
 use Rattle.run_tables.specs.RowReading.{ReadsRow, RefusesRow, RowRuns, RunWithin}
 use Rattle.run_tables.specs.declared.fault.CodeFault.{CodeFault}
 use Rattle.run_tables.specs.declared.reader.Among.TheVariants.{AllCodes, TerminatingCodes}
 use Rattle.run_tables.specs.Texts.{begins, pick, is_cut}
+use Rattle.run_tables.specs.Faults.{BegunAt}
 use Rattle.run_tables.specs.Fronts.{Look}
 use Rattle.run_tables.specs.Fronts.Look.{refuse}
 use Rattle.run_tables.specs.RowFronts.{RunItem, run_of, item_text, run_items, codes_after, standing, amount, behind_run, after_code, look_code, found_code, judged, look, reading, read_row, row_begin, moved, RowState}
@@ -102,7 +103,7 @@ none_before : (pixels : List Color) (color : Color) (run : ℕ) → pixels ++ re
 none_before pixels color run = let same : 0 + run ≡ run = omega arith in ap (λ (n : ℕ). pixels ++ replicate n color) same
 
 -- a run of one code
-pub low_within : (color : Color) (room : ℕ) (old new : Reading) (run : ℕ) → PicksCode color AllCodes old new (Ok run) → run ≤ room → run < 64 → RunWithin color room old new (Ok run)
+low_within : (color : Color) (room : ℕ) (old new : Reading) (run : ℕ) → PicksCode color AllCodes old new (Ok run) → run ≤ room → run < 64 → RunWithin color room old new (Ok run)
 low_within color room old new run picks fits low =
     let on = went_on color None old run picks.0 in
     subst (λ (n : Reading). RunWithin color room old n (Ok run)) (sym picks.1) (
@@ -125,7 +126,7 @@ high_within color room old mid high picks fits up =
     )
 
 -- a run of two codes
-pub both_within : (color : Color) (room : ℕ) (old mid new : Reading) (high low : ℕ) → PicksCode color AllCodes old mid (Ok high) → 64 ≤ high → PicksCode color TerminatingCodes mid new (Ok low) → low < 64 → high + low ≤ room → RunWithin color room old new (Ok (high + low))
+both_within : (color : Color) (room : ℕ) (old mid new : Reading) (high low : ℕ) → PicksCode color AllCodes old mid (Ok high) → 64 ≤ high → PicksCode color TerminatingCodes mid new (Ok low) → low < 64 → high + low ≤ room → RunWithin color room old new (Ok (high + low))
 both_within color room old mid new high low picks up picks' down fits =
     let front = high_within color room old mid high picks (omega arith) up in
     let on = went_on color (Some high) mid low picks'.0 in
@@ -138,26 +139,43 @@ both_within color room old mid new high low picks up picks' down fits =
     )
 
 -- the run's first code is refused
-pub first_refused : (color : Color) (room : ℕ) (old new : Reading) (fault : CodeFault) → PicksCode color AllCodes old new (Err fault) → RunWithin color room old new (Err fault)
+first_refused : (color : Color) (room : ℕ) (old new : Reading) (fault : CodeFault) → PicksCode color AllCodes old new (Err fault) → RunWithin color room old new (Err fault)
 first_refused color room old new fault picks pixels =
     rw picks.1 (reading_refuse (length pixels + room) (inside pixels color None) old.place (rest_of old) _ (code_refused (length pixels + room) pixels color None (rest_of old) picks.0))
 
 -- the run's first code is too long
-pub first_long : (color : Color) (room : ℕ) (old mid new : Reading) (run : ℕ) → PicksCode color AllCodes old mid (Ok run) → room < run → RunWithin color room old new (Err (record { place = old.place; kind = RunTooLong }))
+first_long : (color : Color) (room : ℕ) (old mid new : Reading) (run : ℕ) → PicksCode color AllCodes old mid (Ok run) → room < run → RunWithin color room old new (Err (record { place = old.place; kind = RunTooLong }))
 first_long color room old mid new run picks long pixels =
     reading_refuse (length pixels + room) (inside pixels color None) old.place (rest_of old) RunTooLong (code_long (length pixels + room) pixels color None (rest_of old) run picks.0 (omega arith))
 
 -- behind a make-up code no terminating code stands
-pub second_refused : (color : Color) (room : ℕ) (old mid new : Reading) (high : ℕ) (fault : CodeFault) → PicksCode color AllCodes old mid (Ok high) → high ≤ room → 64 ≤ high → PicksCode color TerminatingCodes mid new (Err fault) → RunWithin color room old new (Err fault)
+second_refused : (color : Color) (room : ℕ) (old mid new : Reading) (high : ℕ) (fault : CodeFault) → PicksCode color AllCodes old mid (Ok high) → high ≤ room → 64 ≤ high → PicksCode color TerminatingCodes mid new (Err fault) → RunWithin color room old new (Err fault)
 second_refused color room old mid new high fault picks fits up picks' pixels =
     (high_within color room old mid high picks fits up).2 pixels ∙
     rw picks'.1 (reading_refuse (length pixels + room) (inside pixels color (Some high)) mid.place (rest_of mid) _ (code_refused (length pixels + room) pixels color (Some high) (rest_of mid) picks'.0))
 
 -- a terminating code behind a make-up code is too long
-pub second_long : (color : Color) (room : ℕ) (old mid new last : Reading) (high low : ℕ) → PicksCode color AllCodes old mid (Ok high) → high ≤ room → 64 ≤ high → PicksCode color TerminatingCodes mid new (Ok low) → room < high + low → RunWithin color room old last (Err (record { place = mid.place; kind = RunTooLong }))
+second_long : (color : Color) (room : ℕ) (old mid new last : Reading) (high low : ℕ) → PicksCode color AllCodes old mid (Ok high) → high ≤ room → 64 ≤ high → PicksCode color TerminatingCodes mid new (Ok low) → room < high + low → RunWithin color room old last (Err (record { place = mid.place; kind = RunTooLong }))
 second_long color room old mid new last high low picks fits up picks' long pixels =
     (high_within color room old mid high picks fits up).2 pixels ∙
     reading_refuse (length pixels + room) (inside pixels color (Some high)) mid.place (rest_of mid) RunTooLong (code_long (length pixels + room) pixels color (Some high) (rest_of mid) low picks'.0 (omega arith))
+
+-- a code that is refused
+first_refuses : (color : Color) (room : ℕ) (old new : Reading) (fault : CodeFault) → RefusesCodeWithin color AllCodes room RunTooLong old fault → RunWithin color room old new (Err fault)
+first_refuses color room old new fault (inl none) = first_refused color room old none.0 fault none.1
+first_refuses color room old new fault (inr long) = subst (λ (f : CodeFault). RunWithin color room old new (Err f)) (sym long.4) (first_long color room old long.1 new long.0 long.2 long.3)
+
+second_refuses : (color : Color) (room : ℕ) (old mid new : Reading) (high : ℕ) (fault : CodeFault) → BeginsRun color room old mid high → RefusesCodeWithin color TerminatingCodes (room - high) RunTooLong mid fault → RunWithin color room old new (Err fault)
+second_refuses color room old mid new high fault begins (inl none) = second_refused color room old mid none.0 high fault begins.0 begins.2 begins.1 none.1
+second_refuses color room old mid new high fault begins (inr long) = subst (λ (f : CodeFault). RunWithin color room old new (Err f)) (sym long.4) (second_long color room old mid long.1 new high long.0 begins.0 begins.2 begins.1 long.2 (omega (arith, long.3, begins.2)))
+
+-- a run, in the words of reading the row
+pub within_row : (color : Color) (room : ℕ) (old new : Reading) (result : Result ℕ CodeFault) → ReadsRunWithin color room RunTooLong old new result → RunWithin color room old new result
+within_row color room old new (Ok run) (inl ends) = low_within color room old new run ends.0 ends.2 ends.1
+within_row color room old new (Ok run) (inr both) =
+    subst (λ (n : ℕ). RunWithin color room old new (Ok n)) (sym both.5) (both_within color room old both.2 new both.0 both.1 both.3.0 both.3.1 both.4.0 both.4.1 (omega (arith, both.3.2, both.4.2)))
+within_row color room old new (Err fault) (inl first) = first_refuses color room old new fault first
+within_row color room old new (Err fault) (inr second) = second_refuses color room old second.1 new second.0 fault second.2 second.3
 
 short_row : (width : ℕ) (pixels : List Color) (color : Color) → length pixels < width → behind_run whole inside width pixels color ≡ inside pixels color None
 short_row width pixels color h = rw (ne_eqb (length pixels) width (λ e. omega arith)) refl
@@ -207,12 +225,8 @@ module _ {State Item Answer : Type 0} (item : RunItem → Item) (full : List Col
   unfolding look_code
   code_memory x e = found_memory x (pick item_text (standing color makeup) x) e
 
-look_kind : (width : ℕ) (s : RowState) (x : List Bool) → look width s x ≡ refuse NoMemory → ⊥
-look_kind width (inside pixels color makeup) x e = code_memory (λ code. code) whole inside width pixels color makeup x e
-look_kind width (whole row) x e = cc
-
 -- what reading refuses from a place on is refused behind the longest front there
-pub refuses_there : (width : ℕ) (old : Reading) (fault : CodeFault) → IsWidth width → reading width row_begin old.place (rest_of old) ≡ Err (fault.place, fault.kind) → RefusesRow width old fault × (fault.kind ≢ NoMemory)
+pub refuses_there : (width : ℕ) (old : Reading) (fault : CodeFault) → IsWidth width → reading width row_begin old.place (rest_of old) ≡ Err (fault.place, fault.kind) → RefusesRow width old fault
 refuses_there width old fault wide e = seen (read_row width (rest_of old)) refl (sym start ∙ e)
   where
     none : old.place + 0 ≡ old.place
@@ -221,16 +235,14 @@ refuses_there width old fault wide e = seen (read_row width (rest_of old)) refl 
     start : reading width row_begin old.place (rest_of old) ≡ moved old.place (read_row width (rest_of old))
     start = ap (λ (p : ℕ). reading width row_begin p (rest_of old)) (sym none) ∙ reading_moved width row_begin old.place 0 (rest_of old)
 
-    seen : (r : Result (List Color × ℕ) (ℕ × CodeFaultKind)) → read_row width (rest_of old) ≡ r → moved old.place r ≡ Err (fault.place, fault.kind) → RefusesRow width old fault × (fault.kind ≢ NoMemory)
+    seen : (r : Result (List Color × ℕ) (ℕ × CodeFaultKind)) → read_row width (rest_of old) ≡ r → moved old.place r ≡ Err (fault.place, fault.kind) → RefusesRow width old fault
     seen (Ok read) is e = cc
     seen (Err refused) is e =
         let pair : ◌≡◌ {A = ℕ × CodeFaultKind} (old.place + refused.0, refused.1) (fault.place, fault.kind) = cc in
         let kind : refused.1 ≡ fault.kind = ap (λ (p : ℕ × CodeFaultKind). p.1) pair in
         let refuses : read_row width (rest_of old) ≡ Err (refused.0, fault.kind) = is ∙ ap (λ (k : CodeFaultKind). Err (refused.0, k)) kind in
-        let longest = refuses_at_longest width (rest_of old) refused.0 fault.kind refuses in (
-          record { front = refused.0; place = sym (ap (λ (p : ℕ × CodeFaultKind). p.0) pair); longest = longest; none = λ row used reads. refuses_no_row width (rest_of old) refused.0 fault.kind row used wide refuses reads },
-          λ memory. look_kind width longest.front.end longest.front.rest (longest.kind_is ∙ ap (λ (k : CodeFaultKind). refuse k) memory),
-        )
+        let longest = refuses_at_longest width (rest_of old) refused.0 fault.kind refuses in
+        record { front = refused.0; place = sym (ap (λ (p : ℕ × CodeFaultKind). p.0) pair); longest = longest; none = λ row used reads. refuses_no_row width (rest_of old) refused.0 fault.kind row used wide refuses reads }
 
 -- what reading answers from a place on is the row that stands there
 pub reads_there : (width : ℕ) (old : Reading) (row : List Color) (end : ℕ) → IsWidth width → reading width row_begin old.place (rest_of old) ≡ Ok (row, end) → (used : ℕ) × ReadsAsRow width (rest_of old) row used × (end ≡ old.place + used)
@@ -251,11 +263,9 @@ reads_there width old row end wide e = seen (read_row width (rest_of old)) refl 
         (read.1, (reads_rows_exactly width (rest_of old) row read.1 wide).0 reads, sym (ap (λ (p : List Color × ℕ). p.1) pair))
 
 -- a refusal of the runs is one of memory, or one of the row
-pub runs_refused : (V : Type 0) (width : ℕ) (old new : Reading) (fault : CodeFault) → IsWidth width → RowRuns {V = V} width old new (Err fault) → (fault.kind ≢ NoMemory → RefusesRow width old fault) × (fault.kind ≡ NoMemory → fault.place ≡ old.place)
-runs_refused V width old new fault wide (inl memory) = ((λ other. absurd (other (ap (λ (f : CodeFault). f.kind) memory))), λ same. ap (λ (f : CodeFault). f.place) memory)
-runs_refused V width old new fault wide (inr e) =
-    let there = refuses_there width old fault wide e in
-    ((λ other. there.0), λ memory. absurd (there.1 memory))
+pub runs_refused : (V : Type 0) (width : ℕ) (old new : Reading) (fault : CodeFault) → IsWidth width → RowRuns {V = V} width old new (Err fault) → fault.kind ≢ NoMemory → RefusesRow width old fault
+runs_refused V width old new fault wide (inl memory) other = absurd (other memory)
+runs_refused V width old new fault wide (inr e) other = refuses_there width old fault wide e
 
 -- the row of the runs is the one that stands there
 pub runs_read : (V : Type 0) (width : ℕ) (old new : Reading) (runs : Vec ℕ V) (row : List Color) → IsWidth width → RowRuns width old new (Ok runs) → row ≡ colored White runs.items → ReadsRow width old new row
@@ -268,3 +278,12 @@ runs_read V width old new runs row wide read is =
         let with_bits : List Bool → Reading = λ b. record { bits = b; place = reader.place } in
         let with_place : ℕ → Reading = λ p. record { bits = bits; place = p } in
         ap with_bits e ∙ ap with_place f
+
+-- a refusal as the whole call answers it
+pub begun_refuses : (width : ℕ) (old : Reading) (start : ℕ) (fault answer : CodeFault) → BegunAt start fault answer → (fault.kind ≢ NoMemory → RefusesRow width old fault) → answer.kind ≢ NoMemory → RefusesRow width old answer
+begun_refuses width old start fault answer (inl memory) refuses other = absurd (other (ap (λ (f : CodeFault). f.kind) memory.1))
+begun_refuses width old start fault answer (inr same) refuses other = subst (λ (f : CodeFault). RefusesRow width old f) (sym same.1) (refuses same.0)
+
+pub begun_memory : (start : ℕ) (fault answer : CodeFault) → BegunAt start fault answer → answer.kind ≡ NoMemory → answer.place ≡ start
+begun_memory start fault answer (inl memory) is = ap (λ (f : CodeFault). f.place) memory.1
+begun_memory start fault answer (inr same) is = absurd (same.0 (sym (ap (λ (f : CodeFault). f.kind) same.1) ∙ is))

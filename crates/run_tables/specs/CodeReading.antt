@@ -1,5 +1,5 @@
 -- Run codes at the beginning of bits (ITU-T T.4, 4.1.1).
-use Rattle.std.specs.Prelude.{ℕ, ◌≡◌, ◌<◌, ◌≤◌, ◌⊎◌, Bool, true, false, List, map, Contains, Some, None, Result, Ok, Err, if◌then◌else◌}
+use Rattle.std.specs.Prelude.{ℕ, ◌≡◌, ◌+◌, ◌-◌, ◌<◌, ◌≤◌, ◌⊎◌, Bool, true, false, List, map, Contains, Some, None, Result, Ok, Err, if◌then◌else◌}
 use Rattle.std.specs.List.{range_with_len}
 use Rattle.raster.specs.declared.row.Color.{Color}
 use Rattle.run_tables.specs.declared.fault.CodeFault.{CodeFault}
@@ -64,3 +64,26 @@ RefusesRun color old fault = RefusesCode color AllCodes old fault ⊎ ((high : �
 abbrev pub ReadsRun : Color → Reading → Reading → Result ℕ CodeFault → Type 0
 ReadsRun color old new (Ok run) = (run ≤ 2623) × (begins (run_text color run) (rest_of old) ≡ true) × (new ≡ behind (run_text color run) old)
 ReadsRun color old new (Err fault) = ((run : ℕ) → run ≤ 2623 → begins (run_text color run) (rest_of old) ≡ false) × RefusesRun color old fault × (new ≡ old)
+
+-- a make-up code of at most so many pixels was read, where a run begins
+abbrev pub BeginsRun : Color → ℕ → Reading → Reading → ℕ → Type 0
+BeginsRun color room old new makeup = PicksCode color AllCodes old new (Ok makeup) × (64 ≤ makeup) × (makeup ≤ room)
+
+-- a terminating code of at most so many pixels was read
+abbrev pub EndsRun : Color → Among → ℕ → Reading → Reading → ℕ → Type 0
+EndsRun color among room old new run = PicksCode color among old new (Ok run) × (run < 64) × (run ≤ room)
+
+-- no code that may stand begins the bits that are left, or one of more pixels than there is room for, which is refused with this kind
+abbrev pub RefusesCodeWithin : Color → Among → ℕ → CodeFaultKind → Reading → CodeFault → Type 0
+RefusesCodeWithin color among room past old fault =
+    ((new : Reading) × PicksCode color among old new (Err fault)) ⊎
+    ((run : ℕ) × (new : Reading) × PicksCode color among old new (Ok run) × (room < run) × (fault ≡ record { place = old.place; kind = past }))
+
+-- a run of at most so many pixels was read: a terminating code, or a make-up code and a terminating code; or one of its codes is refused
+abbrev pub ReadsRunWithin : Color → ℕ → CodeFaultKind → Reading → Reading → Result ℕ CodeFault → Type 0
+ReadsRunWithin color room past old new (Ok run) =
+    EndsRun color AllCodes room old new run ⊎
+    ((makeup : ℕ) × (rest : ℕ) × (between : Reading) × BeginsRun color room old between makeup × EndsRun color TerminatingCodes (room - makeup) between new rest × (run ≡ makeup + rest))
+ReadsRunWithin color room past old new (Err fault) =
+    RefusesCodeWithin color AllCodes room past old fault ⊎
+    ((makeup : ℕ) × (between : Reading) × BeginsRun color room old between makeup × RefusesCodeWithin color TerminatingCodes (room - makeup) past between fault)

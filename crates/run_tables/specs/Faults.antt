@@ -1,5 +1,6 @@
--- The numbers of the kinds of refusals.
-use Rattle.std.specs.Prelude.{ℕ}
+-- Refusals of coded bits: the numbers of their kinds, and where one of memory is.
+use Rattle.std.specs.Prelude.{ℕ, ◌≡◌, ◌≢◌, ◌⊎◌}
+use Rattle.run_tables.specs.declared.fault.CodeFault.{CodeFault}
 use Rattle.run_tables.specs.declared.fault.CodeFaultKind.{CodeFaultKind}
 use Rattle.run_tables.specs.declared.fault.CodeFaultKind.TheVariants.{NoRows, NoMemory, BadCode, Truncated, RunTooLong, Backwards, PastEnd, EmptyHorizontal, Extension, MissingEofb, TooManyCodedRows}
 
@@ -16,3 +17,7 @@ number_of EmptyHorizontal = 15
 number_of Extension = 16
 number_of MissingEofb = 17
 number_of TooManyCodedRows = 18
+
+-- a refusal as a call answers it that began at this bit: one of memory is there, any other stays
+abbrev pub BegunAt : ℕ → CodeFault → CodeFault → Type 0
+BegunAt start fault answer = ((fault.kind ≡ NoMemory) × (answer ≡ record { place = start; kind = NoMemory })) ⊎ ((fault.kind ≢ NoMemory) × (answer ≡ fault))

@@ -1,5 +1,5 @@
 -- What reading a one-dimensional row answers, and what it leaves (ITU-T T.4, 4.1.1).
-use Rattle.std.specs.Prelude.{ℕ, ◌≡◌, ◌+◌, ◌<◌, ◌≤◌, ◌++◌, List, length, replicate, None, Result, Ok, Err, sum, Vec, ◌⊎◌}
+use Rattle.std.specs.Prelude.{ℕ, ◌≡◌, ◌≢◌, ◌+◌, ◌<◌, ◌≤◌, ◌++◌, List, length, replicate, None, Result, Ok, Err, sum, Vec, ◌⊎◌}
 use Rattle.raster.specs.declared.row.Color.{Color}
 use Rattle.raster.specs.declared.row.Color.TheVariants.{White}
 use Rattle.raster.specs.Runs.{colored}
@@ -35,4 +35,9 @@ RunWithin color room old new (Err fault) =
 -- the runs of a row were read; or memory was refused, or the row is refused where reading it is
 abbrev pub RowRuns : {V : Type 0} → ℕ → Reading → Reading → Result (Vec ℕ V) CodeFault → Type 0
 RowRuns width old new (Ok runs) = (new.bits ≡ old.bits) × (new.place ≤ length new.bits) × (sum runs.items ≡ width) × (reading width row_begin old.place (rest_of old) ≡ Ok (colored White runs.items, new.place))
-RowRuns width old new (Err fault) = (fault ≡ record { place = old.place; kind = NoMemory }) ⊎ (reading width row_begin old.place (rest_of old) ≡ Err (fault.place, fault.kind))
+RowRuns width old new (Err fault) = (fault.kind ≡ NoMemory) ⊎ (reading width row_begin old.place (rest_of old) ≡ Err (fault.place, fault.kind))
+
+-- a whole row was read, or it is refused unless memory was
+abbrev pub WholeRow : ℕ → Reading → Reading → Result (List Color) CodeFault → Type 0
+WholeRow width old new (Ok row) = ReadsRow width old new row
+WholeRow width old new (Err fault) = fault.kind ≢ NoMemory → RefusesRow width old fault

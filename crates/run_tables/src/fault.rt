@@ -1,3 +1,6 @@
+//! Refusals of coded bits: where, and why.
+
+use std::alloc::{AllocError, AllocFailed};
 use thiserror::Error;
 
 /// Why coded bits were refused.
@@ -70,4 +73,49 @@ pub struct CodeFault {
     pub place: u128,
     /// Why it was refused.
     pub kind: CodeFaultKind,
+}
+
+impl CodeFault {
+    ghost use Rattle.std.specs.Prelude.{◌≡◌};
+    ghost use Rattle.run_tables.specs.Faults.{BegunAt};
+
+    /// A refusal at this bit, for this reason.
+    pub fn new(place: u128, kind: CodeFaultKind) -> Self
+        ensures { result ≡ record { place = place; kind = kind } }
+    {
+        CodeFault { place, kind }
+    }
+
+    /// The refusal as a call answers it that began at this bit: there, where memory was refused.
+    pub fn begun_at(self, start: u128) -> Self
+        ensures { BegunAt start self result }
+    {
+        if self.kind == CodeFaultKind::NoMemory {
+            CodeFault::new(start, CodeFaultKind::NoMemory)
+        } else {
+            self
+        }
+    }
+}
+
+impl From<AllocError> for CodeFault {
+    ghost use Rattle.std.specs.Prelude.{◌≡◌};
+    ghost use Rattle.run_tables.specs.declared.fault.CodeFaultKind.TheVariants.{NoMemory};
+
+    ghost from_gives = { λ _ fault. fault ≡ record { place = 0; kind = NoMemory } };
+
+    fn from(_refused: AllocError) -> CodeFault {
+        CodeFault::new(0, CodeFaultKind::NoMemory)
+    }
+}
+
+impl<T: Drop> From<AllocFailed<T>> for CodeFault {
+    ghost use Rattle.std.specs.Prelude.{◌≡◌};
+    ghost use Rattle.run_tables.specs.declared.fault.CodeFaultKind.TheVariants.{NoMemory};
+
+    ghost from_gives = { λ _ fault. fault ≡ record { place = 0; kind = NoMemory } };
+
+    fn from(_refused: AllocFailed<T>) -> CodeFault {
+        CodeFault::new(0, CodeFaultKind::NoMemory)
+    }
 }

@@ -1,5 +1,5 @@
 ghost use Rattle.raster.specs.Packed.{bits_of};
-ghost use Rattle.run_tables.specs.CodeReading.{PicksCode, ReadsCode, ReadsRun, ReadsRunCode, count_among, first_runs, kind_among};
+ghost use Rattle.run_tables.specs.CodeReading.{PicksCode, ReadsCode, ReadsRun, ReadsRunCode, ReadsRunWithin, count_among, first_runs, kind_among};
 ghost use Rattle.run_tables.specs.Codes.{code_text, text};
 ghost use Rattle.run_tables.specs.Reading.{rest_of};
 ghost use Rattle.run_tables.specs.Texts.{begins, is_cut, pick};
@@ -204,10 +204,7 @@ impl<'a> BitReader<'a> {
         } else {
             CodeFaultKind::BadCode
         };
-        CodeFault {
-            place: self.place(),
-            kind,
-        }
+        CodeFault::new(self.place(), kind)
     }
 
     /// The run of the next code, one of those that may stand (ITU-T T.4, 4.1.1). Errs where none of
@@ -230,10 +227,7 @@ impl<'a> BitReader<'a> {
     pub fn read_code(&mut self, color: Color) -> Result<RunCode, CodeFault>
         ensures { ReadsRunCode color self.old self.new result }
     {
-        let run = match self.next_code(color, Among::AllCodes) {
-            Ok(run) => run,
-            Err(fault) => return Err(fault),
-        };
+        let run = self.next_code(color, Among::AllCodes)?;
         if run < 64 {
             Ok(RunCode::Terminating(run))
         } else {
@@ -250,19 +244,40 @@ impl<'a> BitReader<'a> {
         ensures { ReadsRun color self.old self.new result }
     {
         let mut ahead = self.fork();
-        let high = match ahead.next_code(color, Among::AllCodes) {
-            Ok(run) => run,
-            Err(fault) => return Err(fault),
-        };
+        let high = ahead.next_code(color, Among::AllCodes)?;
         if high < 64 {
             *self = ahead;
             return Ok(high);
         }
-        let low = match ahead.next_code(color, Among::TerminatingCodes) {
-            Ok(run) => run,
-            Err(fault) => return Err(fault),
-        };
+        let low = ahead.next_code(color, Among::TerminatingCodes)?;
         *self = ahead;
+        Ok(high + low)
+    }
+
+    /// The next run of a color, of at most so many pixels: as `read_run` reads it, but that a code
+    /// which takes it past them is refused there, with the kind `past`. After an error the reader is
+    /// somewhere in the run.
+    pub fn read_run_within(
+        &mut self,
+        color: Color,
+        room: u32,
+        past: CodeFaultKind,
+    ) -> Result<u32, CodeFault>
+        ensures { ReadsRunWithin color room past self.old self.new result }
+    {
+        let first = self.place();
+        let high = self.next_code(color, Among::AllCodes)?;
+        if high > room {
+            return Err(CodeFault::new(first, past));
+        }
+        if high < 64 {
+            return Ok(high);
+        }
+        let second = self.place();
+        let low = self.next_code(color, Among::TerminatingCodes)?;
+        if low > room - high {
+            return Err(CodeFault::new(second, past));
+        }
         Ok(high + low)
     }
 }

@@ -1,81 +1,51 @@
 ghost use Rattle.raster.specs.Pixels.{IsWidth};
-ghost use Rattle.run_tables.specs.RowReading.{ReadsRow, RefusesRow, RowRuns, RunWithin};
-ghost use Rattle.std.specs.Prelude.{IfOk, IfErr, OnErr, ◌≡◌, ◌≢◌};
+ghost use Rattle.raster.specs.Runs.{colored};
+ghost use Rattle.run_tables.specs.RowReading.{ReadsRow, RefusesRow, RowRuns, WholeRow};
+ghost use Rattle.std.specs.Prelude.{IfOk, IfErr, OnErr, sum, ◌≡◌, ◌≢◌};
 
 use crate::fault::{CodeFault, CodeFaultKind};
-use crate::reader::{Among, BitReader};
-use raster::{Color, Row};
-use std::alloc::Global;
+use crate::reader::BitReader;
+use raster::{Color, RasterFault, Row};
+use std::alloc::{AllocError, Global};
 
-/// The refusal of a run code that takes its row past the width.
-fn too_long(place: u128) -> CodeFault
-    ensures { result ≡ record { place = place; kind = CodeFaultKind.RunTooLong } }
+/// The row of these runs, white first, which add up to a width. Errs where memory is refused.
+fn row_of(alloc: Global, runs: &[u32]) -> Result<Row, AllocError>
+    requires { IsWidth (sum runs.now) }
+    ensures { IfOk result (λ row. row ≡ colored Color.White runs.now) }
 {
-    CodeFault {
-        place,
-        kind: CodeFaultKind::RunTooLong,
-    }
-}
-
-/// The refusal where memory was refused: it has the place where the call began.
-fn no_memory(place: u128) -> CodeFault
-    ensures { result ≡ record { place = place; kind = CodeFaultKind.NoMemory } }
-{
-    CodeFault {
-        place,
-        kind: CodeFaultKind::NoMemory,
+    match Row::from_runs(alloc, runs) {
+        Ok(row) => Ok(row),
+        Err(RasterFault::NoMemory) => Err(AllocError),
+        Err(_) => unreachable!(),
     }
 }
 
 impl<'a> BitReader<'a> {
-    /// The next run of a row, of at most so many pixels. After an error the reader stands somewhere
-    /// in the run.
-    fn run_within(&mut self, color: Color, room: u32) -> Result<u32, CodeFault>
-        ensures { RunWithin color room self.old self.new result }
-    {
-        let place = self.place();
-        let high = match self.next_code(color, Among::AllCodes) {
-            Ok(run) => run,
-            Err(fault) => return Err(fault),
-        };
-        if high > room {
-            return Err(too_long(place));
-        }
-        if high < 64 {
-            return Ok(high);
-        }
-        let behind = self.place();
-        let low = match self.next_code(color, Among::TerminatingCodes) {
-            Ok(run) => run,
-            Err(fault) => return Err(fault),
-        };
-        if low > room - high {
-            return Err(too_long(behind));
-        }
-        Ok(high + low)
-    }
-
-    /// The runs of a row of this width. After an error the reader stands somewhere in the row.
+    /// The runs of a row of this width. After an error the reader is somewhere in the row.
     fn row_runs(&mut self, alloc: Global, width: u32) -> Result<Vec<u32>, CodeFault>
         requires { IsWidth width }
         ensures { RowRuns width self.old self.new result }
     {
-        let start = self.place();
+        let _place = self.place(); // tells the proof that it is within the bits
         let mut runs = Vec::new(alloc);
         let mut color = Color::White;
         let mut sum = 0;
         while sum < width {
-            let run = match self.run_within(color, width - sum) {
-                Ok(run) => run,
-                Err(fault) => return Err(fault),
-            };
-            if runs.push(run).is_err() {
-                return Err(no_memory(start));
-            }
+            let run = self.read_run_within(color, width - sum, CodeFaultKind::RunTooLong)?;
+            runs.push(run)?;
             sum += run;
             color = color.other();
         }
         Ok(runs)
+    }
+
+    /// The row of this width. After an error the reader is somewhere in the row.
+    fn whole_row(&mut self, alloc: Global, width: u32) -> Result<Row, CodeFault>
+        requires { IsWidth width }
+        ensures { WholeRow width self.old self.new result }
+    {
+        let runs = self.row_runs(alloc, width)?;
+        Ok(row_of(alloc, &runs)?)
     }
 
     /// The next row in one dimension, 1 to 2,432 pixels wide: its run codes, white first (ITU-T T.4,
@@ -90,16 +60,12 @@ impl<'a> BitReader<'a> {
         ensures stays { OnErr result (self.new ≡ self.old) }
     {
         let mut ahead = self.fork();
-        let runs = match ahead.row_runs(alloc, width) {
-            Ok(runs) => runs,
-            Err(fault) => return Err(fault),
-        };
-        match Row::from_runs(alloc, &runs) {
+        match ahead.whole_row(alloc, width) {
             Ok(row) => {
                 *self = ahead;
                 Ok(row)
             }
-            Err(_) => Err(no_memory(self.place())),
+            Err(fault) => Err(fault.begun_at(self.place())),
         }
     }
 }

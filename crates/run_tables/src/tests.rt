@@ -1,21 +1,14 @@
+//! Tests of the run codes, and of writing and reading by them.
+
 use super::*;
 use raster::{Color, RasterFault, Row};
 use std::alloc::{AllocError, Global};
 use std::test::Fail;
 
-/// Appends the bits of the digits `0` and `1`; the spaces between them stand for nothing.
-fn push_digits(bits: &mut BitWriter, digits: &str) -> Result<(), AllocError> {
-    for digit in digits.as_bytes() {
-        if *digit != b' ' {
-            bits.push(*digit == b'1')?;
-        }
-    }
-    Ok(())
-}
-
+/// The octets of the bits that the digits `0` and `1` write.
 fn octets_of(alloc: Global, order: Order, digits: &str) -> Result<Vec<u8>, AllocError> {
     let mut bits = BitWriter::new(alloc, order);
-    push_digits(&mut bits, digits)?;
+    bits.push_digits(digits.as_bytes())?;
     Ok(bits.into_octets())
 }
 
@@ -27,8 +20,8 @@ fn written_row(alloc: Global, runs: &[u32]) -> Result<(u128, Vec<u8>), RasterFau
     Ok((bits.bits(), bits.into_octets()))
 }
 
-/// What reading a run behind so many first bits gives, and where the reader then stands.
-fn run_read_behind(octets: &[u8], first: u32, color: Color) -> (Result<u32, CodeFault>, u128) {
+/// What reading a run after so many first bits gives, and where the reader then is.
+fn run_read_after(octets: &[u8], first: u32, color: Color) -> (Result<u32, CodeFault>, u128) {
     let mut reader = BitReader::at(octets, Order::MsbFirst, 0);
     for _ in 0..first {
         reader.bit();
@@ -37,24 +30,24 @@ fn run_read_behind(octets: &[u8], first: u32, color: Color) -> (Result<u32, Code
     (read, reader.place())
 }
 
-/// What reading a run behind so many first digits gives, and where the reader then stands.
-fn digits_read_behind(
+/// What reading a run after so many first digits gives, and where the reader then is.
+fn digits_read_after(
     alloc: Global,
     digits: &str,
     first: u32,
     color: Color,
 ) -> Result<(Result<u32, CodeFault>, u128), AllocError> {
     let octets = octets_of(alloc, Order::MsbFirst, digits)?;
-    Ok(run_read_behind(&octets, first, color))
+    Ok(run_read_after(&octets, first, color))
 }
 
 #[test]
 fn rows_are_written_by_the_tables(rt: HostRuntime) -> Result<(), Fail> {
     let alloc = rt.alloc();
     for (runs, count, digits) in [
-        ([1728].as_slice(), 17, "010011011 00110101"),
-        (&[0, 8], 14, "00110101 000101"),
-        (&[0, 2432], 30, "00110101 000000011101 0000110111"),
+        ([1728].as_slice(), 17, "01001101100110101"),
+        (&[0, 8], 14, "00110101000101"),
+        (&[0, 2432], 30, "001101010000000111010000110111"),
     ] {
         let (bits, octets) = written_row(alloc, runs)?;
         assert_eq!(rt; bits, count, "{digits}");
@@ -126,7 +119,7 @@ fn single_pixels_come_back(rt: HostRuntime) -> Result<(), Fail> {
     assert_eq!(rt; bits, 1216 * 9);
     let mut wanted = BitWriter::new(alloc, Order::MsbFirst);
     for _ in 0..1216 {
-        push_digits(&mut wanted, "000111 010")?;
+        wanted.push_digits(b"000111010")?;
     }
     assert_eq!(rt; octets, wanted.into_octets());
     let mut reader = BitReader::at(&octets, Order::MsbFirst, 0);
@@ -143,15 +136,15 @@ fn single_pixels_come_back(rt: HostRuntime) -> Result<(), Fail> {
 fn the_longest_run(rt: HostRuntime) -> Result<(), Fail> {
     let alloc = rt.alloc();
     for (color, digits) in [
-        (Color::White, "000000011111 00110100"),
-        (Color::Black, "000000011111 000001100111"),
+        (Color::White, "00000001111100110100"),
+        (Color::Black, "000000011111000001100111"),
     ] {
         let mut bits = BitWriter::new(alloc, Order::MsbFirst);
         bits.write_run(color, 2623)?;
         let count = bits.bits();
         let octets = bits.into_octets();
         assert_eq!(rt; octets, octets_of(alloc, Order::MsbFirst, digits)?);
-        assert_eq!(rt; run_read_behind(&octets, 0, color), (Ok(2623), count));
+        assert_eq!(rt; run_read_after(&octets, 0, color), (Ok(2623), count));
     }
     Ok(())
 }
@@ -160,19 +153,19 @@ fn the_longest_run(rt: HostRuntime) -> Result<(), Fail> {
 #[test]
 fn white_runs_are_refused(rt: HostRuntime) -> Result<(), Fail> {
     for (digits, first, place, kind) in [
-        ("1111 11011 0000000", 4, 9, CodeFaultKind::BadCode),
-        ("11111 11011 000000", 5, 10, CodeFaultKind::Truncated),
-        ("111111 11011 11011", 6, 11, CodeFaultKind::BadCode),
-        ("111 11011", 3, 8, CodeFaultKind::Truncated),
-        ("1 0000000", 1, 1, CodeFaultKind::Truncated),
-        ("11 000000", 2, 2, CodeFaultKind::Truncated),
+        ("1111110110000000", 4, 9, CodeFaultKind::BadCode),
+        ("1111111011000000", 5, 10, CodeFaultKind::Truncated),
+        ("1111111101111011", 6, 11, CodeFaultKind::BadCode),
+        ("11111011", 3, 8, CodeFaultKind::Truncated),
+        ("10000000", 1, 1, CodeFaultKind::Truncated),
+        ("11000000", 2, 2, CodeFaultKind::Truncated),
         ("00000000", 0, 0, CodeFaultKind::BadCode),
-        ("111111 0000000001", 6, 6, CodeFaultKind::BadCode),
+        ("1111110000000001", 6, 6, CodeFaultKind::BadCode),
         ("", 0, 0, CodeFaultKind::Truncated),
     ] {
         assert_eq!(rt;
-            digits_read_behind(rt.alloc(), digits, first, Color::White)?,
-            (Err(CodeFault { place, kind }), first as u128),
+            digits_read_after(rt.alloc(), digits, first, Color::White)?,
+            (Err(CodeFault::new(place, kind)), first as u128),
             "{digits}"
         );
     }
@@ -183,13 +176,13 @@ fn white_runs_are_refused(rt: HostRuntime) -> Result<(), Fail> {
 #[test]
 fn black_runs_are_refused(rt: HostRuntime) -> Result<(), Fail> {
     for (digits, first, place, kind) in [
-        ("1111 000000000001", 4, 4, CodeFaultKind::BadCode),
-        ("1111 0000001111 0000001111", 4, 14, CodeFaultKind::BadCode),
+        ("1111000000000001", 4, 4, CodeFaultKind::BadCode),
+        ("111100000011110000001111", 4, 14, CodeFaultKind::BadCode),
         ("11111111", 8, 8, CodeFaultKind::Truncated),
     ] {
         assert_eq!(rt;
-            digits_read_behind(rt.alloc(), digits, first, Color::Black)?,
-            (Err(CodeFault { place, kind }), first as u128),
+            digits_read_after(rt.alloc(), digits, first, Color::Black)?,
+            (Err(CodeFault::new(place, kind)), first as u128),
             "{digits}"
         );
     }
@@ -199,7 +192,7 @@ fn black_runs_are_refused(rt: HostRuntime) -> Result<(), Fail> {
 #[test]
 fn bits_and_codes_are_read(rt: HostRuntime) -> Result<(), Fail> {
     let alloc = rt.alloc();
-    let octets = octets_of(alloc, Order::LsbFirst, "11011 00110101 000")?;
+    let octets = octets_of(alloc, Order::LsbFirst, "1101100110101000")?;
     let mut reader = BitReader::at(&octets, Order::LsbFirst, 0);
     let mut second = reader.fork();
     assert_eq!(rt; reader.read_code(Color::White), Ok(RunCode::MakeUp(64)));
@@ -210,10 +203,7 @@ fn bits_and_codes_are_read(rt: HostRuntime) -> Result<(), Fail> {
     assert!(rt; reader.is_cut_of(b"000111"));
     assert_eq!(rt;
         reader.read_code(Color::White),
-        Err(CodeFault {
-            place: 13,
-            kind: CodeFaultKind::Truncated,
-        })
+        Err(CodeFault::new(13, CodeFaultKind::Truncated))
     );
     assert_eq!(rt; reader.ahead(2), Some(false));
     assert_eq!(rt; reader.ahead(3), None);
@@ -226,10 +216,7 @@ fn bits_and_codes_are_read(rt: HostRuntime) -> Result<(), Fail> {
 #[test]
 fn a_fault_as_text(rt: HostRuntime) -> Result<(), Fail> {
     let alloc = rt.alloc();
-    let fault = CodeFault {
-        place: 13,
-        kind: CodeFaultKind::Truncated,
-    };
+    let fault = CodeFault::new(13, CodeFaultKind::Truncated);
     assert_eq!(rt; fault.kind.number(), 11);
     assert_eq!(rt;
         format!(in alloc; "{fault}")?.as_str(),
@@ -270,7 +257,7 @@ fn refused_rows_have_place_and_kind(rt: HostRuntime) -> Result<(), Fail> {
         let mut reader = BitReader::at(octets, Order::MsbFirst, 0);
         match reader.read_row_1d(alloc, width) {
             Ok(_) => assert!(rt; false, "{octets:?} is read"),
-            Err(fault) => assert_eq!(rt; fault, CodeFault { place, kind }, "{octets:?}"),
+            Err(fault) => assert_eq!(rt; fault, CodeFault::new(place, kind), "{octets:?}"),
         }
         assert_eq!(rt; reader.place(), 0, "{octets:?}");
     }

@@ -1,14 +1,28 @@
 ghost use Rattle.raster.specs.Packed.{FillsOctets};
+ghost use Rattle.raster.specs.Runs.{AreOwnRuns};
 ghost use Rattle.run_tables.specs.Codes.{run_text, text};
 ghost use Rattle.run_tables.specs.RunTexts.{runs_text};
 ghost use Rattle.run_tables.specs.Written.{Appends, AppendsRow, eol};
-ghost use Rattle.std.specs.Prelude.{◌≡◌, ◌≤◌, ◌++◌, ◌∷◌, [], All, length, take, OnOk, OnErr};
+ghost use Rattle.std.specs.Prelude.{◌≡◌, ◌≤◌, ◌++◌, ◌∷◌, [], All, length, take, IfOk, OnOk, OnErr};
 
 use crate::table::code_at;
 use raster::packed::{Order, PackedBits};
-use raster::{Color, Row};
+use raster::{Color, RasterFault, Row};
 use std::alloc::{AllocError, Global};
 use std::marker::Model;
+
+/// The row's own runs, white first. Errs where memory is refused.
+fn own_runs(alloc: Global, row: &Row) -> Result<Vec<u32>, AllocError>
+    ensures { IfOk result (λ runs. AreOwnRuns row.now runs.items × All (λ run. run ≤ 2623) runs.items) }
+{
+    let _width = row.width(); // tells the proof that no run is above 2,432
+    let mut runs = Vec::new(alloc);
+    match row.runs(alloc, &mut runs) {
+        Ok(()) => Ok(runs),
+        Err(RasterFault::NoMemory) => Err(AllocError),
+        Err(_) => unreachable!(),
+    }
+}
 
 /// A list of bits that grows at its end, and the order in which octets are to hold them.
 #[derive(Drop)]
@@ -65,9 +79,9 @@ impl BitWriter {
         packed.into_octets()
     }
 
-    /// Appends the bits that the digits `0` and `1` stand for. Errs where memory is refused, which
-    /// changes nothing.
-    fn push_text(&mut self, digits: &[u8]) -> Result<(), AllocError>
+    /// Appends the bits that the digits `0` and `1` write. Errs where memory is refused, which changes
+    /// nothing.
+    pub fn push_digits(&mut self, digits: &[u8]) -> Result<(), AllocError>
         ensures ok { OnOk result (Appends (text digits.now) self.old self.new) }
         ensures err { OnErr result (self.new ≡ self.old) }
     {
@@ -90,11 +104,11 @@ impl BitWriter {
         ensures err { OnErr result (self.new ≡ self.old) }
     {
         if run < 64 {
-            return self.push_text(code_at(color, run as usize).1);
+            return self.push_digits(code_at(color, run as usize).1);
         }
         let start = self.bits();
-        self.push_text(code_at(color, 63 + (run / 64) as usize).1)?;
-        if let Err(refused) = self.push_text(code_at(color, (run % 64) as usize).1) {
+        self.push_digits(code_at(color, 63 + (run / 64) as usize).1)?;
+        if let Err(refused) = self.push_digits(code_at(color, (run % 64) as usize).1) {
             self.truncate(start); // forget the make-up code
             return Err(refused);
         }
@@ -107,7 +121,7 @@ impl BitWriter {
         ensures ok { OnOk result (Appends eol self.old self.new) }
         ensures err { OnErr result (self.new ≡ self.old) }
     {
-        self.push_text(b"000000000001")
+        self.push_digits(b"000000000001")
     }
 
     /// Appends the texts of alternating runs, white first. Errs where memory is refused, which
@@ -135,11 +149,6 @@ impl BitWriter {
         ensures ok { OnOk result (AppendsRow row.now self.old self.new) }
         ensures err { OnErr result (self.new ≡ self.old) }
     {
-        let _width = row.width();
-        let mut runs = Vec::new(alloc);
-        let Ok(()) = row.runs(alloc, &mut runs) else {
-            return Err(AllocError);
-        };
-        self.write_runs(&runs)
+        self.write_runs(&own_runs(alloc, row)?)
     }
 }

@@ -10,4 +10,4 @@ pub returns-in-Absent : goal.returns-in-Absent
 returns-in-Absent c = first_absent (bits_of c.args.order c.args.octets.now) c.in-Absent.ensures
 
 pub returns-in-OnlyZeros : goal.returns-in-OnlyZeros
-returns-in-OnlyZeros c = λ width. rw c.refusal.ensures (reading_first_none width 0 (bits_of c.args.order c.args.octets.now) c.in-OnlyZeros.ensures)
+returns-in-OnlyZeros c = λ width. rw c.new.ensures (reading_first_none width 0 (bits_of c.args.order c.args.octets.now) c.in-OnlyZeros.ensures)

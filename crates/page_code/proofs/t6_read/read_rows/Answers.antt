@@ -1,4 +1,5 @@
-use Rattle.std.proofs.Common.{◌≡◌, ◌+◌, ◌++◌, ◌∷◌, [], length, refl, arith, ap, ◌∙◌, inr, length-append}
+use Rattle.std.proofs.Common.{◌≡◌, ◌+◌, ◌++◌, ◌∷◌, [], length, refl, arith, ap, sym, ◌∙◌, inl, inr, length-append}
+use Rattle.std.proofs.lemmas.Result.{err_from_is_err_and}
 use Rattle.raster.specs.Pages.{PagePixels}
 use Rattle.page_code.specs.T6Writing.{reference_at}
 use Rattle.page_code.proofs.T6Steps.{page_starts, page_more, page_more_even, page_stays, page_refused, page_ends, eofb_fits}
@@ -26,24 +27,39 @@ returns-in-End c =
 
 pub returns-in-Refused : goal.returns-in-Refused
 returns-in-Refused c =
-    inr (page_refused c.args.empty.width c.args.reader.now c.loop-reader.reader c.loop-reader.page.rows (reference_at c.args.white.now c.loop-reader.page.rows (length c.loop-reader.page.rows)) c.in-Refused.kind c.place-place.result c.loop-reader.invariant.reads (rw c.rows.ensures.rows at c.in-Refused.ensures) c.place-place.ensures.place)
+    rw c.new.ensures (inr (page_refused c.args.empty.width c.args.reader.now c.loop-reader.reader c.loop-reader.page.rows (reference_at c.args.white.now c.loop-reader.page.rows (length c.loop-reader.page.rows)) c.in-Refused.kind c.place-place.result c.loop-reader.invariant.reads (rw c.rows.ensures.rows at c.in-Refused.ensures) c.place-place.ensures.place))
 
-pub returns-in-Err : goal.returns-in-Err
-returns-in-Err c =
-    page_stays c.args.empty.width c.args.reader.now c.loop-reader.reader c.next_row.new.reader c.loop-reader.page.rows (reference_at c.args.white.now c.loop-reader.page.rows (length c.loop-reader.page.rows)) c.in-Err.fault c.loop-reader.invariant.even c.loop-reader.invariant.reads (rw c.rows.ensures.rows at c.in-Row.ensures) (rw c.rows-in-loop-reader.ensures.rows at c.in-Err.ensures)
+pub returns-in_err-row : goal.returns-in_err-row
+returns-in_err-row c =
+    let p = err_from_is_err_and c.from_residual.result c.from_residual.ensures.1 in
+    rw (p.1, p.2) (page_stays c.args.empty.width c.args.reader.now c.loop-reader.reader c.next_row.new.reader c.loop-reader.page.rows (reference_at c.args.white.now c.loop-reader.page.rows (length c.loop-reader.page.rows)) c.in_err-row.field-0.0 c.loop-reader.invariant.even c.loop-reader.invariant.reads (rw c.rows.ensures.rows at c.in-Row.ensures) (rw c.rows-in-loop-reader.ensures.rows at c.in_err-row.ensures))
+
+pub push_row-requires-clause-wide : goal.push_row-requires-clause-wide
+push_row-requires-clause-wide c =
+    let reads = rw c.rows-in-loop-reader.ensures.rows at c.in_ok-row.ensures in
+    reads.0 ∙ (c.loop-reader.invariant.even ∙ sym c.loop-reader.invariant.width)
+
+pub push_row-requires-clause-room : goal.push_row-requires-clause-room
+push_row-requires-clause-room c = (rw c.rows.ensures.rows at c.in-Row.ensures).3
+
+pub returns-in_err-push_row : goal.returns-in_err-push_row
+returns-in_err-push_row c =
+    let p = err_from_is_err_and c.from_residual-in_err-push_row.result c.from_residual-in_err-push_row.ensures.1 in
+    rw (p.1, p.2) (inl refl)
 
 pub loop-reader-preserved : goal.loop-reader-preserved
 loop-reader-preserved c =
-    let pushed = c.in-Ok-push_row.ensures in
-    let more : c.push_row.new.self.rows ≡ c.loop-reader.page.rows ++ c.in-Ok.row ∷ [] = ap (λ (p : PagePixels). p.rows) pushed.2 in
-    let wide : length c.in-Ok.row ≡ c.args.empty.width = pushed.0 ∙ c.loop-reader.invariant.width in
-    let reads = rw c.rows-in-loop-reader.ensures.rows at c.in-Ok.ensures in
+    let pushed = c.in_ok-push_row.ensures in
+    let more : c.push_row.new.page.rows ≡ c.loop-reader.page.rows ++ c.in_ok-row.row ∷ [] = ap (λ (p : PagePixels). p.rows) pushed in
+    let reads = rw c.rows-in-loop-reader.ensures.rows at c.in_ok-row.ensures in
+    let sees = rw c.rows.ensures.rows at c.in-Row.ensures in
+    let wide : length c.in_ok-row.row ≡ c.args.empty.width = reads.0 ∙ c.loop-reader.invariant.even in
     record {
-      width = ap (λ (p : PagePixels). p.width) pushed.2 ∙ c.loop-reader.invariant.width;
-      fine = ap (λ (p : PagePixels). p.fine) pushed.2 ∙ c.loop-reader.invariant.fine;
+      width = ap (λ (p : PagePixels). p.width) pushed ∙ c.loop-reader.invariant.width;
+      fine = ap (λ (p : PagePixels). p.fine) pushed ∙ c.loop-reader.invariant.fine;
       bits = reads.1 ∙ c.loop-reader.invariant.bits;
       within = reads.2;
-      few = omega (arith, pushed.1, ap length more, length-append c.loop-reader.page.rows (c.in-Ok.row ∷ []));
-      even = page_more_even c.args.empty.width c.args.white.now c.in-Ok.row c.loop-reader.page.rows c.push_row.new.self.rows more wide;
-      reads = page_more c.args.empty.width c.args.reader.now c.loop-reader.reader c.next_row.new.reader c.args.white.now c.in-Ok.row c.loop-reader.page.rows c.push_row.new.self.rows more c.loop-reader.invariant.even c.loop-reader.invariant.reads (rw c.rows.ensures.rows at c.in-Row.ensures) reads;
+      few = omega (arith, sees.3, ap length more, length-append c.loop-reader.page.rows (c.in_ok-row.row ∷ []));
+      even = page_more_even c.args.empty.width c.args.white.now c.in_ok-row.row c.loop-reader.page.rows c.push_row.new.page.rows more wide;
+      reads = page_more c.args.empty.width c.args.reader.now c.loop-reader.reader c.next_row.new.reader c.args.white.now c.in_ok-row.row c.loop-reader.page.rows c.push_row.new.page.rows more c.loop-reader.invariant.even c.loop-reader.invariant.reads sees reads;
     }

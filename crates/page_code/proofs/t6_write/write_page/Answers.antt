@@ -6,4 +6,4 @@ use Rattle.page_code.proofs.t6_write.write_page.Goals as goal
 
 pub returns : goal.returns
 returns c =
-    on_ok_map c.write_text.result (Appends eofb c.write_rows.new.writer c.write_text.new.writer) (Appends (page_code c.args.page.now.width c.args.page.now.rows) c.args.writer.now c.write_text.new.writer) (λ two. wrote_page c.args.page.now.width c.width.result c.in-Ok.white c.args.page.now.rows c.rows.result.now c.args.writer.now c.write_rows.new.writer c.write_text.new.writer c.width.ensures c.in-Ok.ensures.1 c.rows.ensures.rows c.in_ok-write_rows.ensures two) c.write_text.ensures
+    on_ok_map c.push_digits.result (Appends eofb c.write_rows.new.writer c.push_digits.new.self) (Appends (page_code c.args.page.now.width c.args.page.now.rows) c.args.writer.now c.push_digits.new.self) (λ two. wrote_page c.args.page.now.width c.width.result c.in_ok-white.white c.args.page.now.rows c.rows-rows.result.now c.args.writer.now c.write_rows.new.writer c.push_digits.new.self c.width.ensures c.in_ok-white.ensures c.rows-rows.ensures.rows c.in_ok-write_rows.ensures two) c.push_digits.ensures.ok

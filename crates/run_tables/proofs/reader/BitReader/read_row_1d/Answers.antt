@@ -1,15 +1,8 @@
-use Rattle.std.proofs.Common.{Global, ap, ◌∙◌}
-use Rattle.raster.specs.declared.row.Color.TheVariants.{White}
-use Rattle.raster.specs.Runs.{colored}
-use Rattle.run_tables.proofs.RowReads.{runs_read, runs_refused}
+use Rattle.run_tables.proofs.RowReads.{begun_refuses, begun_memory}
 use Rattle.run_tables.proofs.reader.BitReader.read_row_1d.Goals as goal
 
 pub returns-in-Err-clause-refuses : goal.returns-in-Err-clause-refuses
-returns-in-Err-clause-refuses c = rw c.fork-ahead.ensures at ((runs_refused Global c.args.width c.fork-ahead.result c.row_runs.new.self c.in-Err.fault c.requires c.in-Err.ensures).0)
+returns-in-Err-clause-refuses c = begun_refuses c.args.width c.args.self.now c.place.result c.in-Err.fault c.begun_at.result c.begun_at.ensures (rw c.fork-ahead.ensures at c.in-Err.ensures)
 
 pub returns-in-Err-clause-memory : goal.returns-in-Err-clause-memory
-returns-in-Err-clause-memory c = rw c.fork-ahead.ensures at ((runs_refused Global c.args.width c.fork-ahead.result c.row_runs.new.self c.in-Err.fault c.requires c.in-Err.ensures).1)
-
-pub returns-in-Ok-from_runs-clause-reads : goal.returns-in-Ok-from_runs-clause-reads
-returns-in-Ok-from_runs-clause-reads c =
-    rw c.fork-ahead.ensures at (runs_read Global c.args.width c.fork-ahead.result c.row_runs.new.self c.in-Ok.runs c.in-Ok-from_runs.row c.requires c.in-Ok.ensures (c.in-Ok-from_runs.ensures.1 ∙ ap (colored White) c.deref.ensures.value))
+returns-in-Err-clause-memory c = rw c.place.ensures.place at (begun_memory c.place.result c.in-Err.fault c.begun_at.result c.begun_at.ensures)

@@ -8,7 +8,6 @@ use Rattle.run_tables.proofs.reader.BitReader.row_runs.Given as goal
 
 abbrev pub invariant-loop-sum : goal.invariant-loop-sum
 invariant-loop-sum l = record {
-  start : l.start ≡ l.fn.self.place;
   bits : l.self.bits ≡ l.fn.self.bits;
   within : l.self.place ≤ length l.self.bits;
   sum : l.sum ≡ length (colored White l.runs.items);

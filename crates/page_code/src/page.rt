@@ -1,0 +1,33 @@
+//! Rows and pages where only memory can be refused.
+
+ghost use Rattle.raster.specs.Pixels.{IsWidth};
+ghost use Rattle.raster.specs.Runs.{colored};
+ghost use Rattle.std.specs.Prelude.{◌≡◌, ◌<◌, ◌++◌, ◌∷◌, [], IfOk, OnOk, length, sum};
+
+use raster::{Color, Page, RasterFault, Row};
+use std::alloc::{AllocError, Global};
+
+/// The row of these runs, white first, which add up to a width. Errs where memory is refused.
+pub(crate) fn row_of(alloc: Global, runs: &[u32]) -> Result<Row, AllocError>
+    requires { IsWidth (sum runs.now) }
+    ensures { IfOk result (λ row. row ≡ colored Color.White runs.now) }
+{
+    match Row::from_runs(alloc, runs) {
+        Ok(row) => Ok(row),
+        Err(RasterFault::NoMemory) => Err(AllocError),
+        Err(_) => unreachable!(),
+    }
+}
+
+/// Appends a row of the page's width, where there is room for it. Errs where memory is refused.
+pub(crate) fn push_row(page: &mut Page, row: Row) -> Result<(), AllocError>
+    requires wide { length row ≡ page.old.width }
+    requires room { length page.old.rows < 20000 }
+    ensures { OnOk result (page.new ≡ record page.old { rows = page.old.rows ++ row ∷ [] }) }
+{
+    match page.push_row(row) {
+        Ok(()) => Ok(()),
+        Err(RasterFault::NoMemory) => Err(AllocError),
+        Err(_) => unreachable!(),
+    }
+}
