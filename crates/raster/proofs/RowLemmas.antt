@@ -1,3 +1,4 @@
+-- Rows of runs, and their changing positions.
 use Rattle.std.proofs.Common.{Bool, true, false, ◌≡◌, ℕ, ◌+◌, ◌<◌, List, [], ◌∷◌, ◌++◌, length, replicate, sum, refl, sym, ap, ◌∙◌, arith, length-append, append_assoc, take, slice_get, Some, ◌≢◌, drop, add-one}
 use Rattle.std.specs.Prelude.{All}
 use Rattle.raster.specs.Changes.{color_at, color_before, IsChanging}

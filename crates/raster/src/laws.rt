@@ -1,6 +1,8 @@
-//! Laws of bits and octets: calls that do nothing, whose contracts are the laws.
+//! Laws of PBM files, and of bits and octets: calls that do nothing, whose contracts are the laws.
 
 ghost use Rattle.raster.specs.Laws.{BitsJoin, PackedHold, PackedAlone};
+ghost use Rattle.raster.specs.Pbm.{ReadsImages};
+ghost use Rattle.raster.specs.PbmText.{ReadsWritten};
 
 /// The bits of octets and then of others are those of all the octets, in either order.
 pub fn bits_join()
@@ -16,4 +18,15 @@ pub fn packed_hold()
 /// Octets that are the bits and then fewer than eight 0 bits are the packed bits and no others.
 pub fn packed_alone()
     ensures { PackedAlone }
+{}
+
+/// Reading gives pages exactly where the octets are their images.
+pub fn pbm_reads_exactly()
+    ensures { ReadsImages }
+{}
+
+/// The octets that are written of pages are images that read as those pages, their lines fine or not
+/// as the reader is told, and no other octets are written of them.
+pub fn pbm_round_trip()
+    ensures { ReadsWritten }
 {}

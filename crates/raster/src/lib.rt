@@ -1,5 +1,5 @@
 //! Black and white pages as lists of pixels: rows of 1 to 2,432 pixels, pages of rows, documents
-//! of pages, and their PBM and text forms. Stands on nothing else of this repository.
+//! of pages, and their PBM and text forms. It uses no other crate of this repository.
 #![tactic(auto)]
 
 mod fault;
@@ -14,8 +14,8 @@ mod tests;
 mod text;
 
 pub use crate::fault::RasterFault;
-pub use crate::page::{Document, MOST_ROWS, Page};
-pub use crate::pbm::{read_pbm, reads_images_exactly};
-pub use crate::pbm_writer::{reads_what_is_written, write_pbm};
-pub use crate::row::{Color, Row, WIDEST};
+pub use crate::page::{Document, MAX_ROWS, Page};
+pub use crate::pbm::read_pbm;
+pub use crate::pbm_writer::write_pbm;
+pub use crate::row::{Color, MAX_WIDTH, Row};
 pub use crate::text::write_text;

@@ -94,7 +94,7 @@ fn cut(order: Order, octets: &mut Vec<u8>, count: u128)
 }
 
 /// A list of bits that grows at its end, kept eight an octet.
-#[derive(Drop)]
+#[derive(Debug, Drop)]
 pub struct PackedBits {
     octets: Vec<u8>,
     order: Order,
@@ -129,7 +129,7 @@ impl PackedBits {
     pub fn len(&self) -> u128
         ensures { result ≡ length self.now.bits }
     {
-        self.count // in bits
+        self.count
     }
 
     /// The bit at a place, from 0.
@@ -166,7 +166,7 @@ impl PackedBits {
     pub fn octets(&self) -> &[u8]
         ensures { FillsOctets self.now.order self.now.bits result.now }
     {
-        &self.octets // lent as they are
+        &self.octets
     }
 
     /// The octets that hold the bits, the last one filled with 0 bits.

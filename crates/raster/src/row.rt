@@ -1,3 +1,5 @@
+//! Rows of pixels.
+
 ghost use Rattle.raster.specs.Changes.{IsNextChange};
 ghost use Rattle.raster.specs.Pbm.{row_pixels};
 ghost use Rattle.raster.specs.PbmText.{HoldsRow};
@@ -37,7 +39,7 @@ impl Color {
 }
 
 /// The greatest width of a row, in pixels.
-pub const WIDEST: u32 = 2432;
+pub const MAX_WIDTH: u32 = 2432;
 
 /// The sum of the runs, where it is a width.
 fn total_width(runs: &[u32]) -> Option<u32>
@@ -45,7 +47,7 @@ fn total_width(runs: &[u32]) -> Option<u32>
 {
     let mut width: u32 = 0;
     for run in runs {
-        if *run > WIDEST - width {
+        if *run > MAX_WIDTH - width {
             return None;
         }
         width += *run;
@@ -80,7 +82,7 @@ fn painted(alloc: Global, runs: &[u32]) -> Result<PackedBits, AllocError>
 
 /// A row of 1 to 2,432 pixels, seen as their list, leftmost first. It is kept packed, eight pixels
 /// an octet, the leftmost in the highest bit.
-#[derive(Drop)]
+#[derive(Debug, Drop)]
 pub struct Row {
     pixels: PackedBits,
 }
@@ -156,7 +158,7 @@ impl Row {
         ensures { HoldsRow self.now result.now }
     {
         let octets = self.pixels.octets();
-        octets // as many as the width needs
+        octets
     }
 
     /// The least changing position at or above `from`, or the width where there is none
