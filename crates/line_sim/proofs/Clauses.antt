@@ -7,11 +7,11 @@ use Rattle.stations.specs.Laws.{Each}
 use Rattle.stations.specs.Layers.{Document, IsFullPage}
 use Rattle.line_sim.specs.Counted.{IsCounted, RunsAreCounted, groups_begun}
 use Rattle.line_sim.specs.Entries.{entries}
-use Rattle.line_sim.specs.Headline.{Promised, EventsMove, RunsMove, RunsAreSafe}
+use Rattle.line_sim.specs.Headline.{Promised, EventsMove, LineHolds, StationsInStep, RunsMove, RunsAreSafe}
 use Rattle.line_sim.specs.Line.{World, Outcome, happens, new_world, run}
 use Rattle.line_sim.specs.Line.Outcome.{Done}
 use Rattle.line_sim.specs.PageMachine.{AtMostTwo, page_state, shown}
-use Rattle.line_sim.specs.Report.{Tells, TellsRun, Keeps}
+use Rattle.line_sim.specs.Report.{Tells, TellsRun, KeepsSteps, Keeps, KeepsRun}
 use Rattle.line_sim.specs.Standing.{Shows, WorldFields, IsReached, Becomes, BecomesSome, fields_state}
 use Rattle.line_sim.specs.declared.call.Call.{Call}
 use Rattle.line_sim.specs.declared.event.Event.{Event}
@@ -21,13 +21,13 @@ use Rattle.line_sim.proofs.Told.{safe_told, moves_told}
 use Rattle.line_sim.proofs.WholeRuns.{run_same}
 
 -- the caller's document is the one that the world began with
-document_kept : Promised → (v : WorldFields) (r : IsReached v) → r.document ≡ v.call.caller.document
+pub document_kept : Promised → (v : WorldFields) (r : IsReached v) → r.document ≡ v.call.caller.document
 document_kept laws v r =
     sym (run_same laws r.steps (new_world r.document r.wish r.caps) (new_world_facts r.document r.wish r.caps r.full)) ∙
     r.shows.caller.document
 
 -- the fields show what the world shows
-state_shown : (v : Call) (w : World) → Shows v w → shown w ≡ fields_state v
+pub state_shown : (v : Call) (w : World) → Shows v w → shown w ≡ fields_state v
 state_shown v w shows =
     ap (λ s. page_state s.pages (confirmed w.caller) w.caller.ending s.ending) shows.answerer ∙
     (ap (λ n. page_state v.answerer.pages n w.caller.ending v.answerer.ending) shows.caller.confirms ∙
@@ -49,34 +49,43 @@ pub event_moves : {E : Type 0} → Promised → EventsMove → (old new : WorldF
 event_moves laws moves old new event (Ok done) r ok err = two_moves_by laws moves old new event Done r ok
 event_moves laws moves old new event (Err refusal) r ok err = two_moves_by laws moves old new event err.0 r err.2
 
+-- the laws that a report's clauses come from
+abbrev pub RunLaws : Type 0
+RunLaws = LineHolds × StationsInStep × RunsMove × RunsAreSafe × RunsAreCounted
+
 -- what is told of a run keeps the laws of runs
-told_keeps : RunsMove → RunsAreSafe → RunsAreCounted →
+told_keeps : RunLaws →
     (document : Document) (wish : Wish) (caps : Caps) (steps : List (Event × Outcome)) (report : Report) → Each IsFullPage document →
-    Tells report (run steps (new_world document wish caps)) (entries steps (new_world document wish caps)) → Keeps document report
-told_keeps moves safe counted document wish caps steps report full tells =
+    Tells report (run steps (new_world document wish caps)) (entries steps (new_world document wish caps)) →
+    KeepsSteps document wish caps steps report
+told_keeps laws document wish caps steps report full tells =
     let w : World = run steps (new_world document wish caps) in
     record {
-      wish = wish;
-      caps = caps;
-      steps = steps;
       tells = tells;
+      facts = laws.0 document wish caps steps full;
+      in_step = laws.1 document wish caps steps full;
       safe = safe_told document w report.pages.items report.confirmed report.caller_end report.answerer_end tells.pages tells.confirmed
-          tells.caller_end tells.answerer_end (safe document wish caps steps full);
+          tells.caller_end tells.answerer_end (laws.3 document wish caps steps full);
       moves = moves_told document w report.pages.items report.confirmed report.caller_end report.answerer_end tells.pages tells.confirmed
-          tells.caller_end tells.answerer_end (moves document wish caps steps full);
-      counted = subst (IsCounted (groups_begun w)) (sym tells.transcript) (counted document wish caps steps);
+          tells.caller_end tells.answerer_end (laws.2 document wish caps steps full);
+      counted = subst (IsCounted (groups_begun w)) (sym tells.transcript) (laws.4 document wish caps steps);
     }
 
-pub report_keeps : Promised → RunsMove → RunsAreSafe → RunsAreCounted → (v : WorldFields) (report : Report) → IsReached v →
+pub report_keeps : Promised → RunLaws → (v : WorldFields) (report : Report) → IsReached v →
     ((w : World) → Shows v.call w → Tells report w v.entries) → Keeps v.call.caller.document report
-report_keeps laws moves safe counted v report r tells =
-    subst (λ d. Keeps d report) (document_kept laws v r)
-    (told_keeps moves safe counted r.document r.wish r.caps r.steps report r.full
-    (subst (Tells report (run r.steps (new_world r.document r.wish r.caps))) r.noted
-    (tells (run r.steps (new_world r.document r.wish r.caps)) r.shows)))
+report_keeps promised laws v report r tells =
+    subst (λ d. Keeps d report) (document_kept promised v r)
+    (record {
+      wish = r.wish;
+      caps = r.caps;
+      steps = r.steps;
+      keeps = told_keeps laws r.document r.wish r.caps r.steps report r.full
+          (subst (Tells report (run r.steps (new_world r.document r.wish r.caps))) r.noted
+          (tells (run r.steps (new_world r.document r.wish r.caps)) r.shows));
+    })
 
-pub run_keeps_laws : RunsMove → RunsAreSafe → RunsAreCounted →
+pub run_keeps_laws : RunLaws →
     (document : Document) (wish : Wish) (caps : Caps) (events : List Event) (report : Report) → Each IsFullPage document →
-    TellsRun document wish caps events report → Keeps document report
-run_keeps_laws moves safe counted document wish caps events report full told =
-    told_keeps moves safe counted document wish caps told.steps report full told.tells
+    TellsRun document wish caps events report → KeepsRun document wish caps events report
+run_keeps_laws laws document wish caps events report full told =
+    record { steps = told.steps; given = told.given; keeps = told_keeps laws document wish caps told.steps report full told.tells }

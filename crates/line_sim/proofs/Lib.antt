@@ -1,5 +1,6 @@
 pub mod Undisturbed
 pub mod Clauses
+pub mod Holding
 pub mod Between
 pub mod Runs
 pub mod Beginning

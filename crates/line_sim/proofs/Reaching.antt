@@ -4,7 +4,7 @@ use Rattle.stations.specs.Laws.{Each}
 use Rattle.line_sim.specs.Entries.{entry_of, and_entries, is_refused, marks, one_mark}
 use Rattle.line_sim.specs.Headline.{CanBeWritten, LinesCanBeWritten}
 use Rattle.line_sim.specs.Line.{World, Outcome, Done, Nothing, InputLost, Cut, happens, new_world, run}
-use Rattle.line_sim.specs.Standing.{Shows, Acts, EventWrites, WorldFields, Becomes, IsReached}
+use Rattle.line_sim.specs.Standing.{Shows, Acts, EventWrites, WorldFields, Becomes, BecomesSome, Leaves, IsReached}
 use Rattle.line_sim.specs.declared.call.Call.{Call}
 use Rattle.line_sim.specs.declared.event.Entry.{Entry}
 use Rattle.line_sim.specs.declared.event.Event.{Event}
@@ -83,6 +83,26 @@ was_refused v call event entry h r marked done =
     let no : is_refused h.0 ≡ false = ap is_refused done in
     let yes : is_refused h.0 ≡ true = entry_refused w event h.0 entry (h.1 w r.shows).1 ∙ marked in
     cc
+
+-- what is left of an event with a marked entry
+left_marked : (outcome : Outcome) (w : World) (event : Event) (old new : WorldFields) (entry : Entry) →
+    entry_of w event outcome ≡ Some entry → entry.refused ≡ true → new.entries ≡ old.entries ++ entry ∷ [] → Leaves outcome old new
+left_marked Done w event old new entry e marked noted = (entry, marked, noted)
+left_marked Nothing w event old new entry e marked noted = absurd (cc)
+left_marked InputLost w event old new entry e marked noted = (entry, marked, noted)
+left_marked (Cut made) w event old new entry e marked noted = (entry, marked, noted)
+
+-- a refused event that has its entry
+pub marked_becomes : (v : WorldFields) (call : Call) (noted : List Entry) (event : Event) (entry : Entry)
+    (h : Acts v.call call event entry) → IsReached v → entry.refused ≡ true → noted ≡ v.entries ++ entry ∷ [] →
+    BecomesSome v (record { call = call; entries = noted }) event
+marked_becomes v call noted event entry h r marked is = (
+  h.0,
+  was_refused v call event entry h r marked,
+  acts_become v call noted event entry h is,
+  left_marked h.0 (run r.steps (new_world r.document r.wish r.caps)) event v (record { call = call; entries = noted }) entry
+      (h.1 (run r.steps (new_world r.document r.wish r.caps)) r.shows).1 marked is,
+)
 
 -- the marks of one entry more
 one_mark_swaps : (a b : Bool) (n : ℕ) → one_mark a (one_mark b n) ≡ one_mark b (one_mark a n)

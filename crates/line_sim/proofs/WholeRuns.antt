@@ -19,7 +19,7 @@ first_moves no_move h = h
 first_moves (one_move m) h = more m h
 first_moves (two_moves m l) h = more m (more l h)
 
-run_moves :
+pub run_moves :
     Promised → (steps : List (Event × Outcome)) (w : World) → LineFacts w → Moves (length w.caller.document) (shown w) (shown (run steps w))
 run_moves laws [] w f = none
 run_moves laws (step ∷ steps) w f =

@@ -9,5 +9,6 @@ pub mod Counted
 pub mod Octets
 pub mod Hearing
 pub mod Standing
+pub mod Holding
 pub mod Report
 pub mod Delivering

@@ -8,7 +8,9 @@ use Rattle.stations.specs.Layers.{Document}
 use Rattle.line_sim.specs.Counted.{IsCounted, groups_begun}
 use Rattle.line_sim.specs.Entries.{entries, marks}
 use Rattle.line_sim.specs.Headline.{IsSafe}
+use Rattle.line_sim.specs.InStep.{InStep}
 use Rattle.line_sim.specs.Line.{World, Outcome, new_world, run}
+use Rattle.line_sim.specs.LineFacts.{LineFacts}
 use Rattle.line_sim.specs.PageMachine.{Moves, first_state, page_state}
 use Rattle.line_sim.specs.Standing.{IsWorldFault}
 use Rattle.line_sim.specs.declared.event.Entry.{Entry}
@@ -42,15 +44,28 @@ abbrev pub RunsTo : Document → Wish → Caps → List Event → Result Report 
 RunsTo document wish caps events (Ok report) = AreCallable document × TellsRun document wish caps events report
 RunsTo document wish caps events (Err fault) = IsWorldFault document fault
 
--- what holds of every report of a call of a document: it tells a run of it; the sender and the owner of the store can rely on it; moves
--- of the page machine lead to what it shows; and the turns of its transcript are counted by the groups that the caller has begun
-pub record Keeps (document : Document) (report : Report) : Type 0 where
-  pub wish : Wish
-  pub caps : Caps
-  pub steps : List (Event × Outcome)
+-- what holds of a report of steps of a call: it tells them; in the world that they lead to the facts of the line hold, and both stations
+-- are in step; the sender and the owner of the store can rely on it; moves of the page machine lead to what it shows; and the turns of
+-- its transcript are counted by the groups that the caller has begun
+pub record KeepsSteps (document : Document) (wish : Wish) (caps : Caps) (steps : List (Event × Outcome)) (report : Report) : Type 0 where
   pub tells : Tells report (run steps (new_world document wish caps)) (entries steps (new_world document wish caps))
+  pub facts : LineFacts (run steps (new_world document wish caps))
+  pub in_step : InStep (run steps (new_world document wish caps))
   pub safe : IsSafe document report.pages.items report.confirmed report.caller_end report.answerer_end
   pub moves :
       Moves (length document) first_state
       (page_state report.pages.items report.confirmed report.caller_end report.answerer_end)
   pub counted : IsCounted (groups_begun (run steps (new_world document wish caps))) report.transcript.items
+
+-- what holds of every report of a call of a document: that it is of some steps of it
+pub record Keeps (document : Document) (report : Report) : Type 0 where
+  pub wish : Wish
+  pub caps : Caps
+  pub steps : List (Event × Outcome)
+  pub keeps : KeepsSteps document wish caps steps report
+
+-- the same of a run of such events
+pub record KeepsRun (document : Document) (wish : Wish) (caps : Caps) (events : List Event) (report : Report) : Type 0 where
+  pub steps : List (Event × Outcome)
+  pub given : map (λ step. step.0) steps ≡ events
+  pub keeps : KeepsSteps document wish caps steps report

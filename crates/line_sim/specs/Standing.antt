@@ -1,5 +1,5 @@
 -- What the fields of a world represent, and what an event makes of them.
-use Rattle.std.specs.Prelude.{◌≡◌, ◌≢◌, Bool, true, false, List, [], ◌++◌, Option, Some, Result, Ok, Err}
+use Rattle.std.specs.Prelude.{◌≡◌, ◌≢◌, Bool, true, false, List, [], ◌∷◌, ◌++◌, Option, Some, Result, Ok, Err}
 use Rattle.signals.specs.declared.params.Caps.{Caps}
 use Rattle.signals.specs.declared.params.Wish.{Wish}
 use Rattle.stations.specs.AnswererStep.{answerer_items}
@@ -12,7 +12,7 @@ use Rattle.stations.specs.declared.turn.Turn.{Turn}
 use Rattle.stations.specs.declared.turn.Turn.TheVariants.{Silent}
 use Rattle.line_sim.specs.Entries.{Said, says, entry_of, entries, and_entries, caller_said}
 use Rattle.line_sim.specs.Headline.{CanBeWritten}
-use Rattle.line_sim.specs.Line.{World, Outcome, Done, Cut, sent, caller_sends, answerer_sends, happens, new_world, run}
+use Rattle.line_sim.specs.Line.{World, Outcome, Done, Nothing, Cut, sent, caller_sends, answerer_sends, happens, new_world, run}
 use Rattle.line_sim.specs.PageMachine.{PageState, page_state}
 use Rattle.line_sim.specs.declared.call.Call.{Call}
 use Rattle.line_sim.specs.declared.event.Entry.{Entry}
@@ -130,9 +130,14 @@ pub record IsReached (v : WorldFields) : Type 0 where
   pub shows : Shows v.call (run steps (new_world document wish caps))
   pub noted : v.entries ≡ entries steps (new_world document wish caps)
 
--- a growth was refused: whichever world the fields represent, what they become has one and the same outcome
+-- what is left of a refused event: without room for its entry nothing at all has happened; else there is one entry more, which is marked
+abbrev pub Leaves : Outcome → WorldFields → WorldFields → Type 0
+Leaves Nothing old new = new ≡ old
+Leaves _ old new = (entry : Entry) × (entry.refused ≡ true) × (new.entries ≡ old.entries ++ entry ∷ [])
+
+-- a growth was refused: whichever world the fields represent, what they become has one and the same outcome, which the entries tell
 abbrev pub BecomesSome : WorldFields → WorldFields → Event → Type 0
-BecomesSome old new event = (outcome : Outcome) × (outcome ≢ Done) × Becomes old new event outcome
+BecomesSome old new event = (outcome : Outcome) × (outcome ≢ Done) × Becomes old new event outcome × Leaves outcome old new
 
 -- there is no world: memory was refused, or the width of a page isn't callable
 abbrev pub IsWorldFault : Document → WorldFault → Type 0

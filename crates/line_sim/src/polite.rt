@@ -1,15 +1,18 @@
 //! A call in which all that is under way comes.
 
 ghost use Rattle.line_sim.specs.Delivering.{DeliversAll, DeliversNext, GoesThrough};
+ghost use Rattle.line_sim.specs.Holding.{Holds};
 ghost use Rattle.line_sim.specs.Line.{World as WorldValue};
+ghost use Rattle.line_sim.specs.PageMachine.{Moves};
 ghost use Rattle.line_sim.specs.Polite.{is_between_groups};
-ghost use Rattle.line_sim.specs.Standing.{Shows};
-ghost use Rattle.std.specs.Prelude.{◌≡◌, [], IsTrue, ◌↔◌, IfOk};
+ghost use Rattle.line_sim.specs.Standing.{Shows, fields_state};
+ghost use Rattle.std.specs.Prelude.{◌≡◌, [], IsTrue, ◌↔◌, IfOk, length};
 
 use crate::call::Call;
 use crate::event::Event;
-use crate::laws::polite_calls;
+use crate::laws::{headline, polite_calls};
 use crate::world::World;
+use stations::laws::{layers_hold, signals_hold};
 use std::alloc::AllocError;
 
 impl Call {
@@ -94,8 +97,16 @@ impl World {
     pub fn polite(&mut self, most: u64) -> Result<u64, AllocError>
         ensures delivers { (w : WorldValue) → Shows self.old.call w → DeliversAll self.old self.new w most result }
         ensures through { IfOk result (λ number. GoesThrough self.old self.new most number) }
+        ensures moves { Moves (length self.old.call.caller.document) (fields_state self.old.call) (fields_state self.new.call) }
+        ensures document { self.new.call.caller.document ≡ self.old.call.caller.document }
+        ensures before { Holds self.old }
+        ensures after { Holds self.new }
     {
         polite_calls();
+        headline();
+        layers_hold();
+        signals_hold();
+        let _ = &self.call;
         self.deliver(most)
     }
 }

@@ -1,8 +1,9 @@
 //! A world: a caller, an answerer and the half-duplex line between them.
 
+ghost use Rattle.line_sim.specs.Holding.{Begins, Holds, TakesWholeBlock};
 ghost use Rattle.line_sim.specs.Line.{World as WorldValue, Outcome, new_world};
 ghost use Rattle.line_sim.specs.PageMachine.{AtMostTwo};
-ghost use Rattle.line_sim.specs.Report.{Keeps, RunsTo, Tells};
+ghost use Rattle.line_sim.specs.Report.{Keeps, KeepsRun, RunsTo, Tells};
 ghost use Rattle.line_sim.specs.Standing.{Becomes, BecomesSome, NewWorld, Shows, fields_state};
 ghost use Rattle.stations.specs.Laws.{Each};
 ghost use Rattle.stations.specs.Layers.{IsFullPage};
@@ -57,8 +58,12 @@ impl World {
     ) -> Result<World, WorldFault>
         requires receiver { caps.receiver ≡ true }
         requires ecm { caps.ecm ≡ true }
-        ensures { NewWorld document wish caps result }
+        ensures new { NewWorld document wish caps result }
+        ensures begins { IfOk result (λ world. Begins document wish caps world) }
     {
+        headline();
+        layers_hold();
+        signals_hold();
         has_full_pages(&document);
         let caller = Caller::new(alloc, document, wish)?;
         let (answerer, turn) = Answerer::new(alloc, caps);
@@ -103,6 +108,10 @@ impl World {
         ensures ok { OnOk result (Becomes self.old self.new event Outcome.Done) }
         ensures err { OnErr result (BecomesSome self.old self.new event) }
         ensures moves { AtMostTwo (length self.old.call.caller.document) (fields_state self.old.call) (fields_state self.new.call) }
+        ensures document { self.new.call.caller.document ≡ self.old.call.caller.document }
+        ensures before { Holds self.old }
+        ensures after { Holds self.new }
+        ensures whole { OnOk result (TakesWholeBlock self.old self.new event) }
     {
         headline();
         layers_hold();
@@ -179,7 +188,7 @@ pub fn run(
     requires receiver { caps.receiver ≡ true }
     requires ecm { caps.ecm ≡ true }
     ensures runs { RunsTo document wish caps events.now result }
-    ensures keeps { IfOk result (λ report. Keeps document report) }
+    ensures keeps { IfOk result (λ report. KeepsRun document wish caps events.now report) }
 {
     headline();
     counted();

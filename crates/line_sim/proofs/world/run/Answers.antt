@@ -6,7 +6,7 @@ use Rattle.line_sim.proofs.Runs.{Given as GivenEvents, none_given, one_given, ta
 use Rattle.line_sim.proofs.world.run.Goals as goal
 
 pub loop-event-init : goal.loop-event-init
-loop-event-init c = none_given c.args.document c.args.wish c.args.caps c.in_ok-world.world c.in_ok-world.ensures.1 c.in_ok-world.ensures.2
+loop-event-init c = none_given c.args.document c.args.wish c.args.caps c.in_ok-world.world c.in_ok-world.ensures.new.1 c.in_ok-world.ensures.new.2
 
 pub loop-event-preserved : goal.loop-event-preserved
 loop-event-preserved c =
@@ -19,7 +19,7 @@ loop-event-preserved c =
 
 pub returns-clause-runs : goal.returns-clause-runs
 returns-clause-runs c = (
-  c.in_ok-world.ensures.0,
+  c.in_ok-world.ensures.new.0,
   tells_run c.args.document c.args.wish c.args.caps c.args.events.now c.loop-event.world c.report.result
       (subst (λ l. GivenEvents c.args.document c.args.wish c.args.caps l c.loop-event.world)
       (take_all c.loop-event.event-index c.args.events.now c.loop-event-test.false) c.loop-event.invariant)
@@ -28,7 +28,9 @@ returns-clause-runs c = (
 
 pub returns-clause-keeps : goal.returns-clause-keeps
 returns-clause-keeps c =
-    run_keeps_laws c.headline.ensures.runs c.headline.ensures.safe c.counted.ensures.runs c.args.document c.args.wish c.args.caps
+    run_keeps_laws
+    (c.headline.ensures.facts, c.headline.ensures.steps, c.headline.ensures.runs, c.headline.ensures.safe, c.counted.ensures.runs)
+    c.args.document c.args.wish c.args.caps
     c.args.events.now c.report.result c.has_full_pages.ensures
     (tells_run c.args.document c.args.wish c.args.caps c.args.events.now c.loop-event.world c.report.result
     (subst (λ l. GivenEvents c.args.document c.args.wish c.args.caps l c.loop-event.world)

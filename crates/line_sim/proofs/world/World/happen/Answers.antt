@@ -1,7 +1,7 @@
-use Rattle.std.proofs.Common.{◌≡◌, ℕ, suc, ◌+◌, ap, ◌∙◌, ◌++◌, ◌∷◌, [], arith, sym}
+use Rattle.std.proofs.Common.{◌≡◌, ℕ, suc, ◌+◌, ap, subst, ◌∙◌, ◌++◌, ◌∷◌, [], arith, sym}
 use Rattle.line_sim.specs.Entries.{marks, one_mark}
-use Rattle.line_sim.specs.Standing.{WorldFields}
-use Rattle.line_sim.proofs.Reaching.{can_write, reached_more, acts_become, marks_more, marks_few}
+use Rattle.line_sim.specs.Standing.{WorldFields, BecomesSome}
+use Rattle.line_sim.proofs.Reaching.{can_write, reached_more, acts_become, marked_becomes, marks_more, marks_few}
 use Rattle.line_sim.proofs.world.World.happen.Goals as goal
 
 pub act-entry-requires : goal.act-entry-requires
@@ -42,3 +42,13 @@ invariant_of-self-else-entry c =
           (ap (λ b. one_mark b (marks c.self.inside.transcript.items)) (sym c.if-entry.false) ∙
           (sym (marks_more c.self.inside.transcript.items c.act-entry.result) ∙ ap marks (sym noted))),
     )
+
+pub returns-then-entry-clause-err : goal.returns-then-entry-clause-err
+returns-then-entry-clause-err c =
+    let v : WorldFields = record { call = c.self.inside.call; entries = c.self.inside.transcript.items } in
+    let noted : c.note.new.transcript.items ≡ c.self.inside.transcript.items ++ c.act-entry.result ∷ [] = c.note.ensures ∙
+    ap (λ l. l ++ c.act-entry.result ∷ []) c.reserve.ensures.items in
+    subst (λ old. BecomesSome old (record { call = c.act-entry.new.self; entries = c.note.new.transcript.items }) c.args.event)
+    c.self.view_is
+    (marked_becomes v c.act-entry.new.self c.note.new.transcript.items c.args.event c.act-entry.result c.act-entry.ensures
+    c.self.invariant.0 c.if-entry.true noted)
