@@ -7,6 +7,7 @@ ghost use Rattle.raster.specs.Pixels.{IsWidth};
 mod engine;
 mod fault;
 mod frames;
+mod options;
 #[cfg(test)]
 mod test_streams;
 mod texts;
