@@ -8,13 +8,14 @@ use Rattle.run_tables.specs.declared.fault.CodeFaultKind.{CodeFaultKind}
 use Rattle.run_tables.specs.declared.fault.CodeFaultKind.TheVariants.{NoMemory}
 use Rattle.run_tables.specs.Faults.{number_of}
 use Rattle.faxtool.specs.declared.fault.ToolFault.{ToolFault}
-use Rattle.faxtool.specs.declared.fault.ToolFault.TheVariants.{No, AtBit}
+use Rattle.faxtool.specs.declared.fault.ToolFault.TheVariants.{No, AtBit, AtLine}
 
 -- the line of a fault, with numbers in decimal digits
 abbrev pub fault_text : ToolFault → List ℕ
 fault_text (No number) = codes "fault " ++ decimal number
 fault_text (AtBit number place) =
     codes "fault " ++ (decimal number ++ (codes " at bit " ++ decimal place))
+fault_text (AtLine number) = codes "fault 30 at line " ++ decimal number
 
 -- the fault that the program tells of coded bits: that of memory has no place
 abbrev pub fault_at : ℕ → CodeFaultKind → ToolFault

@@ -17,6 +17,8 @@ pub enum ToolFault {
         /// The bit at which it was found, counted from 0 at the first bit of the input.
         place: u128,
     },
+    /// The fault of a script, number 30, at this line, counted from 1.
+    AtLine(u64),
 }
 
 /// A reader, a writer or a file failed.
@@ -35,6 +37,7 @@ impl fmt::Display for ToolFault {
         match self {
             ToolFault::No(no) => write!(f, "fault {no}"),
             ToolFault::AtBit { no, place } => write!(f, "fault {no} at bit {place}"),
+            ToolFault::AtLine(line) => write!(f, "fault 30 at line {line}"),
         }
     }
 }
