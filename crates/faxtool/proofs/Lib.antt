@@ -1,3 +1,6 @@
 mod JobLemmas
 mod Listing
 mod HexText
+mod ScriptLines
+mod ScriptWords
+mod OneScript

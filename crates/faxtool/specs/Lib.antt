@@ -3,3 +3,4 @@ pub mod Faults
 pub mod Engines
 pub mod Texts
 pub mod Frames
+pub mod Scripts

@@ -8,6 +8,7 @@ mod engine;
 mod fault;
 mod frames;
 mod options;
+mod script;
 #[cfg(test)]
 mod test_streams;
 mod texts;
