@@ -1,0 +1,152 @@
+#!/bin/sh
+# Refuses each growth of memory in turn, one a run, until a run meets none, and tells how the runs ended:
+#
+#     bench/refuse_growths.sh [CRATE.. | calls]       with no word all crates, and then the calls
+#
+# Of a crate: each of its tests alone. A run has to end with an error that says that memory was refused, or by one of the test's
+# own asserts. Ends with status 1 where one ends by another error or a signal, or takes more than a minute. To be looked at are
+# what an assert found (`9` says that memory was refused), `error Io` (right where a writer into memory failed), and runs that
+# pass though a growth was refused (right where the test expects the refusal, or the growth wasn't needed).
+# A test of more than MOST growths (300) has half as many refused from its first on, and the others spread over the rest.
+#
+# Of `calls`: whole calls of a world, and both stations alone, by the program of bench/refusals. Where a world is refused, the
+# fault is 9. Else the pages are a beginning of the document, `confirmed` is at most their number, `refused` is the number of
+# marks and at most 1, and a normal end means that all pages are there. Where the growth is the CFR's delivery, a time-out and
+# polite deliveries bring the call to its normal end. A station whose step was refused is as it was: the same input again
+# brings its call to its normal end.
+#
+# Not covered: what a test doesn't call, two refusals in one run, and growths of the C library itself.
+# The tests are those that `rt ci` or `rt test` left, where no source is newer, or are built with no proof. Needs gcc.
+set -e
+root=$(cd "$(dirname "$0")/.." && pwd)
+work=$(mktemp -d)
+trap 'rm -rf "$work"' EXIT
+ulimit -c 0
+bad=0
+gcc -O2 -Wall -shared -fPIC -o "$work/refuse.so" "$root/bench/refuse_growths.c"
+
+# refuse K PROGRAM WORD: one run whose growth K is refused, 0 for none. Leaves what it said, and answers its status.
+refuse() {
+    timeout 60 env REFUSE="$1" GROWTHS="$work/growths" LD_PRELOAD="$work/refuse.so" "$2" "$3" > "$work/said" 2>&1
+}
+
+# How a run of a test ended, by its status and what it said.
+ending() {
+    case $1 in
+    0) echo "passed" ;;
+    101) sed -n 's/^error: \(NoMemory\|AllocError\|AllocFailed.*\)$/no memory/p; s/^error: /error /p' "$work/said" | head -1 ;;
+    124) echo "no end" ;;
+    134) sed -n 's/^assertion failed: /assert of /p; s/^ *left: /assert found /p' "$work/said" | head -1 | grep . || echo "status 134" ;;
+    *) echo "status $1" ;;
+    esac
+}
+
+# The growths to refuse of so many: all, or half of MOST from the first on and as many spread over the rest.
+chosen() {
+    most=${MOST:-300}
+    if [ "$1" -le "$most" ]; then
+        seq "$1"
+    else
+        seq $((most / 2))
+        seq $((most / 2 + 1)) $(($1 * 2 / most / 2 * 2 + 1)) "$1"
+    fi
+}
+
+# try_test CRATE PROGRAM TEST: refuses the test's growths, and prints a line for each way to end.
+try_test() {
+    refuse 0 "$2" "$3" || { echo "$1 $3: FAILS with no growth refused"; bad=1; return; }
+    growths=$(cat "$work/growths")
+    : > "$work/endings"
+    : > "$work/by_growth"
+    for k in $(chosen "$growths"); do
+        status=0
+        refuse "$k" "$2" "$3" 2> /dev/null || status=$?
+        echo "$(ending $status)" >> "$work/endings"
+        tail -1 "$work/endings" | sed "s/^/$k /" >> "$work/by_growth"
+    done
+    echo "$1 $3: $growths growths, refused in turn: $(sort "$work/endings" | uniq -c | sed 's/^ *//' | paste -sd, | sed 's/,/, /g')"
+    if grep -q -v -e '^no memory$' -e '^error Io$' -e '^assert ' -e '^passed$' "$work/endings"; then
+        echo "BAD: $1 $3"
+        bad=1
+    fi
+    sed -n 's/^\([0-9]*\) passed$/\1/p' "$work/by_growth" | paste -sd' ' | sed -n 's/^\(.\{60\}\).*/\1 ../; s/^./    passed at growth &/p'
+}
+
+# The tests of a crate, as a check left them or built with no proof.
+try_crate() {
+    tests=$root/crates/$1/out/$1_tests
+    if [ ! -x "$tests" ] || [ -n "$(find "$root"/crates/*/src -newer "$tests")" ]; then
+        "$root/bench/build_unproved.sh" "$root/crates/$1" "$work/$1_tests" --test
+        tests=$work/$1_tests
+    fi
+    for test in $("$tests" --list | sed -n 's/: test$//p'); do
+        try_test "$1" "$tests" "$test"
+    done
+}
+
+# Whether a call was kept: its name, its pages, and the line `confirmed C pages P refused R marks M caller X answerer Y beginning B`.
+is_kept() {
+    name=$1 all=$2
+    shift 2
+    [ "$1" = confirmed ] && [ "${14}" = true ] && [ "$2" -le "$4" ] && [ "$4" -le "$all" ] && [ "$6" = "$8" ] && [ "$6" -le 1 ] || return 1
+    [ "${10}" != "Some(Normal)" ] || [ "$2" = "$all" ] || return 1
+    [ "${12}" != "Some(Normal)" ] || [ "$4" = "$all" ] || return 1
+    case $name in
+    stations*) [ "$6 ${10} ${12} $2" = "1 Some(Normal) Some(Normal) $all" ] ;;
+    esac
+}
+
+# Whether, where the CFR's delivery was refused, a time-out and polite deliveries brought the call to its normal end.
+is_mended() {
+    [ "$1" = again ] || return 0
+    sed -n 's/^entry 3 //p' "$work/said" | grep -q 'item: Some(Cfr), turn: Silent, .*refused: true' || return 0
+    mended=$((mended + 1))
+    sed -n 's/^entry 4 //p' "$work/said" | grep -q 'event: CallerTimeout, item: None, turn: Training' &&
+        grep -q '^confirmed 1 pages 1 .* caller Some(Normal) answerer Some(Normal)' "$work/said"
+}
+
+# try_call NAME PAGES: refuses each growth of a call.
+try_call() {
+    refuse 0 "$work/refusals" "$1" || { echo "calls $1: FAILS with no growth refused"; bad=1; return; }
+    growths=$(cat "$work/growths") none=0 room=0 marked=0 mended=
+    [ "$growths" -gt 0 ] || bad=1
+    for k in $(seq "$growths"); do
+        status=0
+        refuse "$k" "$work/refusals" "$1" || status=$?
+        line=$(sed -n 2p "$work/said")
+        if [ $status = 0 ] && [ "$line" = "fault 9" ]; then
+            none=$((none + 1))
+        elif [ $status = 0 ] && is_kept "$1" "$2" $line && is_mended "$1"; then
+            case $line in *" refused 0 "*) room=$((room + 1)) ;; *) marked=$((marked + 1)) ;; esac
+        else
+            echo "BAD: calls $1, growth $k, status $status: $line"
+            bad=1
+        fi
+    done
+    echo "calls $1: $growths growths, refused in turn: $none fault 9, $room with no mark, $marked with one${mended:+, $mended of them the CFR's delivery}"
+}
+
+try_calls() {
+    mkdir -p "$work/copy/crates/refusals/src"
+    cp -r "$root/crates" "$root/crates.txt" "$root/HANDLES" "$work/copy"
+    cp "$root/bench/refusals/main.txt" "$work/copy/crates/refusals/src/main.rt"
+    echo "refusals: $(cat "$root/bench/refusals/libraries.txt")" >> "$work/copy/crates.txt"
+    "$root/bench/build_unproved.sh" "$work/copy/crates/refusals" "$work/refusals"
+    export FROM="call "
+    for call in one:1 two:2 again:1 groups:2 frames:1 stations:2 stations-groups:2; do
+        try_call "${call%:*}" "${call#*:}"
+    done
+    unset FROM
+}
+
+for name in ${*:-$(sed -n 's/^\([a-z_]*\).*:.*/\1/p' "$root/crates.txt") calls}; do
+    if [ "$name" = calls ]; then
+        try_calls
+    elif [ -d "$root/crates/$name/src" ]; then
+        try_crate "$name"
+    else
+        echo "bench/refuse_growths.sh: no crate $name" >&2
+        exit 2
+    fi
+done
+exit $bad
