@@ -64,7 +64,7 @@ try_test() {
         echo "$(ending $status)" >> "$work/endings"
         tail -1 "$work/endings" | sed "s/^/$k /" >> "$work/by_growth"
     done
-    echo "$1 $3: $growths growths, refused in turn: $(sort "$work/endings" | uniq -c | sed 's/^ *//' | paste -sd, | sed 's/,/, /g')"
+    echo "$1 $3: $growths growths, refused in turn: $(sort "$work/endings" | uniq -c | sed 's/^ *//' | paste -sd'|' | sed 's/|/, /g')"
     if grep -q -v -e '^no memory$' -e '^error Io$' -e '^assert ' -e '^passed$' "$work/endings"; then
         echo "BAD: $1 $3"
         bad=1

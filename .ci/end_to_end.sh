@@ -1,0 +1,260 @@
+#!/bin/sh
+# Runs each command of the built program on real files, and compares octets, texts and exit statuses:
+#
+#     .ci/end_to_end.sh [PROGRAM..]
+#
+# With no word these are the programs of crates/faxtool/out that `rt ci` leaves, by each compiler, or that `rt run` makes where
+# there is none. What is compared with is in .ci/data, the calls in .ci/calls. Ends with status 1 at the first difference.
+set -e
+top=$(cd "$(dirname "$0")/.." && pwd)
+PATH="$PATH:/opt/rattle/bin"
+data=$top/.ci/data
+work=$(mktemp -d)
+trap 'rm -rf "$work"' EXIT
+count=0
+
+# fails WORDS: tells what is wrong, and ends.
+fails() {
+    echo "end to end: FAILED: $*" >&2
+    [ ! -s "$work/error" ] || head -5 "$work/error" >&2
+    exit 1
+}
+
+# gives STATUS WORDS: the program ends with the status.
+gives() {
+    end=$1 status=0
+    shift
+    timeout 60 "$program" "$@" > "$work/output" 2> "$work/error" < /dev/null || status=$?
+    [ "$status" = "$end" ] || fails "$* ended with status $status, and not $end"
+    count=$((count + 1))
+}
+
+# is_same FILE WANTED WORDS: the file has the octets of the other one.
+is_same() {
+    cmp "$1" "$2" > "$work/error" 2>&1 || fails "$3: other octets"
+}
+
+# works WORDS: the program ends well and says nothing on standard error.
+works() {
+    gives 0 "$@"
+    [ ! -s "$work/error" ] || fails "$* wrote to standard error"
+}
+
+# faults LINE WORDS: the program ends with status 1 and the line on standard error, and prints nothing.
+faults() {
+    line=$1
+    shift
+    gives 1 "$@"
+    [ "$(cat "$work/error")" = "$line" ] || fails "$* didn't write: $line"
+    [ ! -s "$work/output" ] || fails "$* printed something"
+}
+
+# refuses WORDS: the words are no job: status 2, a text on standard error and none on standard output.
+refuses() {
+    gives 2 "$@"
+    [ -s "$work/error" ] || fails "$* gave no text"
+    [ ! -s "$work/output" ] || fails "$* printed something"
+}
+
+# octets TEXT: a file of the octets of a text in hex, whose name it prints.
+octets() {
+    name=$work/octets_$(echo "$1" | cksum | tr -d ' ')
+    for hex in $1; do
+        printf "\\$(printf %03o "0x$hex")"
+    done > "$name"
+    echo "$name"
+}
+
+# codes CODE ORDER IMAGE OCTETS WIDTH: the image, in hex, has that code, and is shown again.
+codes() {
+    from=$(octets "$3") into=$(octets "$4")
+    works code --code "$1" --order "$2" "$from" "$work/made"
+    is_same "$work/made" "$into" "code --code $1 --order $2 of $3"
+    works show --code "$1" --order "$2" --width "$5" "$into"
+    cp "$work/output" "$work/shown_$1_$2"
+}
+
+# Small images and their codes, as the standards' tables give them.
+try_small() {
+    image="50 34 0A 38 20 31 0A 30"
+    codes mh msb "$image" "00 17 EC 00 40 04 00 40 04 00 40 04" 8
+    printf '..##....\n' > "$work/wanted"
+    is_same "$work/shown_mh_msb" "$work/wanted" "show of one row"
+    works code --code mh "$(octets "$image")" "$work/made"
+    is_same "$work/made" "$(octets "00 17 EC 00 40 04 00 40 04 00 40 04")" "code with no order"
+    codes mmr msb "50 34 0A 38 20 33 0A 30 30 00" "2F F8 C0 04 00 40" 8
+    printf '..##....\n..##....\n........\n' > "$work/wanted"
+    is_same "$work/shown_mmr_msb" "$work/wanted" "show of three rows"
+    white="50 34 0A 31 37 32 38 20 31 0A$(seq 216 | sed 's/.*/ 00/' | tr -d '\n')"
+    codes mmr lsb "$white" "01 10 00 01" 1728
+    codes mmr msb "$white" "80 08 00 80" 1728
+    codes mh msb "$white" "00 14 D9 A8 00 80 08 00 80 08 00 80 08" 1728
+    codes mh lsb "$white" "00 28 9B 15 00 01 10 00 01 10 00 01 10" 1728
+}
+
+# A page of text and its codes, as other software writes them.
+try_page() {
+    for code in mh mmr; do
+        for order in msb lsb; do
+            works code --code $code --order $order "$data/page.pbm" "$work/made"
+            is_same "$work/made" "$data/page.$code.$order" "code --code $code --order $order of a page"
+            works show --code $code --order $order --width 315 "$data/page.$code.$order"
+            is_same "$work/output" "$data/page.txt" "show --code $code --order $order of a page"
+        done
+    done
+}
+
+# Frames in bits.
+try_frames() {
+    works frames "$data/line.bits"
+    is_same "$work/output" "$data/line.txt" "frames of a line"
+    works frames "$(octets "7E DF 47 30 8A C6 FB 01 7E DF 47 30 8A C6 FB 01")"
+    printf '1 ff138c MCF\n2 ff138c MCF\ngood 2 aborted 0 ragged 0 short 0 long 0 damaged 0\n' > "$work/wanted"
+    is_same "$work/output" "$work/wanted" "frames of two MCF"
+    works frames "$(octets "7E DF 47 31 8A C6 FB 01")"
+    echo "good 0 aborted 0 ragged 0 short 0 long 0 damaged 1" > "$work/wanted"
+    is_same "$work/output" "$work/wanted" "frames of a damaged MCF"
+    : > "$work/nothing"
+    works frames "$work/nothing"
+    echo "good 0 aborted 0 ragged 0 short 0 long 0 damaged 0" > "$work/wanted"
+    is_same "$work/output" "$work/wanted" "frames of nothing"
+}
+
+# Refused images: OUT is left as it was, and isn't made.
+try_images() {
+    echo "as it was" > "$work/kept"
+    cp "$work/kept" "$work/made"
+    : > "$work/nothing"
+    two="50 34 0A 38 20 31 0A 30 50 34 0A 38 20 31 0A 30"
+    for code in mh mmr; do
+        faults "fault 27" code --code $code "$(octets "$two")" "$work/made"
+        faults "fault 7" code --code $code "$work/nothing" "$work/made"
+        faults "fault 1" code --code $code "$(octets "50 34 0A 32 34 33 33 20 31 0A 30")" "$work/made"
+        faults "fault 3" code --code $code "$(octets "50 34 0A 38 20 32 30 30 30 31 0A")" "$work/made"
+        faults "fault 4" code --code $code "$(octets "50 34 0A 38 20 30 0A")" "$work/made"
+        faults "fault 5" code --code $code "$(octets "50 35")" "$work/made"
+        faults "fault 6" code --code $code "$(octets "50 34 0A 38 20 31 0A")" "$work/made"
+        faults "fault 8" code --code $code "$work/missing" "$work/made"
+        faults "fault 8" code --code $code "$work" "$work/made"
+        is_same "$work/made" "$work/kept" "OUT after a fault"
+        faults "fault 6" code --code $code "$(octets "50 34 0A 38 20 31 0A")" "$work/not_made"
+        [ ! -e "$work/not_made" ] || fails "code made OUT after a fault"
+        faults "fault 8" code --code $code "$data/page.pbm" "$work/missing/made"
+        faults "fault 8" code --code $code "$data/page.pbm" "$work"
+    done
+}
+
+# Refused pages: the fault and the bit.
+try_codes() {
+    while read -r code fault bit hex; do
+        faults "fault $fault at bit $bit" show --code "$code" --width 8 "$(octets "$hex")"
+    done << CASES
+mmr 16 0 02
+mmr 17 1 80
+mmr 11 1 80 08 00
+mmr 11 3 20
+mmr 14 0 60
+mmr 13 15 26 AA 80
+mmr 15 11 26 A1 B8
+mmr 4 0 00 10 01
+mh 10 12 00 10 08
+mh 12 12 00 1A 00
+mh 4 12 00 10 00
+mh 12 0 17 EC
+CASES
+    faults "fault 17 at bit 0" show --code mmr --width 8 "$work/nothing"
+    for words in "show --code mh --width 8" "show --code mmr --width 8" frames; do
+        faults "fault 8" $words "$work/missing"
+        faults "fault 8" $words "$work"
+    done
+}
+
+# Words that are no job, and those that ask for help.
+try_words() {
+    refuses
+    for words in --help help -h --version "code --help" "show --help" "frames --help" fax "code a b" "code --code g3 a b" "code --code mh a" \
+        "code --code mh --code mh a b" "code --code mh --order up a b" "code --code mh a b c" "show --code mh a" "show --width 8 a" \
+        "show --code mh --width 0 a" "show --code mh --width 2433 a" "show --code mh --width x a" "frames" "frames a b" "frames --code mh a"; do
+        refuses $words
+    done
+}
+
+# What is printed can't be written: a full disk, and a closed output.
+try_outputs() {
+    for words in "show --code mh --width 315 $data/page.mh.msb" "frames $data/line.bits"; do
+        if [ -c /dev/full ]; then
+            status=0
+            "$program" $words > /dev/full 2> "$work/error" || status=$?
+            [ "$status $(cat "$work/error")" = "1 fault 8" ] || fails "$words on a full disk ended with status $status"
+        fi
+        status=0
+        "$program" $words >&- 2> "$work/error" || status=$?
+        [ "$status $(cat "$work/error")" = "1 fault 8" ] || fails "$words on a closed output ended with status $status"
+        count=$((count + 2))
+    done
+}
+
+# try_call FILE: a call by a script.
+try_call() {
+    case=${1%.script} input=$work/in.pbm
+    if [ -f "$case.rows" ]; then
+        printf 'P4\n2432 %s\n' "$(cat "$case.rows")" > "$input"
+        head -c $(($(cat "$case.rows") * 304)) /dev/zero | tr '\0' U >> "$input"
+    else
+        cp "$case.pbm" "$input"
+    fi
+    if [ -f "$case.status" ]; then wanted=$(cat "$case.status"); elif [ -f "$case.fault" ]; then wanted=1; else wanted=0; fi
+    rm -f "$work/pages"
+    gives "$wanted" call --script "$1" $(cat "$case.options" 2> /dev/null) --out "$work/pages" "$input"
+    if [ -f "$case.fault" ]; then
+        is_same "$work/error" "$case.fault" "the fault of call ${case##*/}"
+        [ ! -s "$work/output" ] && [ ! -e "$work/pages" ] || fails "call ${case##*/} left something after a fault"
+        return
+    fi
+    if [ -f "$case.tail" ]; then
+        tail -n "$(wc -l < "$case.tail")" "$work/output" > "$work/last"
+        is_same "$work/last" "$case.tail" "the last lines of call ${case##*/}"
+    else
+        is_same "$work/output" "$case.expected" "call ${case##*/}"
+    fi
+    if [ -e "$work/pages" ]; then
+        head -c "$(wc -c < "$work/pages")" "$input" > "$work/first"
+        is_same "$work/pages" "$work/first" "the pages of call ${case##*/}"
+    fi
+    ! tail -1 "$work/output" | grep -q ' pages 0$' || [ ! -e "$work/pages" ] || fails "call ${case##*/} made a file of no pages"
+    tail -1 "$work/output" | grep -q ' pages 0$' || [ -e "$work/pages" ] || fails "call ${case##*/} made no file of its pages"
+}
+
+# The calls, where the program knows the command.
+try_calls() {
+    "$program" call --help 2>&1 | grep -q -e '--script' || return 0
+    for script in "$top"/.ci/calls/*.script; do
+        [ ! -f "$script" ] || try_call "$script"
+    done
+    rm -f "$work/in.pbm"
+    printf 'polite 11' > "$work/script"
+    faults "fault 8" call --script "$work/missing" "$data/page.pbm"
+    faults "fault 8" call --script "$work/script" "$work/missing"
+    refuses call --script "$work/script"
+    refuses call "$data/page.pbm"
+    refuses call --script "$work/script" --frame 128 "$data/page.pbm"
+}
+
+if [ $# = 0 ]; then
+    out=$top/crates/faxtool/out
+    [ -x "$out/faxtool" ] || (cd "$top/crates/faxtool" && rt run -- show --code mh --width 8 data/out.mh) > "$work/built" 2>&1 || { cat "$work/built"; exit 1; }
+    set -- "$out/faxtool"
+    [ ! -x "$out/faxtool.by-rattle" ] || set -- "$@" "$out/faxtool.by-rattle"
+fi
+for program in "$@"; do
+    count=0
+    try_small
+    try_page
+    try_frames
+    try_images
+    try_codes
+    try_words
+    try_outputs
+    try_calls
+    echo "end to end: ${program##*/} passed $count runs"
+done
