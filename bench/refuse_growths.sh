@@ -5,7 +5,7 @@
 #
 # Of a crate: each of its tests alone. A run has to end with an error that says that memory was refused, or by one of the test's
 # own asserts. Ends with status 1 where one ends by another error or a signal, or takes more than a minute. To be looked at are
-# what an assert found (`9` says that memory was refused), `error Io` (right where a writer into memory failed), and runs that
+# what else than refused memory an assert found, `error Io` (right where a writer into memory failed), and runs that
 # pass though a growth was refused (right where the test expects the refusal, or the growth wasn't needed).
 # A test of more than MOST growths (300) has half as many refused from its first on, and the others spread over the rest.
 #
@@ -30,13 +30,18 @@ refuse() {
     timeout 60 env REFUSE="$1" GROWTHS="$work/growths" LD_PRELOAD="$work/refuse.so" "$2" "$3" > "$work/said" 2>&1
 }
 
+memory='\(NoMemory\|AllocError\|AllocFailed\)'
+
 # How a run of a test ended, by its status and what it said.
 ending() {
     case $1 in
     0) echo "passed" ;;
-    101) sed -n 's/^error: \(NoMemory\|AllocError\|AllocFailed.*\)$/no memory/p; s/^error: /error /p' "$work/said" | head -1 ;;
+    101) sed -n "s/^error: .*$memory.*/no memory/p; s/^error: /error /p" "$work/said" | head -1 ;;
     124) echo "no end" ;;
-    134) sed -n 's/^assertion failed: /assert of /p; s/^ *left: /assert found /p' "$work/said" | head -1 | grep . || echo "status 134" ;;
+    134)
+        sed -n "s/^ *left: .*$memory.*/no memory by an assert/p; s/^ *left: 9$/fault 9 by an assert/p
+            s/^ *left: /assert found /p; s/^assertion failed: /assert of /p" "$work/said" | head -1 | grep . || echo "status 134"
+        ;;
     *) echo "status $1" ;;
     esac
 }
@@ -65,7 +70,7 @@ try_test() {
         tail -1 "$work/endings" | sed "s/^/$k /" >> "$work/by_growth"
     done
     echo "$1 $3: $growths growths, refused in turn: $(sort "$work/endings" | uniq -c | sed 's/^ *//' | paste -sd'|' | sed 's/|/, /g')"
-    if grep -q -v -e '^no memory$' -e '^error Io$' -e '^assert ' -e '^passed$' "$work/endings"; then
+    if grep -q -v -e '^no memory$' -e '^error Io$' -e ' by an assert$' -e '^assert ' -e '^passed$' "$work/endings"; then
         echo "BAD: $1 $3"
         bad=1
     fi
