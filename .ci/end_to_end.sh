@@ -25,7 +25,7 @@ gives() {
     end=$1 status=0
     shift
     timeout 60 "$program" "$@" > "$work/output" 2> "$work/error" < /dev/null || status=$?
-    [ "$status" = "$end" ] || fails "$* ended with status $status, and not $end"
+    [ "$status" = "$end" ] || fails "faxtool $* ended with status $status, and not $end"
     count=$((count + 1))
 }
 
