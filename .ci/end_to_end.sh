@@ -31,7 +31,7 @@ gives() {
 
 # is_same FILE WANTED WORDS: the file has the octets of the other one.
 is_same() {
-    cmp "$1" "$2" > "$work/error" 2>&1 || fails "$3: other octets"
+    difference=$(cmp "$1" "$2" 2>&1) || fails "$3: other octets: $difference"
 }
 
 # works WORDS: the program ends well and says nothing on standard error.
