@@ -104,9 +104,9 @@ is_kept() {
 # Whether, where the CFR's delivery was refused, a time-out and polite deliveries brought the call to its normal end.
 is_mended() {
     [ "$1" = again ] || return 0
-    sed -n 's/^entry 3 //p' "$work/said" | grep -q 'item: Some(Cfr), turn: Silent, .*refused: true' || return 0
+    sed -n 's/^entry 4 //p' "$work/said" | grep -q 'item: Some(Cfr), turn: Silent, .*refused: true' || return 0
     mended=$((mended + 1))
-    sed -n 's/^entry 4 //p' "$work/said" | grep -q 'event: CallerTimeout, item: None, turn: Training' &&
+    sed -n 's/^entry 5 //p' "$work/said" | grep -q 'event: CallerTimeout, item: None, turn: Training' &&
         grep -q '^confirmed 1 pages 1 .* caller Some(Normal) answerer Some(Normal)' "$work/said"
 }
 
