@@ -5,7 +5,7 @@ use Rattle.signals.proofs.ValueNumbers.{same_value}
 use Rattle.std.specs.List.{filter, find}
 use Rattle.page_code.specs.declared.coding.Coding.{Coding}
 use Rattle.page_code.specs.declared.coding.Coding.TheVariants.{OneDim, T6}
-use Rattle.signals.specs.Agreement.{place_of_speed, pixels_of, supports_speed, common_speed, tried_speeds, speed_order, first_of, after_speed, lower_speed, wished_coding, agreed_coding, takes_pages, at_first, agreed, offers_coding, allowed, AgreedIsAllowed, AgreedFits, LoweredIsAllowed, width_of_pixels, WidthsHavePixels}
+use Rattle.signals.specs.Agreement.{place_of_speed, pixels_of, supports_speed, common_speed, tried_speeds, speed_order, first_of, after_speed, lower_speed, wished_coding, agreed_coding, takes_pages, at_first, offers_coding, allowed, AgreedIsAllowed, AgreedFits, LoweredIsAllowed, width_of_pixels, WidthsHavePixels}
 use Rattle.signals.specs.declared.params.Caps.{Caps}
 use Rattle.signals.specs.declared.params.PageWidth.{PageWidth}
 use Rattle.signals.specs.declared.params.PageWidth.TheVariants.{W1728, W2048, W2432}

@@ -1,6 +1,4 @@
-use Rattle.std.proofs.Common.{◌≡◌, ◌≤◌, List, ℕ, Ok, length, sym, subst}
 use Rattle.signals.proofs.WritingLemmas.{reads-written, written-fits}
-use Rattle.signals.specs.Reading.{read_content}
 use Rattle.signals.specs.Signals.{plain}
 use Rattle.signals.proofs.writing.write.Goals as goal
 
