@@ -35,3 +35,5 @@ pub mod CallerCounts
 pub mod Transcripts
 pub mod Told
 pub mod Agreeing
+pub mod Streams
+pub mod StreamSteps

@@ -12,3 +12,4 @@ pub mod Standing
 pub mod Holding
 pub mod Report
 pub mod Delivering
+pub mod Streams

@@ -3,6 +3,7 @@
 ghost use Rattle.line_sim.specs.Counted.{DcsBetweenGroups, RunsAreCounted};
 ghost use Rattle.line_sim.specs.Polite.{GroupsAreAgreed, PoliteCalls, PoliteEvents};
 ghost use Rattle.line_sim.specs.Headline.{EventsMove, LineHolds, LinesCanBeWritten, RunsAreSafe, RunsMove, StationsInStep, WholeBlocksAccepted};
+ghost use Rattle.line_sim.specs.Streams.{CutsChangeNothing, StoredIsSaid};
 
 /// What holds over every schedule of losses, spoiled training checks, time-outs, waits and refused
 /// growths: the facts of the line, with which both stations stay in step; each event is at most two moves
@@ -45,4 +46,16 @@ pub fn counted()
     ensures groups { DcsBetweenGroups }
 {
     stations::laws::steps_spend();
+}
+
+/// Whoever is on a line, an answerer of its octets answers the same wherever they are cut; and each page
+/// that it stores is the reading, by the grammar of its code, of octets that are joined from data fields of
+/// FCDs among the good contents of all bits, by the parameters of a DCS among them that it allows.
+pub fn foreign_peers()
+    ensures cut { CutsChangeNothing }
+    ensures stored { StoredIsSaid }
+{
+    raster::laws::bits_join();
+    hdlc::laws::good_contents_stay();
+    stations::laws::stored_is_read();
 }

@@ -9,6 +9,7 @@ mod item;
 pub mod laws;
 mod polite;
 mod report;
+mod stream;
 #[cfg(test)]
 mod tests;
 mod world;
@@ -16,4 +17,5 @@ mod world;
 pub use crate::event::{Entry, Event, Kind};
 pub use crate::fault::WorldFault;
 pub use crate::report::Report;
+pub use crate::stream::{Answered, Feed, answer_stream};
 pub use crate::world::{World, run};
