@@ -3,8 +3,8 @@
 #
 #     bench/refuse_growths.sh [CRATE.. | calls]       with no word all crates, and then the calls
 #
-# Of a crate: each of its tests alone. A run has to end with an error that says that memory was refused, or by one of the test's
-# own asserts. Ends with status 1 where one ends by another error or a signal, or takes more than a minute. To be looked at are
+# Of a crate: each of its tests alone. A run has to end with an error that says that memory was refused, or by a stop of
+# the test's own. Ends with status 1 where one ends by another error or a signal, or takes more than a minute. To be looked at are
 # what else than refused memory an assert found, `error Io` (right where a writer into memory failed), and runs that
 # pass though a growth was refused (right where the test expects the refusal, or the growth wasn't needed).
 # A test of more than MOST growths (300) has half as many refused from its first on, and the others spread over the rest.
@@ -30,7 +30,7 @@ refuse() {
     timeout 60 env REFUSE="$1" GROWTHS="$work/growths" LD_PRELOAD="$work/refuse.so" "$2" "$3" > "$work/said" 2>&1
 }
 
-memory='\(NoMemory\|AllocError\|AllocFailed\)'
+memory='\(NoMemory\|AllocError\|AllocFailed\|No(9)\)'
 
 # How a run of a test ended, by its status and what it said.
 ending() {
@@ -39,8 +39,9 @@ ending() {
     101) sed -n "s/^error: .*$memory.*/no memory/p; s/^error: /error /p" "$work/said" | head -1 ;;
     124) echo "no end" ;;
     134)
-        sed -n "s/^ *left: .*$memory.*/no memory by an assert/p; s/^ *left: 9$/fault 9 by an assert/p
-            s/^ *left: /assert found /p; s/^assertion failed: /assert of /p" "$work/said" | head -1 | grep . || echo "status 134"
+        grep -q '^test stopped at .*test' "$work/said" || echo "status 134"
+        sed -n "s/^ *left: .*$memory.*/no memory by an assert/p; s/^ *left: 9$/fault 9 by an assert/p; s/^ *left: /assert found /p
+            s/^assertion failed: /assert of /p; s/^test stopped at .*/stopped by the test/p" "$work/said" | head -1
         ;;
     *) echo "status $1" ;;
     esac
@@ -70,7 +71,7 @@ try_test() {
         tail -1 "$work/endings" | sed "s/^/$k /" >> "$work/by_growth"
     done
     echo "$1 $3: $growths growths, refused in turn: $(sort "$work/endings" | uniq -c | sed 's/^ *//' | paste -sd'|' | sed 's/|/, /g')"
-    if grep -q -v -e '^no memory$' -e '^error Io$' -e ' by an assert$' -e '^assert ' -e '^passed$' "$work/endings"; then
+    if grep -q -v -e '^no memory$' -e '^error Io$' -e ' by an assert$' -e '^assert ' -e '^stopped by the test$' -e '^passed$' "$work/endings"; then
         echo "BAD: $1 $3"
         bad=1
     fi
