@@ -8,7 +8,7 @@ use Rattle.raster.specs.Packed.{bits_of}
 use Rattle.raster.specs.declared.packed.Order.TheVariants.{LsbFirst}
 use Rattle.raster.proofs.OctetBits.{bits_of-append}
 use Rattle.hdlc.specs.Flags.{flags, gaps}
-use Rattle.hdlc.specs.Framing.{Framing, StandsAfter}
+use Rattle.hdlc.specs.DeframerState.{DeframerState, IsAfter}
 use Rattle.signals.specs.Reading.{read_content}
 use Rattle.signals.specs.declared.params.Caps.{Caps}
 use Rattle.stations.specs.AnswererStep.{Answerer, answerer_step}
@@ -45,25 +45,25 @@ hears_both xs ys a b c ta tb tc one two = record {
 -- ---- the contents that wait
 
 -- What is still to be heard of the contents that waited: with it all of them are heard.
-pub record HearsLeft (start framing : Framing) (old now : Answerer) (before turns : List Turn) : Type 0 where
+pub record HearsLeft (start framing : DeframerState) (old now : Answerer) (before turns : List Turn) : Type 0 where
   pub left : (new : Answerer) (all : List Turn) → Hears (heard framing.queue) now new turns all → Hears (heard start.queue) old new before all
   pub rest : framing ≡ record start { queue = framing.queue }
 
-pub all_left : (start : Framing) (s : Answerer) (turns : List Turn) → HearsLeft start start s s turns turns
+pub all_left : (start : DeframerState) (s : Answerer) (turns : List Turn) → HearsLeft start start s s turns turns
 all_left start s turns = record { left = λ new all h. h; rest = refl }
 
-pub one_heard : (start framing after : Framing) (old now next : Answerer) (before turns more : List Turn) (content : List ℕ) →
+pub one_heard : (start framing after : DeframerState) (old now next : Answerer) (before turns more : List Turn) (content : List ℕ) →
     HearsLeft start framing old now before turns → slice_get framing.queue 0 ≡ Some content →
     Hears (heard_if (read_content content)) now next turns more → after ≡ record framing { queue = drop 1 framing.queue } →
     HearsLeft start after old next before more
 one_heard start framing after old now next before turns more content so waits hears is =
     let frames : framing.queue ≡ content ∷ drop 1 framing.queue = front framing.queue waits in
-    let gone : after.queue ≡ drop 1 framing.queue = ap (λ (f : Framing). f.queue) is in
+    let gone : after.queue ≡ drop 1 framing.queue = ap (λ (f : DeframerState). f.queue) is in
     record {
       left = λ new all h. so.left new all (subst (λ q. Hears (heard q) now new turns all) (sym frames)
           (hears_both (heard_if (read_content content)) (heard (drop 1 framing.queue)) now next new turns more all hears
           (subst (λ q. Hears (heard q) next new more all) gone h)));
-      rest = is ∙ (ap (λ (f : Framing). record f { queue = drop 1 framing.queue }) so.rest ∙ ap (λ q. record start { queue = q }) (sym gone));
+      rest = is ∙ (ap (λ (f : DeframerState). record f { queue = drop 1 framing.queue }) so.rest ∙ ap (λ q. record start { queue = q }) (sym gone));
     }
   where
     front : (queue : List (List ℕ)) → slice_get queue 0 ≡ Some content → queue ≡ content ∷ drop 1 queue
@@ -74,16 +74,16 @@ no_content : (queue : List (List ℕ)) → slice_get queue 0 ≡ None → queue 
 no_content [] e = refl
 no_content (x ∷ xs) e = cc
 
-pub all_heard : (start framing : Framing) (old now : Answerer) (before turns : List Turn) →
+pub all_heard : (start framing : DeframerState) (old now : Answerer) (before turns : List Turn) →
     HearsLeft start framing old now before turns → slice_get framing.queue 0 ≡ None → Hears (heard start.queue) old now before turns
 all_heard start framing old now before turns so none =
     so.left now turns (subst (λ q. Hears (heard q) now now turns turns) (sym (no_content framing.queue none)) (hears_none now turns))
 
-pub none_waits : (start framing after : Framing) (old now : Answerer) (before turns : List Turn) →
+pub none_waits : (start framing after : DeframerState) (old now : Answerer) (before turns : List Turn) →
     HearsLeft start framing old now before turns → slice_get framing.queue 0 ≡ None →
     after ≡ record framing { queue = drop 1 framing.queue } → after ≡ record start { queue = [] }
 none_waits start framing after old now before turns so none is =
-    is ∙ (ap (λ (f : Framing). record f { queue = drop 1 framing.queue }) so.rest ∙
+    is ∙ (ap (λ (f : DeframerState). record f { queue = drop 1 framing.queue }) so.rest ∙
     ap (λ q. record start { queue = drop 1 q }) (no_content framing.queue none))
 
 -- ---- a feed
@@ -92,15 +92,15 @@ pub on_ok_both : {T E : Type 0} (r : Result T E) (P Q : Type 0) → OnOk r P →
 on_ok_both (Ok x) P Q p q = (p, q)
 on_ok_both (Err e) P Q p q = tt
 
-pub octets_taken : (octets piece : List ℕ) (framing fed after : Framing) (old new : Answerer) (before turns : List Turn) →
+pub octets_taken : (octets piece : List ℕ) (framing fed after : DeframerState) (old new : Answerer) (before turns : List Turn) →
     HasHeard framing octets →
-    ((bits : List Bool) (handed : ℕ) → StandsAfter framing bits handed → StandsAfter fed (bits ++ bits_of LsbFirst piece) handed) →
+    ((bits : List Bool) (handed : ℕ) → IsAfter framing bits handed → IsAfter fed (bits ++ bits_of LsbFirst piece) handed) →
     Hears (heard fed.queue) old new before turns → after ≡ record fed { queue = [] } →
     TakesFeed octets (line piece) after old new before turns
 unfolding contents new_contents
 octets_taken octets piece framing fed after old new before turns has feeds hears is =
-    let stands : StandsAfter fed (bits_of LsbFirst (octets ++ piece)) (length (contents octets)) =
-    subst (λ b. StandsAfter fed b (length (contents octets))) (sym (bits_of-append octets piece))
+    let stands : IsAfter fed (bits_of LsbFirst (octets ++ piece)) (length (contents octets)) =
+    subst (λ b. IsAfter fed b (length (contents octets))) (sym (bits_of-append octets piece))
     (feeds (bits_of LsbFirst octets) (length (contents octets)) has) in
     let queue : fed.queue ≡ new_contents octets piece = stands.queued in
     let every = contents (octets ++ piece) in
@@ -115,7 +115,7 @@ octets_taken octets piece framing fed after old new before turns has feeds hears
     }
 
 -- a feed that is no octets of the line
-pub other_taken : (octets : List ℕ) (feed : PlainFeed) (framing : Framing) (old new : Answerer) (before turns : List Turn) →
+pub other_taken : (octets : List ℕ) (feed : PlainFeed) (framing : DeframerState) (old new : Answerer) (before turns : List Turn) →
     octets_in feed ≡ [] → HasHeard framing octets → Hears (feed_inputs octets feed) old new before turns →
     TakesFeed octets feed framing old new before turns
 other_taken octets feed framing old new before turns none has hears = record {
@@ -126,19 +126,19 @@ other_taken octets feed framing old new before turns none has hears = record {
 -- ---- feeds
 
 -- these feeds were taken
-pub record TakesAll (caps : Caps) (feeds : List PlainFeed) (framing : Framing) (now : Answerer) (turns : List Turn) : Type 0 where
+pub record TakesAll (caps : Caps) (feeds : List PlainFeed) (framing : DeframerState) (now : Answerer) (turns : List Turn) : Type 0 where
   pub taken : HasHeard framing (line_octets feeds)
   pub heard : Hears (inputs_of feeds) (starts caps) now (Dis ∷ []) turns
 
-pub none_taken : (caps : Caps) (framing : Framing) (s : Answerer) (turns : List Turn) →
-    StandsAfter framing [] 0 → s ≡ starts caps → turns ≡ Dis ∷ [] → TakesAll caps [] framing s turns
+pub none_taken : (caps : Caps) (framing : DeframerState) (s : Answerer) (turns : List Turn) →
+    IsAfter framing [] 0 → s ≡ starts caps → turns ≡ Dis ∷ [] → TakesAll caps [] framing s turns
 unfolding contents flags gaps Packed.bits_in
 none_taken caps framing s turns fresh is first = record {
   taken = fresh;
   heard = record { station = is; turns_are = first };
 }
 
-one_taken : (caps : Caps) (feeds : List PlainFeed) (feed : PlainFeed) (framing after : Framing) (now next : Answerer) (turns more : List Turn) →
+one_taken : (caps : Caps) (feeds : List PlainFeed) (feed : PlainFeed) (framing after : DeframerState) (now next : Answerer) (turns more : List Turn) →
     TakesAll caps feeds framing now turns →
     ((octets : List ℕ) → HasHeard framing octets → TakesFeed octets feed after now next turns more) →
     TakesAll caps (feeds ++ feed ∷ []) after next more
@@ -164,7 +164,7 @@ next_feed (x ∷ xs) (suc i) d within =
     ap (λ n. map plain_feed (take n (x ∷ xs))) e ∙ ap (λ l. plain_feed x ∷ l) (next_feed xs i d (omega arith))
 
 pub next_taken :
-    (caps : Caps) (xs : List Feed) (i : ℕ) (d : Feed) (framing after : Framing) (now next : Answerer) (turns more : List Turn) →
+    (caps : Caps) (xs : List Feed) (i : ℕ) (d : Feed) (framing after : DeframerState) (now next : Answerer) (turns more : List Turn) →
     i < length xs → TakesAll caps (map plain_feed (take i xs)) framing now turns →
     ((octets : List ℕ) → HasHeard framing octets → TakesFeed octets (plain_feed (get_or xs i d)) after now next turns more) →
     TakesAll caps (map plain_feed (take (i + 1) xs)) after next more

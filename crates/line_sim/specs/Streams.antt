@@ -4,7 +4,7 @@ use Rattle.std.specs.List.{Contains}
 use Rattle.raster.specs.Packed.{bits_of}
 use Rattle.raster.specs.Pages.{PagePixels}
 use Rattle.raster.specs.declared.packed.Order.TheVariants.{LsbFirst}
-use Rattle.hdlc.specs.Framing.{Framing, StandsAfter}
+use Rattle.hdlc.specs.DeframerState.{DeframerState, IsAfter}
 use Rattle.hdlc.specs.Gaps.{good}
 use Rattle.signals.specs.Agreement.{allowed}
 use Rattle.signals.specs.Reading.{read_content}
@@ -144,8 +144,8 @@ abbrev pub StoredIsSaid : Type 0
 StoredIsSaid = (caps : Caps) (feeds : List PlainFeed) → Each (IsStored caps (contents (line_octets feeds))) (answers caps feeds).pages
 
 -- a deframer has taken octets of the line, and has handed out each good content
-abbrev pub HasHeard : Framing → List ℕ → Type 0
-HasHeard framing octets = StandsAfter framing (bits_of LsbFirst octets) (length (contents octets))
+abbrev pub HasHeard : DeframerState → List ℕ → Type 0
+HasHeard framing octets = IsAfter framing (bits_of LsbFirst octets) (length (contents octets))
 
 -- inputs were heard one after the other: the answerer and all turns afterwards
 pub record Hears (inputs : List AnswererInput) (old new : Answerer) (before turns : List Turn) : Type 0 where
@@ -153,6 +153,6 @@ pub record Hears (inputs : List AnswererInput) (old new : Answerer) (before turn
   pub turns_are : turns ≡ before ++ answerer_turns inputs old
 
 -- a feed was taken
-pub record TakesFeed (octets : List ℕ) (feed : PlainFeed) (framing : Framing) (old new : Answerer) (before turns : List Turn) : Type 0 where
+pub record TakesFeed (octets : List ℕ) (feed : PlainFeed) (framing : DeframerState) (old new : Answerer) (before turns : List Turn) : Type 0 where
   pub taken : HasHeard framing (octets ++ octets_in feed)
   pub heard : Hears (feed_inputs octets feed) old new before turns

@@ -1,6 +1,6 @@
 //! An answerer over the octets of a line, whoever sends them.
 
-ghost use Rattle.hdlc.specs.Framing.{Framing};
+ghost use Rattle.hdlc.specs.DeframerState.{DeframerState};
 ghost use Rattle.line_sim.specs.Streams.{Hears, HasHeard, IsStored, TakesFeed, answers, contents, heard, heard_if, line_octets, plain_answered, plain_feed};
 ghost use Rattle.signals.specs.Reading.{read_content};
 ghost use Rattle.stations.specs.Inputs.{answerer_input};
