@@ -11,7 +11,7 @@ use crate::coding::PageCode;
 use crate::eol::{Eol, behind_five_eols, eol_at};
 use crate::page::push_row;
 use raster::packed::Order;
-use raster::{MOST_ROWS, Page, Row};
+use raster::{MAX_ROWS, Page, Row};
 use run_tables::{BitReader, BitWriter, CodeFault, CodeFaultKind};
 use std::alloc::{AllocError, Global};
 
@@ -37,7 +37,7 @@ fn start_at(octets: &[u8], order: Order, place: u128, rows: usize) -> Start
 {
     match eol_at(octets, order, place) {
         Eol::Absent => {
-            if rows < MOST_ROWS {
+            if rows < MAX_ROWS {
                 Start::Row
             } else {
                 Start::Refused(CodeFaultKind::TooManyCodedRows)

@@ -13,7 +13,7 @@ use crate::page::{push_row, row_of};
 use crate::t6_a0::b2;
 use crate::t6_line::Line;
 use crate::t6_mode::{EOFB, ModeCode, Shift};
-use raster::{MOST_ROWS, Page, Row};
+use raster::{MAX_ROWS, Page, Row};
 use run_tables::{BitReader, CodeFault, CodeFaultKind};
 use std::alloc::{AllocError, Global};
 
@@ -69,7 +69,7 @@ fn start_at(reader: &BitReader, rows: usize) -> Start
     if reader.is_cut_of(EOFB) {
         return Start::Refused(CodeFaultKind::Truncated);
     }
-    if rows >= MOST_ROWS {
+    if rows >= MAX_ROWS {
         return Start::Refused(CodeFaultKind::TooManyCodedRows);
     }
     Start::Row

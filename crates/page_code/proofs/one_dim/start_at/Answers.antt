@@ -4,8 +4,8 @@ use Rattle.page_code.proofs.T4Readings.{reading_again_none, reading_again_eol, r
 use Rattle.page_code.proofs.OneDimReads.{start_none, start_eol}
 use Rattle.page_code.proofs.one_dim.start_at.Goals as goal
 
-pub returns-else-rows-lt-MOST_ROWS : goal.returns-else-rows-lt-MOST_ROWS
-returns-else-rows-lt-MOST_ROWS c = λ width rows count. reading_again_full width c.args.place rows (drop c.args.place (bits_of c.args.order c.args.octets.now)) (omega (arith, count)) c.in-Absent.ensures
+pub returns-else-rows-lt-MAX_ROWS : goal.returns-else-rows-lt-MAX_ROWS
+returns-else-rows-lt-MAX_ROWS c = λ width rows count. reading_again_full width c.args.place rows (drop c.args.place (bits_of c.args.order c.args.octets.now)) (omega (arith, count)) c.in-Absent.ensures
 
 pub returns-then-rows-eq0 : goal.returns-then-rows-eq0
 returns-then-rows-eq0 c = λ width rows count. start_none width c.args.place rows (drop c.args.place (bits_of c.args.order c.args.octets.now)) (count ∙ c.if-rows-eq0.true) c.in-OnlyZeros.ensures
