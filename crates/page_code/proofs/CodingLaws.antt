@@ -1,10 +1,10 @@
 -- The laws of pages in either code, from those of each.
 use Rattle.page_code.specs.declared.coding.Coding.TheVariants.{OneDim, T6}
 use Rattle.page_code.specs.Codings.{GivesCodedRows, IsLongestIn, ReadsCode, ReadsExactly, ReadsIn, RefusesAtLongest, RefusesNoPage, code_of, read_rows}
-use Rattle.page_code.proofs.OneDimReads.{reads_its_code as reads_its_code_one_dim}
-use Rattle.page_code.proofs.T4PageLaws as one_dim
-use Rattle.page_code.proofs.T6Gives.{reads_its_code as reads_its_code_t6}
-use Rattle.page_code.proofs.T6PageLaws as t6
+use Rattle.page_code.proofs.OneDimension.ReadsRowOfPage.{reads_its_code as reads_its_code_one_dim}
+use Rattle.page_code.proofs.OneDimension.Laws as one_dim
+use Rattle.page_code.proofs.TwoDimensions.ReadsItsCode.{reads_its_code as reads_its_code_t6}
+use Rattle.page_code.proofs.TwoDimensions.Laws as t6
 
 pub reads_exactly : ReadsExactly
 unfolding read_rows ReadsIn
@@ -27,4 +27,5 @@ reads_code OneDim = reads_its_code_one_dim
 reads_code T6 = reads_its_code_t6
 
 pub gives_coded_rows : GivesCodedRows
-gives_coded_rows coding width rows rest wide some few all = (reads_exactly coding width _ rows _ wide).1 (reads_code coding width rows rest wide some few all)
+gives_coded_rows coding width rows rest wide some few all = (reads_exactly coding width _ rows _ wide).1 (reads_code coding width rows rest
+    wide some few all)

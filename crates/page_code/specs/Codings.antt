@@ -6,17 +6,17 @@ use Rattle.run_tables.specs.declared.fault.CodeFaultKind.{CodeFaultKind}
 use Rattle.page_code.specs.declared.coding.Coding.{Coding}
 use Rattle.page_code.specs.declared.coding.Coding.TheVariants.{OneDim, T6}
 use Rattle.page_code.specs.PageCodes.{ReadsItsCode}
-use Rattle.page_code.specs.T4Pages.{ReadsAs, page_text}
-use Rattle.page_code.specs.T4Fronts.{read_page as read_one_dim}
-use Rattle.page_code.specs.T4Laws.{IsLongestFront as IsLongestOneDim}
-use Rattle.page_code.specs.T6Code.{page_code}
-use Rattle.page_code.specs.T6Modes.{ReadsAsPage}
-use Rattle.page_code.specs.T6Fronts.{read_page as read_t6}
-use Rattle.page_code.specs.T6Laws.{IsLongestFront as IsLongestT6}
+use Rattle.page_code.specs.OneDimension.Pages.{ReadsAs, page_words}
+use Rattle.page_code.specs.OneDimension.Fronts.{read_page as read_one_dim}
+use Rattle.page_code.specs.OneDimension.Laws.{IsLongestFront as IsLongestOneDim}
+use Rattle.page_code.specs.TwoDimensions.Code.{page_code}
+use Rattle.page_code.specs.TwoDimensions.Modes.{ReadsAsPage}
+use Rattle.page_code.specs.TwoDimensions.Fronts.{read_page as read_t6}
+use Rattle.page_code.specs.TwoDimensions.Laws.{IsLongestFront as IsLongestT6}
 
 -- the prescribed code of rows of a width
 unfoldable pub code_of : Coding → ℕ → List (List Color) → List Bool
-code_of OneDim width rows = page_text rows
+code_of OneDim width rows = page_words rows
 code_of T6 width rows = page_code width rows
 
 -- the bits read as rows of this width, with so many of them used
@@ -29,7 +29,7 @@ unfoldable pub read_rows : Coding → ℕ → List Bool → Result (List (List C
 read_rows OneDim width bits = read_one_dim width bits
 read_rows T6 width bits = read_t6 width bits
 
--- no front of the bits is longer, and this kind is seen behind it
+-- no front of the bits is longer, and this kind is seen after it
 unfoldable pub IsLongestIn : Coding → ℕ → List Bool → ℕ → CodeFaultKind → Type 0
 IsLongestIn OneDim width bits place kind = IsLongestOneDim width bits place kind
 IsLongestIn T6 width bits place kind = IsLongestT6 width bits place kind
@@ -47,7 +47,7 @@ RefusesNoPage =
     (coding : Coding) (width : ℕ) (bits : List Bool) (place : ℕ) (kind : CodeFaultKind) (rows : List (List Color)) (used : ℕ)
     → IsWidth width → read_rows coding width bits ≡ Err (place, kind) → ¬ ReadsIn coding width bits rows used
 
--- the place of a refusal is the length of the longest front, and its kind is what is seen behind it
+-- the place of a refusal is the length of the longest front, and its kind is what is seen after it
 abbrev pub RefusesAtLongest : Type 0
 RefusesAtLongest = (coding : Coding) (width : ℕ) (bits : List Bool) (place : ℕ) (kind : CodeFaultKind)
     → read_rows coding width bits ≡ Err (place, kind) → IsLongestIn coding width bits place kind

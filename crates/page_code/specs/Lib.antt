@@ -1,14 +1,5 @@
+-- What the codes of pages are.
 pub mod PageCodes
 pub mod Codings
-pub mod T4Pages
-pub mod OwnRuns
-pub mod T4Fronts
-pub mod T4Laws
-pub mod T4Reading
-pub mod T6Positions
-pub mod T6Modes
-pub mod T6Code
-pub mod T6Fronts
-pub mod T6Laws
-pub mod T6Writing
-pub mod T6Reading
+pub mod OneDimension
+pub mod TwoDimensions

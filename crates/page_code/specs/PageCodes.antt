@@ -14,21 +14,24 @@ abbrev pub AppendsCode : Order → List Bool → List ℕ → List ℕ → Type 
 AppendsCode order code old new = (octets : List ℕ) × (new ≡ old ++ octets) × FillsOctets order code octets
 
 -- a page of this width was read, and so many bits used
-pub record ReadsPage (Reads : ℕ → List Bool → List (List Color) → ℕ → Type 0) (width : ℕ) (fine : Bool) (bits : List Bool) (page : PagePixels) (used : ℕ) : Type 0 where
+pub record ReadsPage (Reads : ℕ → List Bool → List (List Color) → ℕ
+    → Type 0) (width : ℕ) (fine : Bool) (bits : List Bool) (page : PagePixels) (used : ℕ) : Type 0 where
   pub width_is : page.width ≡ width
   pub fine_is : page.fine ≡ fine
   pub reads : Reads width bits page.rows used
 
 -- a refusal that isn't one of memory: the bits read as no page, the place is the length of their longest front, and the kind is that of
 -- the bits from there
-pub record RefusesPage (Reads : ℕ → List Bool → List (List Color) → ℕ → Type 0) (Longest : ℕ → List Bool → ℕ → CodeFaultKind → Type 0) (width : ℕ) (bits : List Bool) (fault : CodeFault) : Type 0 where
+pub record RefusesPage (Reads : ℕ → List Bool → List (List Color) → ℕ → Type 0) (Longest : ℕ → List Bool → ℕ → CodeFaultKind
+    → Type 0) (width : ℕ) (bits : List Bool) (fault : CodeFault) : Type 0 where
   pub longest : Longest width bits fault.place fault.kind
   pub none : (rows : List (List Color)) (used : ℕ) → ¬ Reads width bits rows used
 
 -- what bits read as is answered, unless memory was refused
 abbrev pub IsOnlyAnswer : (ℕ → List Bool → List (List Color) → ℕ → Type 0) → ℕ → List Bool → Result (PagePixels × ℕ) CodeFault → Type 0
 IsOnlyAnswer Reads width bits result =
-    (rows : List (List Color)) (used : ℕ) → Reads width bits rows used → MatchResult result (λ read. (read.0.rows ≡ rows) × (read.1 ≡ used)) (λ fault. fault.kind ≡ NoMemory)
+    (rows : List (List Color)) (used : ℕ) → Reads width bits rows used
+    → MatchResult result (λ read. (read.0.rows ≡ rows) × (read.1 ≡ used)) (λ fault. fault.kind ≡ NoMemory)
 
 -- the rows and the bits used are what reading gives, and so is the refusal, unless memory was refused
 abbrev pub GivesRows : Result (List (List Color) × ℕ) (ℕ × CodeFaultKind) → Result (PagePixels × ℕ) CodeFault → Type 0
@@ -43,4 +46,5 @@ GivesPage outcome width fine (Err fault) = (fault.kind ≡ NoMemory) ⊎ (outcom
 -- the code of a page, followed by any bits, reads as the page with the code's length
 abbrev pub ReadsItsCode : (ℕ → List (List Color) → List Bool) → (ℕ → List Bool → List (List Color) → ℕ → Type 0) → Type 0
 ReadsItsCode code Reads =
-    (width : ℕ) (rows : List (List Color)) (rest : List Bool) → IsWidth width → 0 < length rows → length rows ≤ 20000 → All (λ row. length row ≡ width) rows → Reads width (code width rows ++ rest) rows (length (code width rows))
+    (width : ℕ) (rows : List (List Color)) (rest : List Bool) → IsWidth width → 0 < length rows → length rows ≤ 20000
+    → All (λ row. length row ≡ width) rows → Reads width (code width rows ++ rest) rows (length (code width rows))

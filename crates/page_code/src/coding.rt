@@ -1,3 +1,5 @@
+//! The names of the codes, and what each of them does.
+
 ghost use Rattle.page_code.specs.PageCodes.{AppendsCode, GivesRows, IsOnlyAnswer, ReadsItsCode, ReadsPage, RefusesPage};
 ghost use Rattle.raster.specs.Packed.{bits_of};
 ghost use Rattle.raster.specs.Pixels.{IsWidth};
@@ -5,6 +7,9 @@ ghost use Rattle.raster.specs.declared.row.Color.{Color};
 ghost use Rattle.run_tables.specs.declared.fault.CodeFaultKind.{CodeFaultKind as Kind};
 ghost use Rattle.run_tables.specs.declared.fault.CodeFaultKind.TheVariants.{NoMemory};
 ghost use Rattle.std.specs.Prelude.{◌≡◌, ◌≢◌, ◌<◌, ◌++◌, ℕ, List, Bool, Result, length, IfOk, IfErr, OnOk, OnErr};
+
+#[cfg(test)]
+mod tests;
 
 use crate::one_dim::OneDim;
 use crate::t6::T6;
@@ -84,7 +89,7 @@ pub trait PageCode {
     // what bits read as: rows of a width and the bits used, or the place and the kind of a refusal
     ghost outcome: { ℕ → List Bool → Result (List (List Color) × ℕ) (ℕ × Kind) };
 
-    // bits are refused at a place, behind their longest front, and with the kind of the bits there
+    // bits are refused at a place, after their longest front, and with the kind of the bits there
     ghost Longest: { ℕ → List Bool → ℕ → Kind → Type 0 };
 
     /// Appends the page's code, its last octet filled with 0 bits. Errs where memory is refused, which

@@ -2,6 +2,9 @@
 
 ghost use Rattle.page_code.specs.Codings.{GivesCodedRows, ReadsCode, ReadsExactly, RefusesAtLongest, RefusesNoPage};
 
+pub mod one_dim;
+pub mod t6;
+
 /// A page is read exactly where the bits read as it.
 pub fn reads_exactly()
     ensures { ReadsExactly }
@@ -12,17 +15,14 @@ pub fn refuses_no_page()
     ensures { RefusesNoPage }
 {}
 
-/// A refusal has the length of the longest front as its place, and the kind of what stands there.
+/// A refusal has the length of the longest front as its place, and the kind of what is there.
 pub fn refuses_at_longest()
     ensures { RefusesAtLongest }
 {}
 
-/// The code of a page, followed by any bits, reads as the page.
-pub fn reads_code()
-    ensures { ReadsCode }
-{}
-
-/// Reading the code of a page, followed by any bits, gives the page and the code's length.
-pub fn gives_coded_rows()
-    ensures { GivesCodedRows }
+/// The code of a page, followed by any bits, reads as the page, and reading it gives the page and the
+/// code's length.
+pub fn round_trip()
+    ensures reads { ReadsCode }
+    ensures gives { GivesCodedRows }
 {}

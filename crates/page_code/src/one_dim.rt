@@ -1,14 +1,20 @@
+//! Pages in the one-dimensional code (ITU-T T.4, 4.1).
+
 ghost use Rattle.page_code.specs.PageCodes.{GivesPage};
-ghost use Rattle.page_code.specs.T4Fronts.{CodeStands, read_page as read_bits};
-ghost use Rattle.page_code.specs.T4Pages.{rows_text, eols_text, rtc};
-ghost use Rattle.page_code.specs.T4Reading.{BeginsPage, ReadsRowOfPage, SeesStart};
+ghost use Rattle.page_code.specs.OneDimension.Fronts.{CodeBegins, read_page as read_bits};
+ghost use Rattle.page_code.specs.OneDimension.Pages.{rows_words, eol_words, rtc};
+ghost use Rattle.page_code.specs.OneDimension.Reading.{BeginsPage, ReadsRowOfPage, SeesStart};
 ghost use Rattle.raster.specs.Packed.{Bits, bits_of};
 ghost use Rattle.raster.specs.Pixels.{IsWidth};
 ghost use Rattle.raster.specs.declared.row.Color.{Color};
 ghost use Rattle.std.specs.Prelude.{◌≡◌, ◌≤◌, ◌<◌, ◌+◌, ◌*◌, ◌++◌, ◌∷◌, [], ℕ, List, length, drop, OnOk, All};
 
+mod eol;
+#[cfg(test)]
+mod tests;
+
 use crate::coding::PageCode;
-use crate::eol::{Eol, behind_five_eols, eol_at};
+use crate::one_dim::eol::{Eol, after_five_eols, eol_at};
 use crate::page::push_row;
 use raster::packed::Order;
 use raster::{MAX_ROWS, Page, Row};
@@ -18,19 +24,20 @@ use std::alloc::{AllocError, Global};
 /// The one-dimensional code of ITU-T T.4, 4.1. A page is written as EOL, the rows by their own runs
 /// with one EOL between two, and six EOLs; and read as no EOL or one, rows with one EOL between two,
 /// and an end. Refusals are `NoRows`, `Truncated`, `BadCode`, `RunTooLong` and `TooManyCodedRows`.
+#[derive(Clone, Copy, Debug, PartialEq, Eq)]
 pub struct OneDim;
 
-/// What stands where a row may begin.
+/// What is found where a row may begin.
 enum Start {
     /// A row.
     Row,
     /// The page's end, with so many bits used.
     End(u128),
-    /// Nothing that may stand there.
+    /// Nothing that may be there.
     Refused(CodeFaultKind),
 }
 
-/// What stands at a place where a row may begin, behind so many rows.
+/// What is found at a place where a row may begin, after so many rows.
 fn start_at(octets: &[u8], order: Order, place: u128, rows: usize) -> Start
     requires { place ≤ 8 * length octets.now }
     ensures { SeesStart (bits_of order octets.now) place rows result }
@@ -50,22 +57,22 @@ fn start_at(octets: &[u8], order: Order, place: u128, rows: usize) -> Start
                 Start::End(place)
             }
         }
-        Eol::Stands(_) => {
+        Eol::Present(_) => {
             if rows == 0 {
                 Start::Refused(CodeFaultKind::NoRows)
             } else {
-                Start::End(behind_five_eols(octets, order, place))
+                Start::End(after_five_eols(octets, order, place))
             }
         }
     }
 }
 
-/// The place where the first row begins: at the beginning, or behind one EOL.
+/// The place where the first row begins: at the beginning, or after one EOL.
 fn first_row(octets: &[u8], order: Order) -> Result<u128, CodeFault>
     ensures { BeginsPage (bits_of order octets.now) result }
 {
     match eol_at(octets, order, 0) {
-        Eol::Stands(bits) => Ok(bits),
+        Eol::Present(bits) => Ok(bits),
         Eol::Absent => Ok(0),
         Eol::OnlyZeros => Err(CodeFault::new(0, CodeFaultKind::NoRows)),
     }
@@ -81,7 +88,7 @@ fn read_row(
     page: &mut Page,
 ) -> Result<u128, CodeFault>
     requires within { place ≤ 8 * length octets.now }
-    requires starts { CodeStands (drop place (bits_of order octets.now)) }
+    requires starts { CodeBegins (drop place (bits_of order octets.now)) }
     requires room { length page.old.rows < 20000 }
     requires width { IsWidth page.old.width }
     ensures { ReadsRowOfPage (bits_of order octets.now) place page.old page.new result }
@@ -94,7 +101,7 @@ fn read_row(
 
 /// Writes the return to control: six EOLs (ITU-T T.4, 4.1.4).
 fn write_rtc(bits: &mut BitWriter) -> Result<(), AllocError>
-    ensures { OnOk result (bits.new ≡ record bits.old { bits = bits.old.bits ++ eols_text rtc }) }
+    ensures { OnOk result (bits.new ≡ record bits.old { bits = bits.old.bits ++ eol_words rtc }) }
 {
     for _ in 0..6u32 {
         bits.write_eol()?;
@@ -102,23 +109,23 @@ fn write_rtc(bits: &mut BitWriter) -> Result<(), AllocError>
     Ok(())
 }
 
-/// Writes the rows, each behind an EOL.
+/// Writes the rows, each after an EOL.
 fn write_rows(alloc: Global, rows: &[Row], bits: &mut BitWriter) -> Result<(), AllocError>
     requires { All (λ row. 0 < length row) rows.now }
-    ensures { OnOk result (bits.new ≡ record bits.old { bits = bits.old.bits ++ rows_text rows.now }) }
+    ensures { OnOk result (bits.new ≡ record bits.old { bits = bits.old.bits ++ rows_words rows.now }) }
 {
     for row in rows {
-        bits.write_eol()?; // before each row
+        bits.write_eol()?;
         bits.write_row_1d(alloc, row)?;
     }
     Ok(())
 }
 
 impl PageCode for OneDim {
-    ghost use Rattle.page_code.specs.T4Pages.{ReadsAs, page_text};
-    ghost use Rattle.page_code.specs.T4Laws.{IsLongestFront};
+    ghost use Rattle.page_code.specs.OneDimension.Pages.{ReadsAs, page_words};
+    ghost use Rattle.page_code.specs.OneDimension.Laws.{IsLongestFront};
 
-    ghost code = { λ width rows. page_text rows };
+    ghost code = { λ width rows. page_words rows };
 
     ghost Reads = { ReadsAs };
 
@@ -176,7 +183,7 @@ fn read_page(
         }
         let row_end = read_row(alloc, octets, order, place, &mut page)?;
         match eol_at(octets, order, row_end) {
-            Eol::Stands(bits) => place = row_end + bits,
+            Eol::Present(bits) => place = row_end + bits,
             Eol::OnlyZeros => return Ok((page, row_end)),
             Eol::Absent => return Err(CodeFault::new(row_end, CodeFaultKind::BadCode)),
         }

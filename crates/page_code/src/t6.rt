@@ -1,11 +1,21 @@
+//! Pages in the two-dimensional code (ITU-T T.6, 2.2).
+
 ghost use Rattle.page_code.specs.PageCodes.{GivesPage};
-ghost use Rattle.page_code.specs.T6Fronts.{read_page as read_bits};
+ghost use Rattle.page_code.specs.TwoDimensions.Fronts.{read_page as read_bits};
 ghost use Rattle.raster.specs.Packed.{bits_of};
 ghost use Rattle.raster.specs.Pixels.{IsWidth};
 
+mod a0;
+mod line;
+pub(crate) mod mode;
+mod read;
+#[cfg(test)]
+mod tests;
+mod write;
+
 use crate::coding::PageCode;
-use crate::t6_read::read_page;
-use crate::t6_write::write_page;
+use crate::t6::read::read_page;
+use crate::t6::write::write_page;
 use raster::Page;
 use raster::packed::Order;
 use run_tables::{BitReader, BitWriter, CodeFault};
@@ -15,6 +25,7 @@ use std::alloc::{AllocError, Global};
 /// the first after a white row, and EOFB; and read as rows by any modes that move to the right and not
 /// past the width, and EOFB. Refusals are `NoRows`, `Truncated`, `BadCode`, `Backwards`, `PastEnd`,
 /// `EmptyHorizontal`, `Extension`, `MissingEofb` and `TooManyCodedRows`.
+#[derive(Clone, Copy, Debug, PartialEq, Eq)]
 pub struct T6;
 
 /// The page and the bits used, as the bits read.
@@ -35,9 +46,9 @@ fn read_whole_page(
 }
 
 impl PageCode for T6 {
-    ghost use Rattle.page_code.specs.T6Code.{page_code};
-    ghost use Rattle.page_code.specs.T6Modes.{ReadsAsPage};
-    ghost use Rattle.page_code.specs.T6Laws.{IsLongestFront};
+    ghost use Rattle.page_code.specs.TwoDimensions.Code.{page_code};
+    ghost use Rattle.page_code.specs.TwoDimensions.Modes.{ReadsAsPage};
+    ghost use Rattle.page_code.specs.TwoDimensions.Laws.{IsLongestFront};
 
     ghost code = { page_code };
 

@@ -8,43 +8,43 @@ use Rattle.raster.specs.declared.row.Color.TheVariants.{White, Black}
 use Rattle.run_tables.specs.Codes.{codes_of}
 use Rattle.run_tables.specs.Texts.{begins, apart}
 use Rattle.run_tables.specs.Laws.{OneCode, CodesCover}
-use Rattle.run_tables.proofs.TextLemmas.{pick_begun}
+use Rattle.run_tables.proofs.BeginsLemmas.{pick_begun}
 
--- the text of a line of the table
-abbrev text_of : ℕ × List Bool → List Bool
-text_of code = code.1
+-- the code word of a line of the table
+abbrev word_of : ℕ × List Bool → List Bool
+word_of code = code.1
 
-texts_apart : (color : Color) → apart (map text_of (codes_of color)) ≡ true
-texts_apart White = refl
-texts_apart Black = refl
+words_apart : (color : Color) → apart (map word_of (codes_of color)) ≡ true
+words_apart White = refl
+words_apart Black = refl
 
 pub one_code : OneCode
 one_code color m n a b bits ca cb p q =
-    let first = pick_begun text_of (codes_of color) (m, a) bits (texts_apart color) ca p in
-    let second = pick_begun text_of (codes_of color) (n, b) bits (texts_apart color) cb q in
+    let first = pick_begun word_of (codes_of color) (m, a) bits (words_apart color) ca p in
+    let second = pick_begun word_of (codes_of color) (n, b) bits (words_apart color) cb q in
     let found : Some (m, a) ≡ Some (n, b) = sym first ∙ second in
     let same : (m, a) ≡ (n, b) = cc in
-    (ap (λ (code : ℕ × List Bool). code.0) same, ap text_of same)
+    (ap (λ (code : ℕ × List Bool). code.0) same, ap word_of same)
 
 abbrev has_empty : List (List Bool) → Bool
 has_empty [] = false
 has_empty ([] ∷ xs) = true
 has_empty ((b ∷ bs) ∷ xs) = has_empty xs
 
--- what follows the bit, in each text that begins with it
+-- what follows the bit, in each code word that begins with it
 abbrev after : Bool → List (List Bool) → List (List Bool)
 after bit [] = []
 after bit ([] ∷ xs) = after bit xs
 after bit ((b ∷ bs) ∷ xs) = if beq bit b then bs ∷ after bit xs else after bit xs
 
--- every text of so many bits begins with one of the texts
+-- every code word of so many bits begins with one of the code words
 abbrev covers : ℕ → List (List Bool) → Bool
 covers zero xs = has_empty xs
 covers (suc n) xs = has_empty xs || (covers n (after false xs) && covers n (after true xs))
 
-texts_cover : (color : Color) → covers 13 (replicate 8 false ∷ map text_of (codes_of color)) ≡ true
-texts_cover White = refl
-texts_cover Black = refl
+words_cover : (color : Color) → covers 13 (replicate 8 false ∷ map word_of (codes_of color)) ≡ true
+words_cover White = refl
+words_cover Black = refl
 
 listed_later : {X : Type 0} (y : X) (xs : List X) (x : X) → Contains xs x → Contains (y ∷ xs) x
 listed_later y xs x c = (suc c.0, omega (arith, c.1), c.2)
@@ -75,7 +75,8 @@ after_listed false ((false ∷ bs) ∷ xs) t c = elim (first_or_later bs (after 
 after_listed true ((false ∷ bs) ∷ xs) t c = listed_later (false ∷ bs) xs (true ∷ t) (after_listed true xs t c)
 after_listed false ((true ∷ bs) ∷ xs) t c = listed_later (true ∷ bs) xs (false ∷ t) (after_listed false xs t c)
 
-covered : (n : ℕ) (xs : List (List Bool)) (bits : List Bool) → covers n xs ≡ true → length bits ≡ n → (t : List Bool) × Contains xs t × (begins t bits ≡ true)
+covered : (n : ℕ) (xs : List (List Bool)) (bits : List Bool) → covers n xs ≡ true → length bits ≡ n
+    → (t : List Bool) × Contains xs t × (begins t bits ≡ true)
 covered zero xs bits e l = ([], empty_listed xs e, refl)
 covered (suc n) xs [] e l = absurd (omega arith)
 covered (suc n) xs (true ∷ bits) e l = elim (or_cases (has_empty xs) (covers n (after false xs) && covers n (after true xs)) e) [
@@ -91,10 +92,10 @@ covered (suc n) xs (false ∷ bits) e l = elim (or_cases (has_empty xs) (covers 
       (false ∷ found.0, after_listed false xs found.0 found.1, found.2)
 ]
 
--- the run of a text in the table
-run_listed : (held : List (ℕ × List Bool)) (t : List Bool) → Contains (map text_of held) t → (run : ℕ) × Contains held (run, t)
+-- the run of a code word in the table
+run_listed : (held : List (ℕ × List Bool)) (t : List Bool) → Contains (map word_of held) t → (run : ℕ) × Contains held (run, t)
 run_listed [] t c = absurd (omega (arith, c.1))
-run_listed (code ∷ held) t c = elim (first_or_later (text_of code) (map text_of held) t c) [
+run_listed (code ∷ held) t c = elim (first_or_later (word_of code) (map word_of held) t c) [
   | inl e ↦ (code.0, (zero, omega arith, ap (λ (l : List Bool). (code.0, l)) e))
   | inr later ↦
       let there = run_listed held t later in
@@ -103,8 +104,8 @@ run_listed (code ∷ held) t c = elim (first_or_later (text_of code) (map text_o
 
 pub codes_cover : CodesCover
 codes_cover color bits l no_zeros =
-    let found = covered 13 (replicate 8 false ∷ map text_of (codes_of color)) bits (texts_cover color) l in
-    elim (first_or_later (replicate 8 false) (map text_of (codes_of color)) found.0 found.1) [
+    let found = covered 13 (replicate 8 false ∷ map word_of (codes_of color)) bits (words_cover color) l in
+    elim (first_or_later (replicate 8 false) (map word_of (codes_of color)) found.0 found.1) [
       | inl e ↦ absurd (false≢true (sym no_zeros ∙ (ap (λ t. begins t bits) e ∙ found.2)))
       | inr listed ↦
           let there = run_listed (codes_of color) found.0 listed in

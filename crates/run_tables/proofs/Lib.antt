@@ -1,7 +1,7 @@
-pub mod TextLemmas
+pub mod BeginsLemmas
 pub mod TableLemmas
 pub mod CodeLemmas
-pub mod LeftLemmas
+pub mod PickLemmas
 pub mod CodeReads
 pub mod RunReads
 pub mod FrontLaws

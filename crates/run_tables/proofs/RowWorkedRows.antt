@@ -3,53 +3,53 @@ use Rattle.std.proofs.Common.{◌≡◌, [], replicate, refl}
 use Rattle.std.specs.Prelude.{Ok, Err, codes}
 use Rattle.raster.specs.declared.row.Color.TheVariants.{White, Black}
 use Rattle.run_tables.specs.declared.fault.CodeFaultKind.TheVariants.{BadCode, Truncated, RunTooLong}
-use Rattle.run_tables.specs.Codes.{text, code_text}
+use Rattle.run_tables.specs.Codes.{text, code_word}
 use Rattle.run_tables.specs.RowFronts.{run_items, after_code, look_code, reading, read_row}
 
 -- the widest row of a letter page, all white
 white_row : read_row 1728 (text (codes "01001101100110101")) ≡ Ok (replicate 1728 White, 17)
-unfolding reading code_text run_items after_code look_code
+unfolding reading code_word run_items after_code look_code
 white_row = refl
 
 -- black rows begin with a white run of 0
 black_row : read_row 8 (text (codes "00110101000101")) ≡ Ok (replicate 8 Black, 14)
-unfolding reading code_text run_items after_code look_code
+unfolding reading code_word run_items after_code look_code
 black_row = refl
 
 widest_row : read_row 2432 (text (codes "001101010000000111010000110111")) ≡ Ok (replicate 2432 Black, 30)
-unfolding reading code_text run_items after_code look_code
+unfolding reading code_word run_items after_code look_code
 widest_row = refl
 
 -- what follows a row is not looked at
 followed : read_row 8 (text (codes "001101010001010000")) ≡ Ok (replicate 8 Black, 14)
-unfolding reading code_text run_items after_code look_code
+unfolding reading code_word run_items after_code look_code
 followed = refl
 
 -- no bit, and seven 0 bits, which begin a make-up code
 empty : read_row 8 [] ≡ Err (0, Truncated)
-unfolding reading code_text run_items after_code look_code
+unfolding reading code_word run_items after_code look_code
 empty = refl
 
 seven : read_row 8 (text (codes "0000000")) ≡ Err (0, Truncated)
-unfolding reading code_text run_items after_code look_code
+unfolding reading code_word run_items after_code look_code
 seven = refl
 
 -- eight 0 bits begin none
 eight : read_row 8 (text (codes "00000000")) ≡ Err (0, BadCode)
-unfolding reading code_text run_items after_code look_code
+unfolding reading code_word run_items after_code look_code
 eight = refl
 
--- behind a make-up code seven 0 bits begin no terminating code
-behind_makeup : read_row 128 (text (codes "110110000000")) ≡ Err (5, BadCode)
-unfolding reading code_text run_items after_code look_code
-behind_makeup = refl
+-- after a make-up code seven 0 bits begin no terminating code
+after_makeup : read_row 128 (text (codes "110110000000")) ≡ Err (5, BadCode)
+unfolding reading code_word run_items after_code look_code
+after_makeup = refl
 
 -- a make-up code past the width, whatever follows it
 makeup_too_long : read_row 63 (text (codes "1101100000000")) ≡ Err (0, RunTooLong)
-unfolding reading code_text run_items after_code look_code
+unfolding reading code_word run_items after_code look_code
 makeup_too_long = refl
 
 -- a make-up code within the width, and a terminating code past it
 rest_too_long : read_row 65 (text (codes "110110111")) ≡ Err (5, RunTooLong)
-unfolding reading code_text run_items after_code look_code
+unfolding reading code_word run_items after_code look_code
 rest_too_long = refl

@@ -7,13 +7,13 @@ use Rattle.std.proofs.lemmas.Bool.{and_parts, or_cases, cases_Bool, cases_lt, lt
 use Rattle.raster.specs.declared.row.Color.{Color}
 use Rattle.run_tables.specs.declared.reader.Among.{Among}
 use Rattle.run_tables.specs.declared.reader.Among.TheVariants.{AllCodes, TerminatingCodes}
-use Rattle.run_tables.specs.Codes.{code_text, run_text, run_at}
-use Rattle.run_tables.specs.CodeReading.{first_runs, runs_among, Stands}
-use Rattle.run_tables.specs.Reading.{Reading, rest_of, behind}
+use Rattle.run_tables.specs.Codes.{code_word, run_words, run_at}
+use Rattle.run_tables.specs.CodeReading.{first_runs, runs_among, IsNext}
+use Rattle.run_tables.specs.Reading.{Reading, rest_of, after}
 use Rattle.run_tables.specs.Texts.{begins}
-use Rattle.run_tables.proofs.CodeLemmas.{run_at_low, run_at_high, run_text_low, run_text_high}
+use Rattle.run_tables.proofs.CodeLemmas.{run_at_low, run_at_high, run_words_low, run_words_high}
 use Rattle.run_tables.proofs.CodeReads.{one_stands}
-use Rattle.run_tables.proofs.TextLemmas.{all_test, begins-append}
+use Rattle.run_tables.proofs.BeginsLemmas.{all_test, begins-append}
 
 -- the run of a place is listed
 pub listed_at : (count k : ℕ) → k < count → Contains (first_runs count) (run_at k)
@@ -42,33 +42,47 @@ high_test = refl
 
 -- the make-up codes are those of the multiples of 64 up to 2560
 pub high_run : (run : ℕ) → Contains (runs_among AllCodes) run → 64 ≤ run → (run % 64 ≡ 0) × (run ≤ 2560)
-high_run run listed h = elim (or_cases (ltb run 64) (eqb (run % 64) 0 && leb run 2560) (all_test (λ n. ltb n 64 || (eqb (n % 64) 0 && leb n 2560)) (first_runs 104) run high_test listed)) [
-  | inl low ↦ absurd (omega (arith, ltb-true run 64 low))
-  | inr e ↦
-      let parts = and_parts (eqb (run % 64) 0) (leb run 2560) e in
-      (eqb-true (run % 64) 0 parts.0, leb-true run 2560 parts.1)
-]
+high_run run listed h = elim (or_cases (ltb run 64) (eqb (run % 64) 0 && leb run 2560) (all_test (λ n. ltb n 64 || (eqb (n % 64) 0 && leb n
+    2560)) (first_runs 104) run high_test listed)) [
+      | inl low ↦ absurd (omega (arith, ltb-true run 64 low))
+      | inr e ↦
+          let parts = and_parts (eqb (run % 64) 0) (leb run 2560) e in
+          (eqb-true (run % 64) 0 parts.0, leb-true run 2560 parts.1)
+    ]
 
--- the text of a run that begins bits: a terminating code, or a make-up code and a terminating code
-pub run_begins : (color : Color) (bits : List Bool) (run : ℕ) → run ≤ 2623 → begins (run_text color run) bits ≡ true → ((run < 64) × Stands color AllCodes bits run) ⊎ ((64 ≤ run) × Stands color AllCodes bits (64 * (run / 64)) × Stands color TerminatingCodes (drop (length (code_text color (64 * (run / 64)))) bits) (run % 64))
+-- the code words of a run that begin bits: a terminating code, or a make-up code and a terminating code
+pub run_begins : (color : Color) (bits : List Bool) (run : ℕ) → run ≤ 2623 → begins (run_words color run) bits ≡ true
+    → ((run < 64) × IsNext color AllCodes bits run) ⊎ ((64 ≤ run) × IsNext color AllCodes bits (64 * (run / 64))
+    × IsNext color TerminatingCodes (drop (length (code_word color (64 * (run / 64)))) bits) (run % 64))
 run_begins color bits run most e = elim (cases_lt run 64) [
-  | inl low ↦ inl (low, (low_listed AllCodes run low, rw (run_text_low color run low) at e))
+  | inl low ↦ inl (low, (low_listed AllCodes run low, rw (run_words_low color run low) at e))
   | inr high ↦
-      let whole : begins (code_text color (64 * (run / 64)) ++ code_text color (run % 64)) bits ≡ true = rw (run_text_high color run high) at e in
-      let parts = and_parts (begins (code_text color (64 * (run / 64))) bits) (begins (code_text color (run % 64)) (drop (length (code_text color (64 * (run / 64)))) bits)) (sym (begins-append (code_text color (64 * (run / 64))) (code_text color (run % 64)) bits) ∙ whole) in
-      inr (high, (high_listed (run / 64) (omega arith) (omega arith), parts.0), (low_listed TerminatingCodes (run % 64) (omega arith), parts.1))
+      let whole : begins (code_word color (64 * (run / 64)) ++ code_word color (run % 64)) bits ≡ true = rw (run_words_high color run high)
+      at e in
+      let parts = and_parts (begins (code_word color (64 * (run / 64))) bits) (begins (code_word color (run % 64)) (drop (length (code_word
+      color (64 * (run / 64)))) bits)) (sym (begins-append (code_word color (64 * (run / 64))) (code_word color (run % 64)) bits) ∙
+      whole) in
+      inr (
+        high,
+        (high_listed (run / 64) (omega arith) (omega arith), parts.0),
+        (
+          low_listed TerminatingCodes (run % 64) (omega arith),
+          parts.1,
+        ),
+      )
 ]
 
--- what is left behind a text
-pub rest_behind : (text : List Bool) (reader : Reading) → rest_of (behind text reader) ≡ drop (length text) (rest_of reader)
-rest_behind text reader = sym (drop-drop (length text) reader.place reader.bits)
+-- what is left after a code word
+pub rest_after : (word : List Bool) (reader : Reading) → rest_of (after word reader) ≡ drop (length word) (rest_of reader)
+rest_after word reader = sym (drop-drop (length word) reader.place reader.bits)
 
-pub behind-append : (a b : List Bool) (reader : Reading) → behind b (behind a reader) ≡ behind (a ++ b) reader
-behind-append a b reader = simp (length-append, add_assoc)
+pub after-append : (a b : List Bool) (reader : Reading) → after b (after a reader) ≡ after (a ++ b) reader
+after-append a b reader = simp (length-append, add_assoc)
 
--- where no code stands, no run's text does
-pub no_run : (color : Color) (bits : List Bool) → ((run : ℕ) → ¬ Stands color AllCodes bits run) → (run : ℕ) → run ≤ 2623 → begins (run_text color run) bits ≡ false
-no_run color bits none run most = elim (cases_Bool (begins (run_text color run) bits)) [
+-- where no code is, no run's code words does
+pub no_run : (color : Color) (bits : List Bool) → ((run : ℕ) → ¬ IsNext color AllCodes bits run) → (run : ℕ) → run ≤ 2623
+    → begins (run_words color run) bits ≡ false
+no_run color bits none run most = elim (cases_Bool (begins (run_words color run) bits)) [
   | inr f ↦ f
   | inl t ↦ elim (run_begins color bits run most t) [
     | inl low ↦ absurd (none run low.1)
@@ -76,24 +90,30 @@ no_run color bits none run most = elim (cases_Bool (begins (run_text color run) 
   ]
 ]
 
--- where a make-up code stands and no terminating code behind it, no run's text does
-pub no_run_behind : (color : Color) (old : Reading) (high : ℕ) → 64 ≤ high → Stands color AllCodes (rest_of old) high → ((run : ℕ) → ¬ Stands color TerminatingCodes (rest_of (behind (code_text color high) old)) run) → (run : ℕ) → run ≤ 2623 → begins (run_text color run) (rest_of old) ≡ false
-no_run_behind color old high h stands none run most = elim (cases_Bool (begins (run_text color run) (rest_of old))) [
+-- where a make-up code is and no terminating code after it, no run's code words does
+pub no_run_after : (color : Color) (old : Reading) (high : ℕ) → 64 ≤ high → IsNext color AllCodes (rest_of old) high → ((run : ℕ)
+    → ¬ IsNext color TerminatingCodes (rest_of (after (code_word color high) old)) run) → (run : ℕ) → run ≤ 2623
+    → begins (run_words color run) (rest_of old) ≡ false
+no_run_after color old high h stands none run most = elim (cases_Bool (begins (run_words color run) (rest_of old))) [
   | inr f ↦ f
   | inl t ↦ elim (run_begins color (rest_of old) run most t) [
     | inl low ↦ absurd (omega (arith, low.0, one_stands color AllCodes (rest_of old) run high low.1 stands))
     | inr both ↦
         let same : 64 * (run / 64) ≡ high = one_stands color AllCodes (rest_of old) (64 * (run / 64)) high both.1 stands in
-        let later : Stands color TerminatingCodes (drop (length (code_text color high)) (rest_of old)) (run % 64) = rw same at both.2 in
-        absurd (none (run % 64) (rw (rest_behind (code_text color high) old) later))
+        let later : IsNext color TerminatingCodes (drop (length (code_word color high)) (rest_of old)) (run % 64) = rw same at both.2 in
+        absurd (none (run % 64) (rw (rest_after (code_word color high) old) later))
   ]
 ]
 
--- a make-up code and a terminating code are the text of their sum
-pub sum_text : (color : Color) (high low : ℕ) → Contains (runs_among AllCodes) high → 64 ≤ high → low < 64 → (high + low ≤ 2623) × (run_text color (high + low) ≡ code_text color high ++ code_text color low)
-sum_text color high low listed h l =
+-- a make-up code and a terminating code are the code words of their sum
+pub sum_words : (color : Color) (high low : ℕ) → Contains (runs_among AllCodes) high → 64 ≤ high → low < 64
+    → (high + low ≤ 2623) × (run_words color (high + low) ≡ code_word color high ++ code_word color low)
+sum_words color high low listed h l =
     let kind = high_run high listed h in
     let q : 64 * ((high + low) / 64) ≡ high = omega (arith, kind.0) in
     let r : (high + low) % 64 ≡ low = omega (arith, kind.0) in
-    let long : 64 ≤ high + low = omega arith in
-    (omega (arith, kind.1), run_text_high color (high + low) long ∙ (ap (λ n. code_text color n ++ code_text color ((high + low) % 64)) q ∙ ap (λ n. code_text color high ++ code_text color n) r))
+    let long : 64 ≤ high + low = omega arith in (
+      omega (arith, kind.1),
+      run_words_high color (high + low) long ∙
+          (ap (λ n. code_word color n ++ code_word color ((high + low) % 64)) q ∙ ap (λ n. code_word color high ++ code_word color n) r),
+    )

@@ -5,16 +5,16 @@ use Rattle.std.proofs.lemmas.List.FromFn.{get_or-map-range_with_len}
 use Rattle.raster.specs.declared.row.Color.{Color}
 use Rattle.raster.specs.declared.row.Color.TheVariants.{White, Black}
 use Rattle.run_tables.specs.declared.table.Code.{Code}
-use Rattle.run_tables.specs.Codes.{codes_of, code_text, run_at}
+use Rattle.run_tables.specs.Codes.{codes_of, code_word, run_at}
 use Rattle.run_tables.specs.Tables.{as_pairs, pair_of}
 
--- the run and the text of the code at a place
+-- the run and the code word of the code at a place
 abbrev pub listed : Color → ℕ → ℕ × List Bool
-listed color place = (run_at place, code_text color (run_at place))
+listed color place = (run_at place, code_word color (run_at place))
 
 -- the table lists the codes in the order of their places
 pub table_is : (color : Color) → codes_of color ≡ map (λ place. listed color place) (range_with_len 0 104)
-unfolding code_text
+unfolding code_word
 table_is White = refl
 table_is Black = refl
 
@@ -24,12 +24,14 @@ table_length Black = refl
 
 pub table_at : (color : Color) (k : ℕ) (d : ℕ × List Bool) → k < 104 → get_or (codes_of color) k d ≡ listed color k
 table_at color k d h =
-    ap (λ (cs : List (ℕ × List Bool)). get_or cs k d) (table_is color) ∙ get_or-map-range_with_len (λ place. listed color place) 0 104 k k d h (omega arith)
+    ap (λ (cs : List (ℕ × List Bool)). get_or cs k d) (table_is color) ∙
+    get_or-map-range_with_len (λ place. listed color place) 0 104 k k d h (omega arith)
 
 pub held_length : (color : Color) (held : List Code) → as_pairs held ≡ codes_of color → length held ≡ 104
 held_length color held e = sym (length-map held pair_of) ∙ (ap length e ∙ table_length color)
 
-pub held_at : (color : Color) (held : List Code) (k : ℕ) (d : Code) → as_pairs held ≡ codes_of color → k < 104 → pair_of (get_or held k d) ≡ listed color k
+pub held_at : (color : Color) (held : List Code) (k : ℕ) (d : Code) → as_pairs held ≡ codes_of color → k < 104
+    → pair_of (get_or held k d) ≡ listed color k
 held_at color held k d e h =
     let within : k < length held = rw (held_length color held e) h in
     let x : ℕ × List Bool = pair_of d in

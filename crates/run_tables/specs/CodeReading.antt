@@ -9,11 +9,11 @@ use Rattle.run_tables.specs.declared.reader.Among.{Among}
 use Rattle.run_tables.specs.declared.reader.Among.TheVariants.{AllCodes, TerminatingCodes}
 use Rattle.run_tables.specs.declared.reader.RunCode.{RunCode}
 use Rattle.run_tables.specs.declared.reader.RunCode.TheVariants.{MakeUp, Terminating}
-use Rattle.run_tables.specs.Codes.{code_text, run_text, run_at}
-use Rattle.run_tables.specs.Reading.{Reading, rest_of, behind}
+use Rattle.run_tables.specs.Codes.{code_word, run_words, run_at}
+use Rattle.run_tables.specs.Reading.{Reading, rest_of, after}
 use Rattle.run_tables.specs.Texts.{begins, pick, is_cut}
 
--- how many of a color's codes may stand: all 104, or the 64 terminating ones
+-- how many of a color's codes may come: all 104, or the 64 terminating ones
 abbrev pub count_among : Among → ℕ
 count_among AllCodes = 104
 count_among TerminatingCodes = 64
@@ -22,33 +22,35 @@ count_among TerminatingCodes = 64
 unfoldable pub first_runs : ℕ → List ℕ
 first_runs count = map run_at (range_with_len 0 count)
 
--- the runs whose codes may stand
+-- the runs whose codes may come
 abbrev pub runs_among : Among → List ℕ
 runs_among among = first_runs (count_among among)
 
--- why no code stands there: the bits end inside one or before one, or else they begin none
+-- why no code is there: the bits end inside one or before one, or else they begin none
 abbrev pub kind_among : Color → Among → List Bool → CodeFaultKind
-kind_among color among bits = if is_cut (code_text color) (runs_among among) bits then Truncated else BadCode
+kind_among color among bits = if is_cut (code_word color) (runs_among among) bits then Truncated else BadCode
 
--- the run has a code that may stand, and its text begins the bits
-abbrev pub Stands : Color → Among → List Bool → ℕ → Type 0
-Stands color among bits run = Contains (runs_among among) run × (begins (code_text color run) bits ≡ true)
+-- the run has a code that may come, and its code word begins the bits
+abbrev pub IsNext : Color → Among → List Bool → ℕ → Type 0
+IsNext color among bits run = Contains (runs_among among) run × (begins (code_word color run) bits ≡ true)
 
--- no code that may stand begins the bits that are left
+-- no code that may come begins the bits that are left
 pub record RefusesCode (color : Color) (among : Among) (reader : Reading) (fault : CodeFault) : Type 0 where
-  pub none : (run : ℕ) → ¬ Stands color among (rest_of reader) run
+  pub none : (run : ℕ) → ¬ IsNext color among (rest_of reader) run
   pub place : fault.place ≡ reader.place
   pub kind : fault.kind ≡ kind_among color among (rest_of reader)
 
--- one code was read, or none that may stand begins the bits that are left and nothing changed
+-- one code was read, or none that may come begins the bits that are left and nothing changed
 abbrev pub ReadsCode : Color → Among → Reading → Reading → Result ℕ CodeFault → Type 0
-ReadsCode color among old new (Ok run) = Stands color among (rest_of old) run × (new ≡ behind (code_text color run) old)
+ReadsCode color among old new (Ok run) = IsNext color among (rest_of old) run × (new ≡ after (code_word color run) old)
 ReadsCode color among old new (Err fault) = RefusesCode color among old fault × (new ≡ old)
 
--- the same by the table's order: the first code whose text begins the bits that are left, or none and why
+-- the same by the table's order: the first code whose code word begins the bits that are left, or none and why
 abbrev pub PicksCode : Color → Among → Reading → Reading → Result ℕ CodeFault → Type 0
-PicksCode color among old new (Ok run) = (pick (code_text color) (runs_among among) (rest_of old) ≡ Some run) × (new ≡ behind (code_text color run) old)
-PicksCode color among old new (Err fault) = (pick (code_text color) (runs_among among) (rest_of old) ≡ None) × (fault ≡ record { place = old.place; kind = kind_among color among (rest_of old) }) × (new ≡ old)
+PicksCode color among old new (Ok run) = (pick (code_word color) (runs_among among) (rest_of old) ≡ Some run)
+    × (new ≡ after (code_word color run) old)
+PicksCode color among old new (Err fault) = (pick (code_word color) (runs_among among) (rest_of old) ≡ None)
+    × (fault ≡ record { place = old.place; kind = kind_among color among (rest_of old) }) × (new ≡ old)
 
 -- one code of the color was read, or none begins the bits that are left and nothing changed
 abbrev pub ReadsRunCode : Color → Reading → Reading → Result RunCode CodeFault → Type 0
@@ -56,14 +58,17 @@ ReadsRunCode color old new (Ok (Terminating run)) = (run < 64) × ReadsCode colo
 ReadsRunCode color old new (Ok (MakeUp run)) = (64 ≤ run) × ReadsCode color AllCodes old new (Ok run)
 ReadsRunCode color old new (Err fault) = ReadsCode color AllCodes old new (Err fault)
 
--- the refusal of a run: where no code stands, or behind a make-up code where no terminating code stands
+-- the refusal of a run: where no code is, or after a make-up code where no terminating code is
 abbrev pub RefusesRun : Color → Reading → CodeFault → Type 0
-RefusesRun color old fault = RefusesCode color AllCodes old fault ⊎ ((high : ℕ) × (64 ≤ high) × Stands color AllCodes (rest_of old) high × RefusesCode color TerminatingCodes (behind (code_text color high) old) fault)
+RefusesRun color old fault = RefusesCode color AllCodes old fault ⊎ ((high : ℕ) × (64 ≤ high) × IsNext color AllCodes (rest_of old) high
+    × RefusesCode color TerminatingCodes (after (code_word color high) old) fault)
 
--- the text of one run was read, or no run's text begins the bits that are left and nothing changed
+-- the code words of one run were read, or those of no run begin the bits that are left and nothing changed
 abbrev pub ReadsRun : Color → Reading → Reading → Result ℕ CodeFault → Type 0
-ReadsRun color old new (Ok run) = (run ≤ 2623) × (begins (run_text color run) (rest_of old) ≡ true) × (new ≡ behind (run_text color run) old)
-ReadsRun color old new (Err fault) = ((run : ℕ) → run ≤ 2623 → begins (run_text color run) (rest_of old) ≡ false) × RefusesRun color old fault × (new ≡ old)
+ReadsRun color old new (Ok run) = (run ≤ 2623) × (begins (run_words color run) (rest_of old) ≡ true)
+    × (new ≡ after (run_words color run) old)
+ReadsRun color old new (Err fault) = ((run : ℕ) → run ≤ 2623
+    → begins (run_words color run) (rest_of old) ≡ false) × RefusesRun color old fault × (new ≡ old)
 
 -- a make-up code of at most so many pixels was read, where a run begins
 abbrev pub BeginsRun : Color → ℕ → Reading → Reading → ℕ → Type 0
@@ -73,17 +78,20 @@ BeginsRun color room old new makeup = PicksCode color AllCodes old new (Ok makeu
 abbrev pub EndsRun : Color → Among → ℕ → Reading → Reading → ℕ → Type 0
 EndsRun color among room old new run = PicksCode color among old new (Ok run) × (run < 64) × (run ≤ room)
 
--- no code that may stand begins the bits that are left, or one of more pixels than there is room for, which is refused with this kind
+-- no code that may come begins the bits that are left, or one of more pixels than there is room for, which is refused with this kind
 abbrev pub RefusesCodeWithin : Color → Among → ℕ → CodeFaultKind → Reading → CodeFault → Type 0
 RefusesCodeWithin color among room past old fault =
     ((new : Reading) × PicksCode color among old new (Err fault)) ⊎
-    ((run : ℕ) × (new : Reading) × PicksCode color among old new (Ok run) × (room < run) × (fault ≡ record { place = old.place; kind = past }))
+    ((run : ℕ) × (new : Reading) × PicksCode color among old new (Ok run) × (room < run)
+    × (fault ≡ record { place = old.place; kind = past }))
 
 -- a run of at most so many pixels was read: a terminating code, or a make-up code and a terminating code; or one of its codes is refused
 abbrev pub ReadsRunWithin : Color → ℕ → CodeFaultKind → Reading → Reading → Result ℕ CodeFault → Type 0
 ReadsRunWithin color room past old new (Ok run) =
     EndsRun color AllCodes room old new run ⊎
-    ((makeup : ℕ) × (rest : ℕ) × (between : Reading) × BeginsRun color room old between makeup × EndsRun color TerminatingCodes (room - makeup) between new rest × (run ≡ makeup + rest))
+    ((makeup : ℕ) × (rest : ℕ) × (between : Reading) × BeginsRun color room old between makeup
+    × EndsRun color TerminatingCodes (room - makeup) between new rest × (run ≡ makeup + rest))
 ReadsRunWithin color room past old new (Err fault) =
     RefusesCodeWithin color AllCodes room past old fault ⊎
-    ((makeup : ℕ) × (between : Reading) × BeginsRun color room old between makeup × RefusesCodeWithin color TerminatingCodes (room - makeup) past between fault)
+    ((makeup : ℕ) × (between : Reading) × BeginsRun color room old between makeup
+    × RefusesCodeWithin color TerminatingCodes (room - makeup) past between fault)

@@ -1,4 +1,4 @@
--- The run codes (ITU-T T.4, 4.1.1, tables 2 and 3): which text stands for which run of which color.
+-- The run codes (ITU-T T.4, 4.1.1, tables 2 and 3): which code word stands for which run of which color.
 use Rattle.std.specs.Prelude.{ℕ, ◌+◌, ◌-◌, ◌*◌, ◌/◌, ◌%◌, ◌++◌, Bool, List, [], ◌∷◌, map, nat_eq, nat_lt, codes, Contains, if◌then◌else◌, slice_index_or}
 use Rattle.raster.specs.declared.row.Color.{Color}
 use Rattle.raster.specs.declared.row.Color.TheVariants.{White, Black}
@@ -111,7 +111,7 @@ abbrev pub codes_of : Color → List (ℕ × List Bool)
 codes_of White = white_codes
 codes_of Black = black_codes
 
--- the triple (color, run, text) is in the table
+-- the triple (color, run, code word) is in the table
 abbrev pub InTable : Color → ℕ → List Bool → Type 0
 InTable color run bits = Contains (codes_of color) (run, bits)
 
@@ -123,10 +123,10 @@ run_at place = if nat_lt place 64 then place else 64 * (place - 63)
 abbrev pub place_of : ℕ → ℕ
 place_of run = if nat_lt run 64 then run else 63 + run / 64
 
--- the text of a run's code, where it has one
-unfoldable pub code_text : Color → ℕ → List Bool
-code_text color run = slice_index_or (map (λ (code : ℕ × List Bool). code.1) (codes_of color)) (place_of run) []
+-- the code word of a run's code, where it has one
+unfoldable pub code_word : Color → ℕ → List Bool
+code_word color run = slice_index_or (map (λ (code : ℕ × List Bool). code.1) (codes_of color)) (place_of run) []
 
--- the text of a run: its terminating code, or a make-up code and the terminating code of the rest
-abbrev pub run_text : Color → ℕ → List Bool
-run_text color run = if nat_lt run 64 then code_text color run else code_text color (64 * (run / 64)) ++ code_text color (run % 64)
+-- the code words of a run: its terminating code, or a make-up code and the terminating code of the rest
+abbrev pub run_words : Color → ℕ → List Bool
+run_words color run = if nat_lt run 64 then code_word color run else code_word color (64 * (run / 64)) ++ code_word color (run % 64)

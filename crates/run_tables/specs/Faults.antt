@@ -20,4 +20,5 @@ number_of TooManyCodedRows = 18
 
 -- a refusal as a call answers it that began at this bit: one of memory is there, any other stays
 abbrev pub BegunAt : ℕ → CodeFault → CodeFault → Type 0
-BegunAt start fault answer = ((fault.kind ≡ NoMemory) × (answer ≡ record { place = start; kind = NoMemory })) ⊎ ((fault.kind ≢ NoMemory) × (answer ≡ fault))
+BegunAt start fault answer = ((fault.kind ≡ NoMemory) × (answer ≡ record { place = start; kind = NoMemory })) ⊎ ((fault.kind ≢ NoMemory)
+    × (answer ≡ fault))

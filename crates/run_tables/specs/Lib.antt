@@ -4,7 +4,7 @@ pub mod Tables
 pub mod Texts
 pub mod Reading
 pub mod CodeReading
-pub mod RunTexts
+pub mod RunWords
 pub mod Written
 pub mod Fronts
 pub mod Longest

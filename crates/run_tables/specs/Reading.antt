@@ -10,6 +10,6 @@ pub record Reading : Type 0 where
 abbrev pub rest_of : Reading → List Bool
 rest_of reader = drop reader.place reader.bits
 
--- the reader behind a text that stands where it is
-abbrev pub behind : List Bool → Reading → Reading
-behind text reader = record reader { place = reader.place + length text }
+-- the reader after a code word that begins at its place
+abbrev pub after : List Bool → Reading → Reading
+after word reader = record reader { place = reader.place + length word }

@@ -1,4 +1,4 @@
--- A one-dimensional row, run code by run code (ITU-T T.4, 4.1.1): where a reader of it stands, which codes may stand there, and
+-- A one-dimensional row, run code by run code (ITU-T T.4, 4.1.1): where a reader of it is, which codes may be there, and
 -- what is seen in the bits.
 use Rattle.std.specs.Prelude.{ℕ, suc, ◌≡◌, ◌+◌, Bool, List, [], ◌++◌, length, map, replicate, if◌then◌else◌, nat_eq, nat_lt, Option, Some, None, Result, Ok, Err, Contains}
 use Rattle.std.specs.List.{range_with_len}
@@ -7,7 +7,7 @@ use Rattle.raster.specs.declared.row.Color.TheVariants.{White}
 use Rattle.raster.specs.Pixels.{other}
 use Rattle.run_tables.specs.declared.fault.CodeFaultKind.{CodeFaultKind}
 use Rattle.run_tables.specs.declared.fault.CodeFaultKind.TheVariants.{BadCode, Truncated, RunTooLong}
-use Rattle.run_tables.specs.Codes.{run_at, code_text}
+use Rattle.run_tables.specs.Codes.{run_at, code_word}
 use Rattle.run_tables.specs.Texts.{pick, is_cut}
 use Rattle.run_tables.specs.Fronts.{Look, read_from}
 use Rattle.run_tables.specs.Fronts.Look.{go, stop, refuse}
@@ -20,58 +20,66 @@ pub data RunItem : Type 0 where
 abbrev pub run_of : RunItem → ℕ
 run_of (run_item color run) = run
 
--- the text of a code
-abbrev pub item_text : RunItem → List Bool
-item_text (run_item color run) = code_text color run
+-- the code word of a code
+abbrev pub item_word : RunItem → List Bool
+item_word (run_item color run) = code_word color run
 
 -- so many codes of a color, in the table's order: the 64 terminating codes, then the 40 make-up codes
 unfoldable pub run_items : Color → ℕ → List RunItem
 run_items color count = map (λ place. run_item color (run_at place)) (range_with_len 0 count)
 
--- how many of them may stand: behind a make-up code the terminating codes alone
+-- how many of them may come: after a make-up code the terminating codes alone
 abbrev pub codes_after : Option ℕ → ℕ
 codes_after None = 104
 codes_after (Some makeup) = 64
 
--- the codes that may stand where a run of this color begins, or behind its make-up code
-abbrev pub standing : Color → Option ℕ → List RunItem
-standing color makeup = run_items color (codes_after makeup)
+-- the codes that may come where a run of this color begins, or after its make-up code
+abbrev pub allowed : Color → Option ℕ → List RunItem
+allowed color makeup = run_items color (codes_after makeup)
 
 -- the pixels of a make-up code, if one was read
 abbrev pub amount : Option ℕ → ℕ
 amount None = 0
 amount (Some makeup) = makeup
 
--- behind a run: the row is full, or its next run begins
-abbrev pub behind_run : {State : Type 0} → (List Color → State) → (List Color → Color → Option ℕ → State) → ℕ → List Color → Color → State
-behind_run full next width pixels color = if nat_eq (length pixels) width then full pixels else next pixels color None
+-- after a run: the row is full, or its next run begins
+abbrev pub run_ended : {State : Type 0} → (List Color → State) → (List Color → Color → Option ℕ → State) → ℕ → List Color → Color → State
+run_ended full next width pixels color = if nat_eq (length pixels) width then full pixels else next pixels color None
 
--- behind a run code: a run past the width is too long, a terminating code ends the run, a make-up code waits for one
-unfoldable pub after_code : {State : Type 0} → (List Color → State) → (List Color → Color → Option ℕ → State) → ℕ → List Color → Color → Option ℕ → ℕ → Result State CodeFaultKind
+-- after a run code: a run past the width is too long, a terminating code ends the run, a make-up code waits for one
+unfoldable pub after_code : {State : Type 0} → (List Color → State) → (List Color → Color → Option ℕ → State) → ℕ → List Color → Color
+    → Option ℕ → ℕ → Result State CodeFaultKind
 after_code full next width pixels color makeup run =
     if nat_lt width (length pixels + (amount makeup + run)) then Err RunTooLong else
-    if nat_lt run 64 then Ok (behind_run full next width (pixels ++ replicate (amount makeup + run) color) (other color)) else Ok (next pixels color (Some run))
+    if nat_lt run 64 then Ok (run_ended full next width (pixels ++ replicate (amount makeup + run) color) (other color)) else Ok (next
+    pixels color (Some run))
 
--- the code may stand there, and leads to the state
-pub record CodeStep {State : Type 0} (full : List Color → State) (next : List Color → Color → Option ℕ → State) (width : ℕ) (pixels : List Color) (color : Color) (makeup : Option ℕ) (code : RunItem) (state : State) : Type 0 where
-  pub stands : Contains (standing color makeup) code
+-- the code may be there, and leads to the state
+pub record CodeStep {State : Type 0} (full : List Color → State) (next : List Color → Color → Option ℕ
+    → State) (width : ℕ) (pixels : List Color) (color : Color) (makeup : Option ℕ) (code : RunItem) (state : State) : Type 0 where
+  pub stands : Contains (allowed color makeup) code
   pub leads : after_code full next width pixels color makeup (run_of code) ≡ Ok state
 
--- an item that stands there leads on, or is refused
+-- an item that is there leads on, or is refused
 abbrev pub judged : {State Item Answer : Type 0} → Item → Result State CodeFaultKind → Look State Item Answer CodeFaultKind
 judged item (Ok state) = go item state
 judged item (Err kind) = refuse kind
 
--- what is seen where this code was found; where none was, the bits end inside a code that may stand there, or no such code is theirs
-abbrev pub found_code : {State Item Answer : Type 0} → (RunItem → Item) → (List Color → State) → (List Color → Color → Option ℕ → State) → ℕ → List Color → Color → Option ℕ → List Bool → Option RunItem → Look State Item Answer CodeFaultKind
-found_code item full next width pixels color makeup x None = refuse (if is_cut item_text (standing color makeup) x then Truncated else BadCode)
-found_code item full next width pixels color makeup x (Some code) = judged (item code) (after_code full next width pixels color makeup (run_of code))
+-- what is seen where this code was found; where none was, the bits end inside a code that may be there, or no such code is theirs
+abbrev pub found_code : {State Item Answer : Type 0} → (RunItem → Item) → (List Color → State) → (List Color → Color → Option ℕ → State)
+    → ℕ → List Color → Color → Option ℕ → List Bool → Option RunItem → Look State Item Answer CodeFaultKind
+found_code item full next width pixels color makeup x None = refuse (if is_cut item_word (allowed color makeup) x then Truncated else
+    BadCode)
+found_code item full next width pixels color makeup x (Some code) = judged (item code) (after_code full next width pixels color makeup
+    (run_of code))
 
--- what is seen where a run code has to stand
-unfoldable pub look_code : {State Item Answer : Type 0} → (RunItem → Item) → (List Color → State) → (List Color → Color → Option ℕ → State) → ℕ → List Color → Color → Option ℕ → List Bool → Look State Item Answer CodeFaultKind
-look_code item full next width pixels color makeup x = found_code item full next width pixels color makeup x (pick item_text (standing color makeup) x)
+-- what is seen where a run code has to be
+unfoldable pub look_code : {State Item Answer : Type 0} → (RunItem → Item) → (List Color → State) → (List Color → Color → Option ℕ
+    → State) → ℕ → List Color → Color → Option ℕ → List Bool → Look State Item Answer CodeFaultKind
+look_code item full next width pixels color makeup x = found_code item full next width pixels color makeup x (pick item_word (allowed color
+    makeup) x)
 
--- inside a row: its pixels so far, the color of the run that stands there, and a make-up code of it just read; or the whole row
+-- inside a row: its pixels so far, the color of the run that is there, and a make-up code of it just read; or the whole row
 pub data RowState : Type 0 where
   inside : List Color → Color → Option ℕ → RowState
   whole : List Color → RowState
@@ -80,19 +88,19 @@ pub data RowState : Type 0 where
 abbrev pub row_begin : RowState
 row_begin = inside [] White None
 
--- the code may stand in the row, and leads on
+-- the code may come in the row, and leads on
 abbrev pub Step : ℕ → RowState → RunItem → RowState → Type 0
 Step width (inside pixels color makeup) code state = CodeStep whole inside width pixels color makeup code state
 Step width (whole row) code state = ⊥
 
--- what is seen in a row: a run code has to stand there, until the row is whole
+-- what is seen in a row: a run code has to be there, until the row is whole
 abbrev pub look : ℕ → RowState → List Bool → Look RowState RunItem (List Color) CodeFaultKind
 look width (inside pixels color makeup) x = look_code (λ code. code) whole inside width pixels color makeup x
 look width (whole row) x = stop row 0
 
--- reading in a row, code by code, from a place on: the row and the place behind it, or the place and the kind of a refusal
+-- reading in a row, code by code, from a place on: the row and the place after it, or the place and the kind of a refusal
 unfoldable pub reading : ℕ → RowState → ℕ → List Bool → Result (List Color × ℕ) (ℕ × CodeFaultKind)
-reading width state place x = read_from item_text (look width) BadCode (suc (length x)) state place x
+reading width state place x = read_from item_word (look width) BadCode (suc (length x)) state place x
 
 -- the same answer or refusal, counted from a place further on
 abbrev pub moved : {Answer Kind : Type 0} → ℕ → Result (Answer × ℕ) (ℕ × Kind) → Result (Answer × ℕ) (ℕ × Kind)

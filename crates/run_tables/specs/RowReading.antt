@@ -7,17 +7,17 @@ use Rattle.raster.specs.Pixels.{other}
 use Rattle.run_tables.specs.declared.fault.CodeFault.{CodeFault}
 use Rattle.run_tables.specs.declared.fault.CodeFaultKind.TheVariants.{NoMemory}
 use Rattle.run_tables.specs.Reading.{Reading, rest_of}
-use Rattle.run_tables.specs.RowFronts.{behind_run, reading, row_begin}
+use Rattle.run_tables.specs.RowFronts.{run_ended, reading, row_begin}
 use Rattle.run_tables.specs.RowFronts.RowState.{inside, whole}
 use Rattle.run_tables.specs.RowLaws.{ReadsAsRow, IsLongestFront}
 
--- the bits that are left begin with the row's text, and the reader went behind it
+-- the bits that are left begin with the row's code words, and the reader went past them
 pub record ReadsRow (width : ℕ) (old new : Reading) (row : List Color) : Type 0 where
   pub used : ℕ
   pub reads : ReadsAsRow width (rest_of old) row used
-  pub behind : new ≡ record old { place = old.place + used }
+  pub after : new ≡ record old { place = old.place + used }
 
--- a refusal that isn't one of memory: the bits that are left begin with no row's text, the place is behind their longest front, and
+-- a refusal that isn't one of memory: the bits that are left begin with no row's code words, the place is after their longest front, and
 -- the kind is that of the bits from there
 pub record RefusesRow (width : ℕ) (old : Reading) (fault : CodeFault) : Type 0 where
   pub front : ℕ
@@ -25,17 +25,26 @@ pub record RefusesRow (width : ℕ) (old : Reading) (fault : CodeFault) : Type 0
   pub longest : IsLongestFront width (rest_of old) front fault.kind
   pub none : (row : List Color) (used : ℕ) → ¬ ReadsAsRow width (rest_of old) row used
 
--- one run of a row was read, at most so many pixels: reading the row from before it is reading on behind it; or it is refused there
+-- one run of a row was read, at most so many pixels: reading the row from before it is reading on after it; or it is refused there
 abbrev pub RunWithin : Color → ℕ → Reading → Reading → Result ℕ CodeFault → Type 0
 RunWithin color room old new (Ok run) =
-    (run ≤ room) × (new.bits ≡ old.bits) × (old.place < new.place) × (new.place ≤ length new.bits) × ((pixels : List Color) → reading (length pixels + room) (inside pixels color None) old.place (rest_of old) ≡ reading (length pixels + room) (behind_run whole inside (length pixels + room) (pixels ++ replicate run color) (other color)) new.place (rest_of new))
+    (run ≤ room) × (new.bits ≡ old.bits) × (old.place < new.place) × (new.place ≤ length new.bits) × ((pixels : List Color)
+    → reading (length pixels + room) (inside pixels color None) old.place (rest_of old) ≡ reading (length pixels + room) (run_ended
+    whole inside (length pixels + room) (pixels ++ replicate run color) (other color)) new.place (rest_of new))
 RunWithin color room old new (Err fault) =
-    (pixels : List Color) → reading (length pixels + room) (inside pixels color None) old.place (rest_of old) ≡ Err (fault.place, fault.kind)
+    (pixels : List Color) → reading (length pixels + room) (inside pixels color None) old.place (rest_of old) ≡ Err (
+      fault.place,
+      fault.kind,
+    )
 
 -- the runs of a row were read; or memory was refused, or the row is refused where reading it is
 abbrev pub RowRuns : {V : Type 0} → ℕ → Reading → Reading → Result (Vec ℕ V) CodeFault → Type 0
-RowRuns width old new (Ok runs) = (new.bits ≡ old.bits) × (new.place ≤ length new.bits) × (sum runs.items ≡ width) × (reading width row_begin old.place (rest_of old) ≡ Ok (colored White runs.items, new.place))
-RowRuns width old new (Err fault) = (fault.kind ≡ NoMemory) ⊎ (reading width row_begin old.place (rest_of old) ≡ Err (fault.place, fault.kind))
+RowRuns width old new (Ok runs) = (new.bits ≡ old.bits) × (new.place ≤ length new.bits) × (sum runs.items ≡ width)
+    × (reading width row_begin old.place (rest_of old) ≡ Ok (colored White runs.items, new.place))
+RowRuns width old new (Err fault) = (fault.kind ≡ NoMemory) ⊎ (reading width row_begin old.place (rest_of old) ≡ Err (
+  fault.place,
+  fault.kind,
+))
 
 -- a whole row was read, or it is refused unless memory was
 abbrev pub WholeRow : ℕ → Reading → Reading → Result (List Color) CodeFault → Type 0

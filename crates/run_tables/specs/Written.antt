@@ -4,7 +4,7 @@ use Rattle.raster.specs.declared.row.Color.{Color}
 use Rattle.raster.specs.declared.row.Color.TheVariants.{White}
 use Rattle.raster.specs.Packed.{Bits}
 use Rattle.raster.specs.Runs.{AreOwnRuns}
-use Rattle.run_tables.specs.RunTexts.{runs_text}
+use Rattle.run_tables.specs.RunWords.{runs_words}
 
 -- the end of a line, as it is written: eleven 0 bits and a 1
 abbrev pub eol : List Bool
@@ -14,6 +14,6 @@ eol = replicate 11 false ++ true ∷ []
 abbrev pub Appends : List Bool → Bits → Bits → Type 0
 Appends bits old new = new ≡ record old { bits = old.bits ++ bits }
 
--- new is old with the texts of the row's own runs at its end
+-- new is old with the code words of the row's own runs at its end
 abbrev pub AppendsRow : List Color → Bits → Bits → Type 0
-AppendsRow row old new = (runs : List ℕ) × AreOwnRuns row runs × Appends (runs_text White runs) old new
+AppendsRow row old new = (runs : List ℕ) × AreOwnRuns row runs × Appends (runs_words White runs) old new

@@ -6,16 +6,16 @@ use thiserror::Error;
 /// Why coded bits were refused.
 #[derive(Clone, Copy, Debug, PartialEq, Eq, Error)]
 pub enum CodeFaultKind {
-    /// No row stands before the page's end.
+    /// No row comes before the page's end.
     #[error("no row before the page's end")]
     NoRows,
     /// Memory was refused.
     #[error("no memory")]
     NoMemory,
-    /// No code that may stand there.
+    /// No code that may be there.
     #[error("no code that may stand there")]
     BadCode,
-    /// The bits end inside a code that may stand there, or before one.
+    /// The bits end inside a code that may be there, or before one.
     #[error("the bits end inside a code")]
     Truncated,
     /// A run code that takes a one-dimensional row past its width.

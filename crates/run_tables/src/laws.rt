@@ -1,13 +1,45 @@
-//! Laws of the run codes: what their contracts say is proved, and nothing runs.
+//! Laws of the run codes and of rows in one dimension: what their contracts say is proved, and
+//! nothing runs.
 
 ghost use Rattle.run_tables.specs.Laws.{CodesCover, OneCode};
+ghost use Rattle.run_tables.specs.RowLaws.{OneFront, ReadsExactly, RefusesAtLongest, RefusesNoRow, RoundTrip, TableWords};
 
 /// At most one code of a color begins any bits.
 pub fn one_code()
     ensures { OneCode }
 {}
 
-/// Every text of 13 bits begins with a code of each color, or with eight 0 bits.
+/// Any 13 bits begin with a code of each color, or with eight 0 bits.
 pub fn codes_cover()
     ensures { CodesCover }
+{}
+
+/// A triple is in the table exactly where it is the code at one of the 104 places of its color.
+pub fn table_words()
+    ensures { TableWords }
+{}
+
+/// A row is read exactly where the bits begin with code words that spell it.
+pub fn reads_exactly()
+    ensures { ReadsExactly }
+{}
+
+/// Bits that are refused begin with no row's code words.
+pub fn refuses_no_row()
+    ensures { RefusesNoRow }
+{}
+
+/// A refusal has the length of the longest front as its place, and the kind of what is there.
+pub fn refuses_at_longest()
+    ensures { RefusesAtLongest }
+{}
+
+/// Of two fronts of the same bits one begins the other.
+pub fn one_front()
+    ensures { OneFront }
+{}
+
+/// The code words of a row's own runs, followed by any bits, read as the row.
+pub fn round_trip()
+    ensures { RoundTrip }
 {}

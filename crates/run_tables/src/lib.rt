@@ -1,11 +1,10 @@
 //! Runs and rows of the one-dimensional T.4 code: bits in either order, the run codes of both
-//! colors, and their writing and reading. Stands on `raster`.
+//! colors, and their writing and reading. Uses `raster`.
 #![tactic(auto)]
 
 mod fault;
 pub mod laws;
 mod reader;
-pub mod row_laws;
 mod row_reader;
 mod table;
 #[cfg(test)]

@@ -1,6 +1,8 @@
+//! Reading of bits, and of run codes among them (ITU-T T.4, 4.1.1).
+
 ghost use Rattle.raster.specs.Packed.{bits_of};
 ghost use Rattle.run_tables.specs.CodeReading.{PicksCode, ReadsCode, ReadsRun, ReadsRunCode, ReadsRunWithin, count_among, first_runs, kind_among};
-ghost use Rattle.run_tables.specs.Codes.{code_text, text};
+ghost use Rattle.run_tables.specs.Codes.{code_word, text};
 ghost use Rattle.run_tables.specs.Reading.{rest_of};
 ghost use Rattle.run_tables.specs.Texts.{begins, is_cut, pick};
 ghost use Rattle.std.specs.Bool.{OnTrue};
@@ -12,12 +14,12 @@ use raster::Color;
 use raster::packed::{Order, bit_of};
 use std::marker::Model;
 
-/// Which codes of a color may stand somewhere.
+/// Which codes of a color may be at a place.
 #[derive(Clone, Copy, Debug, PartialEq, Eq)]
 pub enum Among {
     /// All 104.
     AllCodes,
-    /// The 64 terminating codes alone, as behind a make-up code.
+    /// The 64 terminating codes alone, as after a make-up code.
     TerminatingCodes,
 }
 
@@ -44,7 +46,7 @@ pub enum RunCode {
 }
 
 /// Reads the bits of octets one after the other.
-#[derive(Drop)]
+#[derive(Debug, Drop)]
 pub struct BitReader<'a> {
     octets: &'a [u8],
     order: Order,
@@ -64,7 +66,7 @@ impl<'a> Model for BitReader<'a> {
 }
 
 impl<'a> BitReader<'a> {
-    /// A reader of the octets' bits, eight an octet, that stands at a place from 0.
+    /// A reader of the octets' bits, eight an octet, that is at a place from 0.
     pub fn at(octets: &'a [u8], order: Order, place: u128) -> Self
         requires { place ≤ 8 * length octets.now }
         ensures { result ≡ record { bits = bits_of order octets.now; place = place } }
@@ -82,11 +84,11 @@ impl<'a> BitReader<'a> {
         ensures place { result ≡ self.now.place }
         ensures within { result ≤ length self.now.bits }
     {
-        self.place // in bits
+        self.place
     }
 
-    /// A second reader of the same bits, at the same place.
-    pub fn fork(&self) -> BitReader<'a>
+    /// A second reader of the same bits, at the same place, to look ahead by.
+    pub fn look_ahead(&self) -> BitReader<'a>
         ensures { result ≡ self.now }
     {
         BitReader {
@@ -131,12 +133,12 @@ impl<'a> BitReader<'a> {
         self.place += count as u128;
     }
 
-    /// Whether the text of the digits `0` and `1` begins the bits that are left.
+    /// Whether what the digits `0` and `1` write begins the bits that are left.
     pub fn begins_with(&self, digits: &[u8]) -> bool
         ensures begun { result ≡ begins (text digits.now) (rest_of self.now) }
         ensures fits { OnTrue result (self.now.place + length digits.now ≤ length self.now.bits) }
     {
-        let _start = self.place();
+        let _start = self.place(); // tells the proof that it is within the bits
         for (by, digit) in digits.iter().enumerate() {
             let Some(bit) = self.ahead(by) else {
                 return false;
@@ -148,8 +150,8 @@ impl<'a> BitReader<'a> {
         true
     }
 
-    /// Whether the bits that are left are a beginning of the text of the digits `0` and `1`, or that
-    /// whole text.
+    /// Whether the bits that are left are a beginning of what the digits `0` and `1` write, or all of
+    /// it.
     pub fn is_cut_of(&self, digits: &[u8]) -> bool
         ensures { result ≡ begins (rest_of self.now) (text digits.now) }
     {
@@ -167,10 +169,10 @@ impl<'a> BitReader<'a> {
     /// The code among the first ones of a color's table that begins the bits that are left.
     fn find_code(&self, color: Color, count: usize) -> Option<Code>
         requires { count ≤ 104 }
-        ensures found { IfSome result (λ code. pick (code_text color) (first_runs count) (rest_of self.now) ≡ Some code.0) }
-        ensures text { IfSome result (λ code. text code.1.now ≡ code_text color code.0) }
+        ensures found { IfSome result (λ code. pick (code_word color) (first_runs count) (rest_of self.now) ≡ Some code.0) }
+        ensures text { IfSome result (λ code. text code.1.now ≡ code_word color code.0) }
         ensures fits { IfSome result (λ code. self.now.place + length code.1.now ≤ length self.now.bits) }
-        ensures none { IfNone result (pick (code_text color) (first_runs count) (rest_of self.now) ≡ None) }
+        ensures none { IfNone result (pick (code_word color) (first_runs count) (rest_of self.now) ≡ None) }
     {
         for at in 0..count {
             let code = code_at(color, at);
@@ -184,7 +186,7 @@ impl<'a> BitReader<'a> {
     /// Whether the bits that are left are a beginning of one of the first codes of a color's table.
     fn is_cut_code(&self, color: Color, count: usize) -> bool
         requires { count ≤ 104 }
-        ensures { result ≡ is_cut (code_text color) (first_runs count) (rest_of self.now) }
+        ensures { result ≡ is_cut (code_word color) (first_runs count) (rest_of self.now) }
     {
         for at in 0..count {
             let code = code_at(color, at);
@@ -195,7 +197,7 @@ impl<'a> BitReader<'a> {
         false
     }
 
-    /// The refusal where no code that may stand begins the bits that are left.
+    /// The refusal where no code that may come begins the bits that are left.
     fn refusal(&self, color: Color, among: Among) -> CodeFault
         ensures { result ≡ record { place = self.now.place; kind = kind_among color among (rest_of self.now) } }
     {
@@ -207,7 +209,7 @@ impl<'a> BitReader<'a> {
         CodeFault::new(self.place(), kind)
     }
 
-    /// The run of the next code, one of those that may stand (ITU-T T.4, 4.1.1). Errs where none of
+    /// The run of the next code, one of those that may come (ITU-T T.4, 4.1.1). Errs where none of
     /// them begins the bits that are left: with `Truncated` where these are a beginning of one, none
     /// left included, and else with `BadCode`. An error changes nothing.
     pub fn next_code(&mut self, color: Color, among: Among) -> Result<u32, CodeFault>
@@ -236,14 +238,14 @@ impl<'a> BitReader<'a> {
     }
 
     /// The next run of a color, 0 to 2,623 pixels: one terminating code, or one make-up code and then
-    /// a terminating code (ITU-T T.4, 4.1.1). Errs where no code stands, as `read_code` does, and
-    /// behind a make-up code where no terminating code stands: there with `Truncated` where the bits
+    /// a terminating code (ITU-T T.4, 4.1.1). Errs where no code is, as `read_code` does, and
+    /// after a make-up code where no terminating code is: there with `Truncated` where the bits
     /// that are left are a beginning of a terminating code, none left included, and else with
     /// `BadCode`. An error changes nothing.
     pub fn read_run(&mut self, color: Color) -> Result<u32, CodeFault>
         ensures { ReadsRun color self.old self.new result }
     {
-        let mut ahead = self.fork();
+        let mut ahead = self.look_ahead();
         let high = ahead.next_code(color, Among::AllCodes)?;
         if high < 64 {
             *self = ahead;

@@ -1,3 +1,5 @@
+//! Reading of rows in one dimension (ITU-T T.4, 4.1.1).
+
 ghost use Rattle.raster.specs.Pixels.{IsWidth};
 ghost use Rattle.raster.specs.Runs.{colored};
 ghost use Rattle.run_tables.specs.RowReading.{ReadsRow, RefusesRow, RowRuns, WholeRow};
@@ -50,7 +52,7 @@ impl<'a> BitReader<'a> {
 
     /// The next row in one dimension, 1 to 2,432 pixels wide: its run codes, white first (ITU-T T.4,
     /// 4.1.1). Errs at the run code that is refused, with `RunTooLong` where it takes the row past
-    /// the width, with `Truncated` where the bits end inside a code that may stand there, and else
+    /// the width, with `Truncated` where the bits end inside a code that may be there, and else
     /// with `BadCode`; and with `NoMemory`, at the reader's place. An error changes nothing.
     pub fn read_row_1d(&mut self, alloc: Global, width: u32) -> Result<Row, CodeFault>
         requires { IsWidth width }
@@ -59,7 +61,7 @@ impl<'a> BitReader<'a> {
         ensures memory { IfErr result (λ fault. fault.kind ≡ CodeFaultKind.NoMemory → fault.place ≡ self.old.place) }
         ensures stays { OnErr result (self.new ≡ self.old) }
     {
-        let mut ahead = self.fork();
+        let mut ahead = self.look_ahead();
         match ahead.whole_row(alloc, width) {
             Ok(row) => {
                 *self = ahead;

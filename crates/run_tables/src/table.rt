@@ -1,13 +1,13 @@
 //! The run codes of both colors (ITU-T T.4, 4.1.1, tables 2 and 3).
 
-ghost use Rattle.run_tables.specs.Codes.{code_text, codes_of, run_at};
+ghost use Rattle.run_tables.specs.Codes.{code_word, codes_of, run_at};
 ghost use Rattle.run_tables.specs.Tables.{as_pairs, pair_of};
 ghost use Rattle.std.specs.Prelude.{◌≡◌, ◌<◌};
 
 use raster::Color;
 
 /// A run code: the run in pixels, and the digits `0` and `1` of its text.
-#[derive(Clone, Copy)]
+#[derive(Clone, Copy, Debug)]
 pub struct Code(pub u32, pub &'static [u8]);
 
 /// The codes of white runs (ITU-T T.4, tables 2 and 3): the terminating codes of 0 to 63, then the
@@ -241,7 +241,7 @@ pub fn codes(color: Color) -> &'static [Code]
 /// 40 places from 64 on the make-up codes.
 pub fn code_at(color: Color, place: usize) -> Code
     requires { place < 104 }
-    ensures { pair_of result ≡ (run_at place, code_text color (run_at place)) }
+    ensures { pair_of result ≡ (run_at place, code_word color (run_at place)) }
 {
     codes(color)[place]
 }

@@ -194,7 +194,7 @@ fn bits_and_codes_are_read(rt: HostRuntime) -> Result<(), Fail> {
     let alloc = rt.alloc();
     let octets = octets_of(alloc, Order::LsbFirst, "1101100110101000")?;
     let mut reader = BitReader::at(&octets, Order::LsbFirst, 0);
-    let mut second = reader.fork();
+    let mut second = reader.look_ahead();
     assert_eq!(rt; reader.read_code(Color::White), Ok(RunCode::MakeUp(64)));
     assert_eq!(rt;
         reader.next_code(Color::White, Among::TerminatingCodes),

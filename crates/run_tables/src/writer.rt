@@ -1,7 +1,9 @@
+//! Writing of bits, and of runs and rows by their code words (ITU-T T.4, 4.1.1 and 4.1.2).
+
 ghost use Rattle.raster.specs.Packed.{FillsOctets};
 ghost use Rattle.raster.specs.Runs.{AreOwnRuns};
-ghost use Rattle.run_tables.specs.Codes.{run_text, text};
-ghost use Rattle.run_tables.specs.RunTexts.{runs_text};
+ghost use Rattle.run_tables.specs.Codes.{run_words, text};
+ghost use Rattle.run_tables.specs.RunWords.{runs_words};
 ghost use Rattle.run_tables.specs.Written.{Appends, AppendsRow, eol};
 ghost use Rattle.std.specs.Prelude.{◌≡◌, ◌≤◌, ◌++◌, ◌∷◌, [], All, length, take, IfOk, OnOk, OnErr};
 
@@ -95,12 +97,12 @@ impl BitWriter {
         Ok(())
     }
 
-    /// Appends the text of a run of up to 2,623 pixels: the terminating code of a run up to 63, else
-    /// a make-up code and the terminating code of the rest (ITU-T T.4, 4.1.1). Errs where memory is
-    /// refused, which changes nothing.
+    /// Appends the code words of a run of up to 2,623 pixels: the terminating code of a run up to 63,
+    /// else a make-up code and the terminating code of the rest (ITU-T T.4, 4.1.1). Errs where memory
+    /// is refused, which changes nothing.
     pub fn write_run(&mut self, color: Color, run: u32) -> Result<(), AllocError>
         requires { run ≤ 2623 }
-        ensures ok { OnOk result (Appends (run_text color run) self.old self.new) }
+        ensures ok { OnOk result (Appends (run_words color run) self.old self.new) }
         ensures err { OnErr result (self.new ≡ self.old) }
     {
         if run < 64 {
@@ -124,11 +126,11 @@ impl BitWriter {
         self.push_digits(b"000000000001")
     }
 
-    /// Appends the texts of alternating runs, white first. Errs where memory is refused, which
+    /// Appends the code words of alternating runs, white first. Errs where memory is refused, which
     /// changes nothing.
     fn write_runs(&mut self, runs: &[u32]) -> Result<(), AllocError>
         requires { All (λ run. run ≤ 2623) runs.now }
-        ensures ok { OnOk result (Appends (runs_text Color.White runs.now) self.old self.new) }
+        ensures ok { OnOk result (Appends (runs_words Color.White runs.now) self.old self.new) }
         ensures err { OnErr result (self.new ≡ self.old) }
     {
         let start = self.bits();
@@ -143,8 +145,8 @@ impl BitWriter {
         Ok(())
     }
 
-    /// Appends the texts of the row's own runs, white first (ITU-T T.4, 4.1.1). Errs where memory is
-    /// refused, which changes nothing.
+    /// Appends the code words of the row's own runs, white first (ITU-T T.4, 4.1.1). Errs where memory
+    /// is refused, which changes nothing.
     pub fn write_row_1d(&mut self, alloc: Global, row: &Row) -> Result<(), AllocError>
         ensures ok { OnOk result (AppendsRow row.now self.old self.new) }
         ensures err { OnErr result (self.new ≡ self.old) }

@@ -11,10 +11,10 @@ use Rattle.raster.specs.declared.packed.Order.TheVariants.{LsbFirst}
 use Rattle.raster.specs.declared.row.Color.{Color}
 use Rattle.raster.proofs.OctetLemmas.{bits_of-append}
 use Rattle.raster.proofs.PackedLemmas.{bits_in-none, length-bits_in}
-use Rattle.page_code.specs.T4Pages.{page_text, rows_text, eols_text, rtc}
-use Rattle.page_code.specs.T6Code.{page_code, rows_code}
-use Rattle.page_code.specs.T6Modes.{eofb}
-use Rattle.page_code.specs.T6Positions.{white_line}
+use Rattle.page_code.specs.OneDimension.Pages.{page_words, rows_words, eol_words, rtc}
+use Rattle.page_code.specs.TwoDimensions.Code.{page_code, rows_code}
+use Rattle.page_code.specs.TwoDimensions.Modes.{eofb}
+use Rattle.page_code.specs.TwoDimensions.Positions.{white_line}
 use Rattle.page_code.specs.Codings.{code_of, read_rows, GivesCodedRows}
 use Rattle.page_code.specs.declared.coding.Coding.{Coding}
 use Rattle.page_code.specs.declared.coding.Coding.TheVariants.{OneDim, T6}
@@ -30,9 +30,9 @@ use Rattle.raster.proofs.OctetLemmas.{bits_of-packed}
 length-code : (coding : Coding) (width : ℕ) (rows : List (List Color)) → 0 < length (code_of coding width rows)
 unfolding code_of page_code
 length-code OneDim width rows =
-    let tail : length (eols_text rtc) ≡ 72 = refl in
-    let sizes : length (page_text rows) ≡ length (rows_text rows) + length (eols_text rtc) =
-    length-append (rows_text rows) (eols_text rtc) in
+    let tail : length (eol_words rtc) ≡ 72 = refl in
+    let sizes : length (page_words rows) ≡ length (rows_words rows) + length (eol_words rtc) =
+    length-append (rows_words rows) (eol_words rtc) in
     omega arith
 length-code T6 width rows =
     let tail : length eofb ≡ 24 = refl in

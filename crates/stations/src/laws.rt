@@ -10,7 +10,7 @@ ghost use Rattle.stations.specs.Laws.{LayersHold, ReadsByGrammar, SignalsArrive,
 pub fn layers_hold()
     ensures { LayersHold }
 {
-    page_code::laws::gives_coded_rows();
+    page_code::laws::round_trip();
     partial_page::page_is_cut_into_full_frames();
     partial_page::page_stays_within_limit();
 }

@@ -1,4 +1,4 @@
-use Rattle.page_code.proofs.OneDimWrites.{eol_written}
+use Rattle.page_code.proofs.OneDimension.RowsWords.{eol_written}
 use Rattle.page_code.proofs.one_dim.write_rtc.Goals as goal
 
 pub loop-preserved : goal.loop-preserved

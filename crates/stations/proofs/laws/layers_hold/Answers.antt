@@ -3,4 +3,4 @@ use Rattle.stations.proofs.laws.layers_hold.Goals as goal
 
 pub returns : goal.returns
 returns c =
-    layers_hold_by c.gives_coded_rows.ensures c.page_is_cut_into_full_frames.ensures c.page_stays_within_limit.ensures
+    layers_hold_by c.round_trip.ensures.gives c.page_is_cut_into_full_frames.ensures c.page_stays_within_limit.ensures

@@ -1,4 +1,4 @@
-use Rattle.page_code.proofs.T6Gives.{reads_its_code}
+use Rattle.page_code.proofs.TwoDimensions.ReadsItsCode.{reads_its_code}
 use Rattle.page_code.proofs.t6.T6PageCode.reads_its_code.Goals as goal
 
 pub returns : goal.returns

@@ -5,6 +5,7 @@ use Rattle.run_tables.proofs.reader.BitReader.begins_with.Given as goal
 
 abbrev pub invariant-loop-by : goal.invariant-loop-by
 invariant-loop-by l = record {
-  begun : begins (text (drop l.by l.digits)) (drop (l.self.place + l.by) l.self.bits) ≡ begins (text l.digits) (drop l.self.place l.self.bits);
+  begun : begins (text (drop l.by l.digits)) (drop (l.self.place + l.by) l.self.bits) ≡ begins (text l.digits) (drop l.self.place
+      l.self.bits);
   fits : l.self.place + l.by ≤ length l.self.bits;
 }

@@ -1,10 +1,11 @@
 use Rattle.std.proofs.Common.{◌≡◌}
-use Rattle.run_tables.specs.Codes.{code_text}
+use Rattle.run_tables.specs.Codes.{code_word}
 use Rattle.run_tables.specs.CodeReading.{first_runs}
 use Rattle.run_tables.specs.Reading.{rest_of}
 use Rattle.run_tables.specs.Texts.{is_cut}
-use Rattle.run_tables.proofs.LeftLemmas.{left_runs}
+use Rattle.run_tables.proofs.PickLemmas.{left_runs}
 use Rattle.run_tables.proofs.reader.BitReader.is_cut_code.Given as goal
 
 abbrev pub invariant-loop-at : goal.invariant-loop-at
-invariant-loop-at l = is_cut (code_text l.color) (left_runs l.at l.count) (rest_of l.self) ≡ is_cut (code_text l.color) (first_runs l.count) (rest_of l.self)
+invariant-loop-at l = is_cut (code_word l.color) (left_runs l.at l.count) (rest_of l.self) ≡ is_cut (code_word l.color) (first_runs l.count)
+    (rest_of l.self)

@@ -4,4 +4,5 @@ use Rattle.run_tables.specs.Texts.{begins}
 use Rattle.run_tables.proofs.reader.BitReader.is_cut_of.Given as goal
 
 abbrev pub invariant-loop-by : goal.invariant-loop-by
-invariant-loop-by l = begins (drop (l.self.place + l.by) l.self.bits) (text (drop l.by l.digits)) ≡ begins (drop l.self.place l.self.bits) (text l.digits)
+invariant-loop-by l = begins (drop (l.self.place + l.by) l.self.bits) (text (drop l.by l.digits)) ≡ begins (drop l.self.place l.self.bits)
+    (text l.digits)

@@ -19,14 +19,32 @@ returns-then-high-lt64 c = inl (c.in_ok-high.ensures.picks, c.if-high-lt64.true,
 pub returns-in_err-low : goal.returns-in_err-low
 returns-in_err-low c =
     let p = err_from_is_err_and c.from_residual-in_err-low.result c.from_residual-in_err-low.ensures.1 in
-    rw (p.1, p.2) (inr (c.in_ok-high.high, c.next_code.new.self, (c.in_ok-high.ensures.picks, c.if-high-lt64.false, c.if-high-room.false), inl (c.next_code-2.new.self, c.in_err-low.ensures.picks)))
+    rw (p.1, p.2) (inr (
+      c.in_ok-high.high,
+      c.next_code.new.self,
+      (c.in_ok-high.ensures.picks, c.if-high-lt64.false, c.if-high-room.false),
+      inl (c.next_code-2.new.self, c.in_err-low.ensures.picks),
+    ))
 
 pub returns-then-low-room : goal.returns-then-low-room
 returns-then-low-room c =
     rw (c.new-then-low-room.ensures, c.place-second.ensures.place)
-    (inr (c.in_ok-high.high, c.next_code.new.self, (c.in_ok-high.ensures.picks, c.if-high-lt64.false, c.if-high-room.false), inr (c.in_ok-low.low, c.next_code-2.new.self, c.in_ok-low.ensures.picks, c.if-low-room.true, refl)))
+    (inr (
+      c.in_ok-high.high,
+      c.next_code.new.self,
+      (c.in_ok-high.ensures.picks, c.if-high-lt64.false, c.if-high-room.false),
+      inr
+          (c.in_ok-low.low, c.next_code-2.new.self, c.in_ok-low.ensures.picks, c.if-low-room.true, refl),
+    ))
 
 pub returns : goal.returns
 returns c =
     let low = low_run c.in_ok-low.low c.in_ok-low.ensures.reads.0.0 in
-    inr (c.in_ok-high.high, c.in_ok-low.low, c.next_code.new.self, (c.in_ok-high.ensures.picks, c.if-high-lt64.false, c.if-high-room.false), (c.in_ok-low.ensures.picks, low, c.if-low-room.false), refl)
+    inr (
+      c.in_ok-high.high,
+      c.in_ok-low.low,
+      c.next_code.new.self,
+      (c.in_ok-high.ensures.picks, c.if-high-lt64.false, c.if-high-room.false),
+      (c.in_ok-low.ensures.picks, low, c.if-low-room.false),
+      refl,
+    )

@@ -2,7 +2,7 @@ use Rattle.std.proofs.Common.{◌≡◌, ◌≤◌, ◌++◌, ◌-◌, List, ℕ
 use Rattle.raster.specs.Runs.{colored}
 use Rattle.raster.specs.declared.row.Color.TheVariants.{White}
 use Rattle.run_tables.specs.Reading.{rest_of}
-use Rattle.run_tables.specs.RowFronts.{behind_run, reading, row_begin}
+use Rattle.run_tables.specs.RowFronts.{run_ended, reading, row_begin}
 use Rattle.run_tables.specs.RowFronts.RowState.{inside, whole}
 use Rattle.run_tables.proofs.reader.BitReader.row_runs.Given as goal
 
@@ -13,7 +13,8 @@ invariant-loop-sum l = record {
   sum : l.sum ≡ length (colored White l.runs.items);
   short : l.sum ≤ l.width;
   follows : (tail : List ℕ) → colored White (l.runs.items ++ tail) ≡ colored White l.runs.items ++ colored l.color tail;
-  reads : reading l.width row_begin l.fn.self.place (rest_of l.fn.self) ≡ reading l.width (behind_run whole inside l.width (colored White l.runs.items) l.color) l.self.place (rest_of l.self);
+  reads : reading l.width row_begin l.fn.self.place (rest_of l.fn.self) ≡ reading l.width (run_ended whole inside l.width (colored White
+      l.runs.items) l.color) l.self.place (rest_of l.self);
 }
 
 abbrev pub decreases-loop-sum : goal.decreases-loop-sum

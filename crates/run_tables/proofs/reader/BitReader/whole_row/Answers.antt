@@ -8,8 +8,10 @@ use Rattle.run_tables.proofs.reader.BitReader.whole_row.Goals as goal
 pub returns-in_err-runs : goal.returns-in_err-runs
 returns-in_err-runs c =
     let p = err_from_is_err_and c.from_residual.result c.from_residual.ensures.1 in
-    rw (p.1, p.2) (runs_refused Global c.args.width c.args.self.now c.row_runs.new.self c.in_err-runs.field-0.0 c.requires c.in_err-runs.ensures)
+    rw (p.1, p.2) (runs_refused Global c.args.width c.args.self.now c.row_runs.new.self c.in_err-runs.field-0.0 c.requires
+    c.in_err-runs.ensures)
 
 pub returns : goal.returns
 returns c =
-    runs_read Global c.args.width c.args.self.now c.row_runs.new.self c.in_ok-runs.runs c.in_ok-row_of.field-0 c.requires c.in_ok-runs.ensures (c.in_ok-row_of.ensures ∙ ap (colored White) c.deref.ensures.value)
+    runs_read Global c.args.width c.args.self.now c.row_runs.new.self c.in_ok-runs.runs c.in_ok-row_of.field-0 c.requires
+    c.in_ok-runs.ensures (c.in_ok-row_of.ensures ∙ ap (colored White) c.deref.ensures.value)

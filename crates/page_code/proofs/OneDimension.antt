@@ -1,0 +1,13 @@
+-- Lemmas of the one-dimensional code.
+pub mod ZerosBefore
+pub mod Look
+pub mod OwnRuns
+pub mod RowInPage
+pub mod ReadsAll
+pub mod ReadsOnly
+pub mod Laws
+pub mod WorkedPages
+pub mod Reading
+pub mod SeesEol
+pub mod ReadsRowOfPage
+pub mod RowsWords

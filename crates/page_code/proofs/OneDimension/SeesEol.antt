@@ -1,0 +1,116 @@
+-- Reading an EOL, bit by bit.
+use Rattle.std.proofs.Common.{◌⊎◌, inl, inr, subst, ℕ, suc, ◌≡◌, ◌+◌, ◌-◌, ◌*◌, ◌<◌, ◌≤◌, Bool, true, false, List, ◌∷◌, length, drop, Some, None, refl, ap, sym, ◌∙◌, arith, length-append, drop-drop}
+use Rattle.std.specs.Prelude.{Option}
+use Rattle.std.specs.Option.{option_map}
+use Rattle.std.proofs.lemmas.List.{drop_more, drop_all, length-drop}
+use Rattle.std.proofs.lemmas.Option.{get_or_from_slice_get}
+use Rattle.raster.specs.declared.packed.Order.{Order}
+use Rattle.raster.specs.Packed.{bit_in, bits_of}
+use Rattle.raster.proofs.PackedLemmas.{length-bits_in, slice_get-bits_in}
+use Rattle.page_code.specs.OneDimension.Pages.{eol_word}
+use Rattle.page_code.specs.OneDimension.Fronts.{zeros_before, bits_of_eols, bits_of_five, CodeBegins}
+use Rattle.page_code.specs.OneDimension.Reading.{SeesEol}
+use Rattle.page_code.specs.declared.one_dim.eol.Eol.{Eol}
+use Rattle.page_code.specs.declared.one_dim.eol.Eol.TheVariants.{Present, Absent, OnlyZeros}
+use Rattle.page_code.proofs.OneDimension.ZerosBefore.{zeros_split, length-eol}
+use Rattle.page_code.proofs.OneDimension.Reading.{five_eols, eols_go, eols_none, eols_other}
+
+-- so many 0 bits more, where a 1 follows
+abbrev pub more_zeros : ℕ → Option ℕ → Option ℕ
+more_zeros count zeros = option_map (λ n. count + n) zeros
+
+pub no_zeros : (o : Option ℕ) → o ≡ more_zeros 0 o
+no_zeros None = refl
+no_zeros (Some n) = let same : n ≡ 0 + n = omega arith in ap (λ (m : ℕ). Some m) same
+
+-- the bits from a place on
+bits_there : (order : Order) (octets : List ℕ) (at : ℕ) → at < 8 * length octets
+    → drop at (bits_of order octets) ≡ bit_in order octets at ∷ drop (at + 1) (bits_of order octets)
+bits_there order octets at h =
+    let within : at < length (bits_of order octets) = rw length-bits_in h in
+    drop_more (bits_of order octets) at false within ∙
+    ap (λ (b : Bool). b ∷ drop (at + 1) (bits_of order octets)) (get_or_from_slice_get (bits_of order octets) at (bit_in order octets
+    at) false (slice_get-bits_in order octets (8 * length octets) at h))
+
+-- a 0 bit goes on
+pub zero_on : (order : Order) (octets : List ℕ) (place at : ℕ) → place ≤ at → at < 8 * length octets → bit_in order octets at ≡ false
+    → zeros_before (drop place (bits_of order octets)) ≡ more_zeros (at - place) (zeros_before (drop at (bits_of order octets)))
+    → zeros_before (drop place (bits_of order octets)) ≡ more_zeros (at + 1 - place) (zeros_before (drop (at + 1) (bits_of order octets)))
+zero_on order octets place at past h bit before =
+    before ∙ (ap (λ (x : List Bool). more_zeros (at - place) (zeros_before x)) (bits_there order octets at h ∙
+    ap (λ (b : Bool). b ∷ drop (at + 1) (bits_of order octets)) bit) ∙ one (zeros_before (drop (at + 1) (bits_of order octets))))
+  where
+    one : (o : Option ℕ) → more_zeros (at - place) (option_map suc o) ≡ more_zeros (at + 1 - place) o
+    one None = refl
+    one (Some n) = let same : at - place + suc n ≡ at + 1 - place + n = omega arith in ap (λ (m : ℕ). Some m) same
+
+-- a 1 ends them
+pub one_ends : (order : Order) (octets : List ℕ) (place at : ℕ) → at < 8 * length octets → bit_in order octets at ≡ true
+    → zeros_before (drop place (bits_of order octets)) ≡ more_zeros (at - place) (zeros_before (drop at (bits_of order octets)))
+    → Some (at - place) ≡ zeros_before (drop place (bits_of order octets))
+one_ends order octets place at h bit before =
+    let same : at - place + 0 ≡ at - place = omega arith in
+    sym (before ∙ (ap (λ (x : List Bool). more_zeros (at - place) (zeros_before x)) (bits_there order octets at h ∙
+    ap (λ (b : Bool). b ∷ drop (at + 1) (bits_of order octets)) bit) ∙ ap (λ (m : ℕ). Some m) same))
+
+-- the bits end
+pub none_left : (order : Order) (octets : List ℕ) (place at : ℕ) → 8 * length octets ≤ at
+    → zeros_before (drop place (bits_of order octets)) ≡ more_zeros (at - place) (zeros_before (drop at (bits_of order octets)))
+    → None ≡ zeros_before (drop place (bits_of order octets))
+none_left order octets place at h before =
+    let past : length (bits_of order octets) ≤ at = rw length-bits_in h in
+    sym (before ∙ ap (λ (x : List Bool). more_zeros (at - place) (zeros_before x)) (drop_all at (bits_of order octets) past))
+
+-- an EOL that is there is within the bits
+pub eol_within : (x : List Bool) (n : ℕ) → zeros_before x ≡ Some n → n + 1 ≤ length x
+eol_within x n is =
+    let there = zeros_split x n is in
+    omega (arith, ap length there.1, length-append (eol_word n) there.0, length-eol n)
+
+-- the bits of the EOLs that are there, so many at most
+unfoldable pub counted : ℕ → List Bool → ℕ
+counted most x = bits_of_eols most x
+
+pub counted_five : (x : List Bool) → bits_of_five x ≡ counted 5 x
+unfolding counted
+counted_five x = five_eols x
+
+pub counted_over : (x : List Bool) → counted 0 x ≡ 0
+unfolding counted
+counted_over x = refl
+
+pub counted_none : (most : ℕ) (x : List Bool) → zeros_before x ≡ None → counted most x ≡ 0
+unfolding counted
+counted_none most x is = eols_none most x is
+
+pub counted_other : (most : ℕ) (x : List Bool) → CodeBegins x → counted most x ≡ 0
+unfolding counted
+counted_other most x stands = eols_other most x stands
+
+counted_go : (most n : ℕ) (x : List Bool) → zeros_before x ≡ Some n → 11 ≤ n → counted (suc most) x ≡ n + 1 + counted most (drop (n + 1) x)
+unfolding counted
+counted_go most n x is long = eols_go most n x is long
+
+-- how many bits are left from a place on
+pub bits_left : (order : Order) (octets : List ℕ) (place : ℕ) → length (drop place (bits_of order octets)) ≡ 8 * length octets - place
+bits_left order octets place = simp (length-drop, length-bits_in)
+
+-- one EOL more is counted
+pub eol_counted : (order : Order) (octets : List ℕ) (all after counter bits : ℕ) → counter < 5 → after ≤ 8 * length octets
+    → SeesEol (drop after (bits_of order octets)) (Present bits)
+    → all ≡ after + counted (5 - counter) (drop after (bits_of order octets))
+    → (after + bits ≤ 8 * length octets) × (all ≡ after + bits + counted (5 - (counter + 1)) (drop (after + bits) (bits_of order octets)))
+eol_counted order octets all after counter bits few within sees before =
+    let left = bits_left order octets after in
+    let next : 5 - counter ≡ suc (5 - (counter + 1)) = omega arith in
+    let one = ap (λ (most : ℕ). counted most (drop after (bits_of order octets))) next ∙
+    counted_go (5 - (counter + 1)) sees.0 (drop after (bits_of order octets)) sees.1 sees.2 in
+    let on : drop (sees.0 + 1) (drop after (bits_of order octets)) ≡ drop (after + bits) (bits_of order octets) = drop-drop (sees.0 + 1)
+    after (bits_of order octets) ∙ ap (λ (n : ℕ). drop (after + n) (bits_of order octets)) (sym sees.3) in
+    let far = ap (counted (5 - (counter + 1))) on in
+    (omega (arith, left, sees.4), omega (arith, before, one, far, sees.3))
+
+-- no EOL is there
+pub eols_end : (most : ℕ) (x : List Bool) (eol : Eol) → SeesEol x eol → (eol ≡ Absent) ⊎ (eol ≡ OnlyZeros) → counted most x ≡ 0
+eols_end most x eol sees (inl e) = counted_other most x (subst (λ (seen : Eol). SeesEol x seen) e sees)
+eols_end most x eol sees (inr e) = counted_none most x (subst (λ (seen : Eol). SeesEol x seen) e sees)

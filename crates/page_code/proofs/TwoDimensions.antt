@@ -1,0 +1,13 @@
+-- Lemmas of the two-dimensional code.
+pub mod WorkedPages
+pub mod Positions
+pub mod PageLook
+pub mod WhatIsLeft
+pub mod ReadsOnly
+pub mod ReadsAll
+pub mod Laws
+pub mod Prescribed
+pub mod Reading
+pub mod WritesMode
+pub mod StepsOn
+pub mod ReadsItsCode

@@ -1,0 +1,777 @@
+-- Reading a T.6 page by its parts: mode codes, runs, modes and rows.
+use Rattle.std.proofs.Common.{ℕ, suc, ◌≡◌, ◌+◌, ◌-◌, ◌<◌, ◌≤◌, ◌⊎◌, inl, inr, Bool, true, false, ◌&&◌, not, List, [], ◌∷◌, ◌++◌, length, drop, replicate, Some, None, refl, ap, subst, sym, ◌∙◌, arith, cond, nat_eq, length-append, drop-cons, add-one}
+use Rattle.std.specs.Prelude.{Option, Contains, Result, Ok, Err, OnOk, slice_get, slice_index_or}
+use Rattle.std.specs.Option.{option_map}
+use Rattle.std.proofs.lemmas.Bool.{lt-ltb, le-ltb, ne_eqb, cases_eq}
+use Rattle.std.proofs.lemmas.List.{drop-drop, length-drop, length-map, length-replicate, append-nil}
+use Rattle.std.proofs.lemmas.Option.{slice_get_cases}
+use Rattle.raster.specs.declared.row.Color.{Color}
+use Rattle.raster.specs.declared.row.Color.TheVariants.{White}
+use Rattle.raster.specs.Pixels.{other}
+use Rattle.raster.specs.Changes.{IsNextChange}
+use Rattle.run_tables.specs.declared.fault.CodeFault.{CodeFault}
+use Rattle.run_tables.specs.declared.fault.CodeFaultKind.{CodeFaultKind}
+use Rattle.run_tables.specs.declared.fault.CodeFaultKind.TheVariants.{NoMemory, BadCode, Truncated, Backwards, PastEnd, EmptyHorizontal}
+use Rattle.run_tables.specs.declared.reader.Among.TheVariants.{AllCodes, TerminatingCodes}
+use Rattle.run_tables.specs.Codes.{code_word, text}
+use Rattle.run_tables.specs.CodeReading.{first_runs, PicksCode, BeginsRun, RefusesCodeWithin, ReadsRunWithin}
+use Rattle.run_tables.specs.Reading.{Reading, rest_of}
+use Rattle.run_tables.specs.Texts.{begins, all_zero, pick, is_cut}
+use Rattle.run_tables.specs.Fronts.Look.{refuse}
+use Rattle.run_tables.specs.RowFronts.{codes_after, allowed, amount, judged}
+use Rattle.run_tables.specs.RowFronts.{item_word as run_item_word}
+use Rattle.run_tables.specs.RowFronts.RunItem.{run_item as run_code}
+use Rattle.run_tables.proofs.BeginsLemmas.{pick_sound, begins_split}
+use Rattle.run_tables.proofs.CodeLooks.{code_positive}
+use Rattle.run_tables.proofs.RowReads.{pick_items, cut_items}
+use Rattle.page_code.specs.declared.t6.a0.A0.{A0}
+use Rattle.page_code.specs.declared.t6.read.Start.TheVariants.{Row, End, Refused}
+use Rattle.page_code.specs.declared.t6.mode.Shift.{Shift}
+use Rattle.page_code.specs.declared.t6.mode.Shift.TheVariants.{V0, VR1, VR2, VR3, VL1, VL2, VL3}
+use Rattle.page_code.specs.declared.t6.mode.ModeCode.{ModeCode}
+use Rattle.page_code.specs.declared.t6.mode.ModeCode.TheVariants.{Pass, Horizontal, Vertical}
+use Rattle.page_code.specs.TwoDimensions.Positions.{a0_of, right_of, CodingLine, line_begin, white_line, right_of_a0, filled_to, IsFirstTo, IsB1, b1_of, b2_of}
+use Rattle.page_code.specs.TwoDimensions.Modes.{to_right, to_left, eofb, runs_added}
+use Rattle.page_code.specs.TwoDimensions.Fronts.{mode_word, mode_codes, PageSoFar, PageState, page_begin, row_added, mode_ended, after_mode, run_color, run_ended, after_run, found_run, look_run, reading}
+use Rattle.page_code.specs.TwoDimensions.Fronts.PageItem.{run_item}
+use Rattle.page_code.specs.TwoDimensions.Fronts.PageState.{between, inside, running}
+use Rattle.page_code.specs.TwoDimensions.Reading.{ReadsMode, HasRoom, ReadsRun, LeadsOn, MovesTo, ReadsHorizontal, ReadsPageOn, StepsOn, ReadsRow, SeesStart, missing_mode}
+use Rattle.page_code.specs.TwoDimensions.Writing.{reference_at}
+use Rattle.page_code.proofs.TwoDimensions.Positions.{b1_is, b2_is}
+use Rattle.page_code.proofs.TwoDimensions.Prescribed.{other_twice}
+use Rattle.page_code.proofs.TwoDimensions.ReadsAll.{vertical_stands}
+use Rattle.page_code.proofs.TwoDimensions.Reading.{reading_go, reading_refuse, mode_read, mode_refused, mode_missing, mode_ended_short, mode_ended_whole, reading_row_begins, reading_eofb}
+
+-- Mode codes
+
+pub mode_stands : (code : ModeCode) → Contains mode_codes code
+mode_stands Pass = (0, omega arith, refl)
+mode_stands Horizontal = (1, omega arith, refl)
+mode_stands (Vertical shift) = vertical_stands shift
+
+-- no mode code is cut off there
+pub none_cut : (x : List Bool) (at : ℕ) → 9 ≤ at → ((k : ℕ) → k < at → begins x (mode_word (slice_index_or mode_codes k Pass)) ≡ false)
+    → is_cut mode_word mode_codes x ≡ false
+none_cut x at whole h = rw (
+  h 0 (omega arith),
+  h 1 (omega arith),
+  h 2 (omega arith),
+  h 3 (omega arith),
+  h 4 (omega arith),
+  h 5 (omega
+      arith),
+  h 6 (omega arith),
+  h 7 (omega arith),
+  h 8 (omega arith),
+) refl
+
+-- none begins the bits
+pub none_begins : (x : List Bool) (at : ℕ) → 9 ≤ at → ((k : ℕ) → k < at
+    → begins (mode_word (slice_index_or mode_codes k Pass)) x ≡ false) → (code : ModeCode) → begins (mode_word code) x ≡ false
+none_begins x at whole h Pass = h 0 (omega arith)
+none_begins x at whole h Horizontal = h 1 (omega arith)
+none_begins x at whole h (Vertical V0) = h 2 (omega arith)
+none_begins x at whole h (Vertical VR1) = h 3 (omega arith)
+none_begins x at whole h (Vertical VR2) = h 4 (omega arith)
+none_begins x at whole h (Vertical VR3) = h 5 (omega arith)
+none_begins x at whole h (Vertical VL1) = h 6 (omega arith)
+none_begins x at whole h (Vertical VL2) = h 7 (omega arith)
+none_begins x at whole h (Vertical VL3) = h 8 (omega arith)
+
+-- a mode code that begins the bits was passed by
+pub mode_taken : (old now new : Reading) (code : ModeCode) (digits : List ℕ) (begun : Bool) → now ≡ old → text digits ≡ mode_word code
+    → begun ≡ begins (text digits) (rest_of now) → begun ≡ true → new ≡ record { bits = now.bits; place = now.place + length digits }
+    → ReadsMode old new (Ok code)
+mode_taken old now new code digits begun same is tested holds skipped =
+    let count : length digits ≡ length (mode_word code) = sym (length-map digits (λ (digit : ℕ). nat_eq digit 49)) ∙ ap length is in
+    subst (λ (o : Reading). ReadsMode o new (Ok code)) same (
+      ap (λ t. begins t (rest_of now)) (sym is) ∙ (sym tested ∙ holds),
+      skipped ∙
+          ap (λ (n : ℕ). record { bits = now.bits; place = now.place + n }) count,
+    )
+
+pub mode_none : (old now new : Reading) (fault : CodeFault) → now ≡ old
+    → fault ≡ record { place = now.place; kind = missing_mode (rest_of now) } → ((code : ModeCode)
+    → begins (mode_word code) (rest_of now) ≡ false) → ReadsMode old new (Err fault)
+mode_none old now new fault same is none = subst (λ (o : Reading). ReadsMode o new (Err fault)) same (is, none)
+
+-- Only 0 bits
+
+at_bit : (bits : List Bool) (p : ℕ) (bit : Bool) → Some bit ≡ slice_get bits p → (p < length bits) × (drop p bits ≡ bit ∷ drop (p + 1) bits)
+at_bit bits p bit e = elim (slice_get_cases bits p).1 [
+  | inl w ↦
+      let same : w.0 ≡ bit = (let both : Some bit ≡ Some w.0 = e ∙ w.2 in cc) in (
+        w.1,
+        drop-cons bits p w.0 w.1 ∙ (ap (λ (b : Bool). b ∷ drop (suc p) bits) (w.3 ∙ same) ∙
+            ap (λ (n : ℕ). bit ∷ drop n bits) (sym (add-one p))),
+      )
+  | inr w ↦ (let both : Some bit ≡ None = e ∙ w.1 in cc)
+]
+
+pub zero_next : (old new : Reading) (bit : Bool) → Some bit ≡ slice_get old.bits old.place
+    → new ≡ record { bits = old.bits; place = old.place + 1 } → bit ≡ false → all_zero (rest_of new) ≡ all_zero (rest_of old)
+zero_next old new bit e passed zero = ap (λ (r : Reading). all_zero (rest_of r)) passed ∙
+    sym (ap all_zero ((at_bit old.bits old.place bit e).1) ∙ ap (λ (b : Bool). not b && all_zero (drop (old.place + 1) old.bits)) zero)
+
+pub zero_less : (old new : Reading) (bit : Bool) → Some bit ≡ slice_get old.bits old.place
+    → new ≡ record { bits = old.bits; place = old.place + 1 } → length new.bits - new.place < length old.bits - old.place
+zero_less old new bit e passed = subst (λ (r : Reading). length r.bits - r.place < length old.bits - old.place) (sym passed) (omega (
+  arith,
+  (at_bit old.bits old.place bit e).0,
+))
+
+pub one_next : (old : Reading) (bit : Bool) → Some bit ≡ slice_get old.bits old.place → bit ≡ true → all_zero (rest_of old) ≡ false
+one_next old bit e one = ap all_zero ((at_bit old.bits old.place bit e).1) ∙
+    ap (λ (b : Bool). not b && all_zero (drop (old.place + 1) old.bits)) one
+
+pub none_next : (old : Reading) → None ≡ slice_get old.bits old.place → all_zero (rest_of old) ≡ true
+none_next old e = elim (slice_get_cases old.bits old.place).1 [
+  | inl w ↦ (let both : None ≡ Some w.0 = e ∙ w.2 in cc)
+  | inr w ↦ empty (rest_of old) (omega (arith, w.0, length-drop old.place old.bits))
+]
+  where
+    empty : (l : List Bool) → length l ≡ 0 → all_zero l ≡ true
+    empty [] h = refl
+    empty (x ∷ l) h = absurd (omega arith)
+
+-- Runs
+
+module _ (width : ℕ) (page : PageSoFar) (line : CodingLine) (first makeup : Option ℕ) where
+  code_is : (x : List Bool) (run : ℕ) → pick (code_word (run_color line first)) (first_runs (codes_after makeup)) x ≡ Some run
+      → pick run_item_word (allowed (run_color line first) makeup) x ≡ Some (run_code (run_color line first) run)
+  code_is x run found = pick_items (run_color line first) (codes_after makeup) x ∙ ap (option_map (run_code (run_color line first))) found
+
+  -- a code that is there is read
+  code_read : (color : Color) → run_color line first ≡ color → (place : ℕ) (bits : List Bool) (run : ℕ) (t : PageState)
+      → pick (code_word color) (first_runs (codes_after makeup)) (drop place bits) ≡ Some run
+      → after_run width page line first makeup run ≡ Ok t
+      → reading width (running page line first makeup) place (drop place bits) ≡ reading width t (place + length (code_word color run))
+      (drop (place + length (code_word color run)) bits)
+  code_read color is place bits run t found leads = subst (λ (c : Color). pick (code_word c) (first_runs (codes_after makeup)) (drop place
+      bits) ≡ Some run → reading width (running page line first makeup) place (drop place bits) ≡ reading width t (place + length (code_word
+      c run)) (drop (place + length (code_word c run)) bits)) is here found
+    where
+      here : pick (code_word (run_color line first)) (first_runs (codes_after makeup)) (drop place bits) ≡ Some run
+          → reading width (running page line first makeup) place (drop place bits) ≡ reading width t (place + length (code_word (run_color
+          line first) run)) (drop (place + length (code_word (run_color line first) run)) bits)
+      here found =
+          let there = pick_sound run_item_word (allowed (run_color line first) makeup) (run_code (run_color line first) run) (drop place
+          bits) (code_is (drop place bits) run found) in
+          let on : drop (length (code_word (run_color line first) run)) (drop place bits) ≡ drop (place + length (code_word (run_color line
+          first) run)) bits = drop-drop (length (code_word (run_color line first) run)) place bits in
+          ap (reading width (running page line first makeup) place) there.1 ∙
+          (reading_go width (running page line first makeup) t (run_item (run_code (run_color line first) run)) place (drop (length
+          (code_word (run_color line first) run)) (drop place bits)) (record { stands = there.0; leads = leads }) ∙
+          ap (reading width t (place + length (code_word (run_color line first) run))) on)
+
+  -- a code that is there is refused
+  code_refused : (color : Color) → run_color line first ≡ color → (place : ℕ) (x : List Bool) (run : ℕ) (kind : CodeFaultKind)
+      → pick (code_word color) (first_runs (codes_after makeup)) x ≡ Some run → after_run width page line first makeup run ≡ Err kind
+      → reading width (running page line first makeup) place x ≡ Err (place, kind)
+  unfolding look_run
+  code_refused color is place x run kind found leads =
+      let here : pick (code_word (run_color line first)) (first_runs (codes_after makeup)) x ≡ Some run = subst (λ (c : Color). pick
+      (code_word c) (first_runs (codes_after makeup)) x ≡ Some run) (sym is) found in
+      reading_refuse width (running page line first makeup) place x kind (ap (found_run width page line first makeup x) (code_is x run here)
+      ∙ ap (judged (run_item (run_code (run_color line first) run))) leads)
+
+  -- no code is there
+  code_missing : (color : Color) → run_color line first ≡ color → (place : ℕ) (x : List Bool)
+      → pick (code_word color) (first_runs (codes_after makeup)) x ≡ None
+      → reading width (running page line first makeup) place x ≡ Err (
+        place,
+        cond (is_cut (code_word color) (first_runs (codes_after
+            makeup)) x) Truncated BadCode,
+      )
+  unfolding look_run
+  code_missing color is place x none = subst (λ (c : Color). pick (code_word c) (first_runs (codes_after makeup)) x ≡ None
+      → reading width (running page line first makeup) place x ≡ Err (
+        place,
+        cond (is_cut (code_word c) (first_runs (codes_after makeup)) x)
+            Truncated BadCode,
+      )) is (λ absent.
+      reading_refuse width (running page line first makeup) place x _ (ap (found_run width page line first makeup x) (pick_items (run_color
+      line first) (codes_after makeup) x ∙ ap (option_map (run_code (run_color line first))) absent) ∙
+      ap (λ (b : Bool). refuse (cond b Truncated BadCode)) (cut_items (run_color line first) (codes_after makeup) x))) none
+
+  -- what a code leads to
+  low_leads : (run : ℕ) → run < 64 → length line.pixels + amount first + (amount makeup + run) ≤ width
+      → after_run width page line first makeup run ≡ run_ended width page line first (amount makeup + run)
+  unfolding after_run
+  low_leads run low fits = rw (le-ltb width (length line.pixels + amount first + (amount makeup + run)) fits, lt-ltb run 64 low) refl
+
+  high_leads : (run : ℕ) → 64 ≤ run → length line.pixels + amount first + (amount makeup + run) ≤ width
+      → after_run width page line first makeup run ≡ Ok (running page line first (Some run))
+  unfolding after_run
+  high_leads run high fits = rw (le-ltb width (length line.pixels + amount first + (amount makeup + run)) fits, le-ltb run 64 high) refl
+
+  long_leads : (run : ℕ) → width < length line.pixels + amount first + (amount makeup + run)
+      → after_run width page line first makeup run ≡ Err PastEnd
+  unfolding after_run
+  long_leads run long = rw (lt-ltb width (length line.pixels + amount first + (amount makeup + run)) long) refl
+
+-- after a code that is there
+went_on : (color : Color) (makeup : Option ℕ) (old : Reading) (run : ℕ)
+    → pick (code_word color) (first_runs (codes_after makeup)) (rest_of old) ≡ Some run
+    → (0 < length (code_word color run)) × (old.place + length (code_word color run) ≤ length old.bits)
+went_on color makeup old run found =
+    let there = pick_sound run_item_word (allowed color makeup) (run_code color run) (rest_of old) (pick_items color (codes_after makeup)
+    (rest_of old) ∙ ap (option_map (run_code color)) found) in
+    let some : 0 < length (code_word color run) = code_positive color makeup (run_code color run) there.0 in (
+      some,
+      omega (
+        arith,
+        some,
+        ap length there.1,
+        length-append (code_word color run) (drop (length (code_word color run)) (rest_of old)),
+        length-drop old.place old.bits,
+      ),
+    )
+
+-- a run of one code
+low_run_read : (color : Color) (room : ℕ) (old new : Reading) (run : ℕ) → PicksCode color AllCodes old new (Ok run) → run ≤ room
+    → run < 64 → ReadsRun color room old new (Ok run)
+low_run_read color room old new run picks fits low =
+    let on = went_on color None old run picks.0 in
+    let none_before : 0 + run ≡ run = omega arith in
+    subst (λ (n : Reading). ReadsRun color room old n (Ok run)) (sym picks.1) (
+      fits,
+      refl,
+      omega (arith, on.0),
+      on.1,
+      λ width page line first state has led. code_read width page line first None color has.0 old.place old.bits run state picks.0
+          (low_leads width page line first None run low (omega (arith, has.1)) ∙ (ap (run_ended width page line first) none_before ∙ led)),
+      λ width page line has none. code_refused width page line (Some 0) None color has.0 old.place (rest_of old) run EmptyHorizontal picks.0
+          (low_leads width page line (Some 0) None run low (omega (arith, has.1)) ∙
+          (ap (run_ended width page line (Some 0)) (none_before ∙ none))),
+    )
+
+-- after a make-up code that fits
+high_run_read : (color : Color) (room : ℕ) (old mid : Reading) (high : ℕ) → PicksCode color AllCodes old mid (Ok high) → high ≤ room
+    → 64 ≤ high → (mid.bits ≡ old.bits) × (old.place < mid.place)
+    × ((width : ℕ) (page : PageSoFar) (line : CodingLine) (first : Option ℕ) → HasRoom width line first color room
+    → reading width (running page line first None) old.place (rest_of old) ≡ reading width (running page line first (Some high)) mid.place
+    (rest_of mid))
+high_run_read color room old mid high picks fits up =
+    let on = went_on color None old high picks.0 in
+    subst (λ (m : Reading). (m.bits ≡ old.bits) × (old.place < m.place)
+    × ((width : ℕ) (page : PageSoFar) (line : CodingLine) (first : Option ℕ) → HasRoom width line first color room
+    → reading width (running page line first None) old.place (rest_of old) ≡ reading width (running page line first (Some high)) m.place
+    (rest_of m))) (sym picks.1) (
+      refl,
+      omega (arith, on.0),
+      λ width page line first has. code_read width page line first None color has.0 old.place old.bits high (running page line first (Some
+          high)) picks.0 (high_leads width page line first None high up (omega (arith, has.1))),
+    )
+
+-- a run of two codes
+both_run_read : (color : Color) (room : ℕ) (old mid new : Reading) (high low : ℕ) → PicksCode color AllCodes old mid (Ok high)
+    → 64 ≤ high → PicksCode color TerminatingCodes mid new (Ok low) → low < 64 → high + low ≤ room
+    → ReadsRun color room old new (Ok (high + low))
+both_run_read color room old mid new high low picks up picks' down fits =
+    let front = high_run_read color room old mid high picks (omega arith) up in
+    let on = went_on color (Some high) mid low picks'.0 in
+    subst (λ (n : Reading). ReadsRun color room old n (Ok (high + low))) (sym picks'.1) (
+      fits,
+      front.0,
+      omega (arith, on.0, front.1),
+      on.1,
+      λ width page line first state has led. front.2 width page line first has ∙
+          code_read width page line first (Some high) color has.0 mid.place mid.bits low state picks'.0 (low_leads width page line first
+          (Some high) low down (omega (arith, has.1)) ∙ led),
+      λ width page line has none. absurd (omega arith),
+    )
+
+-- the run's first code is refused
+first_run_refused : (color : Color) (room : ℕ) (old new : Reading) (fault : CodeFault) → PicksCode color AllCodes old new (Err fault)
+    → ReadsRun color room old new (Err fault)
+first_run_refused color room old new fault picks width page line first has =
+    rw picks.1 (code_missing width page line first None color has.0 old.place (rest_of old) picks.0)
+
+-- the run's first code passes the width
+first_run_long : (color : Color) (room : ℕ) (old mid new : Reading) (run : ℕ) → PicksCode color AllCodes old mid (Ok run) → room < run
+    → ReadsRun color room old new (Err (record { place = old.place; kind = PastEnd }))
+first_run_long color room old mid new run picks long width page line first has =
+    code_refused width page line first None color has.0 old.place (rest_of old) run PastEnd picks.0 (long_leads width page line first None
+    run (omega (arith, has.1)))
+
+-- after a make-up code no terminating code is
+second_run_refused : (color : Color) (room : ℕ) (old mid new : Reading) (high : ℕ) (fault : CodeFault)
+    → PicksCode color AllCodes old mid (Ok high) → high ≤ room → 64 ≤ high → PicksCode color TerminatingCodes mid new (Err fault)
+    → ReadsRun color room old new (Err fault)
+second_run_refused color room old mid new high fault picks fits up picks' width page line first has =
+    (high_run_read color room old mid high picks fits up).2 width page line first has ∙
+    rw picks'.1 (code_missing width page line first (Some high) color has.0 mid.place (rest_of mid) picks'.0)
+
+-- a terminating code after a make-up code passes the width
+second_run_long : (color : Color) (room : ℕ) (old mid new last : Reading) (high low : ℕ) → PicksCode color AllCodes old mid (Ok high)
+    → high ≤ room → 64 ≤ high → PicksCode color TerminatingCodes mid new (Ok low) → room < high + low
+    → ReadsRun color room old last (Err (record { place = mid.place; kind = PastEnd }))
+second_run_long color room old mid new last high low picks fits up picks' long width page line first has =
+    (high_run_read color room old mid high picks fits up).2 width page line first has ∙
+    code_refused width page line first (Some high) color has.0 mid.place (rest_of mid) low PastEnd picks'.0 (long_leads width page line
+    first (Some high) low (omega (arith, has.1)))
+
+-- a code that is refused
+first_refuses : (color : Color) (room : ℕ) (old new : Reading) (fault : CodeFault)
+    → RefusesCodeWithin color AllCodes room PastEnd old fault → ReadsRun color room old new (Err fault)
+first_refuses color room old new fault (inl none) = first_run_refused color room old none.0 fault none.1
+first_refuses color room old new fault (inr long) = subst (λ (f : CodeFault). ReadsRun color room old new (Err f)) (sym long.4)
+    (first_run_long color room old long.1 new long.0 long.2 long.3)
+
+second_refuses : (color : Color) (room : ℕ) (old mid new : Reading) (high : ℕ) (fault : CodeFault) → BeginsRun color room old mid high
+    → RefusesCodeWithin color TerminatingCodes (room - high) PastEnd mid fault → ReadsRun color room old new (Err fault)
+second_refuses color room old mid new high fault begins (inl none) = second_run_refused color room old mid none.0 high fault begins.0
+    begins.2 begins.1 none.1
+second_refuses color room old mid new high fault begins (inr long) = subst (λ (f : CodeFault). ReadsRun color room old new (Err f)) (sym
+    long.4) (second_run_long color room old mid long.1 new high long.0 begins.0 begins.2 begins.1 long.2 (omega (arith, long.3, begins.2)))
+
+-- a run, in the words of reading the page
+pub within_page : (color : Color) (room : ℕ) (old new : Reading) (result : Result ℕ CodeFault)
+    → ReadsRunWithin color room PastEnd old new result → ReadsRun color room old new result
+within_page color room old new (Ok run) (inl ends) = low_run_read color room old new run ends.0 ends.2 ends.1
+within_page color room old new (Ok run) (inr both) =
+    subst (λ (n : ℕ). ReadsRun color room old new (Ok n)) (sym both.5) (both_run_read color room old both.2 new both.0 both.1 both.3.0
+    both.3.1 both.4.0 both.4.1 (omega (arith, both.3.2, both.4.2)))
+within_page color room old new (Err fault) (inl first) = first_refuses color room old new fault first
+within_page color room old new (Err fault) (inr second) = second_refuses color room old second.1 new second.0 fault second.2 second.3
+
+-- Pass mode and the vertical modes
+
+count_filled : (line : CodingLine) (place : ℕ) → length line.pixels ≤ place → length (filled_to line place) ≡ place
+count_filled line place h = omega (
+  arith,
+  length-append line.pixels (replicate (place - length line.pixels) line.color),
+  length-replicate
+      (place - length line.pixels) line.color,
+)
+
+right_bounds : (line : CodingLine) → length line.pixels ≤ right_of_a0 line × (right_of_a0 line ≤ length line.pixels + 1)
+right_bounds line = seen line.begun
+  where
+    seen : (b : Bool) → length line.pixels ≤ length line.pixels + cond b 1 0 × (length line.pixels + cond b 1 0 ≤ length line.pixels + 1)
+    seen true = (omega arith, omega arith)
+    seen false = (omega arith, omega arith)
+
+module _ (reference : List Color) (line : CodingLine) (short : length line.pixels < length reference) (a0 : A0) (a0_is : a0 ≡ a0_of line)
+    (b1 : ℕ) (first : IsFirstTo reference (other a0.color) (right_of a0) b1) where
+  is_b1 : IsB1 reference line b1
+  is_b1 = subst (λ (a : A0). IsFirstTo reference (other a.color) (right_of a) b1) a0_is first
+
+  b1_right : right_of_a0 line ≤ b1
+  b1_right = elim (cases_eq b1 (length reference)) [
+    | inl e ↦ omega (arith, (right_bounds line).1)
+    | inr ne ↦ (is_b1.changing (omega (
+      arith,
+      is_b1.bound,
+    ))).0
+  ]
+
+  pub pass_leads : (b2 place : ℕ) (mid next : CodingLine) → IsNextChange reference (b1 + 1) b2 → place ≡ length line.pixels
+      → mid ≡ record { pixels = line.pixels ++ replicate (b2 - place) line.color; begun = true; color = other line.color }
+      → next ≡ record { pixels = mid.pixels ++ replicate 0 mid.color; begun = true; color = other mid.color }
+      → LeadsOn reference line next Pass
+  unfolding after_mode
+  pass_leads b2 place mid next is_b2 place_is is_mid is_next =
+      let up : b1 ≤ b2 = elim (cases_eq b2 (length reference)) [
+        | inl e ↦ omega (arith, is_b1.bound)
+        | inr ne ↦ omega (
+          arith,
+          (is_b2.changing
+              (omega (arith, is_b2.bound))).0,
+        )
+      ] in
+      let low : length line.pixels ≤ b2 = omega (arith, (right_bounds line).0, b1_right) in
+      let after : CodingLine = record { pixels = filled_to line b2; begun = true; color = line.color } in
+      let filled : mid ≡ record { pixels = filled_to line b2; begun = true; color = other line.color } = is_mid ∙
+      ap (λ n. record { pixels = line.pixels ++ replicate (b2 - n) line.color; begun = true; color = other line.color }) place_is in
+      let turned : next ≡ after = is_next ∙
+      (ap (λ (m : CodingLine). record { pixels = m.pixels ++ []; begun = true; color = other m.color }) filled ∙
+      (ap (λ l. record { pixels = l; begun = true; color = other (other line.color) }) (append-nil (filled_to line b2)) ∙
+      ap (λ (c : Color). record { pixels = filled_to line b2; begun = true; color = c }) (other_twice line.color))) in
+      let b2_there : b2 ≡ b2_of reference line = b2_is reference line b1 b2 is_b1 is_b2 in
+      subst (λ (n : CodingLine). LeadsOn reference line n Pass) (sym turned) (
+        omega (arith, count_filled line b2 low, is_b2.bound),
+        λ page is. rw (is, ← b2_there, le-ltb b2 (right_of_a0 line) (omega (arith, b1_right)), le-ltb (length reference) b2 is_b2.bound)
+            refl,
+      )
+
+  module _ (shift : Shift) where
+    b1_there : b1 ≡ b1_of reference line
+    b1_there = b1_is reference line b1 is_b1
+
+    pub backwards_leads : (place : ℕ) (next : CodingLine) → b1 + to_right shift < right_of_a0 line + to_left shift
+        → MovesTo reference place line next (Vertical shift) (Err (record { place = place; kind = Backwards }))
+    unfolding after_mode
+    backwards_leads place next back = inr (
+      refl,
+      λ page is. rw (
+        is,
+        ← b1_there,
+        lt-ltb (b1 + to_right shift) (right_of_a0 line + to_left
+            shift) back,
+      ) refl,
+    )
+
+    pub past_leads : (place : ℕ) (next : CodingLine) → right_of_a0 line + to_left shift ≤ b1 + to_right shift
+        → length reference + to_left shift < b1 + to_right shift
+        → MovesTo reference place line next (Vertical shift) (Err (record { place = place; kind = PastEnd }))
+    unfolding after_mode
+    past_leads place next right past = inr (
+      refl,
+      λ page is. rw (
+        is,
+        ← b1_there,
+        le-ltb (b1 + to_right shift) (right_of_a0 line + to_left
+            shift) right,
+        lt-ltb (length reference + to_left shift) (b1 + to_right shift) past,
+      ) refl,
+    )
+
+    pub vertical_leads : (a1 place : ℕ) (next : CodingLine) → a1 ≡ b1 + to_right shift - to_left shift
+        → right_of_a0 line + to_left shift ≤ b1 + to_right shift → a1 ≤ length reference → place ≡ length line.pixels
+        → next ≡ record { pixels = line.pixels ++ replicate (a1 - place) line.color; begun = true; color = other line.color }
+        → LeadsOn reference line next (Vertical shift)
+    unfolding after_mode
+    vertical_leads a1 place next a1_is right within place_is is_next =
+        let after : CodingLine = record { pixels = filled_to line a1; begun = true; color = other line.color } in
+        let there : next ≡ after = is_next ∙
+        ap (λ n. record { pixels = line.pixels ++ replicate (a1 - n) line.color; begun = true; color = other line.color }) place_is in
+        let low : length line.pixels ≤ a1 = omega (arith, (right_bounds line).0) in
+        subst (λ (n : CodingLine). LeadsOn reference line n (Vertical shift)) (sym there) (
+          omega (arith, count_filled line a1 low),
+          λ page is. rw (
+            is,
+            ← b1_there,
+            le-ltb (b1 + to_right shift) (right_of_a0 line + to_left shift) right,
+            le-ltb (length reference +
+                to_left shift) (b1 + to_right shift) (omega arith),
+            ← a1_is,
+          ) refl,
+        )
+
+-- Horizontal mode
+
+pub horizontal_read : (width place : ℕ) (line mid next : CodingLine) (old between_runs new : Reading) (color : Color) (a0a1 a1a2 : ℕ)
+    → place ≡ length line.pixels → place ≤ width → color ≡ other line.color
+    → ReadsRun line.color (width - place) old between_runs (Ok a0a1) → ReadsRun color (width - place - a0a1) between_runs new (Ok a1a2)
+    → 0 < a0a1 + a1a2 → mid ≡ record { pixels = line.pixels ++ replicate a0a1 line.color; begun = true; color = other line.color }
+    → next ≡ record { pixels = mid.pixels ++ replicate a1a2 mid.color; begun = true; color = other mid.color }
+    → ReadsHorizontal width old new line next (Ok tt)
+horizontal_read width place line mid next old between_runs new color a0a1 a1a2 place_is within color_is one two some is_mid is_next =
+    let turned : next ≡ runs_added line a0a1 a1a2 = is_next ∙
+    (ap (λ (m : CodingLine). record { pixels = m.pixels ++ replicate a1a2 m.color; begun = true; color = other m.color }) is_mid ∙
+    ap (λ (c : Color). record {
+      pixels = line.pixels ++ replicate a0a1 line.color ++ replicate a1a2 (other line.color);
+      begun = true;
+      color = c;
+    }) (other_twice line.color)) in
+    subst (λ (n : CodingLine). ReadsHorizontal width old new line n (Ok tt)) (sym turned) (
+      two.1 ∙ one.1,
+      omega (arith, one.2, two.2),
+      two.3,
+      omega (
+        arith,
+        one.0,
+        two.0,
+        length-append (line.pixels ++ replicate a0a1 line.color) (replicate a1a2 (other line.color)),
+        length-append line.pixels (replicate a0a1 line.color),
+        length-replicate a0a1 line.color,
+        length-replicate a1a2 (other
+            line.color),
+      ),
+      λ page. one.4 width page line None (running page line (Some a0a1) None) (refl, omega arith) refl ∙
+          two.4 width page line (Some a0a1) (mode_ended width page (runs_added line a0a1 a1a2)) (sym color_is, omega (arith, one.0)) (rw
+          (ne_eqb (a0a1 + a1a2) 0 (λ e. omega arith)) refl),
+    )
+
+pub horizontal_first_refused : (width place : ℕ) (line next : CodingLine) (old new : Reading) (fault : CodeFault)
+    → place ≡ length line.pixels → place ≤ width → ReadsRun line.color (width - place) old new (Err fault)
+    → ReadsHorizontal width old new line next (Err fault)
+horizontal_first_refused width place line next old new fault place_is within one = inr (λ page. one width page line None (
+  refl,
+  omega
+      arith,
+))
+
+pub horizontal_second_refused : (width place : ℕ) (line next : CodingLine) (old between_runs new : Reading) (color : Color) (a0a1 : ℕ)
+    (fault : CodeFault) → place ≡ length line.pixels → place ≤ width → color ≡ other line.color
+    → ReadsRun line.color (width - place) old between_runs (Ok a0a1)
+    → ReadsRun color (width - place - a0a1) between_runs new (Err fault) → ReadsHorizontal width old new line next (Err fault)
+horizontal_second_refused width place line next old between_runs new color a0a1 fault place_is within color_is one two =
+    inr (λ page. one.4 width page line None (running page line (Some a0a1) None) (refl, omega arith) refl ∙
+    two width page line (Some a0a1) (sym color_is, omega (arith, one.0)))
+
+pub horizontal_empty : (width place : ℕ) (line next : CodingLine) (old between_runs new : Reading) (color : Color) (a0a1 a1a2 : ℕ)
+    → place ≡ length line.pixels → place ≤ width → color ≡ other line.color
+    → ReadsRun line.color (width - place) old between_runs (Ok a0a1) → ReadsRun color (width - place - a0a1) between_runs new (Ok a1a2)
+    → a0a1 ≡ 0 → a1a2 ≡ 0 → ReadsHorizontal width old new line next (Err (record { place = between_runs.place; kind = EmptyHorizontal }))
+horizontal_empty width place line next old between_runs new color a0a1 a1a2 place_is within color_is one two none none' =
+    let seen : Option ℕ = Some a0a1 in
+    inr (λ page. one.4 width page line None (running page line (Some a0a1) None) (refl, omega arith) refl ∙
+    (ap (λ (n : ℕ). reading width (running page line (Some n) None) between_runs.place (rest_of between_runs)) none ∙
+    two.5 width page line (sym color_is, omega (arith, one.0)) none'))
+
+-- Whole modes
+
+mode_split : (code : ModeCode) (old mid : Reading) → ReadsMode old mid (Ok code)
+    → (mid.bits ≡ old.bits) × (mid.place ≡ old.place + length (mode_word code)) × (rest_of old ≡ mode_word code ++ rest_of mid)
+mode_split code old mid reads = subst (λ (m : Reading). (m.bits ≡ old.bits) × (m.place ≡ old.place + length (mode_word code))
+    × (rest_of old ≡ mode_word code ++ rest_of m)) (sym reads.1) (
+      refl,
+      refl,
+      begins_split (mode_word code) (rest_of old) reads.0 ∙
+          ap (λ l. mode_word code ++ l) (drop-drop (length (mode_word code)) old.place old.bits),
+    )
+
+word_some : (code : ModeCode) → 0 < length (mode_word code)
+word_some Pass = omega arith
+word_some Horizontal = omega arith
+word_some (Vertical V0) = omega arith
+word_some (Vertical VR1) = omega arith
+word_some (Vertical VR2) = omega arith
+word_some (Vertical VR3) = omega arith
+word_some (Vertical VL1) = omega arith
+word_some (Vertical VL2) = omega arith
+word_some (Vertical VL3) = omega arith
+
+-- after a mode code that was read
+mode_after : (code : ModeCode) (old mid : Reading) → old.place ≤ length old.bits → ReadsMode old mid (Ok code)
+    → (old.place < mid.place) × (mid.place ≤ length mid.bits)
+mode_after code old mid within reads =
+    let split = mode_split code old mid reads in (
+      omega (arith, split.1, word_some code),
+      omega (
+        arith,
+        split.1,
+        ap length split.0,
+        ap length split.2,
+        length-append (mode_word code) (rest_of mid),
+        length-drop old.place
+            old.bits,
+        word_some code,
+      ),
+    )
+
+pub mode_steps : (reference : List Color) (old mid : Reading) (line next : CodingLine) (code : ModeCode) → old.place ≤ length old.bits
+    → ReadsMode old mid (Ok code) → LeadsOn reference line next code → StepsOn reference old mid line next (Ok tt)
+mode_steps reference old mid line next code within reads leads =
+    let split = mode_split code old mid reads in
+    let on = mode_after code old mid within reads in (
+      split.0,
+      on.0,
+      on.1,
+      leads.0,
+      λ page is. mode_read (length reference) page line code (mode_ended (length reference) page next)
+          old.place (rest_of old) (rest_of mid) (mode_stands code) split.2 (leads.1 page is) ∙
+          ap (λ (n : ℕ). reading (length reference) (mode_ended (length reference) page next) n (rest_of mid)) (sym split.1),
+    )
+
+mode_stays : (reference : List Color) (old mid : Reading) (line next : CodingLine) (code : ModeCode) (fault : CodeFault)
+    → ReadsMode old mid (Ok code) → MovesTo reference old.place line next code (Err fault) → StepsOn reference old mid line next (Err fault)
+mode_stays reference old mid line next code fault reads (inl memory) = inl memory
+mode_stays reference old mid line next code fault reads (inr leads) =
+    let split = mode_split code old mid reads in
+    inr (λ page is. mode_refused (length reference) page line code fault.kind old.place (rest_of old) (rest_of mid) (mode_stands code)
+    split.2 (leads.1 page is) ∙ ap (λ (n : ℕ). Err (n, fault.kind)) (sym leads.0))
+
+pub vertical_steps : (reference : List Color) (place : ℕ) (old mid : Reading) (line next : CodingLine) (code : ModeCode) (result : Result
+    (Unit {0}) CodeFault) → place ≡ old.place → old.place ≤ length old.bits → ReadsMode old mid (Ok code)
+    → MovesTo reference place line next code result → StepsOn reference old mid line next result
+vertical_steps reference place old mid line next code (Ok done) is within reads moves = mode_steps reference old mid line next code within
+    reads moves
+vertical_steps reference place old mid line next code (Err fault) is within reads moves = mode_stays reference old mid line next code fault
+    reads (subst (λ (n : ℕ). MovesTo reference n line next code (Err fault)) is moves)
+
+pub mode_absent : (reference : List Color) (old mid : Reading) (line next : CodingLine) (fault : CodeFault)
+    → ReadsMode old mid (Err fault) → StepsOn reference old mid line next (Err fault)
+mode_absent reference old mid line next fault reads = rw reads.0 (inr (λ page is. mode_missing (length reference) page line old.place
+    (rest_of old) (missing_mode (rest_of old)) reads.1 refl))
+
+-- the flag of horizontal mode
+flag_read : (width : ℕ) (page : PageSoFar) (line : CodingLine) (old mid : Reading) → ReadsMode old mid (Ok Horizontal)
+    → reading width (inside page line) old.place (rest_of old) ≡ reading width (running page line None None) mid.place (rest_of mid)
+unfolding after_mode
+flag_read width page line old mid reads =
+    let split = mode_split Horizontal old mid reads in
+    mode_read width page line Horizontal (running page line None None) old.place (rest_of old) (rest_of mid) (mode_stands Horizontal)
+    split.2 refl ∙ ap (λ (n : ℕ). reading width (running page line None None) n (rest_of mid)) (sym split.1)
+
+pub horizontal_steps : (reference : List Color) (old mid new : Reading) (line next : CodingLine) (result : Result (Unit {0}) CodeFault)
+    → old.place ≤ length old.bits → ReadsMode old mid (Ok Horizontal) → ReadsHorizontal (length reference) mid new line next result
+    → StepsOn reference old new line next result
+horizontal_steps reference old mid new line next (Ok done) within reads runs =
+    let split = mode_split Horizontal old mid reads in
+    let on = mode_after Horizontal old mid within reads in (
+      runs.0 ∙ split.0,
+      omega (arith, on.0, runs.1),
+      runs.2,
+      runs.3,
+      λ page is. flag_read (length reference) page line old mid reads ∙
+          runs.4 page,
+    )
+horizontal_steps reference old mid new line next (Err fault) within reads (inl memory) = inl memory
+horizontal_steps reference old mid new line next (Err fault) within reads (inr runs) = inr (λ page is. flag_read (length reference) page
+    line old mid reads ∙ runs page)
+
+-- Rows
+
+-- one mode more of a row
+pub row_steps : (reference : List Color) (start old new : Reading) (line next : CodingLine) → length line.pixels < length reference
+    → ((page : PageSoFar) → page.reference ≡ reference
+    → reading (length reference) (inside page line_begin) start.place (rest_of start) ≡ reading (length reference) (mode_ended (length
+    reference) page line) old.place (rest_of old)) → StepsOn reference old new line next (Ok tt) → (page : PageSoFar)
+    → page.reference ≡ reference → reading (length reference) (inside page line_begin) start.place (rest_of start) ≡ reading (length
+    reference) (mode_ended (length reference) page next) new.place (rest_of new)
+row_steps reference start old new line next short before step page is =
+    before page is ∙ (ap (λ (s : PageState). reading (length reference) s old.place (rest_of old)) (mode_ended_short (length reference) page
+    line short) ∙ step.4 page is)
+
+pub row_stays : (reference : List Color) (start old new : Reading) (line next : CodingLine) (fault : CodeFault)
+    → length line.pixels < length reference → ((page : PageSoFar) → page.reference ≡ reference
+    → reading (length reference) (inside page line_begin) start.place (rest_of start) ≡ reading (length reference) (mode_ended (length
+    reference) page line) old.place (rest_of old)) → StepsOn reference old new line next (Err fault)
+    → (fault.kind ≡ NoMemory) ⊎ ((page : PageSoFar) → page.reference ≡ reference
+    → reading (length reference) (inside page line_begin) start.place (rest_of start) ≡ Err (fault.place, fault.kind))
+row_stays reference start old new line next fault short before (inl memory) = inl memory
+row_stays reference start old new line next fault short before (inr step) =
+    inr (λ page is. before page is ∙ (ap (λ (s : PageState). reading (length reference) s old.place (rest_of old)) (mode_ended_short (length
+    reference) page line short) ∙ step page is))
+
+-- a row before its first mode
+pub row_starts : (reference : List Color) (start now : Reading) (line : CodingLine) → 0 < length reference → now ≡ start
+    → line ≡ line_begin → (page : PageSoFar) → page.reference ≡ reference
+    → reading (length reference) (inside page line_begin) start.place (rest_of start) ≡ reading (length reference) (mode_ended (length
+    reference) page line) now.place (rest_of now)
+row_starts reference start now line some same begins page is = rw (same, begins) (ap (λ (s : PageState). reading (length reference) s
+    start.place (rest_of start)) (sym (mode_ended_short (length reference) page line_begin (omega arith))))
+
+-- a whole row
+pub row_ends : (reference : List Color) (start now : Reading) (line : CodingLine) (row : List Color) → row ≡ line.pixels
+    → length line.pixels ≡ length reference → ((page : PageSoFar) → page.reference ≡ reference
+    → reading (length reference) (inside page line_begin) start.place (rest_of start) ≡ reading (length reference) (mode_ended (length
+    reference) page line) now.place (rest_of now)) → (page : PageSoFar) → page.reference ≡ reference
+    → reading (length reference) (inside page line_begin) start.place (rest_of start) ≡ reading (length reference) (between (row_added page
+    row)) now.place (rest_of now)
+row_ends reference start now line row same full reads page is =
+    reads page is ∙ (ap (λ (s : PageState). reading (length reference) s now.place (rest_of now)) (mode_ended_whole (length reference) page
+    line full) ∙ ap (λ (r : List Color). reading (length reference) (between (row_added page r)) now.place (rest_of now)) (sym same))
+
+-- Pages
+
+-- the row that was added last is the next one's reference line
+pub last_added : (white row : List Color) (rows : List (List Color))
+    → reference_at white (rows ++ row ∷ []) (length (rows ++ row ∷ [])) ≡ row
+last_added white row [] = refl
+last_added white row (r ∷ rows) = last_added r row rows
+
+-- one row more of a page
+pub page_on : (width : ℕ) (start old new : Reading) (rows : List (List Color)) (reference row : List Color) → length reference ≡ width
+    → reading width (page_begin width) start.place (rest_of start) ≡ reading width (between (record { rows = rows; reference = reference }))
+    old.place (rest_of old) → SeesStart (rest_of old) (length rows) Row → ReadsRow reference old new (Ok row)
+    → reading width (page_begin width) start.place (rest_of start) ≡ reading width (between (record {
+      rows = rows ++ row ∷ [];
+      reference =
+          row;
+    })) new.place (rest_of new)
+page_on width start old new rows reference row even before sees reads =
+    let page : PageSoFar = record { rows = rows; reference = reference } in
+    let row_read : reading width (inside page line_begin) old.place (rest_of old) ≡ reading width (between (row_added page row)) new.place
+    (rest_of new) = subst (λ (w : ℕ). reading w (inside page line_begin) old.place (rest_of old) ≡ reading w (between (row_added page
+    row)) new.place (rest_of new)) even (reads.3 page refl) in
+    before ∙ (reading_row_begins width page old.place (rest_of old) sees.0 sees.1 sees.2 sees.3 ∙ row_read)
+
+-- a row of a page is refused
+pub page_stays : (width : ℕ) (start old new : Reading) (rows : List (List Color)) (reference : List Color) (fault : CodeFault)
+    → length reference ≡ width → reading width (page_begin width) start.place (rest_of start) ≡ reading width (between (record {
+      rows =
+          rows;
+      reference = reference;
+    })) old.place (rest_of old) → SeesStart (rest_of old) (length rows) Row
+    → ReadsRow reference old new (Err fault)
+    → (fault.kind ≡ NoMemory) ⊎ (reading width (page_begin width) start.place (rest_of start) ≡ Err (fault.place, fault.kind))
+page_stays width start old new rows reference fault even before sees (inl memory) = inl memory
+page_stays width start old new rows reference fault even before sees (inr reads) =
+    let page : PageSoFar = record { rows = rows; reference = reference } in
+    let refused : reading width (inside page line_begin) old.place (rest_of old) ≡ Err (fault.place, fault.kind) = subst (λ (w : ℕ). reading
+    w (inside page line_begin) old.place (rest_of old) ≡ Err (fault.place, fault.kind)) even (reads page refl) in
+    inr (before ∙ (reading_row_begins width page old.place (rest_of old) sees.0 sees.1 sees.2 sees.3 ∙ refused))
+
+-- nothing that may be there
+pub page_refused : (width : ℕ) (start old : Reading) (rows : List (List Color)) (reference : List Color) (kind : CodeFaultKind) (place : ℕ)
+    → reading width (page_begin width) start.place (rest_of start) ≡ reading width (between (record { rows = rows; reference = reference }))
+    old.place (rest_of old) → SeesStart (rest_of old) (length rows) (Refused kind) → place ≡ old.place
+    → reading width (page_begin width) start.place (rest_of start) ≡ Err (place, kind)
+page_refused width start old rows reference kind place before sees is =
+    let page : PageSoFar = record { rows = rows; reference = reference } in
+    before ∙ (reading_refuse width (between page) old.place (rest_of old) kind (sees width page refl) ∙
+    ap (λ (n : ℕ). Err (n, kind)) (sym is))
+
+-- EOFB after a row
+pub page_ends : (width : ℕ) (start old : Reading) (rows : List (List Color)) (reference : List Color) (place : ℕ)
+    → reading width (page_begin width) start.place (rest_of start) ≡ reading width (between (record { rows = rows; reference = reference }))
+    old.place (rest_of old) → SeesStart (rest_of old) (length rows) End → place ≡ old.place + 24
+    → reading width (page_begin width) start.place (rest_of start) ≡ Ok (rows, place)
+page_ends width start old rows reference place before sees is =
+    let page : PageSoFar = record { rows = rows; reference = reference } in
+    before ∙ (reading_eofb width page old.place (rest_of old) sees.1 sees.0 ∙ ap (λ (n : ℕ). Ok (rows, n)) (sym is))
+
+-- EOFB fits into the bits that it begins
+pub eofb_fits : (reader : Reading) → begins eofb (rest_of reader) ≡ true → reader.place + 24 ≤ length reader.bits
+eofb_fits reader is =
+    let split = begins_split eofb (rest_of reader) is in
+    omega (arith, ap length split, length-append eofb (drop 24 (rest_of reader)), length-drop reader.place reader.bits)
+
+-- where a page begins
+pub page_starts : (width : ℕ) (white : List Color) (rows : List (List Color)) (start : Reading) → white ≡ white_line width → rows ≡ []
+    → (length rows ≤ 20000) × (length (reference_at white rows (length rows)) ≡ width)
+    × (reading width (page_begin width) start.place (rest_of start) ≡ reading width (between (record {
+      rows = rows;
+      reference = reference_at
+          white rows (length rows);
+    })) start.place (rest_of start))
+page_starts width white rows start is none =
+    subst (λ (r : List (List Color)). (length r ≤ 20000) × (length (reference_at white r (length r)) ≡ width)
+    × (reading width (page_begin width) start.place (rest_of start) ≡ reading width (between (record {
+      rows = r;
+      reference =
+          reference_at white r (length r);
+    })) start.place (rest_of start))) (sym none)
+    (subst (λ (w : List Color). (0 ≤ 20000) × (length w ≡ width)
+    × (reading width (page_begin width) start.place (rest_of start) ≡ reading width (between (record { rows = []; reference = w }))
+    start.place (rest_of start))) (sym is) (omega arith, length-replicate width White, refl))
+
+-- a page with one row more
+pub page_more : (width : ℕ) (start old new : Reading) (white row : List Color) (rows more : List (List Color)) → more ≡ rows ++ row ∷ []
+    → length (reference_at white rows (length rows)) ≡ width
+    → reading width (page_begin width) start.place (rest_of start) ≡ reading width (between (record {
+      rows = rows;
+      reference = reference_at
+          white rows (length rows);
+    })) old.place (rest_of old) → SeesStart (rest_of old) (length rows) Row
+    → ReadsRow (reference_at white rows (length rows)) old new (Ok row)
+    → reading width (page_begin width) start.place (rest_of start) ≡ reading width (between (record {
+      rows = more;
+      reference = reference_at
+          white more (length more);
+    })) new.place (rest_of new)
+page_more width start old new white row rows more is even before sees reads =
+    subst (λ (m : List (List Color)). reading width (page_begin width) start.place (rest_of start) ≡ reading width (between (record {
+      rows =
+          m;
+      reference = reference_at white m (length m);
+    })) new.place (rest_of new)) (sym is)
+    (page_on width start old new rows (reference_at white rows (length rows)) row even before sees reads ∙
+    ap (λ (r : List Color). reading width (between (record { rows = rows ++ row ∷ []; reference = r })) new.place (rest_of new)) (sym
+    (last_added white row rows)))
+
+pub page_more_even : (width : ℕ) (white row : List Color) (rows more : List (List Color)) → more ≡ rows ++ row ∷ [] → length row ≡ width
+    → length (reference_at white more (length more)) ≡ width
+page_more_even width white row rows more is wide = ap (λ (m : List (List Color)). length (reference_at white m (length m))) is ∙
+    (ap (λ (r : List Color). length r) (last_added white row rows) ∙ wide)
+
+-- a whole page that is refused
+pub whole_refused : (width : ℕ) (fine : Bool) (bits : List Bool) (start new : Reading) (fault : CodeFault)
+    → start ≡ record { bits = bits; place = 0 } → ReadsPageOn width fine start new (Err fault)
+    → (fault.kind ≡ NoMemory) ⊎ (reading width (page_begin width) 0 bits ≡ Err (fault.place, fault.kind))
+whole_refused width fine bits start new fault is reads = subst (λ (r : Reading). ReadsPageOn width fine r new (Err fault)) is reads

@@ -1,5 +1,0 @@
-use Rattle.page_code.proofs.T4PageLaws.{reads_pages_exactly}
-use Rattle.page_code.proofs.t4_laws.reads_pages_exactly.Goals as goal
-
-pub returns : goal.returns
-returns c = reads_pages_exactly

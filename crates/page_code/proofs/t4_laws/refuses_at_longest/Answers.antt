@@ -1,5 +1,0 @@
-use Rattle.page_code.proofs.T4PageLaws.{refuses_at_longest}
-use Rattle.page_code.proofs.t4_laws.refuses_at_longest.Goals as goal
-
-pub returns : goal.returns
-returns c = refuses_at_longest

@@ -1,8 +1,0 @@
-use Rattle.std.proofs.Common.{◌≡◌, ◌++◌, drop, List, Bool}
-use Rattle.page_code.specs.T6Code.{rows_code}
-use Rattle.page_code.specs.T6Writing.{reference_at}
-use Rattle.page_code.proofs.t6_write.write_rows.Given as goal
-
--- the codes of the rows that are left complete the text
-abbrev pub invariant-loop-at : goal.invariant-loop-at
-invariant-loop-at l = (so_far : List Bool) × (l.writer ≡ record l.fn.writer { bits = l.fn.writer.bits ++ so_far }) × (so_far ++ rows_code (reference_at l.white l.rows l.at) (drop l.at l.rows) ≡ rows_code l.white l.rows)

@@ -1,0 +1,6 @@
+-- The one-dimensional code (ITU-T T.4, 4.1).
+pub mod Pages
+pub mod OwnRuns
+pub mod Fronts
+pub mod Laws
+pub mod Reading

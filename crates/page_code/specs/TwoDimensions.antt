@@ -1,0 +1,8 @@
+-- The two-dimensional code (ITU-T T.6, 2.2).
+pub mod Positions
+pub mod Modes
+pub mod Code
+pub mod Fronts
+pub mod Laws
+pub mod Writing
+pub mod Reading

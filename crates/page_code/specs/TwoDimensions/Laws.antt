@@ -1,0 +1,56 @@
+-- Laws of the two-dimensional code (ITU-T T.6, 2.2).
+use Rattle.std.specs.Prelude.{ℕ, ◌≡◌, ◌<◌, ◌≤◌, ◌↔◌, Bool, List, ◌++◌, length, Ok, Err}
+use Rattle.std.specs.List.{AllByRecursion}
+use Rattle.raster.specs.declared.row.Color.{Color}
+use Rattle.raster.specs.Pixels.{IsWidth}
+use Rattle.raster.specs.Changes.{IsNextChange}
+use Rattle.run_tables.specs.declared.fault.CodeFaultKind.{CodeFaultKind}
+use Rattle.run_tables.specs.Fronts.{IsFront, Nested}
+use Rattle.run_tables.specs.Longest.{IsLongest}
+use Rattle.page_code.specs.TwoDimensions.Positions.{CodingLine, IsB1, IsB2, change_from, b1_of, b2_of}
+use Rattle.page_code.specs.TwoDimensions.Modes.{ReadsAsPage}
+use Rattle.page_code.specs.TwoDimensions.Code.{page_code}
+use Rattle.page_code.specs.TwoDimensions.Fronts.{PageItem, page_item_word, PageStep, page_look, page_begin, read_page}
+
+-- a beginning of the bits that is whole items of a page, each of which may come after those before it
+abbrev pub IsPageFront : ℕ → List Bool → List PageItem → Type 0
+IsPageFront width x items = IsFront page_item_word (PageStep width) (page_begin width) x items
+
+-- no front of the bits is longer, and this kind is seen after it
+abbrev pub IsLongestFront : ℕ → List Bool → ℕ → CodeFaultKind → Type 0
+IsLongestFront width x place kind = IsLongest page_item_word (PageStep width) (page_look width) (page_begin width) x place kind
+
+-- the places that the search finds are the changing elements b1, b2 and the next of a row, and no other places are
+abbrev pub FindsPositions : Type 0
+FindsPositions =
+    ((reference : List Color) (line : CodingLine) (b1 : ℕ) → IsB1 reference line b1 ↔ (b1 ≡ b1_of reference line)) ×
+    ((reference : List Color) (line : CodingLine) (b1 b2 : ℕ) → IsB1 reference line b1
+    → IsB2 reference b1 b2 ↔ (b2 ≡ b2_of reference line)) ×
+    ((row : List Color) (from place : ℕ) → IsNextChange row from place ↔ (place ≡ change_from row from))
+
+-- a page is read exactly where the bits read as it
+abbrev pub ReadsExactly : Type 0
+ReadsExactly = (width : ℕ) (x : List Bool) (rows : List (List Color)) (used : ℕ) → IsWidth width
+    → (read_page width x ≡ Ok (rows, used)) ↔ ReadsAsPage width x rows used
+
+-- bits that are refused read as no page
+abbrev pub RefusesNoPage : Type 0
+RefusesNoPage = (width : ℕ) (x : List Bool) (place : ℕ) (kind : CodeFaultKind) (rows : List (List Color)) (used : ℕ) → IsWidth width
+    → read_page width x ≡ Err (place, kind) → ¬ ReadsAsPage width x rows used
+
+-- the place of a refusal is the length of the longest front, and its kind is what is seen after it
+abbrev pub RefusesAtLongest : Type 0
+RefusesAtLongest = (width : ℕ) (x : List Bool) (place : ℕ) (kind : CodeFaultKind) → read_page width x ≡ Err (place, kind)
+    → IsLongestFront width x place kind
+
+-- of two fronts of the same bits one begins the other
+abbrev pub OneFront : Type 0
+OneFront = (width : ℕ) (x : List Bool) (items others : List PageItem) → IsPageFront width x items → IsPageFront width x others
+    → Nested items others
+
+-- the code of a page, followed by any bits, reads as the page and the code's length
+abbrev pub RoundTrip : Type 0
+RoundTrip =
+    (width : ℕ) (rows : List (List Color)) (rest : List Bool) → IsWidth width → 0 < length rows → length rows ≤ 20000
+    → AllByRecursion (λ row. length row ≡ width) rows →
+    read_page width (page_code width rows ++ rest) ≡ Ok (rows, length (page_code width rows))

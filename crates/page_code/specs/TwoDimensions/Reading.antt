@@ -1,0 +1,111 @@
+-- What the parts of a T.6 page's reader answer (ITU-T T.6, 2.2).
+use Rattle.std.specs.Prelude.{ℕ, ◌≡◌, ◌+◌, ◌<◌, ◌≤◌, ◌⊎◌, Bool, true, false, List, ◌++◌, length, if◌then◌else◌, Option, None, Some, Result, Ok, Err}
+use Rattle.raster.specs.declared.row.Color.{Color}
+use Rattle.raster.specs.declared.row.Color.TheVariants.{White}
+use Rattle.raster.specs.Pages.{PagePixels}
+use Rattle.raster.specs.Runs.{colored}
+use Rattle.run_tables.specs.declared.fault.CodeFault.{CodeFault}
+use Rattle.run_tables.specs.declared.fault.CodeFaultKind.{CodeFaultKind}
+use Rattle.run_tables.specs.declared.fault.CodeFaultKind.TheVariants.{NoMemory, EmptyHorizontal, Extension, Truncated, BadCode}
+use Rattle.run_tables.specs.Reading.{Reading, rest_of, after}
+use Rattle.run_tables.specs.RowFronts.{amount}
+use Rattle.run_tables.specs.Texts.{begins, all_zero, is_cut}
+use Rattle.run_tables.specs.Fronts.Look.{refuse}
+use Rattle.page_code.specs.declared.t6.mode.ModeCode.{ModeCode}
+use Rattle.page_code.specs.declared.t6.read.Start.{Start}
+use Rattle.page_code.specs.declared.t6.read.Start.TheVariants.{Row, End, Refused}
+use Rattle.page_code.specs.TwoDimensions.Positions.{CodingLine, line_begin}
+use Rattle.page_code.specs.TwoDimensions.Modes.{eofb, extension_word}
+use Rattle.page_code.specs.TwoDimensions.Fronts.{mode_word, mode_codes, PageSoFar, PageState, page_begin, row_added, mode_ended, after_mode, run_color, run_ended, page_look, reading, read_page}
+use Rattle.page_code.specs.TwoDimensions.Fronts.PageState.{between, inside, running}
+
+-- whatever runs follow, the first of them has this color
+abbrev pub GoesOnWith : List ℕ → Color → Type 0
+GoesOnWith runs color = (tail : List ℕ) → colored White (runs ++ tail) ≡ colored White runs ++ colored color tail
+
+-- why no mode code is there
+abbrev pub missing_mode : List Bool → CodeFaultKind
+missing_mode x = if begins extension_word x then Extension else if is_cut mode_word mode_codes x then Truncated else BadCode
+
+-- a mode code was read, or none begins the bits that are left
+abbrev pub ReadsMode : Reading → Reading → Result ModeCode CodeFault → Type 0
+ReadsMode old new (Ok code) = (begins (mode_word code) (rest_of old) ≡ true) × (new ≡ after (mode_word code) old)
+ReadsMode old new (Err fault) = (fault ≡ record { place = old.place; kind = missing_mode (rest_of old) }) × ((code : ModeCode)
+    → begins (mode_word code) (rest_of old) ≡ false)
+
+-- a run of this color has to be there, with room for so many pixels
+abbrev pub HasRoom : ℕ → CodingLine → Option ℕ → Color → ℕ → Type 0
+HasRoom width line first color room = (run_color line first ≡ color) × (length line.pixels + amount first + room ≡ width)
+
+-- one run of horizontal mode was read, at most so many pixels; or it is refused where reading the page is
+abbrev pub ReadsRun : Color → ℕ → Reading → Reading → Result ℕ CodeFault → Type 0
+ReadsRun color room old new (Ok run) =
+    (run ≤ room) × (new.bits ≡ old.bits) × (old.place < new.place) × (new.place ≤ length new.bits) ×
+    ((width : ℕ) (page : PageSoFar) (line : CodingLine) (first : Option ℕ) (state : PageState) → HasRoom width line first color room
+    → run_ended width page line first run ≡ Ok state
+    → reading width (running page line first None) old.place (rest_of old) ≡ reading width state new.place (rest_of new)) ×
+    ((width : ℕ) (page : PageSoFar) (line : CodingLine) → HasRoom width line (Some 0) color room → run ≡ 0
+    → reading width (running page line (Some 0) None) old.place (rest_of old) ≡ Err (old.place, EmptyHorizontal))
+ReadsRun color room old new (Err fault) =
+    (width : ℕ) (page : PageSoFar) (line : CodingLine) (first : Option ℕ) → HasRoom width line first color room
+    → reading width (running page line first None) old.place (rest_of old) ≡ Err (fault.place, fault.kind)
+
+-- the mode code leads on to the next line
+abbrev pub LeadsOn : List Color → CodingLine → CodingLine → ModeCode → Type 0
+LeadsOn reference line next code =
+    (length next.pixels ≤ length reference) × ((page : PageSoFar) → page.reference ≡ reference
+    → after_mode (length reference) page line code ≡ Ok (mode_ended (length reference) page next))
+
+-- the mode code at a place leads on, or is refused there, or memory is
+abbrev pub MovesTo : List Color → ℕ → CodingLine → CodingLine → ModeCode → Result (Unit {0}) CodeFault → Type 0
+MovesTo reference place line next code (Ok done) = LeadsOn reference line next code
+MovesTo reference place line next code (Err fault) =
+    (fault.kind ≡ NoMemory) ⊎ ((fault.place ≡ place) × ((page : PageSoFar) → page.reference ≡ reference
+    → after_mode (length reference) page line code ≡ Err fault.kind))
+
+-- the two runs of horizontal mode were read; or they are refused, or memory is
+abbrev pub ReadsHorizontal : ℕ → Reading → Reading → CodingLine → CodingLine → Result (Unit {0}) CodeFault → Type 0
+ReadsHorizontal width old new line next (Ok done) =
+    (new.bits ≡ old.bits) × (old.place < new.place) × (new.place ≤ length new.bits) × (length next.pixels ≤ width) ×
+    ((page : PageSoFar) → reading width (running page line None None) old.place (rest_of old) ≡ reading width (mode_ended width page next)
+    new.place (rest_of new))
+ReadsHorizontal width old new line next (Err fault) =
+    (fault.kind ≡ NoMemory) ⊎ ((page : PageSoFar)
+    → reading width (running page line None None) old.place (rest_of old) ≡ Err (fault.place, fault.kind))
+
+-- one mode was read: reading the page from before it is reading on after it; or it is refused there, or memory is
+abbrev pub StepsOn : List Color → Reading → Reading → CodingLine → CodingLine → Result (Unit {0}) CodeFault → Type 0
+StepsOn reference old new line next (Ok done) =
+    (new.bits ≡ old.bits) × (old.place < new.place) × (new.place ≤ length new.bits) × (length next.pixels ≤ length reference) ×
+    ((page : PageSoFar) → page.reference ≡ reference
+    → reading (length reference) (inside page line) old.place (rest_of old) ≡ reading (length reference) (mode_ended (length reference)
+    page next) new.place (rest_of new))
+StepsOn reference old new line next (Err fault) =
+    (fault.kind ≡ NoMemory) ⊎ ((page : PageSoFar) → page.reference ≡ reference
+    → reading (length reference) (inside page line) old.place (rest_of old) ≡ Err (fault.place, fault.kind))
+
+-- one row was read, or it is refused, or memory is
+abbrev pub ReadsRow : List Color → Reading → Reading → Result (List Color) CodeFault → Type 0
+ReadsRow reference old new (Ok row) =
+    (length row ≡ length reference) × (new.bits ≡ old.bits) × (new.place ≤ length new.bits) ×
+    ((page : PageSoFar) → page.reference ≡ reference
+    → reading (length reference) (inside page line_begin) old.place (rest_of old) ≡ reading (length reference) (between (row_added page
+    row)) new.place (rest_of new))
+ReadsRow reference old new (Err fault) =
+    (fault.kind ≡ NoMemory) ⊎ ((page : PageSoFar) → page.reference ≡ reference
+    → reading (length reference) (inside page line_begin) old.place (rest_of old) ≡ Err (fault.place, fault.kind))
+
+-- what is found where a row may begin, after so many rows
+abbrev pub SeesStart : List Bool → ℕ → Start → Type 0
+SeesStart x count Row = (begins eofb x ≡ false) × (all_zero x ≡ false) × (begins x eofb ≡ false) × (count < 20000)
+SeesStart x count End = (begins eofb x ≡ true) × (0 < count)
+SeesStart x count (Refused kind) = (width : ℕ) (page : PageSoFar) → length page.rows ≡ count
+    → page_look width (between page) x ≡ refuse kind
+
+-- one page was read, or it is refused, or memory is
+abbrev pub ReadsPageOn : ℕ → Bool → Reading → Reading → Result PagePixels CodeFault → Type 0
+ReadsPageOn width fine old new (Ok page) =
+    (page.width ≡ width) × (page.fine ≡ fine) × (new.bits ≡ old.bits) × (new.place ≤ length new.bits)
+    × (reading width (page_begin width) old.place (rest_of old) ≡ Ok (page.rows, new.place))
+ReadsPageOn width fine old new (Err fault) = (fault.kind ≡ NoMemory) ⊎ (reading width (page_begin width) old.place (rest_of old) ≡ Err
+    (fault.place, fault.kind))

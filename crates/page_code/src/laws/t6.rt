@@ -1,0 +1,33 @@
+//! Laws of the two-dimensional code: what their contracts say is proved, and nothing runs.
+
+ghost use Rattle.page_code.specs.TwoDimensions.Laws.{FindsPositions, ReadsExactly, RefusesNoPage, RefusesAtLongest, OneFront, RoundTrip};
+
+/// The places that the search finds are b1, b2 and the next changing element, and no others are.
+pub fn finds_positions()
+    ensures { FindsPositions }
+{}
+
+/// A page is read exactly where the bits read as it.
+pub fn reads_exactly()
+    ensures { ReadsExactly }
+{}
+
+/// Bits that are refused read as no page.
+pub fn refuses_no_page()
+    ensures { RefusesNoPage }
+{}
+
+/// A refusal has the length of the longest front as its place, and the kind of what is there.
+pub fn refuses_at_longest()
+    ensures { RefusesAtLongest }
+{}
+
+/// Of two fronts of the same bits one begins the other.
+pub fn one_front()
+    ensures { OneFront }
+{}
+
+/// The code of a page, followed by any bits, reads as the page.
+pub fn round_trip()
+    ensures { RoundTrip }
+{}

@@ -1,0 +1,66 @@
+//! The end of a line (ITU-T T.4, 4.1.2).
+
+ghost use Rattle.page_code.specs.OneDimension.Fronts.{zeros_before, bits_of_five};
+ghost use Rattle.page_code.specs.OneDimension.Reading.{SeesEol};
+ghost use Rattle.raster.specs.Packed.{bits_of};
+ghost use Rattle.std.specs.Prelude.{◌≡◌, ◌≤◌, ◌<◌, ◌+◌, ◌*◌, drop, length, IfSome};
+
+use raster::packed::{Order, bit_of};
+
+/// What is found where an end of line may come (ITU-T T.4, 4.1.2).
+#[derive(Clone, Copy, Debug, PartialEq, Eq)]
+pub(crate) enum Eol {
+    /// An EOL of so many bits: 11 or more 0 bits and a 1.
+    Present(u128),
+    /// A 1 after fewer than 11 bits of 0.
+    Absent,
+    /// Only 0 bits, or nothing.
+    OnlyZeros,
+}
+
+/// The number of 0 bits before the first 1 from a place on, or none where there is no 1.
+fn zeros_from(octets: &[u8], order: Order, place: u128) -> Option<u128>
+    requires { place ≤ 8 * length octets.now }
+    ensures zeros { result ≡ zeros_before (drop place (bits_of order octets.now)) }
+    ensures within { IfSome result (λ zeros. place + zeros < 8 * length octets.now) }
+{
+    let end = 8 * octets.len() as u128;
+    for at in place..end {
+        if bit_of(order, octets, at) {
+            return Some(at - place);
+        }
+    }
+    None
+}
+
+/// What is found at a place where an EOL may come.
+pub(crate) fn eol_at(octets: &[u8], order: Order, place: u128) -> Eol
+    requires { place ≤ 8 * length octets.now }
+    ensures { SeesEol (drop place (bits_of order octets.now)) result }
+{
+    match zeros_from(octets, order, place) {
+        None => Eol::OnlyZeros,
+        Some(zeros) => {
+            if zeros < 11 {
+                Eol::Absent
+            } else {
+                Eol::Present(zeros + 1)
+            }
+        }
+    }
+}
+
+/// The place after the EOLs at a place, six at most in a row with the one before it.
+pub(crate) fn after_five_eols(octets: &[u8], order: Order, place: u128) -> u128
+    requires { place ≤ 8 * length octets.now }
+    ensures { result ≡ place + bits_of_five (drop place (bits_of order octets.now)) }
+{
+    let mut after = place;
+    for _ in 0..5u32 {
+        match eol_at(octets, order, after) {
+            Eol::Present(bits) => after += bits,
+            Eol::Absent | Eol::OnlyZeros => return after,
+        }
+    }
+    after
+}

@@ -1,0 +1,84 @@
+//! The changing elements a0, b1 and b2, from which the next mode is coded (ITU-T T.6, 2.2.1).
+
+ghost use Rattle.page_code.specs.TwoDimensions.Positions.{IsB2, IsFirstTo, right_of};
+ghost use Rattle.raster.specs.Pixels.{other};
+ghost use Rattle.std.specs.Prelude.{◌≡◌, ◌≤◌, length, true, false};
+
+use raster::{Color, Row};
+
+/// The starting changing element a0: its place, whether it is on the coding line yet, and its color.
+#[derive(Clone, Copy, Debug, PartialEq, Eq)]
+pub(crate) struct A0 {
+    pub(crate) place: u32,
+    pub(crate) begun: bool,
+    pub(crate) color: Color,
+}
+
+impl A0 {
+    /// Just before the line's first pixel, and white.
+    pub(crate) fn begin() -> Self
+        ensures { result ≡ record { place = 0; begun = false; color = Color.White } }
+    {
+        A0 {
+            place: 0,
+            begun: false,
+            color: Color::White,
+        }
+    }
+
+    /// On the line, at this place and of this color.
+    pub(crate) fn on_line(place: u32, color: Color) -> Self
+        ensures { result ≡ record { place = place; begun = true; color = color } }
+    {
+        A0 {
+            place,
+            begun: true,
+            color,
+        }
+    }
+
+    /// The least place to the right of a0.
+    pub(crate) fn right(self) -> u32
+        requires { self.place ≤ 2432 }
+        ensures { result ≡ right_of self }
+    {
+        if self.begun {
+            self.place + 1
+        } else {
+            self.place
+        }
+    }
+
+    /// b1: the first changing element of the reference line to the right of a0 and of opposite color,
+    /// or the line's end where there is none.
+    pub(crate) fn b1(self, reference: &Row) -> u32
+        requires { self.place ≤ 2432 }
+        ensures first { IsFirstTo reference.now (other self.color) (right_of self) result }
+        ensures range { result ≤ 2432 }
+    {
+        next_change_to(reference, self.color.other(), self.right())
+    }
+}
+
+/// The first changing element of this color at or above a place, or the width where there is none.
+fn next_change_to(row: &Row, color: Color, from: u32) -> u32
+    ensures first { IsFirstTo row.now color from result }
+    ensures range { result ≤ 2432 }
+{
+    let first = row.next_change(from);
+    if first >= row.width() || row.pixel(first).is(color) {
+        return first;
+    }
+    row.next_change(first + 1)
+}
+
+/// b2: the next changing element of the reference line to the right of b1, or the line's end where
+/// there is none.
+pub(crate) fn b2(reference: &Row, b1: u32) -> u32
+    requires { b1 ≤ 2432 }
+    ensures next { IsB2 reference.now b1 result }
+    ensures range { result ≤ 2432 }
+{
+    let _width = reference.width(); // tells the proof that it is at most 2,432
+    reference.next_change(b1 + 1)
+}

@@ -1,0 +1,70 @@
+//! The coding line that is read, up to a0 (ITU-T T.6, 2.2.1).
+
+ghost use Rattle.page_code.specs.TwoDimensions.Positions.{a0_of, line_begin};
+ghost use Rattle.raster.specs.Pixels.{IsWidth, other};
+ghost use Rattle.std.specs.Prelude.{◌≡◌, ◌≤◌, ◌+◌, ◌++◌, IfOk, OnOk, length, replicate, true};
+
+use crate::page::row_of;
+use crate::t6::a0::A0;
+use raster::Row;
+use std::alloc::{AllocError, Global};
+use std::marker::Model;
+
+/// A coding line up to a0 (ITU-T T.6, 2.2.1), kept as the runs of its pixels, white first.
+#[derive(Drop)]
+pub(crate) struct Line {
+    runs: Vec<u32>,
+    a0: A0,
+}
+
+impl Model for Line {
+    ghost use Rattle.std.specs.Prelude.{◌≡◌, ◌≤◌, length};
+    ghost use Rattle.raster.specs.declared.row.Color.TheVariants.{White};
+    ghost use Rattle.raster.specs.Runs.{colored};
+    ghost use Rattle.page_code.specs.TwoDimensions.Positions.{CodingLine};
+    ghost use Rattle.page_code.specs.TwoDimensions.Reading.{GoesOnWith};
+
+    ghost Value = { CodingLine };
+
+    ghost view = { λ line. record { pixels = colored White line.runs.items; begun = line.a0.begun; color = line.a0.color } };
+
+    ghost invariant = { λ line. (line.a0.place ≡ length (colored White line.runs.items)) × GoesOnWith line.runs.items line.a0.color × (line.a0.place ≤ 2432) };
+}
+
+impl Line {
+    /// A line with no pixels yet.
+    pub(crate) fn new(alloc: Global) -> Self
+        ensures { result ≡ line_begin }
+    {
+        Line {
+            runs: Vec::new(alloc),
+            a0: A0::begin(),
+        }
+    }
+
+    /// a0, which is after the pixels so far.
+    pub(crate) fn a0(&self) -> A0
+        ensures is { result ≡ a0_of self.now }
+        ensures range { result.place ≤ 2432 }
+    {
+        self.a0
+    }
+
+    /// Appends a run of a0's color, and moves a0 after it, to the other color.
+    pub(crate) fn push_run(&mut self, run: u32) -> Result<(), AllocError>
+        requires { length self.old.pixels + run ≤ 2432 }
+        ensures { OnOk result (self.new ≡ record { pixels = self.old.pixels ++ replicate run self.old.color; begun = true; color = other self.old.color }) }
+    {
+        self.runs.push(run)?;
+        self.a0 = A0::on_line(self.a0.place + run, self.a0.color.other());
+        Ok(())
+    }
+
+    /// The row of the line's pixels.
+    pub(crate) fn into_row(self, alloc: Global) -> Result<Row, AllocError>
+        requires { IsWidth (length self.pixels) }
+        ensures { IfOk result (λ row. row ≡ self.pixels) }
+    {
+        row_of(alloc, &self.runs)
+    }
+}

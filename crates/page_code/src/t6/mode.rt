@@ -1,0 +1,93 @@
+//! The mode codes of the two-dimensional code, and EOFB (ITU-T T.6, 2.2.2 and 2.4).
+
+ghost use Rattle.page_code.specs.TwoDimensions.Fronts.{mode_word};
+ghost use Rattle.page_code.specs.TwoDimensions.Modes.{to_left, to_right, vertical_word};
+ghost use Rattle.run_tables.specs.Codes.{text};
+ghost use Rattle.std.specs.Prelude.{◌≡◌, ◌≤◌};
+
+/// The end of the facsimile block: twice eleven 0 bits and a 1 (ITU-T T.6, 2.4).
+pub(crate) const EOFB: &[u8] = b"000000000001000000000001";
+
+/// How far a1 is from b1 in a vertical mode: under it, or so many pixels to its right or its left
+/// (ITU-T T.6, 2.2.2).
+#[derive(Clone, Copy, Debug, PartialEq, Eq)]
+pub enum Shift {
+    /// a1 is just under b1.
+    V0,
+    /// a1 is 1 pixel to the right of b1.
+    VR1,
+    /// a1 is 2 pixels to the right of b1.
+    VR2,
+    /// a1 is 3 pixels to the right of b1.
+    VR3,
+    /// a1 is 1 pixel to the left of b1.
+    VL1,
+    /// a1 is 2 pixels to the left of b1.
+    VL2,
+    /// a1 is 3 pixels to the left of b1.
+    VL3,
+}
+
+impl Shift {
+    /// How far a1 is to the right of b1.
+    pub fn right(self) -> u32
+        ensures right { result ≡ to_right self }
+        ensures range { result ≤ 3 }
+    {
+        match self {
+            Shift::VR1 => 1,
+            Shift::VR2 => 2,
+            Shift::VR3 => 3,
+            Shift::V0 | Shift::VL1 | Shift::VL2 | Shift::VL3 => 0,
+        }
+    }
+
+    /// How far a1 is to the left of b1.
+    pub fn left(self) -> u32
+        ensures left { result ≡ to_left self }
+        ensures range { result ≤ 3 }
+    {
+        match self {
+            Shift::VL1 => 1,
+            Shift::VL2 => 2,
+            Shift::VL3 => 3,
+            Shift::V0 | Shift::VR1 | Shift::VR2 | Shift::VR3 => 0,
+        }
+    }
+
+    /// The digits of the mode's code (ITU-T T.6, table 1).
+    pub fn digits(self) -> &'static [u8]
+        ensures { text result.now ≡ vertical_word self }
+    {
+        match self {
+            Shift::V0 => b"1",
+            Shift::VR1 => b"011",
+            Shift::VR2 => b"000011",
+            Shift::VR3 => b"0000011",
+            Shift::VL1 => b"010",
+            Shift::VL2 => b"000010",
+            Shift::VL3 => b"0000010",
+        }
+    }
+}
+
+/// A mode code; that of horizontal mode is its flag alone (ITU-T T.6, 2.2.2).
+#[derive(Clone, Copy, Debug, PartialEq, Eq)]
+pub enum ModeCode {
+    Pass,
+    Horizontal,
+    Vertical(Shift),
+}
+
+impl ModeCode {
+    /// The digits of the code (ITU-T T.6, table 1).
+    pub fn digits(self) -> &'static [u8]
+        ensures { text result.now ≡ mode_word self }
+    {
+        match self {
+            ModeCode::Pass => b"0001",
+            ModeCode::Horizontal => b"001",
+            ModeCode::Vertical(shift) => shift.digits(),
+        }
+    }
+}

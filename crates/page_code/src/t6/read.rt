@@ -1,0 +1,255 @@
+//! Reading of a page in the two-dimensional code (ITU-T T.6, 2.2).
+
+ghost use Rattle.page_code.specs.TwoDimensions.Fronts.{mode_word, mode_codes};
+ghost use Rattle.page_code.specs.TwoDimensions.Positions.{white_line};
+ghost use Rattle.page_code.specs.TwoDimensions.Reading.{LeadsOn, MovesTo, ReadsHorizontal, ReadsMode, ReadsPageOn, ReadsRow, SeesStart, StepsOn, missing_mode};
+ghost use Rattle.page_code.specs.TwoDimensions.Writing.{reference_at};
+ghost use Rattle.raster.specs.Pixels.{IsWidth};
+ghost use Rattle.run_tables.specs.Reading.{rest_of};
+ghost use Rattle.run_tables.specs.Texts.{all_zero, is_cut};
+ghost use Rattle.std.specs.Prelude.{◌≡◌, ◌≤◌, ◌<◌, ◌+◌, [], OnOk, length};
+
+use crate::page::{push_row, row_of};
+use crate::t6::a0::b2;
+use crate::t6::line::Line;
+use crate::t6::mode::{EOFB, ModeCode, Shift};
+use raster::{MAX_ROWS, Page, Row};
+use run_tables::{BitReader, CodeFault, CodeFaultKind};
+use std::alloc::{AllocError, Global};
+
+/// The mode codes.
+const MODE_CODES: [ModeCode; 9] = [
+    ModeCode::Pass,
+    ModeCode::Horizontal,
+    ModeCode::Vertical(Shift::V0),
+    ModeCode::Vertical(Shift::VR1),
+    ModeCode::Vertical(Shift::VR2),
+    ModeCode::Vertical(Shift::VR3),
+    ModeCode::Vertical(Shift::VL1),
+    ModeCode::Vertical(Shift::VL2),
+    ModeCode::Vertical(Shift::VL3),
+];
+
+/// What is found where a row may begin.
+enum Start {
+    /// A row.
+    Row,
+    /// EOFB after a row.
+    End,
+    /// Nothing that may be there.
+    Refused(CodeFaultKind),
+}
+
+/// Whether the bits that are left are only 0 bits, or none.
+fn only_zeros(reader: &BitReader) -> bool
+    ensures { result ≡ all_zero (rest_of reader.now) }
+{
+    let mut ahead = reader.look_ahead();
+    while let Some(bit) = ahead.bit() {
+        if bit {
+            return false;
+        }
+    }
+    true
+}
+
+/// What is found where a row may begin, after so many rows.
+fn start_at(reader: &BitReader, rows: usize) -> Start
+    ensures { SeesStart (rest_of reader.now) rows result }
+{
+    if reader.begins_with(EOFB) {
+        if rows == 0 {
+            return Start::Refused(CodeFaultKind::NoRows);
+        }
+        return Start::End;
+    }
+    if only_zeros(reader) {
+        return Start::Refused(CodeFaultKind::MissingEofb);
+    }
+    if reader.is_cut_of(EOFB) {
+        return Start::Refused(CodeFaultKind::Truncated);
+    }
+    if rows >= MAX_ROWS {
+        return Start::Refused(CodeFaultKind::TooManyCodedRows);
+    }
+    Start::Row
+}
+
+/// Whether the bits that are left are a beginning of a mode code.
+fn is_cut_mode(reader: &BitReader) -> bool
+    ensures { result ≡ is_cut mode_word mode_codes (rest_of reader.now) }
+{
+    for at in 0..9 {
+        if reader.is_cut_of(MODE_CODES[at].digits()) {
+            return true;
+        }
+    }
+    false
+}
+
+/// The refusal where no mode code begins the bits that are left.
+fn no_mode(reader: &BitReader) -> CodeFault
+    ensures { result ≡ record { place = reader.now.place; kind = missing_mode (rest_of reader.now) } }
+{
+    let kind = if reader.begins_with(b"0000001") {
+        CodeFaultKind::Extension
+    } else if is_cut_mode(reader) {
+        CodeFaultKind::Truncated
+    } else {
+        CodeFaultKind::BadCode
+    };
+    CodeFault::new(reader.place(), kind)
+}
+
+/// The next mode code (ITU-T T.6, 2.2.2).
+fn next_mode(reader: &mut BitReader) -> Result<ModeCode, CodeFault>
+    ensures { ReadsMode reader.old reader.new result }
+{
+    for at in 0..9 {
+        let code = MODE_CODES[at];
+        let digits = code.digits();
+        if reader.begins_with(digits) {
+            reader.skip(digits.len());
+            return Ok(code);
+        }
+    }
+    Err(no_mode(reader))
+}
+
+/// Pass mode: a0 goes under b2.
+fn pass(reference: &Row, line: &mut Line) -> Result<(), AllocError>
+    requires { length line.old.pixels < length reference.now }
+    ensures { OnOk result (LeadsOn reference.now line.old line.new ModeCode.Pass) }
+{
+    let a0 = line.a0();
+    let b1 = a0.b1(reference);
+    let b2 = b2(reference, b1);
+    line.push_run(b2 - a0.place)?;
+    line.push_run(0)
+}
+
+/// The vertical mode at a bit: a0 goes to a1.
+fn vertical(place: u128, reference: &Row, shift: Shift, line: &mut Line) -> Result<(), CodeFault>
+    requires { length line.old.pixels < length reference.now }
+    ensures { MovesTo reference.now place line.old line.new (ModeCode.Vertical shift) result }
+{
+    let a0 = line.a0();
+    let from = a0.right();
+    let b1 = a0.b1(reference);
+    let right = shift.right();
+    let left = shift.left();
+    if b1 + right < from + left {
+        return Err(CodeFault::new(place, CodeFaultKind::Backwards));
+    }
+    let a1 = b1 + right - left;
+    if a1 > reference.width() {
+        return Err(CodeFault::new(place, CodeFaultKind::PastEnd));
+    }
+    line.push_run(a1 - a0.place)?;
+    Ok(())
+}
+
+/// The two runs of horizontal mode: a0 goes to a2.
+fn horizontal(reader: &mut BitReader, width: u32, line: &mut Line) -> Result<(), CodeFault>
+    requires short { length line.old.pixels < width }
+    requires width { width ≤ 2432 }
+    ensures { ReadsHorizontal width reader.old reader.new line.old line.new result }
+{
+    let a0 = line.a0();
+    let other = a0.color.other();
+    let room = width - a0.place;
+    let first = reader.read_run_within(a0.color, room, CodeFaultKind::PastEnd)?;
+    let after = reader.place();
+    let second = reader.read_run_within(other, room - first, CodeFaultKind::PastEnd)?;
+    if first + second == 0 {
+        return Err(CodeFault::new(after, CodeFaultKind::EmptyHorizontal));
+    }
+    line.push_run(first)?;
+    line.push_run(second)?;
+    Ok(())
+}
+
+/// One mode of a row (ITU-T T.6, 2.2.2).
+fn read_mode(reader: &mut BitReader, reference: &Row, line: &mut Line) -> Result<(), CodeFault>
+    requires { length line.old.pixels < length reference.now }
+    ensures { StepsOn reference.now reader.old reader.new line.old line.new result }
+{
+    let place = reader.place();
+    let code = next_mode(reader)?;
+    match code {
+        ModeCode::Pass => Ok(pass(reference, line)?),
+        ModeCode::Horizontal => horizontal(reader, reference.width(), line),
+        ModeCode::Vertical(shift) => vertical(place, reference, shift, line),
+    }
+}
+
+/// One row after its reference row (ITU-T T.6, 2.2).
+fn read_row(alloc: Global, reader: &mut BitReader, reference: &Row) -> Result<Row, CodeFault>
+    ensures { ReadsRow reference.now reader.old reader.new result }
+{
+    let _start = reader.place(); // tells the proof that it is within the bits
+    let width = reference.width();
+    let mut line = Line::new(alloc);
+    while line.a0().place < width {
+        read_mode(reader, reference, &mut line)?;
+    }
+    Ok(line.into_row(alloc)?)
+}
+
+/// The next row, after the last of these rows or after a white row.
+fn next_row(
+    alloc: Global,
+    reader: &mut BitReader,
+    white: &Row,
+    rows: &[Row],
+) -> Result<Row, CodeFault>
+    ensures { ReadsRow (reference_at white.now rows.now (length rows.now)) reader.old reader.new result }
+{
+    if rows.is_empty() {
+        return read_row(alloc, reader, white);
+    }
+    read_row(alloc, reader, &rows[rows.len() - 1])
+}
+
+/// The rows of a page that has none yet, after a white row.
+fn read_rows(
+    alloc: Global,
+    reader: &mut BitReader,
+    white: &Row,
+    empty: Page,
+) -> Result<Page, CodeFault>
+    requires white { white.now ≡ white_line empty.width }
+    requires empty { empty.rows ≡ [] }
+    ensures { ReadsPageOn empty.width empty.fine reader.old reader.new result }
+{
+    let _start = reader.place(); // tells the proof that it is within the bits
+    let mut page = empty;
+    loop {
+        let place = reader.place();
+        match start_at(reader, page.rows().len()) {
+            Start::Row => {}
+            Start::End => {
+                reader.skip(EOFB.len());
+                return Ok(page);
+            }
+            Start::Refused(kind) => return Err(CodeFault::new(place, kind)),
+        }
+        let row = next_row(alloc, reader, white, page.rows())?;
+        push_row(&mut page, row)?;
+    }
+}
+
+/// A page of this width (ITU-T T.6, 2.2). After an error the reader is somewhere in the page.
+pub(crate) fn read_page(
+    alloc: Global,
+    reader: &mut BitReader,
+    width: u32,
+    fine: bool,
+) -> Result<Page, CodeFault>
+    requires { IsWidth width }
+    ensures { ReadsPageOn width fine reader.old reader.new result }
+{
+    let page = Page::new(alloc, width, fine).unwrap();
+    let white = row_of(alloc, &[width])?;
+    read_rows(alloc, reader, &white, page)
+}

@@ -1,0 +1,133 @@
+//! Writing of a page in the two-dimensional code (ITU-T T.6, 2.2).
+
+ghost use Rattle.page_code.specs.TwoDimensions.Code.{page_code, row_code, rows_code, verticals, vertical_to};
+ghost use Rattle.page_code.specs.TwoDimensions.Writing.{IsCodedTo, WritesMode, reference_at, row_at};
+ghost use Rattle.run_tables.specs.Written.{Appends};
+ghost use Rattle.std.specs.Prelude.{◌≡◌, ◌≤◌, ◌<◌, ◌+◌, All, length, OnOk};
+
+use crate::page::row_of;
+use crate::t6::a0::{A0, b2};
+use crate::t6::mode::{EOFB, ModeCode, Shift};
+use raster::{Page, Row};
+use run_tables::BitWriter;
+use std::alloc::{AllocError, Global};
+
+/// The vertical mode that leads from b1 to a1, where there is one (ITU-T T.6, 2.2.3).
+fn shift_to(b1: u32, a1: u32) -> Option<Shift>
+    requires b1 { b1 ≤ 2432 }
+    requires a1 { a1 ≤ 2432 }
+    ensures { result ≡ vertical_to b1 a1 verticals }
+{
+    if a1 == b1 {
+        return Some(Shift::V0);
+    }
+    if a1 == b1 + 1 {
+        return Some(Shift::VR1);
+    }
+    if a1 == b1 + 2 {
+        return Some(Shift::VR2);
+    }
+    if a1 == b1 + 3 {
+        return Some(Shift::VR3);
+    }
+    if a1 + 1 == b1 {
+        return Some(Shift::VL1);
+    }
+    if a1 + 2 == b1 {
+        return Some(Shift::VL2);
+    }
+    if a1 + 3 == b1 {
+        return Some(Shift::VL3);
+    }
+    None
+}
+
+/// Appends the prescribed mode, and moves a0.
+fn write_mode(
+    writer: &mut BitWriter,
+    reference: &Row,
+    row: &Row,
+    a0: &mut A0,
+) -> Result<(), AllocError>
+    requires even { length reference.now ≡ length row.now }
+    requires coded { IsCodedTo row.now a0.old }
+    requires short { a0.old.place < length row.now }
+    ensures { OnOk result (WritesMode reference.now row.now a0.old a0.new writer.old writer.new) }
+{
+    let _width = row.width(); // tells the proof that it is at most 2,432
+    let color = a0.color;
+    let a1 = row.next_change(a0.right());
+    let b1 = a0.b1(reference);
+    let b2 = b2(reference, b1);
+    if b2 < a1 {
+        writer.push_digits(ModeCode::Pass.digits())?;
+        *a0 = A0::on_line(b2, color);
+        return Ok(());
+    }
+    if let Some(shift) = shift_to(b1, a1) {
+        writer.push_digits(shift.digits())?;
+        *a0 = A0::on_line(a1, color.other());
+        return Ok(());
+    }
+    let a2 = row.next_change(a1 + 1);
+    writer.push_digits(ModeCode::Horizontal.digits())?;
+    writer.write_run(color, a1 - a0.place)?;
+    writer.write_run(color.other(), a2 - a1)?;
+    *a0 = A0::on_line(a2, color);
+    Ok(())
+}
+
+/// Appends the code of a row after its reference row (ITU-T T.6, 2.2).
+fn write_row(writer: &mut BitWriter, reference: &Row, row: &Row) -> Result<(), AllocError>
+    requires { length reference.now ≡ length row.now }
+    ensures { OnOk result (Appends (row_code reference.now row.now) writer.old writer.new) }
+{
+    let width = row.width();
+    let mut a0 = A0::begin();
+    while a0.place < width {
+        write_mode(writer, reference, row, &mut a0)?;
+    }
+    Ok(())
+}
+
+/// Appends the code of one of the rows after the row before it, or of the first after a white row.
+fn write_next(
+    writer: &mut BitWriter,
+    white: &Row,
+    rows: &[Row],
+    at: usize,
+) -> Result<(), AllocError>
+    requires within { at < length rows.now }
+    requires even { All (λ row. length row ≡ length white.now) rows.now }
+    ensures { OnOk result (Appends (row_code (reference_at white.now rows.now at) (row_at rows.now at)) writer.old writer.new) }
+{
+    if at == 0 {
+        return write_row(writer, white, &rows[at]);
+    }
+    write_row(writer, &rows[at - 1], &rows[at])
+}
+
+/// Appends the codes of rows, each after the one before and the first after a white row.
+fn write_rows(writer: &mut BitWriter, white: &Row, rows: &[Row]) -> Result<(), AllocError>
+    requires { All (λ row. length row ≡ length white.now) rows.now }
+    ensures { OnOk result (Appends (rows_code white.now rows.now) writer.old writer.new) }
+{
+    for at in 0..rows.len() {
+        write_next(writer, white, rows, at)?;
+    }
+    Ok(())
+}
+
+/// Appends the code of a page: its rows and EOFB (ITU-T T.6, 2.2).
+pub(crate) fn write_page(
+    alloc: Global,
+    writer: &mut BitWriter,
+    page: &Page,
+) -> Result<(), AllocError>
+    ensures { OnOk result (Appends (page_code page.now.width page.now.rows) writer.old writer.new) }
+{
+    let rows = page.rows();
+    let white = row_of(alloc, &[page.width()])?;
+    write_rows(writer, &white, rows)?;
+    writer.push_digits(EOFB)
+}

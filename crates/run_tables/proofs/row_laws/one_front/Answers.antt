@@ -1,5 +1,0 @@
-use Rattle.run_tables.proofs.RowReadings.{one_front}
-use Rattle.run_tables.proofs.row_laws.one_front.Goals as goal
-
-pub returns : goal.returns
-returns c = one_front

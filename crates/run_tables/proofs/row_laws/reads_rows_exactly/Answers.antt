@@ -1,5 +1,0 @@
-use Rattle.run_tables.proofs.RowReadings.{reads_rows_exactly}
-use Rattle.run_tables.proofs.row_laws.reads_rows_exactly.Goals as goal
-
-pub returns : goal.returns
-returns c = reads_rows_exactly
