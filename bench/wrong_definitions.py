@@ -11,7 +11,7 @@ repository, where all edits of the body are made:
              the one function of the line;
   headline   which proofs refuse it, by a check of `line_sim` cut down to its definitions, the headline and
              its proofs, over the wrong station; and which clauses of the headline have no proof then;
-  run        which run of `bench/wrong/runs.rt` isn't safe any more, by running the wrong code: so not only
+  run        which run of `bench/wrong/runs.txt` isn't safe any more, by running the wrong code: so not only
              the proof but the headline itself is false of it.
 
 Ends with status 1 where a right body is refused, or a wrong one is still proved or all of its runs are safe.
@@ -230,7 +230,7 @@ def judged(root, top, edits):
     print(f"  headline: {'proved' if safe else refusals(lines)}", flush=True)
     print(f"  clauses: {'none falls' if safe else fallen(lines)}", flush=True)
     planted(root, runs, edits)
-    shutil.copy(f"{root}/bench/wrong/runs.rt", f"{runs}/line_sim/src/tests.rt")
+    shutil.copy(f"{root}/bench/wrong/runs.txt", f"{runs}/line_sim/src/tests.rt")
     _, lines = ran(["rt", "try", "--test"], f"{runs}/line_sim")
     broken = re.findall(r"test tests::(\S+) \.\.\. FAILED", "\n".join(lines))
     ended = any(line.startswith("test result: ") for line in lines)

@@ -4,7 +4,7 @@ use Rattle.stations.specs.Laws.{Each}
 use Rattle.line_sim.specs.Entries.{entry_of, and_entries, is_refused, marks, one_mark}
 use Rattle.line_sim.specs.Headline.{CanBeWritten, LinesCanBeWritten}
 use Rattle.line_sim.specs.Line.{World, Outcome, Done, Nothing, InputLost, Cut, happens, new_world, run}
-use Rattle.line_sim.specs.Standing.{Shows, Acts, EventWrites, WorldFields, Becomes, BecomesSome, Leaves, IsReached}
+use Rattle.line_sim.specs.Standing.{Shows, Acts, EventWrites, WorldFields, Becomes, BecomesSome, Leaves, IsReached, IsUnheard}
 use Rattle.line_sim.specs.declared.call.Call.{Call}
 use Rattle.line_sim.specs.declared.event.Entry.{Entry}
 use Rattle.line_sim.specs.declared.event.Event.{Event}
@@ -94,14 +94,15 @@ left_marked (Cut made) w event old new entry e marked noted = (entry, marked, no
 
 -- a refused event that has its entry
 pub marked_becomes : (v : WorldFields) (call : Call) (noted : List Entry) (event : Event) (entry : Entry)
-    (h : Acts v.call call event entry) → IsReached v → entry.refused ≡ true → noted ≡ v.entries ++ entry ∷ [] →
-    BecomesSome v (record { call = call; entries = noted }) event
-marked_becomes v call noted event entry h r marked is = (
+    (h : Acts v.call call event entry) → IsReached v → (IsUnheard event → entry.refused ≡ false) → entry.refused ≡ true →
+    noted ≡ v.entries ++ entry ∷ [] → BecomesSome v (record { call = call; entries = noted }) event
+marked_becomes v call noted event entry h r unmarked marked is = (
   h.0,
   was_refused v call event entry h r marked,
   acts_become v call noted event entry h is,
   left_marked h.0 (run r.steps (new_world r.document r.wish r.caps)) event v (record { call = call; entries = noted }) entry
       (h.1 (run r.steps (new_world r.document r.wish r.caps)) r.shows).1 marked is,
+  λ unheard. (let no : true ≡ false = sym marked ∙ unmarked unheard in cc),
 )
 
 -- the marks of one entry more

@@ -17,7 +17,7 @@ use Rattle.line_sim.specs.PageMachine.{PageState, page_state}
 use Rattle.line_sim.specs.declared.call.Call.{Call}
 use Rattle.line_sim.specs.declared.event.Entry.{Entry}
 use Rattle.line_sim.specs.declared.event.Event.{Event}
-use Rattle.line_sim.specs.declared.event.Event.TheVariants.{CallerTimeout, CallerT5, AnswererT1, AnswererT2, Busy}
+use Rattle.line_sim.specs.declared.event.Event.TheVariants.{LoseToAnswerer, LoseToCaller, Spoil, CallerTimeout, CallerT5, AnswererT1, AnswererT2, Busy}
 use Rattle.line_sim.specs.declared.event.Kind.{Kind}
 use Rattle.line_sim.specs.declared.fault.WorldFault.{WorldFault}
 use Rattle.line_sim.specs.declared.fault.WorldFault.TheVariants.{NoMemory, WidthNotCallable}
@@ -135,9 +135,18 @@ abbrev pub Leaves : Outcome → WorldFields → WorldFields → Type 0
 Leaves Nothing old new = new ≡ old
 Leaves _ old new = (entry : Entry) × (entry.refused ≡ true) × (new.entries ≡ old.entries ++ entry ∷ [])
 
--- a growth was refused: whichever world the fields represent, what they become has one and the same outcome, which the entries tell
+-- an event that no station hears of: an item is lost, or a training check is spoiled
+abbrev pub IsUnheard : Event → Type 0
+IsUnheard LoseToAnswerer = Unit {0}
+IsUnheard LoseToCaller = Unit {0}
+IsUnheard Spoil = Unit {0}
+IsUnheard _ = ⊥
+
+-- a growth was refused: whichever world the fields represent, what they become has one and the same outcome, which the entries tell; an
+-- event that no station hears of is refused for want of room alone
 abbrev pub BecomesSome : WorldFields → WorldFields → Event → Type 0
-BecomesSome old new event = (outcome : Outcome) × (outcome ≢ Done) × Becomes old new event outcome × Leaves outcome old new
+BecomesSome old new event =
+    (outcome : Outcome) × (outcome ≢ Done) × Becomes old new event outcome × Leaves outcome old new × (IsUnheard event → outcome ≡ Nothing)
 
 -- there is no world: memory was refused, or the width of a page isn't callable
 abbrev pub IsWorldFault : Document → WorldFault → Type 0

@@ -1,11 +1,11 @@
 //! Both stations and what is under way, and what one event does to them.
 
 ghost use Rattle.line_sim.specs.Entries.{caller_said};
-ghost use Rattle.line_sim.specs.Standing.{Acts, AnswererAnswers, AnswererMayAnswer, AnswererSends, AnswererTimer, AnswererWrites, CallerAnswers, CallerMayAnswer, CallerSends, CallerTimer, CallerWrites, EventWrites};
+ghost use Rattle.line_sim.specs.Standing.{Acts, IsUnheard, AnswererAnswers, AnswererMayAnswer, AnswererSends, AnswererTimer, AnswererWrites, CallerAnswers, CallerMayAnswer, CallerSends, CallerTimer, CallerWrites, EventWrites};
 ghost use Rattle.stations.specs.CallerStep.{Caller as CallerTuple, caller_items};
 ghost use Rattle.stations.specs.Inputs.{answerer_input, caller_input};
 ghost use Rattle.stations.specs.CallerFields.{Represents};
-ghost use Rattle.std.specs.Prelude.{◌≡◌, IsTrue, ◌↔◌, length};
+ghost use Rattle.std.specs.Prelude.{◌≡◌, false, IsTrue, ◌↔◌, length};
 
 use crate::channel::{Channel, fcd_count};
 use crate::event::{Entry, Event, Kind};
@@ -179,7 +179,8 @@ impl Call {
 
     /// The first item under way to the answerer is lost.
     fn lose_to_answerer(&mut self) -> Entry
-        ensures { Acts self.old self.new Event.LoseToAnswerer result }
+        ensures acts { Acts self.old self.new Event.LoseToAnswerer result }
+        ensures whole { result.refused ≡ false }
     {
         let item = self.to_answerer.head();
         self.to_answerer.lose();
@@ -188,7 +189,8 @@ impl Call {
 
     /// The first item under way to the caller is lost.
     fn lose_to_caller(&mut self) -> Entry
-        ensures { Acts self.old self.new Event.LoseToCaller result }
+        ensures acts { Acts self.old self.new Event.LoseToCaller result }
+        ensures whole { result.refused ≡ false }
     {
         let item = self.to_caller.head();
         self.to_caller.lose();
@@ -197,7 +199,8 @@ impl Call {
 
     /// A training check that is first under way to the answerer is spoiled.
     fn spoil(&mut self) -> Entry
-        ensures { Acts self.old self.new Event.Spoil result }
+        ensures acts { Acts self.old self.new Event.Spoil result }
+        ensures whole { result.refused ≡ false }
     {
         self.to_answerer.spoil();
         unanswered(Event::Spoil, None, false)
@@ -206,7 +209,8 @@ impl Call {
     /// What an event does, and its entry.
     pub(crate) fn act(&mut self, event: Event) -> Entry
         requires { EventWrites self.old event }
-        ensures { Acts self.old self.new event result }
+        ensures acts { Acts self.old self.new event result }
+        ensures whole { IsUnheard event → result.refused ≡ false }
     {
         match event {
             Event::DeliverToAnswerer => self.deliver_to_answerer(),

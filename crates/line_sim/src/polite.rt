@@ -93,7 +93,8 @@ impl World {
 
     /// Delivers what is under way, in order, until nothing is or so many items were delivered. Where a
     /// group of pages is through and another one follows, the answerer's T2 begins it, which has its
-    /// entry and isn't counted. Answers the number of deliveries. Errs at the first refused event.
+    /// entry and isn't counted. Answers the number of deliveries. Errs at the first refused event. Both
+    /// stations are in step before and after it, whatever it answers.
     pub fn polite(&mut self, most: u64) -> Result<u64, AllocError>
         ensures delivers { (w : WorldValue) → Shows self.old.call w → DeliversAll self.old self.new w most result }
         ensures through { IfOk result (λ number. GoesThrough self.old self.new most number) }

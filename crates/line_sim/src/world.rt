@@ -48,8 +48,8 @@ impl Model for World {
 }
 
 impl World {
-    /// A world at the start of a call: the answerer's DIS is under way. Errs where memory is refused,
-    /// and where the width of a page is none that a call can have.
+    /// A world at the start of a call: the answerer's DIS is under way, and nothing is stored or
+    /// confirmed. Errs where memory is refused, and where the width of a page is none that a call can have.
     pub fn new(
         alloc: Global,
         document: Document,
@@ -103,7 +103,8 @@ impl World {
 
     /// One event. Errs where a growth is refused: without room for its entry nothing happens; else a
     /// delivery or another input is lost, or of what is sent only what was made is under way, which the
-    /// entry marks.
+    /// entry marks. Whatever it answers, both stations are in step before and after it, and a block whose
+    /// PPS is delivered is accepted exactly if each of its frames is open.
     pub fn event(&mut self, event: Event) -> Result<(), AllocError>
         ensures ok { OnOk result (Becomes self.old self.new event Outcome.Done) }
         ensures err { OnErr result (BecomesSome self.old self.new event) }

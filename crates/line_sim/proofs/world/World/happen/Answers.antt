@@ -23,8 +23,8 @@ invariant_of-self-then-entry c =
     let v : WorldFields = record { call = c.self.inside.call; entries = c.self.inside.transcript.items } in
     let noted : c.note.new.transcript.items ≡ c.self.inside.transcript.items ++ c.act-entry.result ∷ [] = c.note.ensures ∙
     ap (λ l. l ++ c.act-entry.result ∷ []) c.reserve.ensures.items in (
-      reached_more v _ c.args.event c.act-entry.ensures.0 c.self.invariant.0
-          (acts_become v c.act-entry.new.self c.note.new.transcript.items c.args.event c.act-entry.result c.act-entry.ensures noted),
+      reached_more v _ c.args.event c.act-entry.ensures.acts.0 c.self.invariant.0
+          (acts_become v c.act-entry.new.self c.note.new.transcript.items c.args.event c.act-entry.result c.act-entry.ensures.acts noted),
       (let n : ℕ = c.self.inside.refused in let one : n + 1 ≡ suc n = omega arith in one) ∙
           (ap suc c.self.invariant.1 ∙
           (ap (λ b. one_mark b (marks c.self.inside.transcript.items)) (sym c.if-entry.true) ∙
@@ -36,8 +36,8 @@ invariant_of-self-else-entry c =
     let v : WorldFields = record { call = c.self.inside.call; entries = c.self.inside.transcript.items } in
     let noted : c.note.new.transcript.items ≡ c.self.inside.transcript.items ++ c.act-entry.result ∷ [] = c.note.ensures ∙
     ap (λ l. l ++ c.act-entry.result ∷ []) c.reserve.ensures.items in (
-      reached_more v _ c.args.event c.act-entry.ensures.0 c.self.invariant.0
-          (acts_become v c.act-entry.new.self c.note.new.transcript.items c.args.event c.act-entry.result c.act-entry.ensures noted),
+      reached_more v _ c.args.event c.act-entry.ensures.acts.0 c.self.invariant.0
+          (acts_become v c.act-entry.new.self c.note.new.transcript.items c.args.event c.act-entry.result c.act-entry.ensures.acts noted),
       c.self.invariant.1 ∙
           (ap (λ b. one_mark b (marks c.self.inside.transcript.items)) (sym c.if-entry.false) ∙
           (sym (marks_more c.self.inside.transcript.items c.act-entry.result) ∙ ap marks (sym noted))),
@@ -50,5 +50,5 @@ returns-then-entry-clause-err c =
     ap (λ l. l ++ c.act-entry.result ∷ []) c.reserve.ensures.items in
     subst (λ old. BecomesSome old (record { call = c.act-entry.new.self; entries = c.note.new.transcript.items }) c.args.event)
     c.self.view_is
-    (marked_becomes v c.act-entry.new.self c.note.new.transcript.items c.args.event c.act-entry.result c.act-entry.ensures
-    c.self.invariant.0 c.if-entry.true noted)
+    (marked_becomes v c.act-entry.new.self c.note.new.transcript.items c.args.event c.act-entry.result c.act-entry.ensures.acts
+    c.self.invariant.0 c.act-entry.ensures.whole c.if-entry.true noted)
