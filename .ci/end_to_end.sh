@@ -11,6 +11,8 @@ PATH="$PATH:/opt/rattle/bin"
 data=$top/.ci/data
 work=$(mktemp -d)
 trap 'rm -rf "$work"' EXIT
+# An image of one white row of 1,728 pixels.
+white="50 34 0A 31 37 32 38 20 31 0A$(seq 216 | sed 's/.*/ 00/' | tr -d '\n')"
 count=0
 
 # fails WORDS: tells what is wrong, and ends.
@@ -85,7 +87,6 @@ try_small() {
     codes mmr msb "50 34 0A 38 20 33 0A 30 30 00" "2F F8 C0 04 00 40" 8
     printf '..##....\n..##....\n........\n' > "$work/wanted"
     is_same "$work/shown_mmr_msb" "$work/wanted" "show of three rows"
-    white="50 34 0A 31 37 32 38 20 31 0A$(seq 216 | sed 's/.*/ 00/' | tr -d '\n')"
     codes mmr lsb "$white" "01 10 00 01" 1728
     codes mmr msb "$white" "80 08 00 80" 1728
     codes mh msb "$white" "00 14 D9 A8 00 80 08 00 80 08 00 80 08" 1728
@@ -225,19 +226,30 @@ try_call() {
     tail -1 "$work/output" | grep -q ' pages 0$' || [ -e "$work/pages" ] || fails "call ${case##*/} made no file of its pages"
 }
 
-# The calls, where the program knows the command.
+# The calls, where there are cases of them.
 try_calls() {
-    "$program" call --help 2>&1 | grep -q -e '--script' || return 0
     for script in "$top"/.ci/calls/*.script; do
-        [ ! -f "$script" ] || try_call "$script"
+        [ -f "$script" ] || return 0
+        try_call "$script"
     done
-    rm -f "$work/in.pbm"
+    input=$(octets "$white")
     printf 'polite 11' > "$work/script"
-    faults "fault 8" call --script "$work/missing" "$data/page.pbm"
+    faults "fault 8" call --script "$work/missing" "$input"
     faults "fault 8" call --script "$work/script" "$work/missing"
+    echo "as it was" > "$work/kept"
+    cp "$work/kept" "$work/pages"
+    : > "$work/nothing"
+    works call --script "$work/nothing" --out "$work/pages" "$input"
+    is_same "$work/pages" "$work/kept" "the file of --out with no page"
+    echo "spoil 0" > "$work/wrong"
+    faults "fault 30 at line 1" call --script "$work/wrong" --out "$work/pages" "$input"
+    faults "fault 7" call --script "$work/script" --out "$work/pages" "$work/nothing"
+    is_same "$work/pages" "$work/kept" "the file of --out after a fault"
+    works call --script "$work/script" --out "$work/pages" "$input"
+    is_same "$work/pages" "$input" "the file of --out"
     refuses call --script "$work/script"
-    refuses call "$data/page.pbm"
-    refuses call --script "$work/script" --frame 128 "$data/page.pbm"
+    refuses call "$input"
+    refuses call --script "$work/script" --frame 128 "$input"
 }
 
 if [ $# = 0 ]; then
