@@ -20,12 +20,15 @@ import subprocess
 import sys
 import tempfile
 import time
+from collections import Counter
 
 TOP = os.path.dirname(os.path.dirname(os.path.abspath(__file__)))
 PROGRAM = os.environ.get("FAXTOOL", os.path.join(TOP, "crates", "faxtool", "out", "faxtool"))
 WORDS = "to-answerer to-caller lose-to-answerer lose-to-caller spoil caller-timeout caller-t5 answerer-t1 answerer-t2 busy ready".split()
 # How often each of these comes: deliveries mostly, and the ends of long waits seldom.
-WEIGHTS = [60, 40, 6, 4, 2, 10, 0.3, 0.2, 6, 1, 2]
+WEIGHTS = [60, 40, 6, 4, 2, 10, 0.6, 0.3, 6, 1, 2]
+# A busy answerer and its caller say RNR and RR to each other for as long as a polite call goes.
+POLITE = 50 * [1, 2, 5, 9, 11, 21, 100] + [5000, 1000000]
 MODEMS = "v17 v27v29 v29 v27 fallback".split()
 ITEMS = r"-|DIS|DCS|TRAINING|CFR|FTT|FCD:\d+|RCP|PPS|MCF|PPR|RNR|RR|DCN"
 TURNS = r"-|DIS|DCS|CFR|FTT|BURST:\d+|PPS|MCF|PPR|RNR|RR|DCN"
@@ -68,7 +71,7 @@ def random_script(rand):
         if pick < 0.05:
             lines.append(rand.choice(["", "# a comment", "#"]))
         elif pick < 0.25:
-            count = rand.choice([1, 2, 5, 9, 11, 21, 100, 1000000])
+            count = rand.choice(POLITE)
             lines.append("polite %s%d" % ("0" * rand.choice([0, 0, 0, 7 - len(str(count))]), count))
             most += 2 * min(count, 10**6)
         else:
@@ -131,7 +134,7 @@ def run_once(folder, options):
 
 
 def try_call(rand, folder):
-    """One document and one script. Answers the number of entries."""
+    """One document and one script. Answers the number of entries and the caller's end."""
     images = [random_image(rand) for _ in range(rand.randint(1, 4))]
     script, least, most = random_script(rand)
     options, bad = random_options(rand), None
@@ -143,25 +146,28 @@ def try_call(rand, folder):
     ran = run_once(folder, options)
     if bad:
         need(ran == (1, "", f"fault 30 at line {bad}\n", None), f"not fault 30 at line {bad}: {ran[0]} {ran[2]}")
-        return 0
+        return 0, "fault 30"
     check(images, least, most, *ran)
     need(run_once(folder, options) == ran, "the same script printed or left something else")
-    return ran[1].count("\n") - 2
+    lines = ran[1].split("\n")
+    return len(lines) - 3, CALLER.fullmatch(lines[-3])[1]
 
 
 def fuzz(seconds, seed):
     rand, end = random.Random(seed), time.monotonic() + seconds
-    runs = entries = 0
+    runs, entries, ends = 0, 0, Counter()
     folder = tempfile.mkdtemp(prefix="fuzz-calls-")
     while time.monotonic() < end:
         try:
-            entries += try_call(rand, folder)
+            more, end_of_call = try_call(rand, folder)
+            entries += more
+            ends[end_of_call] += 1
         except (Failed, subprocess.TimeoutExpired) as why:
             print(f"FAILED in run {runs + 1} of seed {seed}: {why}\nits files: {folder}")
             return 1
         runs += 1
     shutil.rmtree(folder)
-    print(f"{runs} scripts, {entries} entries, all well; seed {seed}")
+    print(f"{runs} scripts, {entries} entries, all well; seed {seed}; callers' ends: {', '.join(f'{end} {ends[end]}' for end in sorted(ends))}")
     return 0
 
 
