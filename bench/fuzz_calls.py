@@ -36,7 +36,7 @@ ENTRY = re.compile(rf"(\d+) ({'|'.join(WORDS)}) ({ITEMS}) ({TURNS})( !)?")
 ENDS = "normal|no-answer|not-compatible|training|no-reply|unreadable|still-busy|peer-left|bad-page|page-too-long|running"
 CALLER = re.compile(rf"caller ({ENDS}) confirmed (\d+)")
 ANSWERER = re.compile(rf"answerer ({ENDS}) pages (\d+)")
-NO_LINES = ["to-caller  2", "to-caller 0", "to-caller 1000001", "to-caller +1", "polite", "polite 0", " polite 1", "ready\r", "call", "busy 1 ", "spoil -1"]
+NO_LINES = ["to-caller  2", "to-caller 0", "to-caller 1000001", "to-caller +1", "polite", "polite 0", " polite 1", "ready\r", "call", "busy 1 ", "spoil -1", "# \udcff"]
 
 
 class Failed(Exception):
@@ -140,7 +140,7 @@ def try_call(rand, folder):
     options, bad = random_options(rand), None
     if rand.random() < 0.05:
         script, bad = spoiled_script(rand, script)
-    for name, octets in (("in.pbm", b"".join(images)), ("script", script.encode()), ("options", " ".join(options).encode())):
+    for name, octets in (("in.pbm", b"".join(images)), ("script", script.encode(errors="surrogateescape")), ("options", " ".join(options).encode())):
         with open(os.path.join(folder, name), "wb") as file:
             file.write(octets)
     ran = run_once(folder, options)
