@@ -193,6 +193,7 @@ try_outputs() {
         [ "$status $(cat "$work/error")" = "1 fault 8" ] || fails "$words on a closed output ended with status $status"
         count=$((count + 2))
     done
+    [ ! -c /dev/full ] || faults "fault 8" code --code mh "$data/page.pbm" /dev/full
 }
 
 # try_call FILE: a call by a script.
