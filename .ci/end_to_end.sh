@@ -173,9 +173,10 @@ CASES
 # Words that are no job, and those that ask for help.
 try_words() {
     refuses
-    for words in --help help -h --version "code --help" "show --help" "frames --help" fax "code a b" "code --code g3 a b" "code --code mh a" \
-        "code --code mh --code mh a b" "code --code mh --order up a b" "code --code mh a b c" "show --code mh a" "show --width 8 a" \
-        "show --code mh --width 0 a" "show --code mh --width 2433 a" "show --code mh --width x a" "frames" "frames a b" "frames --code mh a"; do
+    for words in --help help -h --version "code --help" "show --help" "frames --help" fax \
+        "code a b" "code --code g3 a b" "code --code mh a" "code --code mh a b c" "code --code mh --code mh a b" \
+        "code --code mh --order up a b" "show --code mh a" "show --width 8 a" "show --code mh --width 0 a" \
+        "show --code mh --width 2433 a" "show --code mh --width x a" "frames" "frames a b" "frames --code mh a"; do
         refuses $words
     done
 }
@@ -255,7 +256,10 @@ try_calls() {
 
 if [ $# = 0 ]; then
     out=$top/crates/faxtool/out
-    [ -x "$out/faxtool" ] || (cd "$top/crates/faxtool" && rt run -- show --code mh --width 8 data/out.mh) > "$work/built" 2>&1 || { cat "$work/built"; exit 1; }
+    if [ ! -x "$out/faxtool" ]; then
+        cd "$top/crates/faxtool"
+        rt run -- show --code mh --width 8 data/out.mh > "$work/built" 2>&1 || { cat "$work/built" >&2; exit 1; }
+    fi
     set -- "$out/faxtool"
     [ ! -x "$out/faxtool.by-rattle" ] || set -- "$@" "$out/faxtool.by-rattle"
 fi

@@ -71,7 +71,7 @@ try_test() {
         tail -1 "$work/endings" | sed "s/^/$k /" >> "$work/by_growth"
     done
     echo "$1 $3: $growths growths, refused in turn: $(sort "$work/endings" | uniq -c | sed 's/^ *//' | paste -sd'|' | sed 's/|/, /g')"
-    if grep -q -v -e '^no memory$' -e '^error Io$' -e ' by an assert$' -e '^assert ' -e '^stopped by the test$' -e '^passed$' "$work/endings"; then
+    if grep -q -v "^\(no memory\|error Io\|.* by an assert\|assert .*\|stopped by the test\|passed\)\$" "$work/endings"; then
         echo "BAD: $1 $3"
         bad=1
     fi
@@ -129,7 +129,8 @@ try_call() {
             bad=1
         fi
     done
-    echo "calls $1: $growths growths, refused in turn: $none fault 9, $room with no mark, $marked with one${mended:+, $mended of them the CFR's delivery}"
+    echo "calls $1: $growths growths, refused in turn: $none fault 9, $room with no mark, $marked with one" \
+        "${mended:+($mended of them the CFR's delivery)}"
 }
 
 try_calls() {
