@@ -25,8 +25,8 @@ from collections import Counter
 TOP = os.path.dirname(os.path.dirname(os.path.abspath(__file__)))
 PROGRAM = os.environ.get("FAXTOOL", os.path.join(TOP, "crates", "faxtool", "out", "faxtool"))
 WORDS = "to-answerer to-caller lose-to-answerer lose-to-caller spoil caller-timeout caller-t5 answerer-t1 answerer-t2 busy ready".split()
-# How often each of these comes: deliveries mostly, and the ends of long waits seldom.
-WEIGHTS = [60, 40, 6, 4, 2, 10, 0.6, 0.3, 6, 1, 2]
+# How often each of these comes in a script: deliveries mostly, and the ends of long waits seldom; or many losses.
+MOODS = [[60, 40, 6, 4, 2, 10, 0.6, 0.3, 6, 1, 2], [100, 40, 9, 1, 0, 1, 0, 0, 0, 0, 0], [60, 30, 1, 1, 15, 3, 0, 0, 10, 1, 1]]
 # A busy answerer and its caller say RNR and RR to each other for as long as a polite call goes.
 POLITE = 50 * [1, 2, 5, 9, 11, 21, 100] + [5000, 1000000]
 MODEMS = "v17 v27v29 v29 v27 fallback".split()
@@ -66,16 +66,17 @@ def random_image(rand):
 def random_script(rand):
     """A script, and the number of entries that it has at least and at most."""
     lines, least, most = [], 0, 0
+    mood, polite = rand.choice(MOODS), rand.choice([0.05, 0.25])
     for _ in range(rand.randint(1, rand.choice([3, 20, 60, 300]))):
         pick = rand.random()
         if pick < 0.05:
             lines.append(rand.choice(["", "# a comment", "#"]))
-        elif pick < 0.25:
+        elif pick < polite:
             count = rand.choice(POLITE)
             lines.append("polite %s%d" % ("0" * rand.choice([0, 0, 0, 7 - len(str(count))]), count))
             most += 2 * min(count, 10**6)
         else:
-            word = rand.choices(WORDS, WEIGHTS)[0]
+            word = rand.choices(WORDS, mood)[0]
             count = rand.choice([1, 1, 1, 1, 2, 3, 5, 30 if word.startswith("to-") else 1])
             lines.append(word if count == 1 and rand.random() < 0.7 else f"{word} {count}")
             least, most = least + count, most + count

@@ -135,7 +135,7 @@ try_call() {
 
 try_calls() {
     mkdir -p "$work/copy/crates/refusals/src"
-    cp -r "$root/crates" "$root/crates.txt" "$root/HANDLES" "$work/copy"
+    tar cf - -C "$root" --exclude=out crates crates.txt HANDLES | tar xf - -C "$work/copy"
     cp "$root/bench/refusals/main.txt" "$work/copy/crates/refusals/src/main.rt"
     echo "refusals: $(cat "$root/bench/refusals/libraries.txt")" >> "$work/copy/crates.txt"
     "$root/bench/build_unproved.sh" "$work/copy/crates/refusals" "$work/refusals"
