@@ -129,8 +129,8 @@ try_call() {
             bad=1
         fi
     done
-    echo "calls $1: $growths growths, refused in turn: $none fault 9, $room with no mark, $marked with one" \
-        "${mended:+($mended of them the CFR's delivery)}"
+    lost=${mended:+", $mended of them the CFR's delivery"}
+    echo "calls $1: $growths growths, refused in turn: $none fault 9, $room with no mark, $marked with one$lost"
 }
 
 try_calls() {
