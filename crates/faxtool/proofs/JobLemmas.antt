@@ -1,16 +1,21 @@
 -- What a parse of the program's words says of its width, and of the words themselves.
-use Rattle.std.proofs.Common.{◌≡◌, ◌≤◌, ◌∙◌, ℕ, List, Option, Some, None, Result, Ok, Err, true, ap, subst, sym, codes, slice_index, inl, inr, unwrap_or, arith, refl}
+use Rattle.std.proofs.Common.{◌≡◌, ◌≤◌, ◌∙◌, ◌∷◌, [], ℕ, List, Option, Some, None, Result, Ok, Err, true, ap, subst, sym, codes, slice_index, inl, inr, unwrap_or, arith, refl}
 use Rattle.std.specs.Str.Parse.{ParsesUnsigned, digits_value, without_leading_plus}
-use Rattle.clap.specs.Words.{App, HasKind, IsAmong, ReadsOne, Row, Text, fault_of, is_simple, is_simple_and_free, kind_of, one_text, rows_of, subcommand_of}
+use Rattle.std.specs.Prelude.{IfOk, false}
+use Rattle.clap.specs.Words.{AddsSubcommand, App, HasKind, IsAmong, ReadsOne, Row, Text, app_of, fault_of, is_simple}
+use Rattle.clap.specs.Words.{is_simple_and_free, kind_of, one_text, rows_of, shape_of, subcommand_of, with_subcommand}
+use Rattle.clap.specs.declared.builder.command.Command.{Command}
+use Rattle.clap.specs.declared.builder.command.Command.TheViews.{out-Command as fields_of}
 use Rattle.clap.specs.declared.parser.matches.Found.{Found}
 use Rattle.clap.specs.declared.error.Error.{Error}
 use Rattle.clap.specs.declared.builder.value_parser.ValueParser.{ValueParser}
 use Rattle.clap.proofs.OnLiterals.{clap_on_literals}
 use Rattle.clap.proofs.WalkLemmas.{one_text-rows}
-use Rattle.faxtool.specs.declared.words.Job.TheVariants.{Code, Frames, Show}
+use Rattle.faxtool.specs.declared.words.Job.TheVariants.{Call, Code, Frames, Show}
 use Rattle.faxtool.specs.declared.words.Outcome.{Outcome}
 use Rattle.faxtool.specs.declared.words.Outcome.TheVariants.{Done, Fault, Words}
-use Rattle.faxtool.specs.Jobs.{HasNoJob, IsFaxtool, IsOutcomeOf, IsRefusalOf, IsWidthIn, ReadsWidth, faxtool_app}
+use Rattle.faxtool.specs.Jobs.{AreOptionsIn, HasNoJob, HasNoOptions, IsFaxtool, IsOutcomeOf, IsRefusalOf, IsWidthIn, ReadsWidth}
+use Rattle.faxtool.specs.Jobs.{TakesNames, call_app, faxtool_app, page_app}
 
 -- ---- the width
 
@@ -55,19 +60,40 @@ width_none rows none n is =
 
 -- ---- the words
 
-pub faxtool_simple : (codings orders : ValueParser) → is_simple (faxtool_app codings orders) ≡ true
+pub faxtool_simple : (codings orders sizes modems : ValueParser) → is_simple (faxtool_app codings orders sizes modems) ≡ true
 unfolding clap_on_literals
-faxtool_simple codings orders = refl
+faxtool_simple codings orders sizes modems = refl
 
-pub faxtool_free : (codings orders : ValueParser) → is_simple_and_free (faxtool_app codings orders) ≡ true
+pub faxtool_free : (codings orders sizes modems : ValueParser) → is_simple_and_free (faxtool_app codings orders sizes modems) ≡ true
 unfolding clap_on_literals
-faxtool_free codings orders = refl
+faxtool_free codings orders sizes modems = refl
 
 pub is_faxtool_simple : (a : App) → IsFaxtool a → is_simple a ≡ true
-is_faxtool_simple a is = ap is_simple is.commands ∙ faxtool_simple is.codings is.orders
+is_faxtool_simple a is = ap is_simple is.commands ∙ faxtool_simple is.codings is.orders is.sizes is.modems
 
 pub is_faxtool_free : (a : App) → IsFaxtool a → is_simple_and_free a ≡ true
-is_faxtool_free a is = ap is_simple_and_free is.commands ∙ faxtool_free is.codings is.orders
+is_faxtool_free a is = ap is_simple_and_free is.commands ∙ faxtool_free is.codings is.orders is.sizes is.modems
+
+-- the commands of pages, and then that of a call
+pub is_faxtool : {E : Type 0} (codings orders sizes modems : ValueParser) → TakesNames codings (codes "mh" ∷ codes "mmr" ∷ [])
+    → TakesNames orders (codes "msb" ∷ codes "lsb" ∷ []) → TakesNames sizes (codes "256" ∷ codes "64" ∷ [])
+    → TakesNames modems (codes "v17" ∷ codes "v27v29" ∷ codes "v29" ∷ codes "v27" ∷ codes "fallback" ∷ [])
+    → (pages call : Command) → app_of pages ≡ page_app codings orders → app_of call ≡ call_app codings sizes modems
+    → (fields_of call).has_globals ≡ false → (r : Result Command E) → IfOk r (λ new. AddsSubcommand pages call new)
+    → IfOk r (λ command. IsFaxtool (app_of command))
+is_faxtool {E} codings orders sizes modems takes_codings takes_orders takes_sizes takes_modems pages call pages_are call_is local (Ok new) adds = record {
+  codings = codings;
+  orders = orders;
+  sizes = sizes;
+  modems = modems;
+  takes_codings = takes_codings;
+  takes_orders = takes_orders;
+  takes_sizes = takes_sizes;
+  takes_modems = takes_modems;
+  commands = adds.shape local
+      ∙ (ap (λ (a : App). with_subcommand a (shape_of call)) pages_are ∙ ap (λ (a : App). with_subcommand (page_app codings orders) a.top) call_is);
+}
+is_faxtool {E} codings orders sizes modems takes_codings takes_orders takes_sizes takes_modems pages call pages_are call_is local (Err e) adds = tt
 
 -- clap's own refusal
 pub refused_by_kind : (words : List Text) (a : App) (error : Error) (outcome : Outcome) → IsFaxtool a
@@ -103,9 +129,37 @@ show_is_frames e =
     let bad : 115 ≡ 102 = ap (λ (t : Text). slice_index t 0) e in
     absurd (omega (arith, bad))
 
+show_is_call : codes "show" ≡ codes "call" → ⊥
+show_is_call e =
+    let bad : 115 ≡ 99 = ap (λ (t : Text). slice_index t 0) e in
+    absurd (omega (arith, bad))
+
+call_is_code : codes "call" ≡ codes "code" → ⊥
+call_is_code e =
+    let bad : 97 ≡ 111 = ap (λ (t : Text). slice_index t 1) e in
+    absurd (omega (arith, bad))
+
+call_is_frames : codes "call" ≡ codes "frames" → ⊥
+call_is_frames e =
+    let bad : 99 ≡ 102 = ap (λ (t : Text). slice_index t 0) e in
+    absurd (omega (arith, bad))
+
 -- without a width there is no job for `show`
 pub no_width : (rows : List Row) → ((n : ℕ) → IsWidthIn rows n → ⊥) → HasNoJob (Some (codes "show", rows))
 no_width rows none (Code coding order input output) (others, e, is) = show_is_code (some_name (codes "show") (codes "code") rows others e)
 no_width rows none (Show coding order width input) (others, e, is) =
     none width (subst (λ (xs : List Row). IsWidthIn xs width) (sym (some_rows (codes "show") (codes "show") rows others e)) is.width_is)
 no_width rows none (Frames input) (others, e, is) = show_is_frames (some_name (codes "show") (codes "frames") rows others e)
+no_width rows none (Call script options out input) (others, e, is) =
+    show_is_call (some_name (codes "show") (codes "call") rows others e)
+
+-- without options there is no job for `call`
+pub no_options : (rows : List Row) → HasNoOptions rows → HasNoJob (Some (codes "call", rows))
+no_options rows none (Code coding order input output) (others, e, is) =
+    call_is_code (some_name (codes "call") (codes "code") rows others e)
+no_options rows none (Show coding order width input) (others, e, is) =
+    show_is_call (sym (some_name (codes "call") (codes "show") rows others e))
+no_options rows none (Frames input) (others, e, is) =
+    call_is_frames (some_name (codes "call") (codes "frames") rows others e)
+no_options rows none (Call script options out input) (others, e, is) =
+    none options (subst (λ (xs : List Row). AreOptionsIn xs options) (sym (some_rows (codes "call") (codes "call") rows others e)) is.options_are)

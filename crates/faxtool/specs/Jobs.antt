@@ -1,12 +1,12 @@
 -- The commands of the program, what each job is of the values that clap reads, and why words are
 -- refused.
-use Rattle.std.specs.Prelude.{◌≡◌, ◌≢◌, ◌≤◌, ◌<◌, ◌^◌, ◌⊎◌, ℕ, true, List, [], ◌∷◌, Option, Some, None}
-use Rattle.std.specs.Prelude.{codes, map, pos, if◌then◌else◌, string_bytes}
+use Rattle.std.specs.Prelude.{◌≡◌, ◌≢◌, ◌≤◌, ◌<◌, ◌^◌, ◌⊎◌, ℕ, Bool, true, false, List, [], ◌∷◌, Option, Some, None}
+use Rattle.std.specs.Prelude.{codes, map, pos, if◌then◌else◌, option_map, string_bytes}
 use Rattle.std.specs.Str.{bytes_eq}
 use Rattle.std.specs.Str.Parse.{IsNumeral, digits_value, without_leading_plus}
 use Rattle.clap.specs.Words.{App, IsAmong, Row, Rule, Text, fault_of, first_of, kind_of, new_app}
 use Rattle.clap.specs.Words.{new_rule, one_of, subcommand_of, with_rule, with_subcommand}
-use Rattle.clap.specs.declared.builder.action.ArgAction.TheVariants.{Set}
+use Rattle.clap.specs.declared.builder.action.ArgAction.TheVariants.{Set, SetTrue}
 use Rattle.clap.specs.declared.builder.value_parser.ValueParser.{ValueParser}
 use Rattle.clap.specs.declared.builder.value_parser.ValueParser.TheVariants as vp
 use Rattle.clap.specs.declared.error.Error.{Error}
@@ -17,8 +17,11 @@ use Rattle.raster.specs.Pixels.{IsWidth}
 use Rattle.raster.specs.declared.packed.Order.{Order}
 use Rattle.raster.specs.declared.packed.Order.TheVariants.{LsbFirst, MsbFirst}
 use Rattle.faxtool.specs.declared.fault.ToolFault.TheVariants.{No}
+use Rattle.signals.specs.declared.params.Modems.{Modems}
+use Rattle.signals.specs.declared.params.Modems.TheVariants.{Fallback, V27, V29, V27V29, V17}
+use Rattle.faxtool.specs.declared.options.CallOptions.{CallOptions}
 use Rattle.faxtool.specs.declared.words.Job.{Job}
-use Rattle.faxtool.specs.declared.words.Job.TheVariants.{Code, Frames, Show}
+use Rattle.faxtool.specs.declared.words.Job.TheVariants.{Call, Code, Frames, Show}
 use Rattle.faxtool.specs.declared.words.Outcome.{Outcome}
 use Rattle.faxtool.specs.declared.words.Outcome.TheVariants.{Done, Fault, Words}
 
@@ -51,6 +54,24 @@ width_rule = record (option_rule (codes "width")) {
   parser = Some (vp.Signed (pos 1) (pos 2432));
 }
 
+-- an option that is one of several names, with the one that holds where it isn't given
+abbrev pub choice_rule : Text → ValueParser → Text → Rule
+choice_rule id names default = record (option_rule id) {
+  parser = Some names;
+  defaults = default ∷ [];
+}
+
+-- an option with the name of a file
+abbrev pub file_option_rule : Text → Rule
+file_option_rule id = option_rule id
+
+-- `--fine`, which has no value
+abbrev pub fine_rule : Rule
+fine_rule = record (new_rule (codes "fine")) {
+  long = Some (codes "fine");
+  action = Some SetTrue;
+}
+
 -- the name of a file, which is required
 abbrev pub file_rule : Text → Rule
 file_rule id = record (new_rule id) {
@@ -73,16 +94,33 @@ show_app codings orders = with_rule (with_rule (with_rule (with_rule (new_app (c
 abbrev pub frames_app : App
 frames_app = with_rule (new_app (codes "frames")) (file_rule (codes "file"))
 
+-- the command with `--code`, `--frame` and `--modems`
+abbrev pub with_choices : App → ValueParser → ValueParser → ValueParser → App
+with_choices app codings sizes modems = with_rule (with_rule (with_rule app
+    (choice_rule (codes "code") codings (codes "mmr"))) (choice_rule (codes "frame") sizes (codes "256")))
+    (choice_rule (codes "modems") modems (codes "v17"))
+
+-- `call`: the file of the script, which is required, the code, the size of frames, the modems, fine or not, the file of the
+-- stored pages, and the file of the document
+abbrev pub call_app : ValueParser → ValueParser → ValueParser → App
+call_app codings sizes modems = with_rule (with_rule (with_rule (with_choices (with_rule (new_app (codes "call"))
+    (record (file_option_rule (codes "script")) { required = true })) codings sizes modems) fine_rule)
+    (file_option_rule (codes "out"))) (file_rule (codes "in"))
+
 -- the program, which wants one of its commands
 abbrev pub empty_app : App
 empty_app = let app = new_app (codes "faxtool") in record app {
   top = record app.top { arg_required_else_help = true; subcommand_required = true };
 }
 
--- the program with its commands
-abbrev pub faxtool_app : ValueParser → ValueParser → App
-faxtool_app codings orders = with_subcommand (with_subcommand (with_subcommand empty_app (code_app codings orders).top)
+-- the program with the commands that code and show pages and list frames
+abbrev pub page_app : ValueParser → ValueParser → App
+page_app codings orders = with_subcommand (with_subcommand (with_subcommand empty_app (code_app codings orders).top)
     (show_app codings orders).top) frames_app.top
+
+-- the program with all its commands
+abbrev pub faxtool_app : ValueParser → ValueParser → ValueParser → ValueParser → App
+faxtool_app codings orders sizes modems = with_subcommand (page_app codings orders) (call_app codings sizes modems).top
 
 -- the parser takes these names and no other text
 abbrev pub TakesNames : ValueParser → List Text → Type 0
@@ -93,9 +131,13 @@ TakesNames parser names =
 pub record IsFaxtool (a : App) : Type 0 where
   pub codings : ValueParser
   pub orders : ValueParser
+  pub sizes : ValueParser
+  pub modems : ValueParser
   pub takes_codings : TakesNames codings (codes "mh" ∷ codes "mmr" ∷ [])
   pub takes_orders : TakesNames orders (codes "msb" ∷ codes "lsb" ∷ [])
-  pub commands : a ≡ faxtool_app codings orders
+  pub takes_sizes : TakesNames sizes (codes "256" ∷ codes "64" ∷ [])
+  pub takes_modems : TakesNames modems (codes "v17" ∷ codes "v27v29" ∷ codes "v29" ∷ codes "v27" ∷ codes "fallback" ∷ [])
+  pub commands : a ≡ faxtool_app codings orders sizes modems
 
 -- ---- the jobs
 
@@ -108,6 +150,17 @@ coding_named (Some name) = if bytes_eq name (codes "mh") then Some OneDim else i
 abbrev pub order_named : Option Text → Order
 order_named None = MsbFirst
 order_named (Some name) = if bytes_eq name (codes "lsb") then LsbFirst else MsbFirst
+
+-- the value is the name
+abbrev pub is_named : Text → Option Text → Bool
+is_named name None = false
+is_named name (Some value) = bytes_eq value name
+
+-- the modems that a value of `--modems` names: `v17` but for the others
+abbrev pub modems_named : Option Text → Modems
+modems_named None = V17
+modems_named (Some name) = if bytes_eq name (codes "v27v29") then V27V29 else if bytes_eq name (codes "v29") then V29
+    else if bytes_eq name (codes "v27") then V27 else if bytes_eq name (codes "fallback") then Fallback else V17
 
 -- the text is a number in decimal digits, after a plus or none
 abbrev pub IsNumberText : Text → ℕ → Type 0
@@ -146,6 +199,25 @@ pub record IsShowOf (rows : List Row) (coding : Coding) (order : Order) (width :
   pub width_is : IsWidthIn rows width
   pub input_is : first_of (codes "file") rows ≡ Some input
 
+-- the options are those that the values give
+pub record AreOptionsIn (rows : List Row) (options : CallOptions) : Type 0 where
+  pub coding_is : coding_named (first_of (codes "code") rows) ≡ Some options.coding
+  pub small_is : options.small ≡ is_named (codes "64") (first_of (codes "frame") rows)
+  pub modems_is : options.modems ≡ modems_named (first_of (codes "modems") rows)
+  pub fine_is : options.fine ≡ is_named (codes "true") (first_of (codes "fine") rows)
+
+-- the values give no options
+abbrev pub HasNoOptions : List Row → Type 0
+HasNoOptions rows = (options : CallOptions) → AreOptionsIn rows options → ⊥
+
+-- the values of the command `call` are those of the job
+pub record IsCallOf (rows : List Row) (script : Text) (options : CallOptions) (out : Option Text) (input : Text)
+    : Type 0 where
+  pub script_is : first_of (codes "script") rows ≡ Some script
+  pub options_are : AreOptionsIn rows options
+  pub out_is : first_of (codes "out") rows ≡ out
+  pub input_is : first_of (codes "in") rows ≡ Some input
+
 -- the job of a command's name and values
 abbrev pub IsJobOf : Option (Text × List Row) → Job → Type 0
 IsJobOf met (Code coding order input output) = (rows : List Row)
@@ -157,6 +229,9 @@ IsJobOf met (Show coding order width input) = (rows : List Row)
 IsJobOf met (Frames input) = (rows : List Row)
     × (met ≡ Some (codes "frames", rows))
     × (first_of (codes "file") rows ≡ Some (string_bytes input))
+IsJobOf met (Call script options out input) = (rows : List Row)
+    × (met ≡ Some (codes "call", rows))
+    × IsCallOf rows (string_bytes script) options (option_map string_bytes out) (string_bytes input)
 
 -- no job is of the command's name and values
 abbrev pub HasNoJob : Option (Text × List Row) → Type 0
@@ -195,3 +270,4 @@ abbrev pub HasWidth : Job → Type 0
 HasWidth (Code coding order input output) = Unit {0}
 HasWidth (Show coding order width input) = IsWidth width
 HasWidth (Frames input) = Unit {0}
+HasWidth (Call script options out input) = Unit {0}

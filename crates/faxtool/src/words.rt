@@ -1,21 +1,23 @@
 //! The words that the program is called with.
-ghost use Rattle.std.specs.Prelude.{◌≡◌, ◌≢◌, IfOk, MatchOption, MatchResult, Some, codes, false};
-ghost use Rattle.std.specs.Prelude.{ℕ, map, option_map};
+ghost use Rattle.std.specs.Prelude.{◌≡◌, ◌≢◌, IfOk, MatchOption, MatchResult, Some, codes, false, true};
+ghost use Rattle.std.specs.Prelude.{ℕ, map, option_map, string_bytes};
 ghost use Rattle.clap.specs.Words.{app_of, first_of, found_of, kind_of, rows_of, rule_of};
-ghost use Rattle.clap.specs.Words.{subcommand_rows_of};
+ghost use Rattle.clap.specs.Words.{new_app, subcommand_rows_of, with_rule};
 ghost use Rattle.clap.specs.declared.builder.command.Command.TheViews.{out-Command as fields_of};
 ghost use Rattle.clap.specs.declared.error.kind.ErrorKind.TheVariants.{OutOfMemory};
-ghost use Rattle.faxtool.specs.Jobs.{HasNoJob, IsFaxtool, IsJobOf, IsOutcomeOf, IsRefusalOf};
-ghost use Rattle.faxtool.specs.Jobs.{IsWidthIn, ReadsAs, ReadsWidth, code_app, coding_named, coding_rule};
-ghost use Rattle.faxtool.specs.Jobs.{empty_app, file_rule, order_named, order_rule, show_app, frames_app};
-ghost use Rattle.faxtool.specs.Jobs.{status_of, width_rule};
+ghost use Rattle.faxtool.specs.Jobs.{AreOptionsIn, HasNoJob, HasNoOptions, IsFaxtool, IsJobOf, IsOutcomeOf, IsRefusalOf};
+ghost use Rattle.faxtool.specs.Jobs.{IsWidthIn, ReadsAs, ReadsWidth, call_app, choice_rule, code_app, coding_named, coding_rule};
+ghost use Rattle.faxtool.specs.Jobs.{empty_app, file_option_rule, file_rule, fine_rule, is_named, modems_named, order_named, order_rule};
+ghost use Rattle.faxtool.specs.Jobs.{page_app, show_app, frames_app, status_of, width_rule, with_choices};
 
 use crate::fault::{NO_MEMORY, ToolFault};
+use crate::options::CallOptions;
 use clap::builder::ValueParser;
 use clap::error::ErrorKind;
 use clap::{Arg, ArgAction, ArgMatches, Command, Error};
 use page_code::Coding;
 use run_tables::Order;
+use signals::Modems;
 use std::alloc::{AllocError, Global};
 
 /// What the program is asked to do.
@@ -48,6 +50,17 @@ pub enum Job {
         /// The name of the file.
         input: String,
     },
+    /// Runs a call by a script, and prints its transcript.
+    Call {
+        /// The name of the script's file.
+        script: String,
+        /// What the call is run with.
+        options: CallOptions,
+        /// The name of the file that the stored pages go to, where one is given.
+        out: Option<String>,
+        /// The name of the document's file.
+        input: String,
+    },
 }
 
 /// How the program ends.
@@ -75,6 +88,10 @@ pub fn status(outcome: &Outcome) -> u8
 static CODINGS: [&str; 2] = ["mh", "mmr"];
 
 static ORDERS: [&str; 2] = ["msb", "lsb"];
+
+static FRAMES: [&str; 2] = ["256", "64"];
+
+static MODEMS: [&str; 5] = ["v17", "v27v29", "v29", "v27", "fallback"];
 
 impl From<AllocError> for Outcome {
     ghost use Rattle.std.specs.Prelude.{◌≡◌};
@@ -134,6 +151,9 @@ fn job_in(alloc: Global, matches: &ArgMatches<'_>) -> Result<Option<Job>, AllocE
     if let Some(inner) = matches.subcommand_matches("frames") {
         return frames_job(alloc, inner);
     }
+    if let Some(inner) = matches.subcommand_matches("call") {
+        return call_job(alloc, inner);
+    }
     Ok(None)
 }
 
@@ -189,6 +209,75 @@ fn frames_job(alloc: Global, matches: &ArgMatches<'_>) -> Result<Option<Job>, Al
     Ok(Some(Job::Frames {
         input: String::from_str(alloc, input)?,
     }))
+}
+
+fn call_job(alloc: Global, matches: &ArgMatches<'_>) -> Result<Option<Job>, AllocError>
+    ensures { let met = Some (codes "call", rows_of (found_of matches.now)) in
+        IfOk result (λ job. MatchOption job (HasNoJob met) (IsJobOf met)) }
+{
+    let Some(options) = options_in(matches) else {
+        return Ok(None);
+    };
+    let Some(script) = text_in(matches, "script") else {
+        return Ok(None);
+    };
+    let Some(input) = text_in(matches, "in") else {
+        return Ok(None);
+    };
+    Ok(Some(Job::Call {
+        script: String::from_str(alloc, script)?,
+        options,
+        out: copy_of(alloc, text_in(matches, "out"))?,
+        input: String::from_str(alloc, input)?,
+    }))
+}
+
+// The options of a call, where the code of its pages isn't missing.
+fn options_in(matches: &ArgMatches<'_>) -> Option<CallOptions>
+    ensures { let rows = rows_of (found_of matches.now) in
+        MatchOption result (HasNoOptions rows) (AreOptionsIn rows) }
+{
+    let Some(coding) = coding_in(matches) else {
+        return None;
+    };
+    Some(CallOptions {
+        coding,
+        small: is_named(text_in(matches, "frame"), "64"),
+        modems: modems_named(text_in(matches, "modems")),
+        fine: is_named(text_in(matches, "fine"), "true"),
+    })
+}
+
+// Whether the value is the name.
+fn is_named(value: Option<&str>, name: &str) -> bool
+    ensures { result ≡ is_named name.now (option_map (λ value. value.now) value.entry) }
+{
+    match value {
+        Some(value) => value == name,
+        None => false,
+    }
+}
+
+fn modems_named(name: Option<&str>) -> Modems
+    ensures { result ≡ modems_named (option_map (λ name. name.now) name.entry) }
+{
+    match name {
+        Some(name) if name == "v27v29" => Modems::V27V29,
+        Some(name) if name == "v29" => Modems::V29,
+        Some(name) if name == "v27" => Modems::V27,
+        Some(name) if name == "fallback" => Modems::Fallback,
+        _ => Modems::V17,
+    }
+}
+
+// A copy of the text, where there is one.
+fn copy_of(alloc: Global, text: Option<&str>) -> Result<Option<String>, AllocError>
+    ensures { IfOk result (λ copy. option_map string_bytes copy ≡ option_map (λ text. text.now) text.entry) }
+{
+    match text {
+        Some(text) => Ok(Some(String::from_str(alloc, text)?)),
+        None => Ok(None),
+    }
 }
 
 fn coding_in(matches: &ArgMatches<'_>) -> Option<Coding>
@@ -259,6 +348,21 @@ fn faxtool_command<'a>(alloc: Global) -> Result<Command<'a>, AllocError>
 {
     let codings = ValueParser::from(CODINGS.as_slice());
     let orders = ValueParser::from(ORDERS.as_slice());
+    let sizes = ValueParser::from(FRAMES.as_slice());
+    let modems = ValueParser::from(MODEMS.as_slice());
+    let pages = page_commands(alloc, codings, orders)?;
+    let call = call_command(alloc, codings, sizes, modems)?;
+    pages.subcommand(call)
+}
+
+// The program with the commands that code and show pages and list frames.
+fn page_commands<'a>(
+    alloc: Global,
+    codings: ValueParser<'a>,
+    orders: ValueParser<'a>,
+) -> Result<Command<'a>, AllocError>
+    ensures { IfOk result (λ command. app_of command ≡ page_app codings.entry orders.entry) }
+{
     let code = code_command(alloc, codings, orders)?;
     let show = show_command(alloc, codings, orders)?;
     let frames = frames_command(alloc)?;
@@ -272,7 +376,7 @@ fn empty_command<'a>(alloc: Global) -> Command<'a>
     ensures { app_of result ≡ empty_app }
 {
     Command::new(alloc, "faxtool")
-        .about("Codes images as fax pages, shows coded pages and lists frames")
+        .about("Codes images as fax pages, shows coded pages, lists frames and runs calls")
         .subcommand_required(true)
         .arg_required_else_help(true)
 }
@@ -316,6 +420,107 @@ fn frames_command<'a>(alloc: Global) -> Result<Command<'a>, AllocError>
     Command::new(alloc, "frames")
         .about("Lists the frames in a file of bits, the least significant of an octet first")
         .arg(file_name(alloc, "file", "FILE", "The file of the bits"))
+}
+
+fn call_command<'a>(
+    alloc: Global,
+    codings: ValueParser<'a>,
+    sizes: ValueParser<'a>,
+    modems: ValueParser<'a>,
+) -> Result<Command<'a>, AllocError>
+    ensures app { IfOk result (λ command. app_of command ≡ call_app codings.entry sizes.entry modems.entry) }
+    ensures local { IfOk result (λ command. (fields_of command).has_globals ≡ false) }
+{
+    let out = file_option(
+        alloc,
+        "out",
+        false,
+        "The file that the stored pages are written to, as PBM",
+    );
+    script_command(alloc, codings, sizes, modems)?
+        .arg(fine_option(alloc))?
+        .arg(out)?
+        .arg(file_name(alloc, "in", "IN", "The file of the document, a PBM"))
+}
+
+// The command of a call with its script and the options that are one of several names.
+fn script_command<'a>(
+    alloc: Global,
+    codings: ValueParser<'a>,
+    sizes: ValueParser<'a>,
+    modems: ValueParser<'a>,
+) -> Result<Command<'a>, AllocError>
+    ensures app { IfOk result (λ command. app_of command
+        ≡ with_choices (with_rule (new_app (codes "call")) (record (file_option_rule (codes "script")) { required = true }))
+        codings.entry sizes.entry modems.entry) }
+    ensures local { IfOk result (λ command. (fields_of command).has_globals ≡ false) }
+{
+    let script = file_option(
+        alloc,
+        "script",
+        true,
+        "The file of the script: what happens on the line",
+    );
+    Command::new(alloc, "call")
+        .about("Runs a call by a script, and prints its transcript")
+        .arg(script)?
+        .arg(choice_option(alloc, "code", codings, "mmr", "The code of the pages"))?
+        .arg(choice_option(
+            alloc,
+            "frame",
+            sizes,
+            "256",
+            "The octets of data in a frame",
+        ))?
+        .arg(choice_option(
+            alloc,
+            "modems",
+            modems,
+            "v17",
+            "The modems of both stations",
+        ))
+}
+
+// An option that is one of several names.
+fn choice_option<'a>(
+    alloc: Global,
+    id: &'a str,
+    names: ValueParser<'a>,
+    default: &'a str,
+    help: &'a str,
+) -> Arg<'a>
+    ensures rule { rule_of result ≡ choice_rule id.entry.now names.entry default.entry.now }
+    ensures local { result.global ≡ false }
+{
+    Arg::new(alloc, id)
+        .long(id)
+        .value_name("NAME")
+        .action(ArgAction::Set)
+        .value_parser(names)
+        .default_value(default)
+        .help(help)
+}
+
+fn file_option<'a>(alloc: Global, id: &'a str, required: bool, help: &'a str) -> Arg<'a>
+    ensures rule { rule_of result ≡ record (file_option_rule id.entry.now) { required = required } }
+    ensures local { result.global ≡ false }
+{
+    Arg::new(alloc, id)
+        .long(id)
+        .value_name("FILE")
+        .required(required)
+        .action(ArgAction::Set)
+        .help(help)
+}
+
+fn fine_option<'a>(alloc: Global) -> Arg<'a>
+    ensures rule { rule_of result ≡ fine_rule }
+    ensures local { result.global ≡ false }
+{
+    Arg::new(alloc, "fine")
+        .long("fine")
+        .action(ArgAction::SetTrue)
+        .help("Sends 7.7 lines a millimetre in place of 3.85")
 }
 
 fn coding_option<'a>(alloc: Global, codings: ValueParser<'a>) -> Arg<'a>

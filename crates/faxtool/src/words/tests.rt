@@ -1,8 +1,10 @@
 use super::{Job, Outcome, read_words, status};
 use crate::fault::{NO_MEMORY, ToolFault};
+use crate::options::CallOptions;
 use clap::error::ErrorKind;
 use page_code::Coding;
 use run_tables::Order;
+use signals::Modems;
 use std::alloc::{AllocError, Global};
 use std::process::Abort;
 use std::test::Fail;
@@ -109,6 +111,74 @@ fn reads_frames(rt: HostRuntime) -> Result<(), Fail> {
 }
 
 #[test]
+fn reads_a_call(rt: HostRuntime) -> Result<(), Fail> {
+    let alloc = rt.alloc();
+    let plain = Job::Call {
+        script: String::from_str(alloc, "a.call")?,
+        options: CallOptions {
+            coding: Coding::T6,
+            small: false,
+            modems: Modems::V17,
+            fine: false,
+        },
+        out: None,
+        input: String::from_str(alloc, "one.pbm")?,
+    };
+    assert_job(
+        &rt,
+        &["faxtool", "call", "--script", "a.call", "one.pbm"],
+        plain,
+    );
+    let whole = Job::Call {
+        script: String::from_str(alloc, "a.call")?,
+        options: CallOptions {
+            coding: Coding::OneDim,
+            small: true,
+            modems: Modems::Fallback,
+            fine: true,
+        },
+        out: Some(String::from_str(alloc, "got.pbm")?),
+        input: String::from_str(alloc, "one.pbm")?,
+    };
+    let words = [
+        "faxtool",
+        "call",
+        "--fine",
+        "--frame",
+        "64",
+        "--out=got.pbm",
+        "one.pbm",
+        "--modems",
+        "fallback",
+        "--code",
+        "mh",
+        "--script",
+        "a.call",
+    ];
+    assert_job(&rt, &words, whole);
+    Ok(())
+}
+
+#[test]
+fn refuses_words_of_a_call(rt: HostRuntime) {
+    let missing = ErrorKind::MissingRequiredArgument;
+    assert_refused(&rt, &["faxtool", "call", "one.pbm"], missing);
+    assert_refused(&rt, &["faxtool", "call", "--script", "a.call"], missing);
+    let size = [
+        "faxtool", "call", "--script", "a.call", "--frame", "128", "one.pbm",
+    ];
+    assert_refused(&rt, &size, ErrorKind::InvalidValue);
+    let modems = [
+        "faxtool", "call", "--script", "a.call", "--modems", "v34", "one.pbm",
+    ];
+    assert_refused(&rt, &modems, ErrorKind::InvalidValue);
+    let twice = [
+        "faxtool", "call", "--script", "a.call", "--fine", "--fine", "one.pbm",
+    ];
+    assert_refused(&rt, &twice, ErrorKind::ArgumentConflict);
+}
+
+#[test]
 fn refuses_widths(rt: HostRuntime) {
     for text in [
         "0",
@@ -212,6 +282,9 @@ fn shows_a_fault(rt: HostRuntime) -> Result<(), Fail> {
     };
     let text = format!(in alloc; "{placed}")?;
     assert!(rt; text.as_str() == "fault 14 at bit 340282366920938463463374607431768211455");
+    let line = ToolFault::AtLine(3);
+    let lined = format!(in alloc; "{line}")?;
+    assert!(rt; lined.as_str() == "fault 30 at line 3");
     Ok(())
 }
 
