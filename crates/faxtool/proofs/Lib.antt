@@ -4,3 +4,4 @@ mod HexText
 mod ScriptLines
 mod ScriptWords
 mod OneScript
+mod EntryLines

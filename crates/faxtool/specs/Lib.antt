@@ -4,3 +4,4 @@ pub mod Engines
 pub mod Texts
 pub mod Frames
 pub mod Scripts
+pub mod Transcripts

@@ -12,6 +12,7 @@ mod script;
 #[cfg(test)]
 mod test_streams;
 mod texts;
+mod transcript;
 mod words;
 
 use engine::{code_engine, show_engine};
