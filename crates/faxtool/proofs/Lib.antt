@@ -4,4 +4,6 @@ mod HexText
 mod ScriptLines
 mod ScriptWords
 mod OneScript
+mod CallEnds
+mod CallSteps
 mod EntryLines

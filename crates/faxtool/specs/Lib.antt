@@ -5,3 +5,4 @@ pub mod Texts
 pub mod Frames
 pub mod Scripts
 pub mod Transcripts
+pub mod Calls

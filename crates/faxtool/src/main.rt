@@ -4,6 +4,7 @@
 ghost use Rattle.faxtool.specs.Jobs.{HasWidth};
 ghost use Rattle.raster.specs.Pixels.{IsWidth};
 
+mod call;
 mod engine;
 mod fault;
 mod frames;

@@ -1,0 +1,13 @@
+use Rattle.std.proofs.Common.{subst}
+use Rattle.line_sim.specs.Line.{new_world}
+use Rattle.line_sim.specs.Standing.{Shows}
+use Rattle.faxtool.specs.Calls.{caller_wish}
+use Rattle.faxtool.proofs.CallSteps.{reports}
+use Rattle.faxtool.proofs.call.report_call.Goals as goal
+
+pub returns-clause-reported : goal.returns-clause-reported
+returns-clause-reported c =
+    reports c.headline.ensures.safe c.args.options.now c.args.document c.args.commands.now c.in_ok-world.world c.follow_all.new.world
+    c.report.result c.pages-pages.ensures.document c.in_ok-world.ensures.0
+    (subst (λ caps. Shows c.in_ok-world.world.call (new_world c.args.document (caller_wish c.args.options.now) caps))
+    c.answerer_caps.ensures c.in_ok-world.ensures.1) c.in_ok-world.ensures.2 c.follow_all.ensures c.report.ensures.tells
