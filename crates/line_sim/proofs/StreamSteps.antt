@@ -26,7 +26,8 @@ after-append : (xs ys : List AnswererInput) (s : Answerer) → answerer_after (x
 after-append [] ys s = refl
 after-append (x ∷ xs) ys s = after-append xs ys (answerer_step s x).next
 
-turns-append : (xs ys : List AnswererInput) (s : Answerer) → answerer_turns (xs ++ ys) s ≡ answerer_turns xs s ++ answerer_turns ys (answerer_after xs s)
+turns-append : (xs ys : List AnswererInput) (s : Answerer) →
+    answerer_turns (xs ++ ys) s ≡ answerer_turns xs s ++ answerer_turns ys (answerer_after xs s)
 turns-append [] ys s = refl
 turns-append (x ∷ xs) ys s = ap (λ l. (answerer_step s x).turn ∷ l) (turns-append xs ys (answerer_step s x).next)
 
@@ -46,7 +47,9 @@ hears_both xs ys a b c ta tb tc one two = record {
 
 -- What is still to be heard of the contents that waited: with it all of them are heard.
 pub record HearsLeft (start framing : DeframerState) (old now : Answerer) (before turns : List Turn) : Type 0 where
-  pub left : (new : Answerer) (all : List Turn) → Hears (heard framing.queue) now new turns all → Hears (heard start.queue) old new before all
+  pub left :
+      (new : Answerer) (all : List Turn) →
+      Hears (heard framing.queue) now new turns all → Hears (heard start.queue) old new before all
   pub rest : framing ≡ record start { queue = framing.queue }
 
 pub all_left : (start : DeframerState) (s : Answerer) (turns : List Turn) → HearsLeft start start s s turns turns
@@ -63,7 +66,9 @@ one_heard start framing after old now next before turns more content so waits he
       left = λ new all h. so.left new all (subst (λ q. Hears (heard q) now new turns all) (sym frames)
           (hears_both (heard_if (read_content content)) (heard (drop 1 framing.queue)) now next new turns more all hears
           (subst (λ q. Hears (heard q) next new more all) gone h)));
-      rest = is ∙ (ap (λ (f : DeframerState). record f { queue = drop 1 framing.queue }) so.rest ∙ ap (λ q. record start { queue = q }) (sym gone));
+      rest =
+          is ∙ (ap (λ (f : DeframerState). record f { queue = drop 1 framing.queue }) so.rest ∙
+          ap (λ q. record start { queue = q }) (sym gone));
     }
   where
     front : (queue : List (List ℕ)) → slice_get queue 0 ≡ Some content → queue ≡ content ∷ drop 1 queue
@@ -138,7 +143,8 @@ none_taken caps framing s turns fresh is first = record {
   heard = record { station = is; turns_are = first };
 }
 
-one_taken : (caps : Caps) (feeds : List PlainFeed) (feed : PlainFeed) (framing after : DeframerState) (now next : Answerer) (turns more : List Turn) →
+one_taken :
+    (caps : Caps) (feeds : List PlainFeed) (feed : PlainFeed) (framing after : DeframerState) (now next : Answerer) (turns more : List Turn) →
     TakesAll caps feeds framing now turns →
     ((octets : List ℕ) → HasHeard framing octets → TakesFeed octets feed after now next turns more) →
     TakesAll caps (feeds ++ feed ∷ []) after next more
@@ -151,7 +157,8 @@ one_taken caps feeds feed framing after now next turns more so takes =
     record {
       taken = subst (HasHeard after) (sym octets) one.taken;
       heard = subst (λ l. Hears l (starts caps) next (Dis ∷ []) more) (sym inputs)
-          (hears_both (inputs_of feeds) (feed_inputs (line_octets feeds) feed) (starts caps) now next (Dis ∷ []) turns more so.heard one.heard);
+          (hears_both (inputs_of feeds) (feed_inputs (line_octets feeds) feed) (starts caps) now next (Dis ∷ []) turns more
+          so.heard one.heard);
     }
 
 -- one feed more of a list

@@ -1,5 +1,5 @@
 -- What feeds are heard as, wherever the octets of the line are cut, and where the pages stored come from.
-use Rattle.std.proofs.Common.{◌≡◌, ◌⊎◌, ◌+◌, ◌<◌, ℕ, zero, suc, List, [], ◌∷◌, ◌++◌, length, drop, map, inl, inr, refl, ap, sym, ◌∙◌, subst, arith, append_assoc}
+use Rattle.std.proofs.Common.{◌≡◌, ◌⊎◌, ℕ, zero, suc, List, [], ◌∷◌, ◌++◌, length, drop, inl, inr, refl, ap, sym, ◌∙◌, subst, arith, append_assoc}
 use Rattle.std.specs.Prelude.{Ok, Err, Result}
 use Rattle.std.specs.List.{Contains}
 use Rattle.std.proofs.lemmas.List.{append-nil}
@@ -15,13 +15,12 @@ use Rattle.signals.specs.Reading.{read_content}
 use Rattle.signals.specs.Signals.{PlainSignal, dcs, fcd}
 use Rattle.signals.specs.declared.fault.SignalFault.{SignalFault}
 use Rattle.signals.specs.declared.params.Caps.{Caps}
-use Rattle.stations.specs.AnswererStep.{Answerer, answerer_step}
 use Rattle.stations.specs.Inputs.{AnswererInput, listens, trains, t2, t1, is_busy}
 use Rattle.stations.specs.CallerStep.{no_params}
 use Rattle.stations.specs.Laws.{Each}
-use Rattle.stations.specs.Runs.{answerer_after, answerer_turns, StoredIsRead, IsReadOf, AreJoined, IsHeard}
+use Rattle.stations.specs.Runs.{answerer_after, answerer_turns, StoredIsRead, IsReadOf, IsHeard}
 use Rattle.stations.specs.declared.turn.Turn.{Turn}
-use Rattle.line_sim.specs.Streams.{PlainFeed, line, check, first_timer, second_timer, busy, octets_in, line_octets, contents, new_contents, heard_if, heard, feed_inputs, inputs_after, inputs_of, PlainAnswered, starts, answers, CutsChangeNothing, IsSaid, IsDataField, AreFieldsJoined, IsStored, StoredIsSaid}
+use Rattle.line_sim.specs.Streams.{PlainFeed, line, check, first_timer, second_timer, busy, octets_in, line_octets, contents, new_contents, heard_if, heard, feed_inputs, inputs_after, inputs_of, PlainAnswered, starts, answers, CutsChangeNothing, IsSaid, IsDataField, IsStored, StoredIsSaid}
 
 -- ---- lists of inputs
 
@@ -40,8 +39,10 @@ pub inputs-append : (before : List ℕ) (xs ys : List PlainFeed) →
 inputs-append before [] ys = ap (λ l. inputs_after l ys) (sym (append-nil before))
 inputs-append before (x ∷ xs) ys =
     ap (λ l. feed_inputs before x ++ l) (inputs-append (before ++ octets_in x) xs ys) ∙
-    (sym (append_assoc (feed_inputs before x) (inputs_after (before ++ octets_in x) xs) (inputs_after ((before ++ octets_in x) ++ line_octets xs) ys)) ∙
-    ap (λ l. (feed_inputs before x ++ inputs_after (before ++ octets_in x) xs) ++ inputs_after l ys) (append_assoc before (octets_in x) (line_octets xs)))
+    (sym (append_assoc (feed_inputs before x) (inputs_after (before ++ octets_in x) xs)
+    (inputs_after ((before ++ octets_in x) ++ line_octets xs) ys)) ∙
+    ap (λ l. (feed_inputs before x ++ inputs_after (before ++ octets_in x) xs) ++ inputs_after l ys)
+    (append_assoc before (octets_in x) (line_octets xs)))
 
 -- ---- good contents of octets that come one after the other
 
@@ -67,7 +68,8 @@ new_in_two join stay before front rest =
     let a = grown join stay before front in
     let b = grown join stay (before ++ front) rest in
     new_are before (front ++ rest) (a.new ++ b.new)
-    (ap contents (sym (append_assoc before front rest)) ∙ (b.is ∙ (ap (λ l. l ++ b.new) a.is ∙ append_assoc (contents before) a.new b.new))) ∙
+    (ap contents (sym (append_assoc before front rest)) ∙
+    (b.is ∙ (ap (λ l. l ++ b.new) a.is ∙ append_assoc (contents before) a.new b.new))) ∙
     (ap (λ l. l ++ b.new) (sym (new_are before front a.new a.is)) ∙
     ap (λ l. new_contents before front ++ l) (sym (new_are (before ++ front) rest b.new b.is)))
 
@@ -80,7 +82,8 @@ cut_here join stay before front rest after =
     let two = heard (new_contents (before ++ front) rest) in
     sym (append_assoc one two (inputs_after ((before ++ front) ++ rest) after)) ∙
     (ap (λ l. l ++ inputs_after ((before ++ front) ++ rest) after)
-    (sym (ap heard (new_in_two join stay before front rest) ∙ heard-append (new_contents before front) (new_contents (before ++ front) rest))) ∙
+    (sym (ap heard (new_in_two join stay before front rest) ∙
+    heard-append (new_contents before front) (new_contents (before ++ front) rest))) ∙
     ap (λ l. heard (new_contents before (front ++ rest)) ++ inputs_after l after) (append_assoc before front rest))
 
 cut_later : BitsJoin → GoodContentsStay → (octets : List ℕ) (before after : List PlainFeed) (front rest : List ℕ) →
@@ -129,20 +132,28 @@ said_if content (Ok said) signal e h =
 heard_is_said : (contents : List (List ℕ)) (signal : PlainSignal) → Contains (heard contents) (listens signal) → IsSaid contents signal
 heard_is_said [] signal h = absurd (none_in (listens signal) h)
 heard_is_said (content ∷ contents) signal h =
-    by (λ later. heard_is_said contents signal later) (Contains-append_cases (heard_if (read_content content)) (heard contents) (listens signal) h)
+    by (λ later. heard_is_said contents signal later)
+    (Contains-append_cases (heard_if (read_content content)) (heard contents) (listens signal) h)
   where
     by : (Contains (heard contents) (listens signal) → IsSaid contents signal) →
-        Contains (heard_if (read_content content)) (listens signal) ⊎ Contains (heard contents) (listens signal) → IsSaid (content ∷ contents) signal
-    by of (inl here) = record { content = content; among = contains_first content contents; says = said_if content (read_content content) signal refl here }
+        Contains (heard_if (read_content content)) (listens signal) ⊎ Contains (heard contents) (listens signal) →
+        IsSaid (content ∷ contents) signal
+    by of (inl here) = record {
+      content = content;
+      among = contains_first content contents;
+      says = said_if content (read_content content) signal refl here;
+    }
     by of (inr later) = said_by_later (content ∷ []) contents signal (of later)
 
 feed_is_said : BitsJoin → GoodContentsStay → (before : List ℕ) (feed : PlainFeed) (signal : PlainSignal) →
     Contains (feed_inputs before feed) (listens signal) → IsSaid (contents (before ++ octets_in feed)) signal
 feed_is_said join stay before (line octets) signal h =
     let more = grown join stay before octets in
-    let new : IsSaid more.new signal = subst (λ l. IsSaid l signal) (new_are before octets more.new more.is) (heard_is_said (new_contents before octets) signal h) in
+    let new : IsSaid more.new signal =
+    subst (λ l. IsSaid l signal) (new_are before octets more.new more.is) (heard_is_said (new_contents before octets) signal h) in
     subst (λ l. IsSaid l signal) (sym more.is) (said_by_later (contents before) more.new signal new)
-feed_is_said join stay before (check octets) signal h = let same : trains octets ≡ listens signal = only_in (trains octets) (listens signal) h in cc
+feed_is_said join stay before (check octets) signal h =
+    let same : trains octets ≡ listens signal = only_in (trains octets) (listens signal) h in cc
 feed_is_said join stay before first_timer signal h = let same : t1 ≡ listens signal = only_in t1 (listens signal) h in cc
 feed_is_said join stay before second_timer signal h = let same : t2 ≡ listens signal = only_in t2 (listens signal) h in cc
 feed_is_said join stay before (busy is) signal h = let same : is_busy is ≡ listens signal = only_in (is_busy is) (listens signal) h in cc
@@ -157,7 +168,8 @@ inputs_are_said join stay before (feed ∷ feeds) signal h =
     all : (before ++ octets_in feed) ++ line_octets feeds ≡ before ++ (octets_in feed ++ line_octets feeds)
     all = append_assoc before (octets_in feed) (line_octets feeds)
 
-    by : (Contains (inputs_after (before ++ octets_in feed) feeds) (listens signal) → IsSaid (contents ((before ++ octets_in feed) ++ line_octets feeds)) signal) →
+    by : (Contains (inputs_after (before ++ octets_in feed) feeds) (listens signal) →
+        IsSaid (contents ((before ++ octets_in feed) ++ line_octets feeds)) signal) →
         Contains (feed_inputs before feed) (listens signal) ⊎ Contains (inputs_after (before ++ octets_in feed) feeds) (listens signal) →
         IsSaid (contents (before ++ (octets_in feed ++ line_octets feeds))) signal
     by of (inl here) =

@@ -1,6 +1,5 @@
 //! An answerer over the octets of a line, whoever sends them.
 
-ghost use Rattle.hdlc.specs.DeframerState.{DeframerState};
 ghost use Rattle.line_sim.specs.Streams.{Hears, HasHeard, IsStored, TakesFeed, answers, contents, heard, heard_if, line_octets, plain_answered, plain_feed};
 ghost use Rattle.signals.specs.Reading.{read_content};
 ghost use Rattle.stations.specs.Inputs.{answerer_input};
@@ -13,6 +12,9 @@ use raster::Page;
 use signals::Caps;
 use stations::{Answerer, AnswererIn, End, Turn};
 use std::alloc::{AllocError, Global};
+
+#[cfg(test)]
+mod tests;
 
 /// What an answerer is given next.
 #[derive(Clone, Copy, Debug, PartialEq, Eq)]

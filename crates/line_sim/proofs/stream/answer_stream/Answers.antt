@@ -4,7 +4,8 @@ use Rattle.line_sim.proofs.stream.answer_stream.Goals as goal
 
 pub loop-feed-init : goal.loop-feed-init
 loop-feed-init c =
-    none_taken c.args.caps c.new-deframer.result c.new-answerer.result.0 c.push.new.self.items c.new-deframer.ensures c.new-answerer.ensures.station
+    none_taken c.args.caps c.new-deframer.result c.new-answerer.result.0 c.push.new.self.items
+    c.new-deframer.ensures c.new-answerer.ensures.station
     (rw (c.in_ok-push.ensures.items, c.new-turns.ensures.items, c.new-answerer.ensures.turn) refl)
 
 pub loop-feed-preserved : goal.loop-feed-preserved
