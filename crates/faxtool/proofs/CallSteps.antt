@@ -1,7 +1,9 @@
 -- The steps that commands make of a world, one command after the other.
-use Rattle.std.proofs.Common.{◌≡◌, ℕ, zero, suc, ◌+◌, ◌<◌, List, [], ◌∷◌, ◌++◌, map, replicate, length, Option, Some, None, Result, Ok, Err, OnOk, OnErr, inl, inr, refl, ap, sym, subst, ◌∙◌, arith, append_assoc}
+use Rattle.std.proofs.Common.{◌≡◌, ℕ, zero, suc, ◌+◌, ◌<◌, List, [], ◌∷◌, ◌++◌, map, replicate, length, take, Option, Some, None, Result, Ok, Err, OnOk, OnErr, inl, inr, refl, ap, sym, subst, ◌∙◌, arith, append_assoc}
 use Rattle.std.specs.Prelude.{All}
+use Rattle.std.proofs.Math.Seq.{take-append_seam}
 use Rattle.std.proofs.lemmas.List.{append-nil}
+use Rattle.std.proofs.lemmas.List.Elements.{All-take}
 use Rattle.raster.specs.Pages.{PagePixels, IsPage, IsDocument}
 use Rattle.stations.specs.CallerFields.{AreCallable}
 use Rattle.stations.specs.CallerStep.{confirmed}
@@ -12,13 +14,14 @@ use Rattle.line_sim.specs.Delivering.{Made, DeliversAll}
 use Rattle.line_sim.specs.Entries.{and_entries, entries, entry_of}
 use Rattle.line_sim.specs.Headline.{IsSafe, IsSafeWorld, RunsAreSafe}
 use Rattle.line_sim.specs.Line.{World, Outcome, Done, happens, run}
+use Rattle.line_sim.specs.PageMachine.{IsBeginning}
 use Rattle.line_sim.specs.Polite.{polite_steps}
 use Rattle.line_sim.specs.Report.{Tells}
 use Rattle.line_sim.specs.Standing.{Becomes, BecomesSome, Shows, WorldFields}
 use Rattle.line_sim.specs.declared.event.Entry.{Entry}
 use Rattle.line_sim.specs.declared.event.Event.{Event}
 use Rattle.line_sim.specs.declared.report.Report.{Report}
-use Rattle.faxtool.specs.Calls.{Follows, FollowsAll, ReportsCall, answerer_caps, call_world, caller_wish, MakeAll, Makes, Steps}
+use Rattle.faxtool.specs.Calls.{Follows, FollowsAll, HaveRows, ReportsCall, answerer_caps, call_world, caller_wish, MakeAll, Makes, Steps}
 use Rattle.faxtool.specs.declared.options.CallOptions.{CallOptions}
 use Rattle.faxtool.specs.declared.script.Command.{Command}
 use Rattle.faxtool.specs.declared.script.Command.TheVariants.{Events, Polite}
@@ -178,3 +181,9 @@ reports runs options document commands start end report is callable shows none f
           told.caller_end told.answerer_end
           (runs document (caller_wish options) (answerer_caps options.modems) steps (full_pages document is.valid is.rows));
     }
+
+-- the first pages of a document have rows
+pub beginning_rows : (pages document : List PagePixels) → IsBeginning pages document → HaveRows document → HaveRows pages
+beginning_rows pages document begins some =
+    subst HaveRows (ap (take (length pages)) (sym begins.1) ∙ take-append_seam pages begins.0)
+    (All-take (λ (page : PagePixels). 0 < length page.rows) (length pages) document some)

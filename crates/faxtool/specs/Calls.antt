@@ -1,5 +1,5 @@
 -- What the command that runs a call does with a script and images.
-use Rattle.std.specs.Prelude.{◌≡◌, ◌≢◌, ◌⊎◌, ℕ, Bool, true, List, [], ◌∷◌, ◌++◌, map, replicate, Option, Err}
+use Rattle.std.specs.Prelude.{◌≡◌, ◌≢◌, ◌<◌, ◌⊎◌, ℕ, Bool, true, List, [], ◌∷◌, ◌++◌, length, map, replicate, All, Option, Err}
 use Rattle.std.specs.Io.KnownBytes.{Appends}
 use Rattle.raster.specs.Faults.{number_of}
 use Rattle.raster.specs.Pages.{PagePixels}
@@ -84,6 +84,10 @@ pub record ReportsCall (options : CallOptions) (document : Document) (commands :
   pub made : MakeAll commands (call_world options document) steps
   pub tells : Tells report (run steps (call_world options document)) (entries steps (call_world options document))
   pub safe : IsSafe document report.pages.items report.confirmed report.caller_end report.answerer_end
+
+-- each page has a row or more
+abbrev pub HaveRows : List PagePixels → Type 0
+HaveRows pages = All (λ page. 0 < length page.rows) pages
 
 -- the script says commands, the images are a document's, the text of the call's report is written, and its pages are answered
 pub record RunsCall (options : CallOptions) (script images : List ℕ) (before after : Option (List ℕ)) (pages : List PagePixels)

@@ -1,6 +1,6 @@
 //! What `call` does: it runs a call of a document by a script, over any readers and any writer.
 
-ghost use Rattle.faxtool.specs.Calls.{Follows, FollowsAll, IsAtLine, IsBadScript, RefusesCall, ReportsCall, RunsCall, answerer_caps};
+ghost use Rattle.faxtool.specs.Calls.{Follows, FollowsAll, HaveRows, IsAtLine, IsBadScript, RefusesCall, ReportsCall, RunsCall, answerer_caps};
 ghost use Rattle.faxtool.specs.Faults.{IsOutside};
 ghost use Rattle.faxtool.specs.Scripts.{IsScript};
 ghost use Rattle.faxtool.specs.declared.fault.ToolFault.TheVariants.{No};
@@ -84,6 +84,7 @@ fn report_call(
     options: &CallOptions,
 ) -> Result<Report, ToolFault>
     ensures reported { IfOk result (ReportsCall options.now document commands.now) }
+    ensures rows { IfOk result (λ report. HaveRows report.pages.items) }
     ensures refused { IfErr result (λ fault. IsOutside fault ⊎ (¬ AreCallable document × (fault ≡ No 26))) }
 {
     headline();
@@ -124,6 +125,7 @@ pub fn call_engine<S: Read, R: Read, W: Write>(
 ) -> Result<Vec<Page>, ToolFault>
     ensures called { IfOk result (λ pages. IfSome (S.remaining script.old) (λ said. IfSome (R.remaining input.old) (λ images. RunsCall options.now said images (W.contents writer.old) (W.contents writer.new) pages.items))) }
     ensures refused { IfErr result (λ fault. IfSome (S.remaining script.old) (λ said. IfSome (R.remaining input.old) (λ images. RefusesCall options.now.fine said images fault))) }
+    ensures rows { IfOk result (λ pages. HaveRows pages.items) }
     ensures early { IfErr result (λ fault. IsAtLine fault → (input.new ≡ input.old) × (writer.new ≡ writer.old)) }
 {
     let commands = read_commands(alloc, script)?;

@@ -1,6 +1,8 @@
-//! A tool on fax pages and frames: it codes images, shows coded pages and lists the frames in bits.
+//! A tool on fax pages and frames: it codes images, shows coded pages, lists the frames in bits and runs
+//! calls from scripts.
 #![tactic(auto)]
 
+ghost use Rattle.faxtool.specs.Calls.{HaveRows};
 ghost use Rattle.faxtool.specs.Jobs.{HasWidth};
 ghost use Rattle.raster.specs.Pixels.{IsWidth};
 
@@ -16,10 +18,13 @@ mod texts;
 mod transcript;
 mod words;
 
+use call::call_engine;
 use engine::{code_engine, show_engine};
 use fault::{FAILED, NO_MEMORY, ToolFault};
 use frames::frames_engine;
+use options::CallOptions;
 use page_code::Coding;
+use raster::{Page, write_pbm};
 use run_tables::Order;
 use std::io::{BufWriter, Write};
 use std::process::ExitCode;
@@ -83,6 +88,12 @@ fn run_job(rt: &HostRuntime, job: Job) -> Outcome
             input,
         } => show_file(rt, *coding, *order, *width, input),
         Job::Frames { input } => list_file(rt, input),
+        Job::Call {
+            script,
+            options,
+            out,
+            input,
+        } => call_file(rt, script, options, out.as_deref(), input),
     };
     match done {
         Ok(()) => Outcome::Done,
@@ -127,5 +138,34 @@ fn list_file(rt: &HostRuntime, input: &str) -> Result<(), ToolFault> {
     let mut writer = BufWriter::new(rt.alloc(), io::writer(rt))?;
     frames_engine(rt.alloc(), &mut reader, &mut writer)?;
     writer.flush()?;
+    Ok(())
+}
+
+/// Runs a call by a script's file, and prints what has become of it. The file of the stored pages is
+/// opened last, and only where there are any.
+fn call_file(
+    rt: &HostRuntime,
+    script: &str,
+    options: &CallOptions,
+    out: Option<&str>,
+    input: &str,
+) -> Result<(), ToolFault> {
+    let mut script = fs::open(rt, script).map_err(|_| FAILED)?;
+    let mut reader = fs::open(rt, input).map_err(|_| FAILED)?;
+    let mut writer = BufWriter::new(rt.alloc(), io::writer(rt))?;
+    let pages = call_engine(rt.alloc(), &mut script, &mut reader, &mut writer, options)?;
+    writer.flush()?;
+    match out {
+        Some(name) if !pages.is_empty() => write_pages(rt, name, &pages),
+        _ => Ok(()),
+    }
+}
+
+/// Writes pages into a file, one after the other.
+fn write_pages(rt: &HostRuntime, name: &str, pages: &[Page]) -> Result<(), ToolFault>
+    requires { HaveRows pages.now }
+{
+    let mut file = fs::File::create(rt, name).map_err(|_| FAILED)?;
+    write_pbm(pages, &mut file)?;
     Ok(())
 }
