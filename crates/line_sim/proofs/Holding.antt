@@ -1,11 +1,11 @@
 -- What holds of the fields of every world follows from the laws of runs.
-use Rattle.std.proofs.Common.{◌≡◌, ◌≢◌, ◌↔◌, ℕ, List, [], ◌∷◌, ◌++◌, length, Some, None, Result, Ok, Err, OnOk, OnErr, refl, ap, sym, subst, ◌∙◌}
+use Rattle.std.proofs.Common.{◌≡◌, ◌≢◌, ◌↔◌, ℕ, List, [], ◌∷◌, ◌++◌, length, Some, None, Result, Ok, Err, OnOk, OnErr, ap, sym, subst, ◌∙◌}
 use Rattle.std.specs.Prelude.{slice_get}
 use Rattle.signals.specs.declared.params.Caps.{Caps}
 use Rattle.signals.specs.declared.params.Wish.{Wish}
 use Rattle.stations.specs.AnswererStep.{Answerer}
 use Rattle.stations.specs.Blocks.{Block}
-use Rattle.stations.specs.CallerStep.{blocks_of, confirmed, pps_of}
+use Rattle.stations.specs.CallerStep.{blocks_of, pps_of}
 use Rattle.stations.specs.Inputs.{PlainItem}
 use Rattle.stations.specs.Laws.{Each}
 use Rattle.stations.specs.Layers.{Document, IsFullPage}

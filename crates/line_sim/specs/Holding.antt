@@ -1,5 +1,5 @@
 -- What holds of the fields of every world, and of an event that delivers a block's PPS.
-use Rattle.std.specs.Prelude.{◌≡◌, ◌≢◌, ◌↔◌, List, [], ◌∷◌, length, Some, None, slice_get}
+use Rattle.std.specs.Prelude.{◌≡◌, ◌≢◌, ◌↔◌, List, ◌∷◌, length, Some, None, slice_get}
 use Rattle.signals.specs.declared.params.Caps.{Caps}
 use Rattle.signals.specs.declared.params.Wish.{Wish}
 use Rattle.stations.specs.Blocks.{Block}
