@@ -1,6 +1,6 @@
 -- A text is at most one script.
-use Rattle.std.proofs.Common.{◌≡◌, ◌≢◌, ◌<◌, ◌≤◌, ◌+◌, ◌&&◌, ◌⊎◌, ℕ, Bool, true, false, not, nat_eq, List, [], ◌∷◌, ◌++◌, Option, Some}
-use Rattle.std.proofs.Common.{None, length, get_or, slice_index, suc, zero, codes, refl, ap, sym, ◌∙◌, subst, rules, arith, inl, inr}
+use Rattle.std.proofs.Common.{◌≡◌, ◌≢◌, ◌<◌, ◌≤◌, ◌+◌, ◌⊎◌, ℕ, true, false, not, List, [], ◌∷◌, ◌++◌, Option, Some}
+use Rattle.std.proofs.Common.{None, length, get_or, slice_index, suc, codes, refl, ap, sym, ◌∙◌, subst, arith, inl, inr}
 use Rattle.std.proofs.Common.{append_assoc, length-append}
 use Rattle.std.specs.Str.{bytes_eq}
 use Rattle.std.specs.Prelude.{if◌then◌else◌}
@@ -15,7 +15,7 @@ use Rattle.faxtool.specs.declared.script.Command.{Command}
 use Rattle.faxtool.specs.declared.script.Command.TheVariants.{Events, Polite}
 use Rattle.faxtool.specs.Scripts.{HasNoFeed, IsCount, IsLineOf, IsScript, IsSkipped, LinesSay, RefusesScript, Says, ended, said_before}
 use Rattle.faxtool.specs.Scripts.{word_of}
-use Rattle.faxtool.proofs.ScriptWords.{lacks, lacks_at, word_solid}
+use Rattle.faxtool.proofs.ScriptWords.{lacks_at, word_solid}
 
 -- ---- one cut
 

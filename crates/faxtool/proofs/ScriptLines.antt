@@ -5,7 +5,7 @@ use Rattle.std.proofs.lemmas.List.{append-nil}
 use Rattle.faxtool.specs.declared.fault.ToolFault.{ToolFault}
 use Rattle.faxtool.specs.declared.fault.ToolFault.TheVariants.{No, AtBit, AtLine}
 use Rattle.faxtool.specs.declared.script.Command.{Command}
-use Rattle.faxtool.specs.Scripts.{AddsLine, HasNoFeed, IsLineOf, IsNoLine, IsScript, LinesSay, RefusesLine, RefusesScript, ended}
+use Rattle.faxtool.specs.Scripts.{AddsLine, HasNoFeed, IsScript, LinesSay, RefusesLine, RefusesScript, ended}
 use Rattle.faxtool.specs.Scripts.{said_before}
 
 -- one line more says more
