@@ -1,5 +1,6 @@
 mod JobLemmas
 mod Listing
+mod MarkedFrames
 mod HexText
 mod ScriptLines
 mod ScriptWords

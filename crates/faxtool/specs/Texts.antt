@@ -1,10 +1,12 @@
 -- The texts of signals and contents, as the command that lists frames shows them.
-use Rattle.std.specs.Prelude.{ℕ, ◌∷◌, [], Bool, List, Result, Ok, Err, codes, cond, count_ones, length}
+use Rattle.std.specs.Prelude.{ℕ, ◌+◌, ◌∷◌, [], Bool, List, Result, Ok, Err, codes, cond, length}
 use Rattle.std.specs.Fmt.{decimal}
-use Rattle.std.specs.List.{join_with_byte, sum_by}
+use Rattle.std.specs.List.{fold, join_with_byte}
 use Rattle.hex.specs.Hex.{encode_lower}
 use Rattle.page_code.specs.declared.Coding.{Coding}
 use Rattle.page_code.specs.declared.Coding.TheVariants.{OneDim, T6}
+use Rattle.raster.specs.Packed.{bits_of}
+use Rattle.raster.specs.declared.packed.Order.TheVariants.{LsbFirst}
 use Rattle.signals.specs.Agreement.{pixels_of}
 use Rattle.signals.specs.Faults.{number_of}
 use Rattle.signals.specs.Reading.{read_content}
@@ -71,6 +73,14 @@ abbrev pub params_text : Params → List ℕ
 params_text params = spaced (speed_text params.speed ∷ lines_text params.fine ∷ decimal (pixels_of params.width)
     ∷ coding_text params.coding ∷ cond params.small (codes "64") (codes "256") ∷ [])
 
+-- one more where the bit is 1
+abbrev pub and_bit : ℕ → Bool → ℕ
+and_bit count bit = count + cond bit 1 0
+
+-- how many frames are marked in a map, each by one bit
+abbrev pub marked_frames : List ℕ → ℕ
+marked_frames map = fold and_bit 0 (bits_of LsbFirst map)
+
 -- A signal's name and what it says: of FCD its number and how many octets of data it has, of PPR how many frames it asks
 -- for, of another signal its facsimile control field in hex.
 abbrev pub signal_text : PlainSignal → List ℕ
@@ -82,7 +92,7 @@ signal_text (fcd number octets) = spaced (codes "FCD" ∷ decimal number ∷ dec
 signal_text rcp = codes "RCP"
 signal_text (pps ends page block last) = spaced (codes "PPS" ∷ page_end_text ends ∷ codes "page" ∷ decimal page
     ∷ codes "block" ∷ decimal block ∷ codes "last" ∷ decimal last ∷ [])
-signal_text (ppr map) = spaced (codes "PPR" ∷ decimal (sum_by count_ones map) ∷ [])
+signal_text (ppr map) = spaced (codes "PPR" ∷ decimal (marked_frames map) ∷ [])
 signal_text mcf = codes "MCF"
 signal_text rnr = codes "RNR"
 signal_text rr = codes "RR"

@@ -1,13 +1,13 @@
 //! The texts of signals and contents, as `frames` shows them.
 
-ghost use Rattle.faxtool.specs.Texts.{coding_text, lines_text, modems_text, page_end_text, signal_text, speed_text};
+ghost use Rattle.faxtool.specs.Texts.{coding_text, lines_text, marked_frames, modems_text, page_end_text, signal_text, speed_text};
 ghost use Rattle.signals.specs.Signals.{other};
 ghost use Rattle.std.specs.Fmt.{DisplaysOnOk};
-ghost use Rattle.std.specs.List.{sum_by};
-ghost use Rattle.std.specs.Prelude.{◌≡◌, ◌<◌, ◌^◌, cond, count_ones, length};
+ghost use Rattle.std.specs.Prelude.{◌≡◌, cond};
 
 use crate::fault::ToolFault;
 use page_code::Coding;
+use raster::packed::{Order, bit_of};
 use signals::{Modems, PageEnd, Signal, Speed, read};
 use std::fmt;
 
@@ -79,12 +79,15 @@ fn page_end(ends: PageEnd) -> &'static str
     }
 }
 
-/// How many 1 bits the octets have.
-fn ones(octets: &[u8]) -> u32
-    requires { length octets.now < 2 ^ 28 }
-    ensures { result ≡ sum_by count_ones octets.now }
+/// How many frames are marked in a map.
+fn marked(map: &[u8; 32]) -> u32
+    ensures { result ≡ marked_frames map.now }
 {
-    octets.iter().map(|octet| octet.count_ones()).sum()
+    let mut count = 0;
+    for number in 0u16..256 {
+        count += bit_of(Order::LsbFirst, map, number as u128) as u32;
+    }
+    count
 }
 
 /// Another signal, by its facsimile control field in two hex digits.
@@ -140,7 +143,7 @@ impl fmt::Display for SignalText<'_> {
                 "PPS {} page {page} block {block} last {last}",
                 page_end(*ends),
             ),
-            Signal::Ppr(map) => write!(f, "PPR {}", ones(map)),
+            Signal::Ppr(map) => write!(f, "PPR {}", marked(map)),
             Signal::Mcf => write!(f, "MCF"),
             Signal::Rnr => write!(f, "RNR"),
             Signal::Rr => write!(f, "RR"),
