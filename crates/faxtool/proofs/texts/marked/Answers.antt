@@ -1,7 +1,6 @@
 use mir.Val.{bool_byte}
 use Rattle.std.proofs.Common.{◌≡◌, ◌+◌, ◌≤◌, Bool, true, false, cond, ap, sym, refl, ◌∙◌, arith}
 use Rattle.std.specs.List.{fold}
-use Rattle.raster.specs.Packed.{bits_in}
 use Rattle.raster.specs.declared.packed.Order.TheVariants.{LsbFirst}
 use Rattle.raster.proofs.PackedLemmas.{bits_in-none}
 use Rattle.faxtool.specs.Texts.{and_bit}
