@@ -1,6 +1,9 @@
+//! What no clause says: whole calls as they are printed, and readers and writers that fail.
+
 use super::call_engine;
-use crate::fault::ToolFault;
+use crate::fault::{FAILED, ToolFault};
 use crate::options::CallOptions;
+use crate::test_streams::{Narrow, OneByOne};
 use page_code::Coding;
 use signals::Modems;
 use std::alloc::Global;
@@ -63,4 +66,38 @@ fn a_width_that_is_not_callable_is_fault_26(rt: HostRuntime) {
     let mut text = Vec::new(alloc);
     let fault = call_engine(alloc, &mut said, &mut images, &mut text, &OPTIONS).err();
     assert_eq!(rt; fault, Some(ToolFault::No(26)));
+}
+
+/// The fault of a call of no events, by readers that fail once they have given their octets, or not,
+/// and a writer that takes so many octets.
+fn fault_of(
+    alloc: Global,
+    script_fails: bool,
+    images_fail: bool,
+    room: usize,
+) -> Option<ToolFault> {
+    let mut image = [0; 226];
+    image[..10].copy_from_slice(HEADER);
+    let mut said = OneByOne {
+        left: b"# nothing\n",
+        fails: script_fails,
+    };
+    let mut images = OneByOne {
+        left: &image,
+        fails: images_fail,
+    };
+    let mut text = Narrow {
+        taken: Vec::new(alloc),
+        room,
+    };
+    call_engine(alloc, &mut said, &mut images, &mut text, &OPTIONS).err()
+}
+
+#[test]
+fn readers_and_writers_that_fail_are_fault_8(rt: HostRuntime) {
+    let alloc = rt.alloc();
+    assert_eq!(rt; fault_of(alloc, true, false, 100), Some(FAILED));
+    assert_eq!(rt; fault_of(alloc, false, true, 100), Some(FAILED));
+    assert_eq!(rt; fault_of(alloc, false, false, 51), Some(FAILED));
+    assert_eq!(rt; fault_of(alloc, false, false, 52), None);
 }
