@@ -5,6 +5,7 @@
 #
 # With no word these are the programs of crates/faxtool/out that `rt ci` leaves, by each compiler, or that `rt run` makes where
 # there is none. What is compared with is in .ci/data, the calls in .ci/calls. Ends with status 1 at the first difference.
+# Python 3 writes the large pages and frames.
 set -e
 top=$(cd "$(dirname "$0")/.." && pwd)
 PATH="$PATH:/opt/rattle/bin"
@@ -170,6 +171,63 @@ CASES
     done
 }
 
+# A page of 300 rows of all kinds and one of 20,000 rows, 2,432 pixels wide, and their codes, as other software writes them.
+# Of each code the last one stays, the most significant bit first.
+try_large_pages() {
+    while read -r page code order sums; do
+        works code --code "$code" --order "$order" "$work/$page.pbm" "$work/$page.$code"
+        [ "$(cksum < "$work/$page.$code")" = "$sums" ] || fails "code --code $code --order $order of the $page page: other octets"
+        works show --code "$code" --order "$order" --width 2432 "$work/$page.$code"
+        is_same "$work/output" "$work/$page.txt" "show --code $code --order $order of the $page page"
+    done < "$data/large.sums"
+}
+
+# The large page without the last octets of its code, which has so many bits. What is left ends inside a code word of the last
+# row, in or before EOFB, or in 0 bits of an EOL, which end a T.4 page; the fault's bit is counted from the end of the whole code.
+try_cut_pages() {
+    while read -r code bits dropped fault back; do
+        head -c $(((bits + 7) / 8 - dropped)) "$work/large.$code" > "$work/cut"
+        faults "fault $fault at bit $((bits - back))" show --code "$code" --width 2432 "$work/cut"
+    done << CASES
+mmr 382537 1 11 24
+mmr 382537 3 17 24
+mmr 382537 4 11 25
+mmr 382537 5 11 37
+mmr 382537 6 11 50
+mmr 382537 8 11 58
+mmr 382537 9 11 67
+mmr 382537 10 17 73
+mh 335082 10 11 80
+mh 335082 11 11 88
+mh 335082 12 11 100
+mh 335082 14 11 113
+mh 335082 15 11 121
+mh 335082 16 11 130
+CASES
+    for rows in "300 9" "299 17"; do
+        head -c $((41886 - ${rows#* })) "$work/large.mh" > "$work/cut"
+        head -n "${rows% *}" "$work/large.txt" > "$work/wanted"
+        works show --code mh --width 2432 "$work/cut"
+        is_same "$work/output" "$work/wanted" "show of the first ${rows% *} rows"
+    done
+}
+
+# White rows in the code of T.6, a bit each: 20,000 and EOFB are a page, and one row more is refused where it begins.
+try_most_rows() {
+    head -c 2500 /dev/zero | tr '\0' '\377' > "$work/ones"
+    cat "$work/ones" "$(octets "00 10 01")" > "$work/most"
+    works show --code mmr --width 8 "$work/most"
+    [ "$(sort -u "$work/output") $(wc -l < "$work/output")" = "........ 20000" ] || fails "20,000 white rows are shown as something else"
+    cat "$work/ones" "$(octets "80 08 00 80")" > "$work/more"
+    faults "fault 18 at bit 20000" show --code mmr --width 8 "$work/more"
+}
+
+# A mebibyte of frames.
+try_large_frames() {
+    works frames "$work/frames.bits"
+    is_same "$work/output" "$work/frames.txt" "frames of a mebibyte"
+}
+
 # Words that are no job, and those that ask for help.
 try_words() {
     refuses
@@ -263,6 +321,7 @@ if [ $# = 0 ]; then
     set -- "$out/faxtool"
     [ ! -x "$out/faxtool.by-rattle" ] || set -- "$@" "$out/faxtool.by-rattle"
 fi
+python3 -B "$data/make_large.py" "$work"
 for program in "$@"; do
     count=0
     try_small
@@ -270,6 +329,10 @@ for program in "$@"; do
     try_frames
     try_images
     try_codes
+    try_large_pages
+    try_cut_pages
+    try_most_rows
+    try_large_frames
     try_words
     try_outputs
     try_calls
