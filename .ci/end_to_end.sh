@@ -189,23 +189,23 @@ try_cut_pages() {
         head -c $(((bits + 7) / 8 - dropped)) "$work/large.$code" > "$work/cut"
         faults "fault $fault at bit $((bits - back))" show --code "$code" --width 2432 "$work/cut"
     done << CASES
-mmr 382537 1 11 24
-mmr 382537 3 17 24
-mmr 382537 4 11 25
-mmr 382537 5 11 37
-mmr 382537 6 11 50
-mmr 382537 8 11 58
-mmr 382537 9 11 67
-mmr 382537 10 17 73
-mh 335082 10 11 80
-mh 335082 11 11 88
-mh 335082 12 11 100
-mh 335082 14 11 113
-mh 335082 15 11 121
-mh 335082 16 11 130
+mmr 352065 1 11 24
+mmr 352065 3 17 24
+mmr 352065 4 11 25
+mmr 352065 5 11 37
+mmr 352065 6 11 50
+mmr 352065 8 11 58
+mmr 352065 9 11 67
+mmr 352065 10 17 73
+mh 307774 10 11 80
+mh 307774 11 11 88
+mh 307774 12 11 100
+mh 307774 14 11 113
+mh 307774 15 11 121
+mh 307774 16 11 130
 CASES
     for rows in "300 9" "299 17"; do
-        head -c $((41886 - ${rows#* })) "$work/large.mh" > "$work/cut"
+        head -c $((38472 - ${rows#* })) "$work/large.mh" > "$work/cut"
         head -n "${rows% *}" "$work/large.txt" > "$work/wanted"
         works show --code mh --width 2432 "$work/cut"
         is_same "$work/output" "$work/wanted" "show of the first ${rows% *} rows"

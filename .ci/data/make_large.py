@@ -41,11 +41,13 @@ def moved(numbers, edges):
 
 
 def large_rows():
-    """300 rows: a new one or a moved one, white and black ones; 20 white rows, and a last one with one black run."""
+    """300 rows: a new one or a moved one, white and black ones; one with runs of each multiple of 64; 20 white rows, and a last
+    one with one black run."""
     numbers, edges = Numbers(), []
-    for row in range(279):
+    for row in range(242):
         edges = some_edges(numbers) if numbers.below(6) == 0 else moved(numbers, edges)
         yield [] if row % 40 == 39 else [0] if row % 40 == 38 else edges
+    yield from ([edge] for edge in range(64, WIDTH, 64))
     yield from 20 * [[]]
     yield LAST
 
