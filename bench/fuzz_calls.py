@@ -4,7 +4,9 @@
     bench/fuzz_calls.py SECONDS [SEED]      with the program that `rt run` left, or the one that FAXTOOL names
     bench/fuzz_calls.py --dry               tries the checks alone, on a worked call and on wrong answers to it
 
-A document has 1 to 4 pages of 1 to 4 rows, 1,728, 2,048 or 2,432 pixels wide; a script 1 to 300 lines. After each run:
+A document has 1 to 4 pages of 1 to 4 rows, and seldom of more blocks than one, 1,728, 2,048 or 2,432 pixels wide; a script 1 to 300
+lines. After each run:
+- each line that it printed is that of bench/reference_call.py, a plain reading of the tables apart from the program;
 - the transcript has the form of its entries, numbered from 1, as many as the script asks for, and ends with both stations;
 - the file of --out has the first pages of the document, octet for octet, as many as `pages` says, and isn't made for none;
 - `confirmed` is `pages` or one less; a station that ended normally leaves all pages stored, and all confirmed for a caller;
@@ -22,14 +24,24 @@ import tempfile
 import time
 from collections import Counter
 
+sys.dont_write_bytecode = True
+from reference_call import transcript
+
 TOP = os.path.dirname(os.path.dirname(os.path.abspath(__file__)))
 PROGRAM = os.environ.get("FAXTOOL", os.path.join(TOP, "crates", "faxtool", "out", "faxtool"))
 WORDS = "to-answerer to-caller lose-to-answerer lose-to-caller spoil caller-timeout caller-t5 answerer-t1 answerer-t2 busy ready".split()
-# How often each of these comes in a script: deliveries mostly, and the ends of long waits seldom; or many losses.
-MOODS = [[60, 40, 6, 4, 2, 10, 0.6, 0.3, 6, 1, 2], [100, 40, 9, 1, 0, 1, 0, 0, 0, 0, 0], [60, 30, 1, 1, 15, 3, 0, 0, 10, 1, 1]]
+# How often each of these comes in a script: deliveries mostly, and the ends of long waits seldom; or many losses, or long waits.
+MOODS = [
+    [60, 40, 6, 4, 2, 10, 0.6, 0.3, 6, 1, 2],
+    [100, 40, 9, 1, 0, 1, 0, 0, 0, 0, 0],
+    [60, 30, 1, 1, 15, 3, 0, 0, 10, 1, 1],
+    [100, 60, 40, 1, 0, 5, 0, 0, 3, 0, 0],
+    [60, 60, 0, 0, 0, 2, 1, 0, 3, 6, 6],
+]
 # A busy answerer and its caller say RNR and RR to each other for as long as a polite call goes.
-POLITE = 50 * [1, 2, 5, 9, 11, 21, 100] + [5000, 1000000]
-MODEMS = "v17 v27v29 v29 v27 fallback".split()
+POLITE = 50 * [1, 2, 5, 9, 11, 21, 100, 300] + [5000, 1000000]
+# How many speeds two stations of these modems try.
+SPEEDS = {"v17": 6, "v27v29": 4, "v29": 2, "v27": 2, "fallback": 1}
 ITEMS = r"-|DIS|DCS|TRAINING|CFR|FTT|FCD:\d+|RCP|PPS|MCF|PPR|RNR|RR|DCN"
 TURNS = r"-|DIS|DCS|CFR|FTT|BURST:\d+|PPS|MCF|PPR|RNR|RR|DCN"
 ENTRY = re.compile(rf"(\d+) ({'|'.join(WORDS)}) ({ITEMS}) ({TURNS})( !)?")
@@ -50,8 +62,10 @@ def need(holds, what):
 
 def random_image(rand):
     width, height = rand.choice([1728, 2048, 2432]), rand.randint(1, 4)
-    size = width // 8 * height
     kind = rand.randint(0, 3)
+    if rand.random() < 0.02:
+        height, kind = rand.randint(30, 60), 2
+    size = width // 8 * height
     if kind == 0:
         rows = bytes(size)
     elif kind == 1:
@@ -94,7 +108,7 @@ def spoiled_script(rand, text):
 
 def random_options(rand):
     options = []
-    for name, values in (("--code", ["mh", "mmr"]), ("--frame", ["256", "64"]), ("--modems", MODEMS)):
+    for name, values in (("--code", ["mh", "mmr"]), ("--frame", ["256", "64"]), ("--modems", list(SPEEDS))):
         if rand.random() < 0.6:
             options += [name, rand.choice(values)]
     return options + ["--fine"] * rand.randint(0, 1)
@@ -119,6 +133,27 @@ def check(images, least, most, status, output, error, left):
     need(caller[1] != "normal" or confirmed == len(images), "a caller's normal end before the last page was confirmed")
     need(answerer[1] != "normal" or pages == len(images), "an answerer's normal end before the last page was stored")
     need(left == (b"".join(images[:pages]) if pages else None), "the pages left aren't a beginning of the document")
+
+
+def value_of(options, name, otherwise):
+    return options[options.index(name) + 1] if name in options else otherwise
+
+
+def compare(folder, images, script, options, output):
+    """Raises Failed where a line that was printed isn't the reference's. A page's code is counted as `faxtool code` writes it."""
+    pages = []
+    for image in images:
+        one, code = os.path.join(folder, "one.pbm"), os.path.join(folder, "code")
+        with open(one, "wb") as file:
+            file.write(image)
+        subprocess.run([PROGRAM, "code", "--code", value_of(options, "--code", "mmr"), "--order", "lsb", one, code], check=True, timeout=120)
+        pages.append((int(image.split()[1]), os.path.getsize(code)))
+    frame, modems = int(value_of(options, "--frame", "256")), value_of(options, "--modems", "v17")
+    wanted = transcript(script, pages, frame, SPEEDS[modems])
+    lines = output.split("\n")[:-1]
+    for line, other in zip(lines, wanted):
+        need(line == other, f"it printed {line!r}, the reference {other!r}; pages {pages}")
+    need(len(lines) == len(wanted), f"it printed {len(lines)} lines, the reference {len(wanted)}; pages {pages}")
 
 
 def run_once(folder, options):
@@ -149,6 +184,7 @@ def try_call(rand, folder):
         need(ran == (1, "", f"fault 30 at line {bad}\n", None), f"not fault 30 at line {bad}: {ran[0]} {ran[2]}")
         return 0, "fault 30"
     check(images, least, most, *ran)
+    compare(folder, images, script, options, ran[1])
     need(run_once(folder, options) == ran, "the same script printed or left something else")
     lines = ran[1].split("\n")
     return len(lines) - 3, CALLER.fullmatch(lines[-3])[1]
