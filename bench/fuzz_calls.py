@@ -38,6 +38,13 @@ MOODS = [
     [100, 60, 40, 1, 0, 5, 0, 0, 3, 0, 0],
     [60, 60, 0, 0, 0, 2, 1, 0, 3, 6, 6],
 ]
+# Pieces of scripts, several times one after the other: lost frames, bad training checks, an answerer that stays busy.
+PIECES = [
+    ["lose-to-answerer", "to-answerer 300", "to-caller"],
+    ["to-answerer", "spoil", "to-answerer", "to-caller"],
+    ["busy", "to-answerer 300", "to-caller", "caller-timeout"],
+    ["to-answerer 300", "lose-to-caller", "caller-timeout"],
+]
 # A busy answerer and its caller say RNR and RR to each other for as long as a polite call goes.
 POLITE = 50 * [1, 2, 5, 9, 11, 21, 100, 300] + [5000, 1000000]
 # How many speeds two stations of these modems try.
@@ -77,25 +84,32 @@ def random_image(rand):
     return b"P4\n%d %d\n" % (width, height) + rows
 
 
+def random_lines(rand, mood, pieces, polite):
+    """A line of a script, or a piece of one."""
+    pick = rand.random()
+    if pick < 0.05:
+        return [rand.choice(["", "# a comment", "#"])]
+    if pick < 0.05 + pieces:
+        return rand.choice(PIECES) * rand.randint(1, 6)
+    if pick < 0.05 + pieces + polite:
+        count = rand.choice(POLITE)
+        return ["polite %s%d" % ("0" * rand.choice([0, 0, 0, 7 - len(str(count))]), count)]
+    word = rand.choices(WORDS, mood)[0]
+    count = rand.choice([1, 1, 1, 1, 2, 3, 5, 30 if word.startswith("to-") else 1])
+    return [word if count == 1 and rand.random() < 0.7 else f"{word} {count}"]
+
+
 def random_script(rand):
     """A script, and the number of entries that it has at least and at most."""
-    lines, least, most = [], 0, 0
-    mood, polite = rand.choice(MOODS), rand.choice([0.05, 0.25])
-    for _ in range(rand.randint(1, rand.choice([3, 20, 60, 300]))):
-        pick = rand.random()
-        if pick < 0.05:
-            lines.append(rand.choice(["", "# a comment", "#"]))
-        elif pick < polite:
-            count = rand.choice(POLITE)
-            lines.append("polite %s%d" % ("0" * rand.choice([0, 0, 0, 7 - len(str(count))]), count))
-            most += 2 * min(count, 10**6)
-        else:
-            word = rand.choices(WORDS, mood)[0]
-            count = rand.choice([1, 1, 1, 1, 2, 3, 5, 30 if word.startswith("to-") else 1])
-            lines.append(word if count == 1 and rand.random() < 0.7 else f"{word} {count}")
-            least, most = least + count, most + count
-    text = "\n".join(lines) + rand.choice(["", "\n"])
-    return text, least, most
+    lines, most = [], rand.randint(1, rand.choice([3, 20, 60, 300]))
+    mood, pieces, polite = rand.choice(MOODS), rand.choice([0.03, 0.03, 0.3]), rand.choice([0.01, 0.05, 0.2])
+    while len(lines) < most:
+        lines += random_lines(rand, mood, pieces, polite)
+    lines = lines[:most]
+    counts = [(line.split()[0], int((line.split() + ["1"])[1])) for line in lines if line and not line.startswith("#")]
+    least = sum(count for word, count in counts if word != "polite")
+    politely = sum(count for word, count in counts if word == "polite")
+    return "\n".join(lines) + rand.choice(["", "\n"]), least, least + 2 * politely
 
 
 def spoiled_script(rand, text):
