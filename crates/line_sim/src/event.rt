@@ -1,3 +1,5 @@
+//! Events, items as a transcript names them, and entries.
+
 use stations::Turn;
 
 /// What happens on the line or to one of its stations.

@@ -1,3 +1,5 @@
+//! Why there is no world.
+
 ghost use Rattle.line_sim.specs.Report.{number_of};
 ghost use Rattle.std.specs.Prelude.{◌≡◌};
 

@@ -1,3 +1,5 @@
+//! What a call leaves.
+
 use crate::event::Entry;
 use raster::Page;
 use stations::End;

@@ -1,3 +1,5 @@
+//! Worked calls as events and reports, and calls at size.
+
 use super::*;
 use page_code::Coding;
 use raster::{Document, Page, Row};

@@ -1,3 +1,5 @@
+//! The blocks of a coded page (ITU-T T.30, Annex A).
+
 ghost use Rattle.partial_page.specs.Frames.{frame_size, CutsPage, IsCut};
 ghost use Rattle.std.specs.Prelude.{◌≡◌, ◌≤◌, ◌<◌, ◌+◌, ◌-◌, ◌*◌, [], length, take, drop, slice_index_or, IfOk};
 

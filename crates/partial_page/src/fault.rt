@@ -1,3 +1,5 @@
+//! Why a page isn't cut, or a frame isn't stored.
+
 use std::alloc::AllocError;
 use thiserror::Error;
 

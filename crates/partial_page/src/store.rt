@@ -1,3 +1,5 @@
+//! The frames of a block, under their numbers, in one buffer.
+
 ghost use Rattle.partial_page.specs.Frames.{frame_size};
 ghost use Rattle.partial_page.specs.Store.{StoredFrames, no_frames, frame_of, has_frame, is_marked, IsStore, IsWhole, joined_frames, PutsFrame, IsKept, IsMissingMap, bit_of};
 ghost use Rattle.partial_page.specs.declared.fault.BlockFault.TheVariants.{NoMemory};

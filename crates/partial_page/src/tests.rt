@@ -1,3 +1,5 @@
+//! Blocks and stores at size, and refused memory.
+
 use super::*;
 use std::alloc::{AllocError, Global};
 use std::test::Fail;

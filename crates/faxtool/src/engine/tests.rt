@@ -1,3 +1,5 @@
+//! What no clause says of `code` and `show`: vectors of another program, and readers and writers that fail.
+
 use super::{code_engine, show_engine};
 use crate::fault::{FAILED, ToolFault};
 use crate::test_streams::{Narrow, OneByOne};

@@ -1,3 +1,5 @@
+//! What no clause says of `frames`: a list of frames as it is printed, and readers and writers that fail.
+
 use super::frames_engine;
 use crate::fault::{FAILED, NO_MEMORY, ToolFault};
 use crate::test_streams::{Narrow, OneByOne};

@@ -1,3 +1,5 @@
+//! Scripts that are read, and lines that are refused.
+
 use super::{Command, read_script};
 use crate::fault::{NO_MEMORY, ToolFault};
 use line_sim::Event;

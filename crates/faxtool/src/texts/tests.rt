@@ -1,3 +1,5 @@
+//! The texts of contents, one by one.
+
 use super::ContentText;
 use std::alloc::{AllocError, Global};
 use std::process::Abort;

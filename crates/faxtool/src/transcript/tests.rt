@@ -1,3 +1,5 @@
+//! The lines of events, and the words of ends.
+
 use super::{end_word, write_entry};
 use line_sim::{Entry, Event, Kind};
 use stations::{End, Turn};

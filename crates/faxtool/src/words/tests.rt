@@ -1,3 +1,5 @@
+//! Words that are read as jobs, and words that are refused.
+
 use super::{Job, Outcome, read_words, status};
 use crate::fault::{NO_MEMORY, ToolFault};
 use crate::options::CallOptions;

@@ -1,3 +1,5 @@
+//! Worked calls of an answerer, step by step.
+
 use super::*;
 use page_code::Coding;
 use signals::{Modems, PageWidth, Speed};

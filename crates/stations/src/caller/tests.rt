@@ -1,3 +1,5 @@
+//! Worked calls of a caller, step by step.
+
 use super::*;
 use crate::Item;
 use raster::{RasterFault, Row};
