@@ -20,7 +20,7 @@ mod words;
 
 use call::call_engine;
 use engine::{code_engine, show_engine};
-use fault::{FAILED, NO_MEMORY, ToolFault};
+use fault::{NO_MEMORY, ToolFault};
 use frames::frames_engine;
 use options::CallOptions;
 use page_code::Coding;
@@ -44,7 +44,8 @@ fn main(rt: HostRuntime) -> ExitCode {
 fn run_words(rt: &HostRuntime) -> Outcome {
     let words = match given_words(rt) {
         Ok(words) => words,
-        Err(error) => return Outcome::Fault(words_fault(&error)),
+        // a word that is no text names no file that can be opened
+        Err(error) => return Outcome::Fault(ToolFault::from(error)),
     };
     let mut texts = Vec::new(rt.alloc());
     for word in &words {
@@ -61,14 +62,6 @@ fn run_words(rt: &HostRuntime) -> Outcome {
 fn given_words(rt: &HostRuntime) -> io::Result<Vec<String>> {
     let words = env::args(rt)?.collect(rt.alloc())?;
     Ok(words)
-}
-
-// A word that is no text names no file that can be opened.
-fn words_fault(error: &io::Error) -> ToolFault {
-    match error.kind() {
-        io::ErrorKind::OutOfMemory => NO_MEMORY,
-        _ => ToolFault::No(8),
-    }
 }
 
 fn run_job(rt: &HostRuntime, job: Job) -> Outcome
@@ -109,10 +102,11 @@ fn code_file(
     input: &str,
     output: &str,
 ) -> Result<(), ToolFault> {
-    let mut reader = fs::open(rt, input).map_err(|_| FAILED)?;
+    let mut reader = fs::open(rt, input)?;
     let mut octets = Vec::new(rt.alloc());
     code_engine(rt.alloc(), &mut reader, &mut octets, coding, order)?;
-    fs::write(rt, output, octets.as_slice()).map_err(|_| FAILED)
+    fs::write(rt, output, octets.as_slice())?;
+    Ok(())
 }
 
 /// Shows the page in a file.
@@ -125,7 +119,7 @@ fn show_file(
 ) -> Result<(), ToolFault>
     requires { IsWidth width }
 {
-    let mut reader = fs::open(rt, input).map_err(|_| FAILED)?;
+    let mut reader = fs::open(rt, input)?;
     let mut writer = BufWriter::new(rt.alloc(), io::writer(rt))?;
     show_engine(rt.alloc(), &mut reader, &mut writer, coding, order, width)?;
     writer.flush()?;
@@ -134,7 +128,7 @@ fn show_file(
 
 /// Lists the frames in a file.
 fn list_file(rt: &HostRuntime, input: &str) -> Result<(), ToolFault> {
-    let mut reader = fs::open(rt, input).map_err(|_| FAILED)?;
+    let mut reader = fs::open(rt, input)?;
     let mut writer = BufWriter::new(rt.alloc(), io::writer(rt))?;
     frames_engine(rt.alloc(), &mut reader, &mut writer)?;
     writer.flush()?;
@@ -150,8 +144,8 @@ fn call_file(
     out: Option<&str>,
     input: &str,
 ) -> Result<(), ToolFault> {
-    let mut script = fs::open(rt, script).map_err(|_| FAILED)?;
-    let mut reader = fs::open(rt, input).map_err(|_| FAILED)?;
+    let mut script = fs::open(rt, script)?;
+    let mut reader = fs::open(rt, input)?;
     let mut writer = BufWriter::new(rt.alloc(), io::writer(rt))?;
     let pages = call_engine(rt.alloc(), &mut script, &mut reader, &mut writer, options)?;
     writer.flush()?;
@@ -165,7 +159,7 @@ fn call_file(
 fn write_pages(rt: &HostRuntime, name: &str, pages: &[Page]) -> Result<(), ToolFault>
     requires { HaveRows pages.now }
 {
-    let mut file = fs::File::create(rt, name).map_err(|_| FAILED)?;
+    let mut file = fs::File::create(rt, name)?;
     write_pbm(pages, &mut file)?;
     Ok(())
 }
