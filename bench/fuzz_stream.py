@@ -285,7 +285,8 @@ class Stranger:
         self.params = Params(TRAINING[speed], bool(fine), width, 64 if small else 256, t6)
         text = {1728: "00", 2048: "10", 2432: "01"}[width]
         bits = f"0000000001{speed}{fine}0{text}011111001{small}00{int(t6)}0"
-        self.signal(bytes([0x82 + rand.randint(0, 1)]) + octets_of(bits))
+        fields = octets_of(bits)
+        self.signal(bytes([0x82 + rand.randint(0, 1)]) + (changed(rand, fields) if rand.random() < 0.1 else fields))
         if rand.random() < 0.95:
             self.train(self.params.training)
 
@@ -344,6 +345,8 @@ class Stranger:
             last = rand.choices([len(fields) - 1, len(here) - 1 if here else 0, rand.randrange(256)], [20, 3, 1])[0]
             self.signal(bytes([0xBE + rand.randint(0, 1), ends, self.page % 256, self.block % 256, last]))
             here = [number for number in here if rand.random() < 0.3]
+            if rand.random() < 0.05:
+                self.begin()
         if ends & 0xFE == 0x2E and rand.random() < 0.15:
             self.signal(rand.choice([b"\xfb", b"\xfa"]))
         self.block += 1
