@@ -5,7 +5,7 @@
     bench/fuzz_calls.py --dry               tries the checks alone, on a worked call and on wrong answers to it
 
 A document has 1 to 4 pages of 1 to 4 rows, and seldom of more blocks than one, 1,728, 2,048 or 2,432 pixels wide; a script 1 to 300
-lines. After each run:
+lines, half of them at random, half following the call so that it comes far. After each run:
 - each line that it printed is that of bench/reference_call.py, a plain reading of the tables apart from the program;
 - the transcript has the form of its entries, numbered from 1, as many as the script asks for, and ends with both stations;
 - the file of --out has the first pages of the document, octet for octet, as many as `pages` says, and isn't made for none;
@@ -25,7 +25,7 @@ import time
 from collections import Counter
 
 sys.dont_write_bytecode = True
-from reference_call import transcript
+from reference_call import Line, transcript
 
 TOP = os.path.dirname(os.path.dirname(os.path.abspath(__file__)))
 PROGRAM = os.environ.get("FAXTOOL", os.path.join(TOP, "crates", "faxtool", "out", "faxtool"))
@@ -37,11 +37,13 @@ MOODS = [
     [60, 30, 1, 1, 15, 3, 0, 0, 10, 1, 1],
     [100, 60, 40, 1, 0, 5, 0, 0, 3, 0, 0],
     [60, 60, 0, 0, 0, 2, 1, 0, 3, 6, 6],
+    [100, 100, 0.5, 0.5, 0.5, 0.5, 0, 0, 3, 0, 0],
 ]
 # Pieces of scripts, several times one after the other: lost frames, bad training checks, an answerer that stays busy.
 PIECES = [
     ["lose-to-answerer", "to-answerer 300", "to-caller"],
-    ["to-answerer", "spoil", "to-answerer", "to-caller"],
+    ["to-caller", "to-answerer", "spoil", "to-answerer", "to-caller"],
+    ["answerer-t2", "to-caller", "to-answerer", "spoil", "to-answerer", "to-caller"],
     ["busy", "to-answerer 300", "to-caller", "caller-timeout"],
     ["to-answerer 300", "lose-to-caller", "caller-timeout"],
 ]
@@ -90,7 +92,7 @@ def random_lines(rand, mood, pieces, polite):
     if pick < 0.05:
         return [rand.choice(["", "# a comment", "#"])]
     if pick < 0.05 + pieces:
-        return rand.choice(PIECES) * rand.randint(1, 6)
+        return rand.choice(PIECES) * rand.choice([1, 1, 2, 3, 4, 6])
     if pick < 0.05 + pieces + polite:
         count = rand.choice(POLITE)
         return ["polite %s%d" % ("0" * rand.choice([0, 0, 0, 7 - len(str(count))]), count)]
@@ -110,6 +112,35 @@ def random_script(rand):
     least = sum(count for word, count in counts if word != "polite")
     politely = sum(count for word, count in counts if word == "polite")
     return "\n".join(lines) + rand.choice(["", "\n"]), least, least + 2 * politely
+
+
+def next_word(rand, line, harm):
+    """An event of a call that goes on: mostly the delivery that is next, and else something that goes wrong."""
+    place = next((place for place, items in line.under_way.items() if items), None)
+    if place is None or rand.random() < harm / 3:
+        timeouts = 1 if line.caller.state == "WaitDis" else 20
+        waits = ["caller-timeout", "answerer-t2", "busy", "ready", "caller-t5", "answerer-t1"]
+        return rand.choices(waits, [timeouts, 20, 3, 12, 1, 0.1])[0]
+    if line.under_way[place][0][0] == "TRAINING" and rand.random() < 3 * harm:
+        return "spoil"
+    return ("lose-" if rand.random() < harm else "") + place
+
+
+def guided_script(rand, pages, frame, speeds):
+    """A script that follows a call of these pages, so that it comes far, and the number of entries that it has."""
+    line, harm, words = Line(pages, frame, speeds), rand.choice([0.01, 0.03, 0.1, 0.2]), []
+    lines, most, size = [], rand.randint(1, 300), rand.randint(1, 3000)
+    while len(lines) < most and len(words) < size:
+        words.append(next_word(rand, line, harm))
+        line.event(words[-1])
+        if line.caller.end and line.answerer.end:
+            most = min(most, len(lines) + 5)
+        if words[-2:-1] == words[-1:]:
+            word, _, count = lines[-1].partition(" ")
+            lines[-1] = f"{word} {int(count or 1) + 1}"
+        else:
+            lines.append(words[-1])
+    return "\n".join(lines), len(words)
 
 
 def spoiled_script(rand, text):
@@ -153,21 +184,25 @@ def value_of(options, name, otherwise):
     return options[options.index(name) + 1] if name in options else otherwise
 
 
-def compare(folder, images, script, options, output):
-    """Raises Failed where a line that was printed isn't the reference's. A page's code is counted as `faxtool code` writes it."""
+def pages_of(folder, images, options):
+    """Each page's width and number of octets of code, as `faxtool code` writes it."""
     pages = []
     for image in images:
         one, code = os.path.join(folder, "one.pbm"), os.path.join(folder, "code")
         with open(one, "wb") as file:
             file.write(image)
-        subprocess.run([PROGRAM, "code", "--code", value_of(options, "--code", "mmr"), "--order", "lsb", one, code], check=True, timeout=120)
+        words = [PROGRAM, "code", "--code", value_of(options, "--code", "mmr"), "--order", "lsb", one, code]
+        subprocess.run(words, check=True, timeout=120)
         pages.append((int(image.split()[1]), os.path.getsize(code)))
-    frame, modems = int(value_of(options, "--frame", "256")), value_of(options, "--modems", "v17")
-    wanted = transcript(script, pages, frame, SPEEDS[modems])
+    return pages
+
+
+def compare(output, wanted):
+    """Raises Failed where a line that was printed isn't the reference's."""
     lines = output.split("\n")[:-1]
     for line, other in zip(lines, wanted):
-        need(line == other, f"it printed {line!r}, the reference {other!r}; pages {pages}")
-    need(len(lines) == len(wanted), f"it printed {len(lines)} lines, the reference {len(wanted)}; pages {pages}")
+        need(line == other, f"it printed {line!r}, the reference {other!r}")
+    need(len(lines) == len(wanted), f"it printed {len(lines)} lines, the reference {len(wanted)}")
 
 
 def run_once(folder, options):
@@ -186,8 +221,13 @@ def run_once(folder, options):
 def try_call(rand, folder):
     """One document and one script. Answers the number of entries and the caller's end."""
     images = [random_image(rand) for _ in range(rand.randint(1, 4))]
-    script, least, most = random_script(rand)
     options, bad = random_options(rand), None
+    frame, speeds = int(value_of(options, "--frame", "256")), SPEEDS[value_of(options, "--modems", "v17")]
+    pages = pages_of(folder, images, options)
+    script, least, most = random_script(rand)
+    if rand.random() < 0.5:
+        script, least = guided_script(rand, pages, frame, speeds)
+        most = least
     if rand.random() < 0.05:
         script, bad = spoiled_script(rand, script)
     for name, octets in (("in.pbm", b"".join(images)), ("script", script.encode(errors="surrogateescape")), ("options", " ".join(options).encode())):
@@ -198,7 +238,7 @@ def try_call(rand, folder):
         need(ran == (1, "", f"fault 30 at line {bad}\n", None), f"not fault 30 at line {bad}: {ran[0]} {ran[2]}")
         return 0, "fault 30"
     check(images, least, most, *ran)
-    compare(folder, images, script, options, ran[1])
+    compare(ran[1], transcript(script, pages, frame, speeds))
     need(run_once(folder, options) == ran, "the same script printed or left something else")
     lines = ran[1].split("\n")
     return len(lines) - 3, CALLER.fullmatch(lines[-3])[1]
@@ -268,7 +308,7 @@ def dry():
     for _ in range(1000):
         script, least, most = random_script(rand)
         need(1 <= len(script.split("\n")) <= 301 and least <= most, "a script out of range")
-        random_image(rand), random_options(rand), spoiled_script(rand, script)
+        random_image(rand), random_options(rand), spoiled_script(rand, script), guided_script(rand, [(1728, 4), (2048, 999)], 64, 2)
     print(f"the checks pass a worked call and refuse {len(wrong)} wrong answers")
     return 0
 

@@ -281,10 +281,10 @@ class Stranger:
         """A DCS and a training check."""
         rand = self.rand
         speed, fine, small, t6 = rand.choice(list(TRAINING)), rand.randint(0, 1), rand.randint(0, 1), rand.random() < 0.7
-        width = rand.choice(list(WHITE_ROWS))
+        width, unnamed = rand.choice(list(WHITE_ROWS)), int(rand.random() < 0.05)
         self.params = Params(TRAINING[speed], bool(fine), width, 64 if small else 256, t6)
         text = {1728: "00", 2048: "10", 2432: "01"}[width]
-        bits = f"0000000001{speed}{fine}0{text}011111001{small}00{int(t6)}0"
+        bits = f"0000000001{speed}{fine}{unnamed}{text}011111001{small}00{int(t6)}0"
         fields = octets_of(bits)
         self.signal(bytes([0x82 + rand.randint(0, 1)]) + (changed(rand, fields) if rand.random() < 0.1 else fields))
         if rand.random() < 0.95:
@@ -342,11 +342,12 @@ class Stranger:
                 self.signal(bytes([0x06, number]) + fields[number])
             for _ in range(rand.choice([0, 3])):
                 self.signal(b"\x86")
-            last = rand.choices([len(fields) - 1, len(here) - 1 if here else 0, rand.randrange(256)], [20, 3, 1])[0]
+            last = rand.choices([len(fields) - 1, len(here) - 1 if here else 0, rand.randrange(256)], [16, 6, 1])[0]
             self.signal(bytes([0xBE + rand.randint(0, 1), ends, self.page % 256, self.block % 256, last]))
             here = [number for number in here if rand.random() < 0.3]
             if rand.random() < 0.05:
                 self.begin()
+                here = list(range(rand.randint(1, len(fields))))
         if ends & 0xFE == 0x2E and rand.random() < 0.15:
             self.signal(rand.choice([b"\xfb", b"\xfa"]))
         self.block += 1
