@@ -13,6 +13,8 @@ mod frames;
 mod options;
 mod script;
 #[cfg(test)]
+mod seam_tests;
+#[cfg(test)]
 mod test_streams;
 mod texts;
 mod transcript;
