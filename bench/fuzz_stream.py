@@ -7,7 +7,7 @@
 A stream has frames of DCS, FCD, RCP, PPS, RR, DCN and others, right or wrong: bits changed before or after the stuffing, a wrong
 check sequence, a stuffed bit left out or added, cut short, repeated, lost, out of order, of 257 to 300 octets of data, with one flag,
 two or a shared 0 between two frames; random octets, flags and runs of 1; training checks good and bad, both timers, busy and ready.
-For each stream:
+One answerer in five has few capabilities. For each stream:
 - the program ends with status 0 within 20 seconds;
 - its turns, pages and end are those of a plain deframer and reader of signals here and of the answerer of bench/reference_call.py;
 - the same octets cut at other places give the same.
@@ -43,7 +43,9 @@ PAGE_ENDS = {0x4E: "MPS", 0x2E: "EOP", 0x8E: "EOM"}
 TURNS = {"-": "Silent", "DIS": "Dis", "CFR": "Cfr", "FTT": "Ftt", "MCF": "Mcf", "RNR": "Rnr", "DCN": "Dcn"}
 ENDS = {None: "None", "normal": "Some(Normal)", "no-answer": "Some(NoAnswer)", "peer-left": "Some(PeerLeft)", "bad-page": "Some(BadPage)"}
 KINDS = {"T1": b"1", "T2": b"2", "TRAINING": b"C", "LINE": b"O"}
-Params = namedtuple("Params", "training fine width frame t6")
+Params = namedtuple("Params", "speed fine width frame t6")
+# What an answerer of few capabilities allows: the bits of the speeds of V.29, standard lines, 2,048 pixels, no T.6.
+FEW_SPEEDS = ["1000", "1100"]
 
 
 class Failed(Exception):
@@ -100,7 +102,11 @@ def read_params(fields):
     t6, is_corrected = bits[30] == "1", bits[26] == "1"
     if speed not in TRAINING or width is None or not is_corrected or (bits[15] == "1" and not t6):
         return None
-    return Params(TRAINING[speed], bits[14] == "1", width, 64 if bits[27] == "1" else 256, t6)
+    return Params(speed, bits[14] == "1", width, 64 if bits[27] == "1" else 256, t6)
+
+
+def is_allowed(params, few):
+    return not few or (params.speed in FEW_SPEEDS and not params.fine and params.width <= 2048 and not params.t6)
 
 
 def read_signal(content):
@@ -147,8 +153,8 @@ def count_rows(params, octets):
 class Reading:
     """A new answerer over feeds, beside the turns that the program gave to them."""
 
-    def __init__(self, turns):
-        self.turns, self.lines, self.unknown = turns, ["Dis"], 0
+    def __init__(self, turns, few):
+        self.turns, self.few, self.lines, self.unknown = turns, few, ["Dis"], 0
         self.station = Answerer(self.reads, lambda params: params.frame)
 
     def reads(self, params, octets):
@@ -159,7 +165,7 @@ class Reading:
         return self.turns[len(self.lines) : len(self.lines) + 1] != ["Dcn"]
 
     def give(self, what, *data):
-        turn = self.station.step(what, *data)
+        turn = ("-",) if what == "DCS" and not is_allowed(data[0], self.few) else self.station.step(what, *data)
         if turn[0] == "PPR":
             octets = [sum((8 * at + bit in turn[1]) << bit for bit in range(8)) for at in range(32)]
             self.lines.append(f"Ppr({octets})")
@@ -168,7 +174,7 @@ class Reading:
 
     def train(self, octets):
         longest = max((len(run) for run in re.findall(b"\0+", octets)), default=0)
-        self.give("TRAINING", self.station.params is not None and 2 * longest >= self.station.params.training)
+        self.give("TRAINING", self.station.params is not None and 2 * longest >= TRAINING[self.station.params.speed])
 
     def ends(self):
         lines = []
@@ -178,9 +184,9 @@ class Reading:
         return lines + [f"end {ENDS[self.station.end]}"]
 
 
-def wanted(feeds, turns):
+def wanted(feeds, turns, few=False):
     """The lines for feeds; pages of an unknown number of rows have `?`. And how many pages the program alone has judged."""
-    reading = Reading(turns)
+    reading = Reading(turns, few)
     contents = good_contents(bits_of(b"".join(data for kind, data in feeds if kind == "LINE")))[::-1]
     bits = 0
     for kind, data in feeds:
@@ -199,10 +205,10 @@ def wanted(feeds, turns):
     return reading.lines + reading.ends(), reading.unknown
 
 
-def compare(feeds, output):
+def compare(feeds, output, few=False):
     lines = output.split("\n")[:-1]
     turns = [line for line in lines if not line.startswith(("page ", "end "))]
-    lines_wanted, unknown = wanted(feeds, turns)
+    lines_wanted, unknown = wanted(feeds, turns, few)
     for at, (line, other) in enumerate(zip(lines, lines_wanted)):
         if line != other and not (other.endswith("?") and line.startswith(other[:-1])):
             raise Failed(f"line {at + 1}: it printed {line!r}, the tables say {other!r}")
@@ -250,10 +256,10 @@ def frame_bits(rand, content, wrong):
 class Stranger:
     """Sends feeds: it keeps the bits of the line that aren't a feed yet, and what it agreed last."""
 
-    def __init__(self, rand):
-        self.rand, self.feeds, self.bits = rand, [], ""
+    def __init__(self, rand, few=False):
+        self.rand, self.few, self.feeds, self.bits = rand, few, [], ""
         self.wrong, self.lost = rand.choice([0, 0, 0.02, 0.2, 0.6]), rand.choice([0, 0, 0.05, 0.3])
-        self.params, self.page, self.block, self.sent = Params(2700, False, 1728, 256, True), 0, 0, []
+        self.params, self.page, self.block, self.sent = Params("0001", False, 1728, 256, True), 0, 0, []
 
     def content(self, content):
         """A frame, or nothing where it is lost, or the frame several times."""
@@ -282,13 +288,15 @@ class Stranger:
         rand = self.rand
         speed, fine, small, t6 = rand.choice(list(TRAINING)), rand.randint(0, 1), rand.randint(0, 1), rand.random() < 0.7
         width, unnamed = rand.choice(list(WHITE_ROWS)), int(rand.random() < 0.05)
-        self.params = Params(TRAINING[speed], bool(fine), width, 64 if small else 256, t6)
+        if self.few and rand.random() < 0.7:
+            speed, fine, t6, width = rand.choice(FEW_SPEEDS), 0, False, rand.choice([1728, 2048])
+        self.params = Params(speed, bool(fine), width, 64 if small else 256, t6)
         text = {1728: "00", 2048: "10", 2432: "01"}[width]
         bits = f"0000000001{speed}{fine}{unnamed}{text}011111001{small}00{int(t6)}0"
         fields = octets_of(bits)
         self.signal(bytes([0x82 + rand.randint(0, 1)]) + (changed(rand, fields) if rand.random() < 0.1 else fields))
         if rand.random() < 0.95:
-            self.train(self.params.training)
+            self.train(TRAINING[speed])
 
     def train(self, size):
         rand = self.rand
@@ -412,8 +420,8 @@ def cut(rand, feeds):
     return out
 
 
-def run_once(program, name):
-    ran = subprocess.run([program, name], capture_output=True, timeout=20)
+def run_once(program, name, few=False):
+    ran = subprocess.run([program, name] + few * ["few"], capture_output=True, timeout=20)
     if ran.returncode or ran.stderr:
         raise Failed(f"status {ran.returncode}: {ran.stderr.decode(errors='replace')}")
     return ran.stdout.decode("ascii", "replace")
@@ -421,16 +429,16 @@ def run_once(program, name):
 
 def try_stream(rand, folder, program):
     """One stream. Answers its octets, the program's turns, the judged pages and the end."""
-    feeds = Stranger(rand).stream()
-    outputs = []
+    few = rand.random() < 0.2
+    feeds, outputs = Stranger(rand, few).stream(), []
     for number in (1, 2):
         name = os.path.join(folder, f"feeds{number}")
         with open(name, "wb") as file:
             file.write(cut(rand, feeds))
-        outputs.append(run_once(program, name))
+        outputs.append(run_once(program, name, few))
     if outputs[0] != outputs[1]:
         raise Failed("the same octets cut elsewhere give something else")
-    turns, unknown = compare(feeds, outputs[0])
+    turns, unknown = compare(feeds, outputs[0], few)
     pages = sum(line.startswith("page ") for line in outputs[0].split("\n"))
     octets = sum(len(data) for kind, data in feeds if kind == "LINE")
     return octets, turns, pages, unknown, outputs[0].split("\n")[-2]
