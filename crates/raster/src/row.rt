@@ -157,7 +157,7 @@ impl Row {
     pub fn octets(&self) -> &[u8]
         ensures { HoldsRow self.now result.now }
     {
-        let octets = self.pixels.octets();
+        let octets = self.pixels.octets(); // the proof speaks of them by this name
         octets
     }
 
