@@ -2,12 +2,15 @@
 """Holds docs/DEFINITIONS.md against the crates:
 
     .ci/definitions.py
+    .ci/definitions.py --lists     writes the two lists after each table anew
 
 Each name of `crates/*/specs/` that a public clause cites is in the first column of its crate's table, in a row that names the
 file that defines it; and each name of a first column is defined in a file that its row names. A public clause is one of a
 contract of an item that other crates can name, or what a type or a trait says of itself by `ghost`; in a program it is one of
 any item that is `pub`, or of main.rt. A type's `view` and `invariant` are left out: they say how its private fields hold
 its value, and are proved. Types, constructors and fields of the code itself aren't asked for.
+After each table are two lists: the other definitions that those of all public clauses stand on, which are to be believed with
+them, and the definitions that none of these stands on, which serve the proofs alone. Each list has exactly the names that it says.
 Prints what is missing and ends with status 1, or prints one line of counts. It needs Python's standard library alone."""
 
 import re
@@ -22,6 +25,10 @@ IMPORT = re.compile(r"\bghost use Rattle\.(\w+)\.specs\.([\w.]+)\.\{([^}]*)\}")
 FUNCTION = re.compile(r"(\bpub\b(?:\([^)]*\))?\s+)?(?:const\s+)?\bfn\s+(\w+)")
 CLAUSE = re.compile(r"\b(?:requires|ensures)\b\*?(?:\s+\w+)?\s*\{|\bghost\s+(?!use\b|view\b|invariant\b)(\w+)\s*[=:]\s*\{")
 HEADER = re.compile(r"\b(impl|trait)\b\s*(?:<[^{]*?>\s*)?(?:[^{]*\bfor\s+)?[&]?(?:\w+::)*(\w+)")
+IMPORT_IN_SPECS = re.compile(r"^use Rattle\.(\w+)\.specs\.([\w.]+)\.\{([^}]*)\}", re.M)
+TOP_NAME = re.compile(rf"(?:(?:unfoldable|abbrev|pub|record|data) +)*(?!(?:unfoldable|abbrev|pub|record|data)\b)({NAME})")
+ALSO = "Also to be believed, since those of the tables stand on them; each is explained where it is defined."
+BESIDE = "Beside the code: no public clause and nothing to be believed stands on these."
 CITED = re.compile(rf"(?<![\w.'])({NAME})(?!\s*=(?!=))")
 
 
@@ -120,6 +127,71 @@ def citations(crate):
                 yield file, owner, [names[name] for name in cited if name in names]
 
 
+def parts_of(text):
+    """The definitions of a file of specs: the text of each by its name."""
+    parts, name = {}, None
+    for line in text.splitlines():
+        if line.startswith(("--", "use ", "pub mod ", "mod ", "infix")) or not line.strip():
+            continue
+        named = TOP_NAME.match(line)
+        if named:
+            name = named[1]
+        parts[name] = parts.get(name, "") + re.sub(r"--.*", "", line) + "\n"
+    return parts
+
+
+def bases(crates):
+    """What each definition of all specs names: definitions by their crate, module and name."""
+    found = {}
+    for crate in crates.values():
+        for module in crate.modules:
+            text = (crate.folder / "specs" / (module.replace(".", "/") + ".antt")).read_text()
+            parts, names = parts_of(text), {}
+            for there in IMPORT_IN_SPECS.finditer(text):
+                for word in there[3].split(","):
+                    name, _, here = word.strip().partition(" as ")
+                    names[here.strip() or name] = (there[1], there[2], name)
+            names.update({name: (crate.folder.name, module, name) for name in parts})
+            for name, part in parts.items():
+                cited = re.findall(rf"(?<![\w.'])({NAME})", part)
+                found[(crate.folder.name, module, name)] = {names[word] for word in cited if word in names}
+    return found
+
+
+def reached_from(asked, stand_on):
+    """All definitions that these stand on, with themselves. A constructor is imported from its type's module."""
+    reached, waiting = set(), list(asked)
+    while waiting:
+        crate, module, name = waiting.pop()
+        key = (crate, module, name)
+        if key not in stand_on:
+            key = (crate, *module.rpartition(".")[::2])
+        if key in stand_on and key not in reached:
+            reached.add(key)
+            waiting.extend(stand_on[key])
+    return reached
+
+
+def list_of(names):
+    """The names by their files, in one line."""
+    modules = sorted({module for module, _ in names})
+    return "; ".join(f"in `{each}`: " + ", ".join(f"`{name}`" for module, name in sorted(names) if module == each) for each in modules)
+
+
+def with_lists(text, told, reached, stand_on):
+    """The text with the two lists after each crate's table."""
+    pieces = re.split(r"^(?=## )", text, flags=re.M)
+    for place, piece in enumerate(pieces[1:], 1):
+        crate = piece.split("`")[1]
+        own = {key[1:] for key in stand_on if key[0] == crate}
+        also = {key for key in own if (crate, *key) in reached and (crate, *reversed(key)) not in told}
+        beside = {key for key in own if (crate, *key) not in reached and (crate, *reversed(key)) not in told}
+        lists = [f"{words} {list_of(names)[0].upper()}{list_of(names)[1:]}." for words, names in ((ALSO, also), (BESIDE, beside)) if names]
+        table = re.split(rf"^(?:{re.escape(ALSO)}|{re.escape(BESIDE)})", piece, flags=re.M)[0].rstrip()
+        pieces[place] = "\n\n".join([table, *lists]) + "\n" + ("\n" if place + 1 < len(pieces) else "")
+    return "".join(pieces)
+
+
 def rows(text):
     """The rows of each crate's table: the names, and the modules of the files."""
     tables = {}
@@ -130,9 +202,10 @@ def rows(text):
     return tables
 
 
-def main():
+def main(words):
+    document = TOP / "docs" / "DEFINITIONS.md"
     crates = {folder.name: Crate(folder) for folder in sorted((TOP / "crates").iterdir()) if (folder / "specs").is_dir()}
-    tables = rows((TOP / "docs" / "DEFINITIONS.md").read_text())
+    tables = rows(document.read_text())
     told = {(crate, file, name) for crate, table in tables.items() for names, files in table for name in names for file in files}
     missing, asked, clauses = {}, set(), 0
     for crate in crates.values():
@@ -152,10 +225,18 @@ def main():
                 if not any(name in crates[crate].modules.get(file, ()) for file in files):
                     print(f"docs/DEFINITIONS.md: {crate} has `{name}`, which isn't defined in {', '.join(files)}")
                     stale += 1
+    stand_on = bases(crates)
+    reached = reached_from(asked, stand_on)
+    listed = with_lists(document.read_text(), {(crate, name, file) for crate, file, name in told}, reached, stand_on)
+    if words == ["--lists"]:
+        document.write_text(listed)
+    elif listed != document.read_text():
+        print("docs/DEFINITIONS.md: the lists after the tables aren't those of the crates; .ci/definitions.py --lists writes them")
+        return 1
     if missing or stale:
         return 1
-    print(f"definitions: {len(asked)} names of {clauses} public clauses are there")
+    print(f"definitions: {len(asked)} names of {clauses} public clauses are there; they stand on {len(reached)} of {len(stand_on)} definitions")
     return 0
 
 
-sys.exit(main())
+sys.exit(main(sys.argv[1:]))
