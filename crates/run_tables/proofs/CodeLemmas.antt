@@ -5,7 +5,7 @@ use Rattle.std.proofs.lemmas.Bool.{le-ltb, lt-ltb}
 use Rattle.std.proofs.lemmas.Grind.{common_steps}
 use Rattle.raster.specs.declared.row.Color.{Color}
 use Rattle.raster.specs.declared.row.Color.TheVariants.{White}
-use Rattle.raster.specs.Runs.{AreOwnRuns}
+use Rattle.raster.specs.Runs.{colored, AreOwnRuns}
 use Rattle.raster.proofs.RowLemmas.{length-colored}
 use Rattle.raster.specs.Pixels.{other}
 use Rattle.run_tables.specs.declared.table.Code.{Code}
@@ -47,7 +47,11 @@ at_most_sum (x ∷ xs) (suc k) d h =
     let later : get_or xs k d ≤ sum xs = at_most_sum xs k d within in
     grind (arith, common_steps, later)
 
--- the own runs of a row are no longer than the row
+-- the runs of a row are no longer than the row
+pub runs_fit : (row : List Color) (runs : List ℕ) → length row ≤ 2432 → row ≡ colored White runs → (k d : ℕ) → k < length runs
+    → get_or runs k d ≤ 2623
+runs_fit row runs fits spelled k d h = omega (arith, at_most_sum runs k d h, length-colored White runs, ap length spelled)
+
 pub own_runs_fit : (row : List Color) (runs : List ℕ) → length row ≤ 2432 → AreOwnRuns row runs → (k d : ℕ) → k < length runs
     → get_or runs k d ≤ 2623
-own_runs_fit row runs fits own k d h = omega (arith, at_most_sum runs k d h, length-colored White runs, ap length own.spelled)
+own_runs_fit row runs fits own = runs_fit row runs fits own.spelled

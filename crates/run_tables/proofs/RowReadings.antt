@@ -4,6 +4,7 @@ use Rattle.std.specs.Prelude.{Ok, Err, Contains}
 use Rattle.std.specs.List.{range_with_len}
 use Rattle.std.proofs.lemmas.List.FromFn.{get_or-map-range_with_len, length-map-range_with_len}
 use Rattle.raster.specs.declared.row.Color.{Color}
+use Rattle.raster.specs.Pixels.{IsWidth}
 use Rattle.raster.specs.declared.row.Color.TheVariants.{White, Black}
 use Rattle.run_tables.specs.declared.fault.CodeFaultKind.{CodeFaultKind}
 use Rattle.run_tables.specs.declared.fault.CodeFaultKind.TheVariants.{BadCode}
@@ -100,14 +101,14 @@ row_end_is : (width : ℕ) (s : RowState) (x : List Bool) (row : List Color) (n 
 row_end_is width (inside pixels color makeup) x row n e = absurd (code_goes (λ code. code) whole inside width pixels color makeup x row n e)
 row_end_is width (whole pixels) x row n e = (cc, cc)
 
-reads_only : (width : ℕ) (x : List Bool) (row : List Color) (used : ℕ) → 0 < width → read_row width x ≡ Ok (row, used)
+reads_only : (width : ℕ) (x : List Bool) (row : List Color) (used : ℕ) → IsWidth width → read_row width x ≡ Ok (row, used)
     → ReadsAsRow width x row used
 unfolding reading
-reads_only width x row used some e =
+reads_only width x row used wide e =
     let h = halts item_word (Step width) (look width) BadCode (finds width) (suc (length x)) row_begin 0 x (omega arith) in
     let answer = stops (look width h.end h.rest) (0 + length (spell item_word h.items)) used row (rw e at h.answers) in
     let end = row_end_is width h.end h.rest row answer.0 answer.1 in
-    let spelled = row_spelled width row (spell item_word h.items) some (walk_left width h.items row_begin row (rw end.0 at h.walk)) in
+    let spelled = row_spelled width row (spell item_word h.items) wide (walk_left width h.items row_begin row (rw end.0 at h.walk)) in
     record {
       front = spell item_word h.items;
       rest = h.rest;
@@ -127,7 +128,7 @@ reads_all width x row used some wide reads =
 
 pub reads_rows_exactly : ReadsExactly
 reads_rows_exactly width x row used wide = (
-  λ e. reads_only width x row used (omega (arith, wide.0)) e,
+  λ e. reads_only width x row used wide e,
   λ reads. reads_all width x row used
       (omega (arith, wide.0)) wide.1 reads,
 )
@@ -148,8 +149,7 @@ reads_own_runs row runs rest wide own = reads_all (length row) (runs_words White
     (arith, wide.0)) wide.1 (record {
       front = runs_words White runs;
       rest = rest;
-      spells = own_runs_spell row runs (omega (arith, wide.0))
-          own;
+      spells = own_runs_spell row runs wide own;
       wide = refl;
       split = refl;
       used_is = refl;

@@ -5,7 +5,7 @@ use Rattle.std.proofs.lemmas.Bool.{ltb-true, ltb-false, lt-ltb, le-ltb, eqb-true
 use Rattle.std.proofs.lemmas.List.{append-nil, length-replicate}
 use Rattle.raster.specs.declared.row.Color.{Color}
 use Rattle.raster.specs.declared.row.Color.TheVariants.{White}
-use Rattle.raster.specs.Pixels.{other}
+use Rattle.raster.specs.Pixels.{other, IsWidth}
 use Rattle.raster.specs.Runs.{colored, AreOwnRuns}
 use Rattle.run_tables.specs.declared.fault.CodeFaultKind.TheVariants.{RunTooLong}
 use Rattle.run_tables.specs.Codes.{code_word, run_words, run_at}
@@ -13,6 +13,7 @@ use Rattle.run_tables.specs.RunWords.{runs_words, SpellsRow}
 use Rattle.run_tables.specs.RowFronts.{RunItem, item_word, codes_after, amount, run_ended, after_code, CodeStep, RowState, row_begin}
 use Rattle.run_tables.specs.RowFronts.RunItem.{run_item}
 use Rattle.run_tables.specs.RowFronts.RowState.{inside, whole}
+use Rattle.run_tables.proofs.CodeLemmas.{runs_fit}
 use Rattle.run_tables.proofs.CodeLooks.{listed}
 
 -- runs from a place of the row to its end, and their code words
@@ -119,21 +120,22 @@ last_above run (m ∷ runs) some all =
     let there = last_above m runs (λ e. all 0 0 (omega arith)) (λ k d h. all (suc k) d (omega (arith, h))) in
     (run ∷ there.0, there.1, there.2, ap (λ l. run ∷ l) there.3)
 
-pub own_runs_spell : (row : List Color) (runs : List ℕ) → 0 < length row → AreOwnRuns row runs → SpellsRow row (runs_words White runs)
-own_runs_spell row [] some own = absurd (omega (arith, ap length own.spelled))
-own_runs_spell row (run ∷ runs) some own =
+pub own_runs_spell : (row : List Color) (runs : List ℕ) → IsWidth (length row) → AreOwnRuns row runs → SpellsRow row (runs_words White runs)
+own_runs_spell row [] wide own = absurd (omega (arith, wide.0, ap length own.spelled))
+own_runs_spell row (run ∷ runs) wide own =
     let there = last_above run runs (λ e. alone runs e own.spelled) own.later in
     record {
       before = there.0;
       last = there.1;
       above = there.2;
+      most = runs_fit row (there.0 ++ there.1 ∷ []) wide.1 (own.spelled ∙ ap (colored White) there.3);
       covers = own.spelled ∙
           ap (colored White) there.3;
       words = ap (runs_words White) there.3;
     }
   where
     alone : (js : List ℕ) → js ≡ [] → row ≡ colored White (run ∷ js) → 0 < run
-    alone [] e spelled = omega (arith, some, ap length spelled, length-append (replicate run White) [], length-replicate run White)
+    alone [] e spelled = omega (arith, wide.0, ap length spelled, length-append (replicate run White) [], length-replicate run White)
     alone (j ∷ js) e spelled = cc
 
 -- what is left of a run's code words, perhaps after its make-up code
@@ -289,9 +291,10 @@ code_left width pixels color makeup (run_item d n) t row bits step left =
     rw (same, run) (run_left width pixels color makeup one.0 t row bits one.1 (rw run at step.leads) left)
 
 -- what completes a row from its beginning spells it
-pub row_spelled : (width : ℕ) (row : List Color) (bits : List Bool) → 0 < width → Left width row_begin row bits
+pub row_spelled : (width : ℕ) (row : List Color) (bits : List Bool) → IsWidth width → Left width row_begin row bits
     → SpellsRow row bits × (length row ≡ width)
-row_spelled width row bits some left =
+row_spelled width row bits wide left =
+    let some : 0 < width = omega (arith, wide.0) in
     let ends = row_from_runs (left.run ∷ left.runs) width [] White row bits some (
       left.others,
       some,
@@ -299,5 +302,14 @@ row_spelled width row bits some left =
       left.split ∙
           ap (λ l. l ++ left.others) left.word,
       left.spells,
-    ) in
-    (record { before = ends.before; last = ends.last; above = ends.above; covers = ends.covers; words = ends.words }, ends.wide)
+    ) in (
+      record {
+        before = ends.before;
+        last = ends.last;
+        above = ends.above;
+        most = runs_fit row (ends.before ++ ends.last ∷ []) (omega (arith, ends.wide, wide.1)) ends.covers;
+        covers = ends.covers;
+        words = ends.words;
+      },
+      ends.wide,
+    )

@@ -2,6 +2,7 @@
 use Rattle.std.proofs.Common.{ℕ, suc, ◌≡◌, ◌+◌, ◌<◌, inr, Bool, List, [], ◌∷◌, ◌++◌, length, refl, ◌∙◌, arith, length-append, append_assoc}
 use Rattle.std.specs.Prelude.{All}
 use Rattle.raster.specs.declared.row.Color.{Color}
+use Rattle.raster.specs.Pixels.{IsWidth}
 use Rattle.run_tables.specs.declared.fault.CodeFaultKind.TheVariants.{BadCode}
 use Rattle.run_tables.specs.RunWords.{SpellsRow}
 use Rattle.run_tables.proofs.FrontWalks.{refused_at, fronts_nested}
@@ -18,7 +19,7 @@ use Rattle.page_code.proofs.OneDimension.ReadsOnly.{reads_only}
 
 pub reads_pages_exactly : ReadsExactly
 reads_pages_exactly width x page used wide = (
-  λ e. reads_only width x page used (omega (arith, wide.0)) e,
+  λ e. reads_only width x page used wide e,
   λ reads. reads_all width x page
       used (omega (arith, wide.0)) wide.1 reads,
 )
@@ -37,10 +38,10 @@ one_front width x items others one two = fronts_nested item_word (Step width) (l
 
 -- The code of a page
 
-row_spells : (width : ℕ) (row : List Color) → 0 < width → length row ≡ width → SpellsRow row (row_words row)
-row_spells width row some wide = own_runs_spell row (own_runs row) (omega (arith, wide)) (own_runs_own row)
+row_spells : (width : ℕ) (row : List Color) → IsWidth width → length row ≡ width → SpellsRow row (row_words row)
+row_spells width row some wide = own_runs_spell row (own_runs row) (rw wide some) (own_runs_own row)
 
-later_spells : (width : ℕ) (rows : List (List Color)) → 0 < width → All (λ row. length row ≡ width) rows
+later_spells : (width : ℕ) (rows : List (List Color)) → IsWidth width → All (λ row. length row ≡ width) rows
     → SpellsLater width rows (rows_words rows)
 later_spells width [] some all = refl
 later_spells width (row ∷ rows) some all =
@@ -64,7 +65,7 @@ reads_code width (row ∷ rows) rest wide some few all =
     let after : List Bool = rows_words rows in
     let bits : List Bool = front ++ after in
     let full : length row ≡ width = all 0 [] (omega arith) in
-    let later = later_spells width rows (omega (arith, wide.0)) (λ k d h. all (suc k) d (omega (arith, h))) in
+    let later = later_spells width rows wide (λ k d h. all (suc k) d (omega (arith, h))) in
     let split : page_words (row ∷ rows) ++ rest ≡ lead ++ (bits ++ (eol_words rtc ++ rest)) =
     append_assoc (lead ++ bits) (eol_words rtc) rest ∙ append_assoc lead bits (eol_words rtc ++ rest) in
     let used : length (page_words (row ∷ rows)) ≡ length lead + length bits + length (eol_words rtc) = omega (
@@ -109,10 +110,7 @@ reads_code width (row ∷ rows) rest wide some few all =
         front = front;
         after = after;
         rows_are = refl;
-        spells = row_spells width row (omega (
-          arith,
-          wide.0,
-        )) full;
+        spells = row_spells width row wide full;
         wide = full;
         each = later;
         split = refl;

@@ -4,6 +4,7 @@ use Rattle.std.specs.Prelude.{Option, Ok}
 use Rattle.std.proofs.lemmas.Bool.{ltb-false}
 use Rattle.std.proofs.lemmas.List.{length_push, append-nil}
 use Rattle.raster.specs.declared.row.Color.{Color}
+use Rattle.raster.specs.Pixels.{IsWidth}
 use Rattle.raster.specs.declared.row.Color.TheVariants.{White}
 use Rattle.run_tables.specs.declared.fault.CodeFaultKind.TheVariants.{NoRows, BadCode, TooManyCodedRows}
 use Rattle.run_tables.specs.Fronts.{Walk, spell}
@@ -106,17 +107,17 @@ code_rest width rows pixels color makeup code t x page used step rest =
     }
 
 abbrev Bounded : ℕ → PageState → Type 0
-Bounded width first = 0 < width
-Bounded width (row_start rows) = (0 < width) × (length rows ≤ 20000)
-Bounded width (in_row rows pixels color makeup) = (0 < width) × (length rows < 20000)
-Bounded width (row_end rows) = (0 < width) × (length rows ≤ 20000)
+Bounded width first = IsWidth width
+Bounded width (row_start rows) = (IsWidth width) × (length rows ≤ 20000)
+Bounded width (in_row rows pixels color makeup) = (IsWidth width) × (length rows < 20000)
+Bounded width (row_end rows) = (IsWidth width) × (length rows ≤ 20000)
 
-put_bounded : (width : ℕ) (rows : List (List Color)) (state : RowState) → 0 < width → length rows < 20000 → Bounded width (put rows state)
+put_bounded : (width : ℕ) (rows : List (List Color)) (state : RowState) → IsWidth width → length rows < 20000 → Bounded width (put rows state)
 put_bounded width rows (inside pixels color makeup) some room = (some, room)
 put_bounded width rows (whole row) some room = (some, omega (arith, length_push rows row))
 
 code_bounded : (width : ℕ) (rows : List (List Color)) (pixels : List Color) (color : Color) (makeup : Option ℕ) (code : RunItem) (t :
-    PageState) → 0 < width → length rows < 20000 → CodeThere width rows pixels color makeup code t → Bounded width t
+    PageState) → IsWidth width → length rows < 20000 → CodeThere width rows pixels color makeup code t → Bounded width t
 code_bounded width rows pixels color makeup code t some room step =
     let there = step_from_put (put rows) width pixels color makeup code t step in
     rw there.2 at (put_bounded width rows there.0 some room)
@@ -133,7 +134,7 @@ step_bounded width (row_end rows) (eol n) t step h = let start : Bounded width (
 step_bounded width (row_end rows) (coded code) t step h = absurd step
 
 -- the first row, after no or one EOL
-page_of : (width : ℕ) (lead x : List Bool) (page : List (List Color)) (used : ℕ) → 0 < width → IsLead lead
+page_of : (width : ℕ) (lead x : List Bool) (page : List (List Color)) (used : ℕ) → IsWidth width → IsLead lead
     → RowRest width [] row_begin x page used → ReadsAs width (lead ++ x) page (length lead + used)
 page_of width lead x page used some leads rest =
     let spelled = row_spelled width rest.row rest.front some rest.left in
@@ -163,7 +164,7 @@ page_of width lead x page used some leads rest =
     }
 
 -- an EOL after a row
-eol_left : (width : ℕ) (rows : List (List Color)) (n : ℕ) (x : List Bool) (page : List (List Color)) (used : ℕ) → 0 < width → 11 ≤ n
+eol_left : (width : ℕ) (rows : List (List Color)) (n : ℕ) (x : List Bool) (page : List (List Color)) (used : ℕ) → IsWidth width → 11 ≤ n
     → RowRest width rows row_begin x page used ⊎ EndRest rows x page used
     → TailRest width rows (eol_word n ++ x) page (length (eol_word n) + used)
 eol_left width rows n x page used some long (inl rest) =
@@ -349,7 +350,7 @@ walk_left width (i ∷ is) s t y page n walk bounded e =
     rw (append_assoc, ← places) all
 
 -- what is read is so spelled
-pub reads_only : (width : ℕ) (x : List Bool) (page : List (List Color)) (used : ℕ) → 0 < width → read_page width x ≡ Ok (page, used)
+pub reads_only : (width : ℕ) (x : List Bool) (page : List (List Color)) (used : ℕ) → IsWidth width → read_page width x ≡ Ok (page, used)
     → ReadsAs width x page used
 unfolding reading
 reads_only width x page used some e =
