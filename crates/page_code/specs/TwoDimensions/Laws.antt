@@ -1,5 +1,5 @@
 -- Laws of the two-dimensional code (ITU-T T.6, 2.2).
-use Rattle.std.specs.Prelude.{ℕ, ◌≡◌, ◌<◌, ◌≤◌, ◌↔◌, Bool, List, ◌++◌, length, Ok, Err}
+use Rattle.std.specs.Prelude.{ℕ, ◌≡◌, ◌<◌, ◌≤◌, ◌↔◌, Bool, true, List, ◌++◌, length, Ok, Err}
 use Rattle.std.specs.List.{AllByRecursion}
 use Rattle.raster.specs.declared.row.Color.{Color}
 use Rattle.raster.specs.Pixels.{IsWidth}
@@ -7,10 +7,11 @@ use Rattle.raster.specs.Changes.{IsNextChange}
 use Rattle.run_tables.specs.declared.fault.CodeFaultKind.{CodeFaultKind}
 use Rattle.run_tables.specs.Fronts.{IsFront, Nested}
 use Rattle.run_tables.specs.Longest.{IsLongest}
-use Rattle.page_code.specs.TwoDimensions.Positions.{CodingLine, IsB1, IsB2, change_from, b1_of, b2_of}
+use Rattle.page_code.specs.declared.t6.mode.ModeCode.TheVariants.{Pass}
+use Rattle.page_code.specs.TwoDimensions.Positions.{CodingLine, IsB1, IsB2, filled_to, change_from, b1_of, b2_of}
 use Rattle.page_code.specs.TwoDimensions.Modes.{ReadsAsPage}
 use Rattle.page_code.specs.TwoDimensions.Code.{page_code}
-use Rattle.page_code.specs.TwoDimensions.Fronts.{PageItem, page_item_word, PageStep, page_look, page_begin, read_page}
+use Rattle.page_code.specs.TwoDimensions.Fronts.{PageSoFar, PageItem, page_item_word, PageStep, page_look, page_begin, after_mode, mode_ended, read_page}
 
 -- a beginning of the bits that is whole items of a page, each of which may come after those before it
 abbrev pub IsPageFront : ℕ → List Bool → List PageItem → Type 0
@@ -27,6 +28,15 @@ FindsPositions =
     ((reference : List Color) (line : CodingLine) (b1 b2 : ℕ) → IsB1 reference line b1
     → IsB2 reference b1 b2 ↔ (b2 ≡ b2_of reference line)) ×
     ((row : List Color) (from place : ℕ) → IsNextChange row from place ↔ (place ≡ change_from row from))
+
+-- pass mode is never refused: on a line that isn't whole it puts a0 under b2, which is to the right of a0 and not past the width
+abbrev pub PassLeadsOn : Type 0
+PassLeadsOn = (width : ℕ) (page : PageSoFar) (line : CodingLine) → length page.reference ≡ width → length line.pixels < width
+    → after_mode width page line Pass ≡ Ok (mode_ended width page (record {
+      pixels = filled_to line (b2_of page.reference line);
+      begun = true;
+      color = line.color;
+    }))
 
 -- a page is read exactly where the bits read as it
 abbrev pub ReadsExactly : Type 0

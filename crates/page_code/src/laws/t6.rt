@@ -1,10 +1,15 @@
 //! Laws of the two-dimensional code: what their contracts say is proved, and nothing runs.
 
-ghost use Rattle.page_code.specs.TwoDimensions.Laws.{FindsPositions, ReadsExactly, RefusesNoPage, RefusesAtLongest, OneFront, RoundTrip};
+ghost use Rattle.page_code.specs.TwoDimensions.Laws.{FindsPositions, PassLeadsOn, ReadsExactly, RefusesNoPage, RefusesAtLongest, OneFront, RoundTrip};
 
 /// The places that the search finds are b1, b2 and the next changing element, and no others are.
 pub fn finds_positions()
     ensures { FindsPositions }
+{}
+
+/// Pass mode is never refused on a line that isn't whole.
+pub fn pass_leads_on()
+    ensures { PassLeadsOn }
 {}
 
 /// A page is read exactly where the bits read as it.
