@@ -9,9 +9,9 @@ check sequence, a stuffed bit left out or added, cut short, repeated, lost, out 
 two or a shared 0 between two frames; random octets, flags and runs of 1; training checks good and bad, both timers, busy and ready.
 One answerer in five has few capabilities. For each stream:
 - the program ends with status 0 within 20 seconds;
-- its turns, pages and end are those of a plain deframer and reader of signals here and of the answerer of bench/reference_call.py;
+- its turns, pages and end are those of a plain deframer and reader of signals here, of the answerer of bench/reference_call.py
+  and of the reader of pages of bench/reference_pages.py, whose pixels are compared by a number of 32 bits;
 - the same octets cut at other places give the same.
-Whether octets are a page's code is known here for pages of white rows; of other octets the program's word is taken, and counted.
 At the first stream that fails, its files stay in the folder that is printed, and the status is 1."""
 
 import os
@@ -26,6 +26,7 @@ from collections import Counter, namedtuple
 
 sys.dont_write_bytecode = True
 from reference_call import Answerer
+from reference_pages import code_of, digest, random_rows, read_page
 
 TOP = os.path.dirname(os.path.dirname(os.path.abspath(__file__)))
 FLAG = "01111110"
@@ -130,39 +131,20 @@ def read_signal(content):
     return (name,)
 
 
-def count_rows(params, octets):
-    """How many white rows a code has, 0 where it is no page's, or None where it is neither for sure."""
-    bits = bits_of(octets)
-    if params.t6:
-        rows = len(bits) - len(bits.lstrip("1"))
-        rest = bits[rows:]
-        if rows > 20000 or not rest or (rest.startswith("0000000") and not rest.startswith(2 * EOL)) or not rest.strip("0"):
-            return 0
-        return rows if rest.startswith(2 * EOL) else None
-    white, eol = WHITE_ROWS[params.width], "0{11,}1"
-    page = re.match(f"(?:{eol})?({white}(?:{eol}{white})*)(?:(?:{eol}){{2,6}}|{eol}0*$|0*$)", bits)
-    if page:
-        rows = len(re.findall(f"{eol}{white}", page[1])) + 1
-        return rows if rows <= 20000 else 0
-    return 0 if not bits.strip("0") or re.match(2 * eol, bits) else None
+def rows_of(params, octets):
+    """The rows of the page that octets are a code of, or None."""
+    return read_page(bits_of(octets), params.width, params.t6)
 
 
 # What the answerer does.
 
 
 class Reading:
-    """A new answerer over feeds, beside the turns that the program gave to them."""
+    """A new answerer over feeds, and the lines that it has given."""
 
-    def __init__(self, turns, few):
-        self.turns, self.few, self.lines, self.unknown = turns, few, ["Dis"], 0
-        self.station = Answerer(self.reads, lambda params: params.frame)
-
-    def reads(self, params, octets):
-        rows = count_rows(params, octets)
-        if rows is not None:
-            return rows > 0
-        self.unknown += 1
-        return self.turns[len(self.lines) : len(self.lines) + 1] != ["Dcn"]
+    def __init__(self, few):
+        self.few, self.lines = few, ["Dis"]
+        self.station = Answerer(lambda params, octets: rows_of(params, octets) is not None, lambda params: params.frame)
 
     def give(self, what, *data):
         turn = ("-",) if what == "DCS" and not is_allowed(data[0], self.few) else self.station.step(what, *data)
@@ -179,14 +161,14 @@ class Reading:
     def ends(self):
         lines = []
         for params, octets in self.station.pages:
-            rows = count_rows(params, octets)
-            lines.append(f"page {params.width} {str(params.fine).lower()} {'?' if rows is None else rows}")
+            rows = rows_of(params, octets)
+            lines.append(f"page {params.width} {str(params.fine).lower()} {len(rows)} {digest(rows, params.width)}")
         return lines + [f"end {ENDS[self.station.end]}"]
 
 
-def wanted(feeds, turns, few=False):
-    """The lines for feeds; pages of an unknown number of rows have `?`. And how many pages the program alone has judged."""
-    reading = Reading(turns, few)
+def wanted(feeds, few=False):
+    """The lines for feeds."""
+    reading = Reading(few)
     contents = good_contents(bits_of(b"".join(data for kind, data in feeds if kind == "LINE")))[::-1]
     bits = 0
     for kind, data in feeds:
@@ -202,19 +184,18 @@ def wanted(feeds, turns, few=False):
             reading.give(kind, data)
         else:
             reading.give(kind)
-    return reading.lines + reading.ends(), reading.unknown
+    return reading.lines + reading.ends()
 
 
 def compare(feeds, output, few=False):
     lines = output.split("\n")[:-1]
-    turns = [line for line in lines if not line.startswith(("page ", "end "))]
-    lines_wanted, unknown = wanted(feeds, turns, few)
+    lines_wanted = wanted(feeds, few)
     for at, (line, other) in enumerate(zip(lines, lines_wanted)):
-        if line != other and not (other.endswith("?") and line.startswith(other[:-1])):
+        if line != other:
             raise Failed(f"line {at + 1}: it printed {line!r}, the tables say {other!r}")
     if len(lines) != len(lines_wanted):
         raise Failed(f"it printed {len(lines)} lines, the tables say {len(lines_wanted)}")
-    return turns, unknown
+    return [line for line in lines if not line.startswith(("page ", "end "))]
 
 
 # What a stranger sends.
@@ -305,17 +286,27 @@ class Stranger:
         self.other("TRAINING", rand.choices([octets, b"", b"\xff" * size], [20, 1, 1])[0])
 
     def code(self):
-        """A page's code, of white rows and seldom of none."""
+        """A page's code, of white rows or of others, and seldom of none."""
+        rand, params = self.rand, self.params
+        if params.t6:
+            ends = rand.choices([2 * EOL, "", EOL, "0" * 40], [20, 1, 1, 1])[0]
+        else:
+            ends = rand.choices([6 * EOL, 2 * EOL, EOL, "", 7 * EOL], [20, 1, 1, 1, 1])[0]
+        lead = "" if params.t6 else rand.choice([EOL, "0000" + EOL, ""])
+        bits = lead + (self.white_rows() if rand.random() < 0.5 else self.other_rows()) + ends
+        octets = octets_of(bits + "0" * (-len(bits) % 8)) or b"\0"
+        return changed(rand, octets) if rand.random() < 0.05 else octets
+
+    def white_rows(self):
         rand, params = self.rand, self.params
         rows = rand.choice([1, 1, 2, 30, 300, rand.randint(1, 3000)])
         if params.t6:
-            bits = "1" * rand.choices([rows, 20001, 0], [30, 1, 1])[0] + rand.choices([2 * EOL, "", EOL, "0" * 40], [20, 1, 1, 1])[0]
-        else:
-            white = WHITE_ROWS[params.width]
-            ends = rand.choices([6 * EOL, 2 * EOL, EOL, "", 7 * EOL], [20, 1, 1, 1, 1])[0]
-            bits = rand.choice([EOL, "0000" + EOL, ""]) + (EOL.join(min(rows, 60) * [white])) + ends
-        octets = octets_of(bits + "0" * (-len(bits) % 8)) or b"\0"
-        return changed(rand, octets) if rand.random() < 0.05 else octets
+            return "1" * rand.choices([rows, 20001, 0], [30, 1, 1])[0]
+        return EOL.join(min(rows, 60) * [WHITE_ROWS[params.width]])
+
+    def other_rows(self):
+        rand, params = self.rand, self.params
+        return code_of(rand, random_rows(rand, params.width, rand.choice([1, 2, 5, 30])), params.width, params.t6)
 
     def pieces(self):
         """A block's data fields, and whether they end a page."""
@@ -428,7 +419,7 @@ def run_once(program, name, few=False):
 
 
 def try_stream(rand, folder, program):
-    """One stream. Answers its octets, the program's turns, the judged pages and the end."""
+    """One stream. Answers its octets, the program's turns, the number of its pages and the end."""
     few = rand.random() < 0.2
     feeds, outputs = Stranger(rand, few).stream(), []
     for number in (1, 2):
@@ -438,30 +429,30 @@ def try_stream(rand, folder, program):
         outputs.append(run_once(program, name, few))
     if outputs[0] != outputs[1]:
         raise Failed("the same octets cut elsewhere give something else")
-    turns, unknown = compare(feeds, outputs[0], few)
+    turns = compare(feeds, outputs[0], few)
     pages = sum(line.startswith("page ") for line in outputs[0].split("\n"))
     octets = sum(len(data) for kind, data in feeds if kind == "LINE")
-    return octets, turns, pages, unknown, outputs[0].split("\n")[-2]
+    return octets, turns, pages, outputs[0].split("\n")[-2]
 
 
 def fuzz(seconds, seed, program):
     rand, end = random.Random(seed), time.monotonic() + seconds
-    streams = octets = pages = unknown = 0
+    streams = octets = pages = 0
     turns, ends = Counter(), Counter()
     folder = tempfile.mkdtemp(prefix="fuzz-stream-")
     while time.monotonic() < end:
         try:
-            more, its_turns, its_pages, its_unknown, its_end = try_stream(rand, folder, program)
+            more, its_turns, its_pages, its_end = try_stream(rand, folder, program)
         except (Failed, subprocess.TimeoutExpired) as why:
             print(f"FAILED in stream {streams + 1} of seed {seed}: {why}\nits files: {folder}")
             return 1
-        streams, octets, pages, unknown = streams + 1, octets + more, pages + its_pages, unknown + its_unknown
+        streams, octets, pages = streams + 1, octets + more, pages + its_pages
         turns.update(turn[:3] for turn in its_turns)
         ends[its_end] += 1
     shutil.rmtree(folder)
     told = [", ".join(f"{name} {count}" for name, count in sorted(counter.items())) for counter in (turns, ends)]
     print(f"{streams} streams of {octets} octets, each sent twice, all well; seed {seed}")
-    print(f"{pages} pages stored, {unknown} codes judged by the program alone\nturns: {told[0]}\nends: {told[1]}")
+    print(f"{pages} pages stored\nturns: {told[0]}\nends: {told[1]}")
     return 0
 
 
@@ -483,18 +474,19 @@ def build(folder):
 DCS = b"\xff\x13\x83\x00\x22\xf8\x44"
 FIRST, REST, PPS = b"\xff\x03\x06\x00\x01", b"\xff\x03\x06\x01\x10\x00\x01", b"\xff\x13\xbf"
 ALL_BUT_0 = f"Ppr({[254] + 31 * [255]})"
+WHITE_PAGE = f"page 1728 false 1 {digest([[]], 1728)}"
 # The contents that come after a DCS and a good training check, and what is answered to them.
 WORKED = [
-    ([FIRST + REST[4:], PPS + b"\x2f\0\0\0"], ["Silent", "Mcf", "page 1728 false 1", "end None"]),
+    ([FIRST + REST[4:], PPS + b"\x2f\0\0\0"], ["Silent", "Mcf", WHITE_PAGE, "end None"]),
     (
         [FIRST + REST[4:], PPS + b"\x2f\0\0\0", PPS + b"\x2f\0\0\0", b"\xff\x13\xfb"],
-        ["Silent", "Mcf", "Mcf", "Silent", "page 1728 false 1", "end Some(Normal)"],
+        ["Silent", "Mcf", "Mcf", "Silent", WHITE_PAGE, "end Some(Normal)"],
     ),
     ([b"\xff\x03\x06\0\xff", PPS + b"\x2f\0\0\0"], ["Silent", "Dcn", "end Some(BadPage)"]),
     ([FIRST, PPS + b"\0\0\0\xff"], ["Silent", ALL_BUT_0, "end None"]),
     (
         [FIRST, PPS + b"\x2f\0\0\1", REST, PPS + b"\x2f\0\0\0"],
-        ["Silent", ALL_BUT_0, "Silent", "Mcf", "page 1728 false 1", "end None"],
+        ["Silent", ALL_BUT_0, "Silent", "Mcf", WHITE_PAGE, "end None"],
     ),
     ([b"\xff\x03\x06\0" + bytes(257), PPS + b"\0\0\0\0"], ["Silent", f"Ppr({32 * [255]})", "end None"]),
 ]
@@ -514,8 +506,8 @@ def dry():
     for contents, answers in WORKED:
         line, check = line_of(contents), [("LINE", line_of([DCS])), ("TRAINING", bytes(2700))]
         for rest in ([("LINE", line)], [("LINE", line[at : at + 1]) for at in range(len(line))]):
-            lines, unknown = wanted(check + rest, [])
-            if lines != ["Dis", "Silent", "Cfr"] + answers or unknown:
+            lines = wanted(check + rest)
+            if lines != ["Dis", "Silent", "Cfr"] + answers:
                 print(f"{contents} are answered {lines}")
                 return 1
     print(f"{len(WORKED)} worked streams are answered")
