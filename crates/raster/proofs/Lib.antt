@@ -1,4 +1,6 @@
 pub mod PackedLemmas
+pub mod WordLemmas
+pub mod PushLemmas
 pub mod OctetBits
 pub mod OctetLemmas
 pub mod RowLemmas

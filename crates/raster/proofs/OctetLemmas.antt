@@ -1,5 +1,5 @@
 -- Octets and their bits: octets joined, octets of bits and back, bits packed into octets. For the layers above.
-use Rattle.std.proofs.Common.{◌≡◌, ℕ, zero, suc, ◌<◌, ◌≤◌, ◌+◌, ◌-◌, ◌*◌, ◌/◌, ◌%◌, ◌^◌, ◌&&◌, Bool, true, false, List, [], ◌∷◌, ◌++◌}
+use Rattle.std.proofs.Common.{◌≡◌, ℕ, zero, suc, ◌<◌, ◌≤◌, ◌+◌, ◌*◌, ◌/◌, ◌^◌, ◌&&◌, Bool, true, false, List, [], ◌∷◌, ◌++◌}
 use Rattle.std.proofs.Common.{length, map, take, drop, cond, replicate, refl, ap, sym, ◌∙◌, arith, inl, inr, nat_eq, get_or}
 use Rattle.std.specs.Bool.{beq}
 use Rattle.std.specs.Int.{bit_at}
@@ -7,7 +7,7 @@ use Rattle.std.specs.List.{range_with_len}
 use Rattle.std.proofs.lemmas.List.{length-append, length-replicate, length-take, take-append-drop, take_at, drop_at, drop-drop}
 use Rattle.std.proofs.lemmas.Bool.{and_parts, cases_eq, ne_eqb, eq-eqb}
 use Rattle.std.proofs.lemmas.Nat.Bits.{bit_at-lt}
-use Rattle.raster.specs.Packed.{bits_of, FillsOctets}
+use Rattle.raster.specs.Packed.{bits_of}
 use Rattle.raster.specs.Octets.{number, octet_at, octets_of, AreOctets, fill_of, packed}
 use Rattle.raster.specs.Laws.{BitsJoin, PackedHold, PackedAlone}
 use Rattle.raster.specs.declared.packed.Order.TheVariants.{LsbFirst}

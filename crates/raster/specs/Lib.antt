@@ -1,4 +1,5 @@
 pub mod Packed
+pub mod Words
 pub mod Octets
 pub mod Pixels
 pub mod Runs

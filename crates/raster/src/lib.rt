@@ -12,6 +12,7 @@ mod row;
 #[cfg(test)]
 mod tests;
 mod text;
+mod words;
 
 pub use crate::fault::RasterFault;
 pub use crate::page::{Document, MAX_ROWS, Page};

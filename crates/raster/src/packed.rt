@@ -1,8 +1,10 @@
 //! Bits that are kept eight an octet, in either order. Rows and bit writers stand on it.
 
 ghost use Rattle.raster.specs.Packed.{bit_in, bits_in, bits_of, place_in, IsPacked, Bits, FillsOctets};
-ghost use Rattle.std.specs.Prelude.{false, ◌≢◌, ℕ, ◌≡◌, ◌≤◌, ◌<◌, ◌+◌, ◌-◌, ◌*◌, ◌^◌, ◌||◌, ◌++◌, ◌∷◌, [], nat_eq, length, take, slice_get, OnOk, OnErr};
+ghost use Rattle.raster.specs.Words.{IsWordAt, number_bits};
+ghost use Rattle.std.specs.Prelude.{false, ◌≢◌, ℕ, ◌≡◌, ◌≤◌, ◌<◌, ◌+◌, ◌-◌, ◌*◌, ◌^◌, ◌||◌, ◌/◌, ◌++◌, ◌∷◌, [], nat_eq, length, replicate, take, slice_get, OnOk, OnErr};
 
+use crate::words::{number_word, or_octets, set_run, shifted_word, word_octets};
 use std::alloc::{AllocError, Global};
 use std::marker::Model;
 
@@ -33,6 +35,17 @@ pub fn bit_of(order: Order, octets: &[u8], place: u128) -> bool
     ensures { result ≡ bit_in order octets.now place }
 {
     (octets[(place / 8) as usize] >> shift_of(order, place)) & 1 == 1
+}
+
+/// The 64 bits of the octets from a place on, the first of them the most significant; places count
+/// from 0, eight an octet. Bits past the octets are 0.
+pub fn word_at(order: Order, octets: &[u8], place: u128) -> u64
+    ensures { IsWordAt order octets.now place result }
+{
+    if place / 8 >= octets.len() as u128 {
+        return 0;
+    }
+    shifted_word(order, octets, (place / 8) as usize, (place % 8) as u32)
 }
 
 fn set_bit(order: Order, octets: &mut Vec<u8>, place: u128)
@@ -76,6 +89,61 @@ fn push_bit(order: Order, octets: &mut Vec<u8>, count: u128, bit: bool) -> Resul
     make_room(order, octets, count)?;
     if bit {
         set_bit(order, octets, count);
+    }
+    Ok(())
+}
+
+/// Octets of 0 bits, as many as so many more bits need.
+#[tactic(auto, using(crate::proofs::PackedLemmas::push_zeros))]
+fn make_more_room(
+    order: Order,
+    octets: &mut Vec<u8>,
+    count: u128,
+    more: u32,
+) -> Result<(), AllocError>
+    requires { IsPacked order octets.old.items count }
+    ensures room { OnOk result (length octets.new.items ≡ (count + more + 7) / 8) }
+    ensures same { (k : ℕ) → bit_in order octets.new.items k ≡ bit_in order octets.old.items k }
+    ensures err { OnErr result (octets.new.items ≡ octets.old.items) }
+{
+    octets.resize(((count + more as u128 + 7) / 8) as usize, 0)?;
+    Ok(())
+}
+
+fn push_number(
+    order: Order,
+    octets: &mut Vec<u8>,
+    count: u128,
+    value: u32,
+    more: u32,
+) -> Result<(), AllocError>
+    requires packed { IsPacked order octets.old.items count }
+    requires more { more ≤ 32 }
+    ensures packed { OnOk result (IsPacked order octets.new.items (count + more)) }
+    ensures ok { OnOk result (bits_in order octets.new.items (count + more) ≡ bits_in order octets.old.items count ++ number_bits more value) }
+    ensures err { OnErr result (octets.new.items ≡ octets.old.items) }
+{
+    make_more_room(order, octets, count, more)?;
+    let word = number_word(value, more, (count % 8) as u32);
+    or_octets(octets, (count / 8) as usize, word_octets(order, word));
+    Ok(())
+}
+
+fn push_same(
+    order: Order,
+    octets: &mut Vec<u8>,
+    count: u128,
+    bit: bool,
+    more: u32,
+) -> Result<(), AllocError>
+    requires { IsPacked order octets.old.items count }
+    ensures packed { OnOk result (IsPacked order octets.new.items (count + more)) }
+    ensures ok { OnOk result (bits_in order octets.new.items (count + more) ≡ bits_in order octets.old.items count ++ replicate more bit) }
+    ensures err { OnErr result (octets.new.items ≡ octets.old.items) }
+{
+    make_more_room(order, octets, count, more)?;
+    if bit {
+        set_run(order, octets, count, count + more as u128);
     }
     Ok(())
 }
@@ -129,7 +197,7 @@ impl PackedBits {
     pub fn len(&self) -> u128
         ensures { result ≡ length self.now.bits }
     {
-        self.count
+        self.count // in bits
     }
 
     /// The bit at a place, from 0.
@@ -149,6 +217,29 @@ impl PackedBits {
     {
         push_bit(self.order, &mut self.octets, self.count, bit)?;
         self.count += 1;
+        Ok(())
+    }
+
+    /// Appends so many of the lowest bits of a number, at most 32, the most significant of them first.
+    #[tactic(auto, using(crate::proofs::PackedLemmas::views))]
+    pub fn push_bits(&mut self, value: u32, count: u32) -> Result<(), AllocError>
+        requires { count ≤ 32 }
+        ensures ok { OnOk result (self.new ≡ record self.old { bits = self.old.bits ++ number_bits count value }) }
+        ensures err { OnErr result (self.new ≡ self.old) }
+    {
+        push_number(self.order, &mut self.octets, self.count, value, count)?;
+        self.count += count as u128;
+        Ok(())
+    }
+
+    /// Appends so many bits that are all the same.
+    #[tactic(auto, using(crate::proofs::PackedLemmas::views))]
+    pub fn push_run(&mut self, bit: bool, count: u32) -> Result<(), AllocError>
+        ensures ok { OnOk result (self.new ≡ record self.old { bits = self.old.bits ++ replicate count bit }) }
+        ensures err { OnErr result (self.new ≡ self.old) }
+    {
+        push_same(self.order, &mut self.octets, self.count, bit, count)?;
+        self.count += count as u128;
         Ok(())
     }
 

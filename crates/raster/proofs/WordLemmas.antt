@@ -1,0 +1,308 @@
+-- Bits of octets as numbers of 64 bits.
+use Rattle.std.proofs.Common.{set, ◌≡◌, ℕ, ◌+◌, ◌-◌, ◌*◌, ◌/◌, ◌%◌, ◌^◌, ◌<◌, ◌≤◌, ◌||◌, true, false, List, [], ◌∷◌, refl, sym, ap, ◌∙◌, get_or, nat_eq, arith, bit_or, zero, suc, w8, w64, inl, inr, max, length}
+use Rattle.std.specs.Int.{bit_at, reverse_bits, reverse_bits_onto, from_le_bytes, from_be_bytes, to_le_bytes, to_be_bytes}
+use Rattle.std.proofs.lemmas.Nat.{shr-shr, or_shifted, shl_whole, one_shl, pow_pos, pow-add}
+use Rattle.std.proofs.Math.Pow.{pow_mono}
+use Rattle.std.proofs.lemmas.List.{get_or-set_same, get_or-set_other}
+use Rattle.std.proofs.lemmas.Nat.Bits.{bit_at_lowest, bit_at-suc, bit_at-zero, bit_at_or, bit_at_cat_low, bit_at_cat_high, bit_at_above, bit_at-lt}
+use Rattle.std.proofs.lemmas.Bool.{cases_lt, cases_eq}
+use Rattle.raster.specs.Packed.{bit_in, place_in}
+use Rattle.raster.specs.Words.{IsWordAt, bit_of_word}
+use Rattle.raster.proofs.PackedLemmas.{place_in-same, bit_in-past}
+use Rattle.raster.specs.declared.packed.Order.{Order}
+use Rattle.raster.specs.declared.packed.Order.TheVariants.{LsbFirst, MsbFirst}
+
+-- ---- shifts
+
+-- the low bits of a rest are those of the number
+pub bit_at_rest : (x w i : ℕ) → i < w → bit_at (x % 2 ^ w) i ≡ bit_at x i
+bit_at_rest x w i h =
+    let some : 0 < 2 ^ w = pow_pos w in
+    let split : x ≡ x / 2 ^ w * 2 ^ w + x % 2 ^ w = omega arith in
+    sym (ap (λ n. bit_at n i) split ∙ bit_at_cat_low (x / 2 ^ w) w (x % 2 ^ w) i h)
+
+pub bit_at_shl_low : (x s i : ℕ) → i < s → bit_at (x * 2 ^ s) i ≡ 0
+bit_at_shl_low x s i h =
+    let e : x * 2 ^ s ≡ x * 2 ^ s + 0 = omega arith in
+    ap (λ n. bit_at n i) e ∙ (bit_at_cat_low x s 0 i h ∙ bit_at-zero i)
+
+pub bit_at_shl_high : (x s i : ℕ) → s ≤ i → bit_at (x * 2 ^ s) i ≡ bit_at x (i - s)
+bit_at_shl_high x s i h =
+    let e : x * 2 ^ s ≡ x * 2 ^ s + 0 = omega arith in
+    ap (λ n. bit_at n i) e ∙ bit_at_cat_high x s 0 i (pow_pos s) h
+
+pub bit_at_shr : (x s i : ℕ) → bit_at (x / 2 ^ s) i ≡ bit_at x (s + i)
+bit_at_shr x s i = ap (λ n. n % 2) (shr-shr x s i)
+
+-- ---- the order of bits turned
+
+onto_old : (k n a i : ℕ) → k ≤ i → bit_at (reverse_bits_onto k n a) i ≡ bit_at a (i - k)
+unfolding reverse_bits_onto
+onto_old zero n a i h = let e : i ≡ i - 0 = omega arith in ap (bit_at a) e
+onto_old (suc k) n a i h =
+    let e : i - k - 1 ≡ i - suc k = omega arith in
+    onto_old k (n / 2) (a * 2 + n % 2) i (omega arith) ∙ (bit_at_cat_high a 1 (n % 2) (i - k) (omega arith) (omega arith) ∙ ap (bit_at a) e)
+
+onto_new : (k n a i : ℕ) → i < k → bit_at (reverse_bits_onto k n a) i ≡ bit_at n (k - 1 - i)
+unfolding reverse_bits_onto
+onto_new zero n a i h = absurd (omega arith)
+onto_new (suc k) n a i h =
+    elim (cases_lt i k) [
+      | inl lt ↦
+          let e : suc (k - 1 - i) ≡ suc k - 1 - i = omega arith in
+          onto_new k (n / 2) (a * 2 + n % 2) i lt ∙ (sym (bit_at-suc n (k - 1 - i)) ∙ ap (bit_at n) e)
+      | inr le ↦
+          let none : i - k ≡ 0 = omega arith in
+          let first : suc k - 1 - i ≡ 0 = omega arith in
+          onto_old k (n / 2) (a * 2 + n % 2) i le ∙
+          (ap (bit_at (a * 2 + n % 2)) none ∙ (last ∙ ap (bit_at n) (sym first)))
+    ]
+  where
+    last : bit_at (a * 2 + n % 2) 0 ≡ bit_at n 0
+    last = bit_at_lowest (a * 2 + n % 2) ∙ (omega arith ∙ sym (bit_at_lowest n))
+
+pub bit_at_turned8 : (n k : ℕ) → k < 8 → bit_at (reverse_bits w8 n) (7 - k) ≡ bit_at n k
+bit_at_turned8 n k h = let e : 7 - (7 - k) ≡ k = omega arith in onto_new 8 n 0 (7 - k) (omega arith) ∙ ap (bit_at n) e
+
+pub bit_at_turned64 : (n k : ℕ) → k < 64 → bit_at (reverse_bits w64 n) (63 - k) ≡ bit_at n k
+bit_at_turned64 n k h = let e : 63 - (63 - k) ≡ k = omega arith in onto_new 64 n 0 (63 - k) (omega arith) ∙ ap (bit_at n) e
+
+-- ---- octets as a number, the first of them the highest
+
+-- the first octets are in the word, each with its first bit the highest
+pub record HasOctets (order : Order) (octets : List ℕ) (at n word : ℕ) : Type 0 where
+  pub small : word < 2 ^ (8 * n)
+  pub same : (k : ℕ) → k < 8 * n → nat_eq (bit_at word (8 * n - 1 - k)) 1 ≡ bit_in order octets (8 * at + k)
+
+pub has_none : (order : Order) (octets : List ℕ) (at : ℕ) → HasOctets order octets at 0 0
+has_none order octets at = record { small = omega arith; same = λ k h. absurd (omega arith) }
+
+below_next : (word octet n : ℕ) → word < 2 ^ (8 * n) → octet < 256 → word * 2 ^ 8 + octet < 2 ^ (8 * (n + 1))
+below_next word octet n small byte =
+    let e : 2 ^ (8 * (n + 1)) ≡ 2 ^ (8 * n) * 2 ^ 8 = ap (λ k. 2 ^ k) (omega arith) ∙ pow-add 2 (8 * n) 8 in
+    omega (arith, e, small, byte)
+
+-- the octet is one with its first bit the highest
+abbrev pub IsHighest : Order → List ℕ → ℕ → ℕ → Type 0
+IsHighest order octets at octet = (k : ℕ) → k < 8 → nat_eq (bit_at octet (7 - k)) 1 ≡ bit_in order octets (8 * at + k)
+
+cat_same : (order : Order) (octets : List ℕ) (at n word octet k : ℕ) → IsHighest order octets (at + n) octet → octet < 256 → HasOctets order octets at n word → k < 8 * (n + 1) → nat_eq (bit_at (word * 2 ^ 8 + octet) (8 * (n + 1) - 1 - k)) 1 ≡ bit_in order octets (8 * at + k)
+cat_same order octets at n word octet k is byte has h =
+    elim (cases_lt k (8 * n)) [
+      | inl early ↦
+          let e : 8 * (n + 1) - 1 - k - 8 ≡ 8 * n - 1 - k = omega arith in
+          ap (λ b. nat_eq b 1) (bit_at_cat_high word 8 octet (8 * (n + 1) - 1 - k) byte (omega arith) ∙ ap (bit_at word) e) ∙ has.same k early
+      | inr late ↦
+          let place : 8 * (n + 1) - 1 - k ≡ 7 - (k - 8 * n) = omega arith in
+          let which : 8 * (at + n) + (k - 8 * n) ≡ 8 * at + k = omega arith in
+          ap (λ b. nat_eq b 1) (bit_at_cat_low word 8 octet (8 * (n + 1) - 1 - k) (omega arith) ∙ ap (bit_at octet) place) ∙
+          (is (k - 8 * n) (omega arith) ∙ ap (bit_in order octets) which)
+    ]
+
+pub next_octet : (order : Order) (octets : List ℕ) (at n word octet : ℕ) → IsHighest order octets (at + n) octet → octet < 256 → HasOctets order octets at n word → HasOctets order octets at (n + 1) (word * 2 ^ 8 + octet)
+next_octet order octets at n word octet is byte has =
+    record { small = below_next word octet n has.small byte; same = λ k h. cat_same order octets at n word octet k is byte has h }
+
+pub push_octet : (order : Order) (octets : List ℕ) (at n word octet : ℕ) → n < 8 → IsHighest order octets (at + n) octet → octet < 256 → HasOctets order octets at n word → HasOctets order octets at (n + 1) (bit_or (word * 2 ^ 8 % 2 ^ 64) octet)
+push_octet order octets at n word octet few is byte has =
+    let e : bit_or (word * 2 ^ 8 % 2 ^ 64) octet ≡ word * 2 ^ 8 + octet = ap (λ (x : ℕ). bit_or x octet) (shl_whole word (8 * n) 8 64 has.small (omega arith)) ∙ or_shifted word 8 octet byte in
+    rw e (next_octet order octets at n word octet is byte has)
+
+pub has_all : (order : Order) (octets : List ℕ) (at word : ℕ) → HasOctets order octets at 8 word → IsWordAt order octets (8 * at) word
+has_all order octets at word has k h = has.same k h
+
+msb_highest : (octets : List ℕ) (at : ℕ) → IsHighest MsbFirst octets at (get_or octets at 0)
+msb_highest octets at k h =
+    let which : at ≡ (8 * at + k) / 8 = omega arith in
+    let within : 7 - k ≡ 7 - (8 * at + k) % 8 = omega arith in
+    ap (λ b. nat_eq b 1) (ap (λ m. bit_at (get_or octets m 0) (7 - k)) which ∙ ap (bit_at (get_or octets ((8 * at + k) / 8) 0)) within)
+
+-- eight octets in a row, the first the highest
+pub be_word : (octets : List ℕ) (at : ℕ) → ((i : ℕ) → get_or octets i 0 < 256) → IsWordAt MsbFirst octets (8 * at) (from_be_bytes w64 (get_or octets at 0 ∷ get_or octets (at + 1) 0 ∷ get_or octets (at + 2) 0 ∷ get_or octets (at + 3) 0 ∷ get_or octets (at + 4) 0 ∷ get_or octets (at + 5) 0 ∷ get_or octets (at + 6) 0 ∷ get_or octets (at + 7) 0 ∷ []))
+be_word octets at small =
+    let b : ℕ → ℕ = λ i. get_or octets (at + i) 0 in
+    let step : (n word : ℕ) → HasOctets MsbFirst octets at n word → HasOctets MsbFirst octets at (n + 1) (word * 2 ^ 8 + b n) = λ n word has. next_octet MsbFirst octets at n word (b n) (msb_highest octets (at + n)) (small (at + n)) has in
+    let first : at + 0 ≡ at = omega arith in
+    let all = step 7 _ (step 6 _ (step 5 _ (step 4 _ (step 3 _ (step 2 _ (step 1 _ (step 0 _ (has_none MsbFirst octets at)))))))) in
+    let e : (((((((0 * 2 ^ 8 + b 0) * 2 ^ 8 + b 1) * 2 ^ 8 + b 2) * 2 ^ 8 + b 3) * 2 ^ 8 + b 4) * 2 ^ 8 + b 5) * 2 ^ 8 + b 6) * 2 ^ 8 + b 7 ≡ from_be_bytes w64 (b 0 ∷ b 1 ∷ b 2 ∷ b 3 ∷ b 4 ∷ b 5 ∷ b 6 ∷ b 7 ∷ []) = omega arith in
+    rw (← ap (λ m. get_or octets m 0) first, ← e) (has_all MsbFirst octets at _ all)
+
+-- ---- octets as a number, the first of them the lowest
+
+pub record HasLow (octets : List ℕ) (at n word : ℕ) : Type 0 where
+  pub small : word < 2 ^ (8 * n)
+  pub same : (k : ℕ) → k < 8 * n → nat_eq (bit_at word k) 1 ≡ bit_in LsbFirst octets (8 * at + k)
+
+low_none : (octets : List ℕ) (at : ℕ) → HasLow octets at 0 0
+low_none octets at = record { small = omega arith; same = λ k h. absurd (omega arith) }
+
+low_below : (word octet n : ℕ) → word < 2 ^ (8 * n) → octet < 256 → octet * 2 ^ (8 * n) + word < 2 ^ (8 * (n + 1))
+low_below word octet n small byte =
+    let e : 2 ^ (8 * (n + 1)) ≡ 256 * 2 ^ (8 * n) = ap (λ k. 2 ^ k) (omega arith) ∙ pow-add 2 8 (8 * n) in
+    grind (arith, e, small, byte)
+
+low_octet : (octets : List ℕ) (at n word : ℕ) → get_or octets (at + n) 0 < 256 → HasLow octets at n word → HasLow octets at (n + 1) (get_or octets (at + n) 0 * 2 ^ (8 * n) + word)
+low_octet octets at n word byte has = record {
+  small = low_below word (get_or octets (at + n) 0) n has.small byte;
+  same = λ k h.
+      elim (cases_lt k (8 * n)) [
+        | inl early ↦ ap (λ b. nat_eq b 1) (bit_at_cat_low (get_or octets (at + n) 0) (8 * n) word k early) ∙ has.same k early
+        | inr late ↦
+            let which : at + n ≡ (8 * at + k) / 8 = omega arith in
+            let within : k - 8 * n ≡ (8 * at + k) % 8 = omega arith in
+            ap (λ b. nat_eq b 1) (bit_at_cat_high (get_or octets (at + n) 0) (8 * n) word k has.small late ∙
+            (ap (bit_at (get_or octets (at + n) 0)) within ∙ ap (λ m. bit_at (get_or octets m 0) ((8 * at + k) % 8)) which))
+      ];
+}
+
+-- eight octets in a row, the first the lowest, and then turned
+pub le_word : (octets : List ℕ) (at : ℕ) → ((i : ℕ) → get_or octets i 0 < 256) → IsWordAt LsbFirst octets (8 * at) (reverse_bits w64 (from_le_bytes w64 (get_or octets at 0 ∷ get_or octets (at + 1) 0 ∷ get_or octets (at + 2) 0 ∷ get_or octets (at + 3) 0 ∷ get_or octets (at + 4) 0 ∷ get_or octets (at + 5) 0 ∷ get_or octets (at + 6) 0 ∷ get_or octets (at + 7) 0 ∷ [])))
+le_word octets at small k h =
+    let b : ℕ → ℕ = λ i. get_or octets (at + i) 0 in
+    let step : (n word : ℕ) → HasLow octets at n word → HasLow octets at (n + 1) (b n * 2 ^ (8 * n) + word) = λ n word has. low_octet octets at n word (small (at + n)) has in
+    let first : at + 0 ≡ at = omega arith in
+    let all = step 7 _ (step 6 _ (step 5 _ (step 4 _ (step 3 _ (step 2 _ (step 1 _ (step 0 _ (low_none octets at)))))))) in
+    let e : b 7 * 2 ^ 56 + (b 6 * 2 ^ 48 + (b 5 * 2 ^ 40 + (b 4 * 2 ^ 32 + (b 3 * 2 ^ 24 + (b 2 * 2 ^ 16 + (b 1 * 2 ^ 8 + (b 0 * 1 + 0))))))) ≡ from_le_bytes w64 (b 0 ∷ b 1 ∷ b 2 ∷ b 3 ∷ b 4 ∷ b 5 ∷ b 6 ∷ b 7 ∷ []) = omega arith in
+    rw (← ap (λ m. get_or octets m 0) first, ← e)
+    (ap (λ x. nat_eq x 1) (bit_at_turned64 _ k h) ∙ all.same k h)
+
+-- ---- a word that begins within an octet
+
+or_bit : (a b : ℕ) → a < 2 → b < 2 → nat_eq (max a b) 1 ≡ (nat_eq a 1 || nat_eq b 1)
+or_bit zero zero p q = refl
+or_bit zero (suc zero) p q = refl
+or_bit (suc zero) zero p q = refl
+or_bit (suc zero) (suc zero) p q = refl
+or_bit zero (suc (suc b)) p q = absurd (omega arith)
+or_bit (suc zero) (suc (suc b)) p q = absurd (omega arith)
+or_bit (suc (suc a)) b p q = absurd (omega arith)
+
+pub ored : (a b i : ℕ) → nat_eq (bit_at (bit_or a b) i) 1 ≡ (nat_eq (bit_at a i) 1 || nat_eq (bit_at b i) 1)
+ored a b i = ap (λ n. nat_eq n 1) (bit_at_or a b i) ∙ or_bit (bit_at a i) (bit_at b i) (bit_at-lt a i) (bit_at-lt b i)
+
+pub shifted : (order : Order) (octets : List ℕ) (at within word next : ℕ) → within < 8 → next < 256 → IsWordAt order octets (8 * at) word → IsHighest order octets (at + 8) next → IsWordAt order octets (8 * at + within) (bit_or (word * 2 ^ within % 2 ^ 64) (next / 2 ^ (8 - within)))
+shifted order octets at within word next few byte is more k h =
+    elim (cases_lt (k + within) 64) [
+      | inl early ↦
+          let back : 63 - k - within ≡ 63 - (k + within) = omega arith in
+          let place : 8 * at + (k + within) ≡ 8 * at + within + k = omega arith in
+          let one : bit_at (word * 2 ^ within % 2 ^ 64) (63 - k) ≡ bit_at word (63 - (k + within)) =
+          bit_at_rest (word * 2 ^ within) 64 (63 - k) (omega arith) ∙ (bit_at_shl_high word within (63 - k) (omega arith) ∙ ap (bit_at word) back) in
+          let none : bit_at (next / 2 ^ (8 - within)) (63 - k) ≡ 0 =
+          bit_at_shr next (8 - within) (63 - k) ∙ bit_at_above next 8 (8 - within + (63 - k)) byte (omega arith) in
+          let both : bit_at (bit_or (word * 2 ^ within % 2 ^ 64) (next / 2 ^ (8 - within))) (63 - k) ≡ bit_at word (63 - (k + within)) =
+          omega (arith, bit_at_or (word * 2 ^ within % 2 ^ 64) (next / 2 ^ (8 - within)) (63 - k), one, none) in
+          ap (λ b. nat_eq b 1) both ∙ (is (k + within) early ∙ ap (bit_in order octets) place)
+      | inr late ↦
+          let back : 8 - within + (63 - k) ≡ 7 - (k + within - 64) = omega arith in
+          let place : 8 * (at + 8) + (k + within - 64) ≡ 8 * at + within + k = omega arith in
+          let none : bit_at (word * 2 ^ within % 2 ^ 64) (63 - k) ≡ 0 =
+          bit_at_rest (word * 2 ^ within) 64 (63 - k) (omega arith) ∙ bit_at_shl_low word within (63 - k) (omega arith) in
+          let one : bit_at (next / 2 ^ (8 - within)) (63 - k) ≡ bit_at next (7 - (k + within - 64)) =
+          bit_at_shr next (8 - within) (63 - k) ∙ ap (bit_at next) back in
+          let both : bit_at (bit_or (word * 2 ^ within % 2 ^ 64) (next / 2 ^ (8 - within))) (63 - k) ≡ bit_at next (7 - (k + within - 64)) =
+          omega (arith, bit_at_or (word * 2 ^ within % 2 ^ 64) (next / 2 ^ (8 - within)) (63 - k), one, none) in
+          ap (λ b. nat_eq b 1) both ∙ (more (k + within - 64) (omega arith) ∙ ap (bit_in order octets) place)
+    ]
+
+pub highest_from : (order : Order) (octets : List ℕ) (at octet : ℕ) → ((k : ℕ) → k < 8 → bit_at octet (7 - k) ≡ bit_at (get_or octets at 0) (place_in order k)) → IsHighest order octets at octet
+highest_from order octets at octet turned k h =
+    let which : at ≡ (8 * at + k) / 8 = omega arith in
+    ap (λ b. nat_eq b 1) (turned k h ∙
+    (ap (bit_at (get_or octets at 0)) (place_in-same order k (8 * at + k) (omega arith)) ∙ ap (λ m. bit_at (get_or octets m 0) (place_in order (8 * at + k))) which))
+
+pub highest_past : (order : Order) (octets : List ℕ) (at : ℕ) → length octets ≤ at → IsHighest order octets at 0
+highest_past order octets at past k h =
+    ap (λ b. nat_eq b 1) (bit_at-zero (7 - k)) ∙ sym (bit_in-past order octets (8 * at + k) (omega arith))
+
+-- ---- a number within a word
+
+-- the number that many bits high, from a place below 8 on
+abbrev pub aligned : ℕ → ℕ → ℕ → ℕ
+aligned value count within = value * 2 ^ (64 - count) % 2 ^ 64 / 2 ^ within
+
+pub aligned_before : (value count within k : ℕ) → k < within → within < 8 → bit_of_word (aligned value count within) k ≡ false
+aligned_before value count within k h few =
+    let small : value * 2 ^ (64 - count) % 2 ^ 64 < 2 ^ 64 = omega arith in
+    ap (λ b. nat_eq b 1) (bit_at_shr (value * 2 ^ (64 - count) % 2 ^ 64) within (63 - k) ∙ bit_at_above (value * 2 ^ (64 - count) % 2 ^ 64) 64 (within + (63 - k)) small (omega arith))
+
+pub aligned_inside : (value count within k : ℕ) → count ≤ 32 → within < 8 → within ≤ k → k < within + count → bit_of_word (aligned value count within) k ≡ nat_eq (bit_at value (within + count - 1 - k)) 1
+aligned_inside value count within k few low from below =
+    let e : within + (63 - k) - (64 - count) ≡ within + count - 1 - k = omega arith in
+    ap (λ b. nat_eq b 1) (bit_at_shr (value * 2 ^ (64 - count) % 2 ^ 64) within (63 - k) ∙
+    (bit_at_rest (value * 2 ^ (64 - count)) 64 (within + (63 - k)) (omega arith) ∙
+    (bit_at_shl_high value (64 - count) (within + (63 - k)) (omega arith) ∙ ap (bit_at value) e)))
+
+pub aligned_after : (value count within k : ℕ) → within + count ≤ k → k < 64 → bit_of_word (aligned value count within) k ≡ false
+aligned_after value count within k from below =
+    ap (λ b. nat_eq b 1) (bit_at_shr (value * 2 ^ (64 - count) % 2 ^ 64) within (63 - k) ∙
+    (bit_at_rest (value * 2 ^ (64 - count)) 64 (within + (63 - k)) (omega arith) ∙ bit_at_shl_low value (64 - count) (within + (63 - k)) (omega arith)))
+
+-- ---- a word's octets
+
+le_at : (n q : ℕ) → q < 8 → get_or (to_le_bytes w64 n) q 0 ≡ n / 2 ^ (8 * q) % 2 ^ 8
+le_at n zero h = omega arith
+le_at n (suc zero) h = refl
+le_at n (suc (suc zero)) h = refl
+le_at n (suc (suc (suc zero))) h = refl
+le_at n (suc (suc (suc (suc zero)))) h = refl
+le_at n (suc (suc (suc (suc (suc zero))))) h = refl
+le_at n (suc (suc (suc (suc (suc (suc zero)))))) h = refl
+le_at n (suc (suc (suc (suc (suc (suc (suc zero))))))) h = refl
+le_at n (suc (suc (suc (suc (suc (suc (suc (suc q)))))))) h = absurd (omega arith)
+
+be_at : (n q : ℕ) → q < 8 → get_or (to_be_bytes w64 n) q 0 ≡ n / 2 ^ (8 * (7 - q)) % 2 ^ 8
+be_at n zero h = refl
+be_at n (suc zero) h = refl
+be_at n (suc (suc zero)) h = refl
+be_at n (suc (suc (suc zero))) h = refl
+be_at n (suc (suc (suc (suc zero)))) h = refl
+be_at n (suc (suc (suc (suc (suc zero))))) h = refl
+be_at n (suc (suc (suc (suc (suc (suc zero)))))) h = refl
+be_at n (suc (suc (suc (suc (suc (suc (suc zero))))))) h = omega arith
+be_at n (suc (suc (suc (suc (suc (suc (suc (suc q)))))))) h = absurd (omega arith)
+
+-- a bit of an octet of a number
+octet_bit : (n s place : ℕ) → place < 8 → bit_at (n / 2 ^ s % 2 ^ 8) place ≡ bit_at n (s + place)
+octet_bit n s place h = bit_at_rest (n / 2 ^ s) 8 place h ∙ bit_at_shr n s place
+
+pub le_octets : (word k : ℕ) → k < 64 → bit_of_word word k ≡ bit_in LsbFirst (to_le_bytes w64 (reverse_bits w64 word)) k
+le_octets word k h =
+    let turned : ℕ = reverse_bits w64 word in
+    let there : 8 * (k / 8) + k % 8 ≡ k = omega arith in
+    let back : 63 - (63 - k) ≡ k = omega arith in
+    sym (ap (λ b. nat_eq b 1)
+    (ap (λ x. bit_at x (k % 8)) (le_at turned (k / 8) (omega arith)) ∙
+    (octet_bit turned (8 * (k / 8)) (k % 8) (omega arith) ∙
+    (ap (bit_at turned) there ∙ (ap (bit_at turned) (sym back) ∙ bit_at_turned64 word (63 - k) (omega arith))))))
+
+pub be_octets : (word k : ℕ) → k < 64 → bit_of_word word k ≡ bit_in MsbFirst (to_be_bytes w64 word) k
+be_octets word k h =
+    let there : 8 * (7 - k / 8) + (7 - k % 8) ≡ 63 - k = omega arith in
+    sym (ap (λ b. nat_eq b 1)
+    (ap (λ x. bit_at x (7 - k % 8)) (be_at word (k / 8) (omega arith)) ∙
+    (octet_bit word (8 * (7 - k / 8)) (7 - k % 8) (omega arith) ∙ ap (bit_at word) there)))
+
+-- ---- a run of ones
+
+pub ones_grow : (a b : ℕ) → a ≤ b → b ≤ 8 → 1 * 2 ^ a % 2 ^ 32 ≤ 1 * 2 ^ b % 2 ^ 32
+ones_grow a b h few = rw (one_shl a 32 (omega arith), one_shl b 32 (omega arith)) (pow_mono h)
+
+pub ones_is : (a b : ℕ) → a ≤ 8 → b ≤ 8 → 1 * 2 ^ b % 2 ^ 32 - 1 * 2 ^ a % 2 ^ 32 ≡ 2 ^ b - 2 ^ a
+ones_is a b p q = rw (one_shl a 32 (omega arith), one_shl b 32 (omega arith)) refl
+
+pub keep_bit : (order : Order) (octets : List ℕ) (at mask k : ℕ) → at < length octets → (k / 8 ≡ at → bit_at mask (place_in order k) ≡ 0) → bit_in order (set octets at (bit_or (get_or octets at 0) mask)) k ≡ bit_in order octets k
+keep_bit order octets at mask k h none =
+    elim (cases_eq (k / 8) at) [
+      | inl e ↦
+          let same : bit_at (bit_or (get_or octets at 0) mask) (place_in order k) ≡ bit_at (get_or octets at 0) (place_in order k) =
+          omega (arith, bit_at_or (get_or octets at 0) mask (place_in order k), none e) in
+          rw (e, get_or-set_same octets at (bit_or (get_or octets at 0) mask) 0 h, same) refl
+      | inr e ↦ rw (get_or-set_other octets at (k / 8) (bit_or (get_or octets at 0) mask) 0 e) refl
+    ]
+
+pub turn_bit : (order : Order) (octets : List ℕ) (at mask k : ℕ) → at < length octets → k / 8 ≡ at → bit_at mask (place_in order k) ≡ 1 → bit_in order (set octets at (bit_or (get_or octets at 0) mask)) k ≡ true
+turn_bit order octets at mask k h e one =
+    let set_is : bit_at (bit_or (get_or octets at 0) mask) (place_in order k) ≡ 1 =
+    omega (arith, bit_at_or (get_or octets at 0) mask (place_in order k), one, bit_at-lt (get_or octets at 0) (place_in order k)) in
+    rw (e, get_or-set_same octets at (bit_or (get_or octets at 0) mask) 0 h, set_is) refl

@@ -1,0 +1,24 @@
+-- Bits as numbers, the most significant first.
+use Rattle.std.specs.Prelude.{ℕ, ◌≡◌, ◌≤◌, ◌<◌, ◌+◌, ◌-◌, Bool, List, bit_or, length, map, nat_eq, slice_index}
+use Rattle.std.specs.Int.{bit_at}
+use Rattle.std.specs.List.{range_with_len}
+use Rattle.raster.specs.declared.packed.Order.{Order}
+use Rattle.raster.specs.Packed.{bit_in}
+
+-- the bit of a number of 64 bits at a place, the most significant at place 0
+abbrev pub bit_of_word : ℕ → ℕ → Bool
+bit_of_word word place = nat_eq (bit_at word (63 - place)) 1
+
+-- the number is the 64 bits of the octets from a place on; past the octets they are 0
+abbrev pub IsWordAt : Order → List ℕ → ℕ → ℕ → Type 0
+IsWordAt order octets place word = (k : ℕ) → k < 64 → bit_of_word word k ≡ bit_in order octets (place + k)
+
+-- so many of the lowest bits of a number, the most significant of them first
+abbrev pub number_bits : ℕ → ℕ → List Bool
+number_bits count value = map (λ place. nat_eq (bit_at value (count - 1 - place)) 1) (range_with_len 0 count)
+
+-- the octets after others were or'ed to them, from one of them on
+pub record AreOred (old added new : List ℕ) (at : ℕ) : Type 0 where
+  pub same_length : length new ≡ length old
+  pub before : (j : ℕ) → j < at → slice_index new j ≡ slice_index old j
+  pub inside : (j : ℕ) → at ≤ j → j < length old → slice_index new j ≡ bit_or (slice_index old j) (slice_index added (j - at))

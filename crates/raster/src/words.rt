@@ -1,0 +1,165 @@
+//! Bits of octets, up to 64 at a time.
+
+ghost use Rattle.raster.specs.Packed.{bit_in, place_in};
+ghost use Rattle.raster.specs.Words.{bit_of_word, IsWordAt, AreOred};
+ghost use Rattle.std.specs.Int.{bit_at};
+ghost use Rattle.std.specs.Prelude.{ℕ, true, false, ◌≡◌, ◌≤◌, ◌<◌, ◌+◌, ◌-◌, ◌*◌, ◌/◌, length, nat_eq};
+
+use crate::packed::Order;
+
+/// The octet with its first bit the most significant.
+fn first_highest(order: Order, octet: u8) -> u8
+    ensures { (k : ℕ) → k < 8 → bit_at result (7 - k) ≡ bit_at octet (place_in order k) }
+{
+    match order {
+        Order::LsbFirst => octet.reverse_bits(),
+        Order::MsbFirst => octet,
+    }
+}
+
+/// The 64 bits of eight octets.
+fn whole_word(order: Order, octets: &[u8], at: usize) -> u64
+    requires { at + 8 ≤ length octets.now }
+    ensures { IsWordAt order octets.now (8 * at) result }
+{
+    let eight = [
+        octets[at],
+        octets[at + 1],
+        octets[at + 2],
+        octets[at + 3],
+        octets[at + 4],
+        octets[at + 5],
+        octets[at + 6],
+        octets[at + 7],
+    ];
+    match order {
+        Order::LsbFirst => u64::from_le_bytes(eight).reverse_bits(),
+        Order::MsbFirst => u64::from_be_bytes(eight),
+    }
+}
+
+/// The octet, or 0 past the octets, with its first bit the most significant.
+fn octet_or_zero(order: Order, octets: &[u8], at: usize) -> u8
+    ensures { (k : ℕ) → k < 8 → nat_eq (bit_at result (7 - k)) 1 ≡ bit_in order octets.now (8 * at + k) }
+{
+    if at < octets.len() {
+        first_highest(order, octets[at])
+    } else {
+        0
+    }
+}
+
+/// The bits from an octet on, filled with 0 bits to 64.
+#[inline(never)]
+fn last_word(order: Order, octets: &[u8], at: usize) -> u64
+    requires { at ≤ length octets.now }
+    ensures { IsWordAt order octets.now (8 * at) result }
+{
+    let mut word: u64 = 0;
+    for k in 0..8usize {
+        word = word << 8 | octet_or_zero(order, octets, at + k) as u64;
+    }
+    word
+}
+
+/// The 64 bits from an octet on; past the octets they are 0.
+pub(crate) fn octet_word(order: Order, octets: &[u8], at: usize) -> u64
+    requires { at ≤ length octets.now }
+    ensures { IsWordAt order octets.now (8 * at) result }
+{
+    if octets.len() - at >= 8 {
+        whole_word(order, octets, at)
+    } else {
+        last_word(order, octets, at)
+    }
+}
+
+/// The 64 bits that begin within an octet.
+pub(crate) fn shifted_word(order: Order, octets: &[u8], at: usize, within: u32) -> u64
+    requires at { at ≤ length octets.now }
+    requires within { within < 8 }
+    ensures { IsWordAt order octets.now (8 * at + within) result }
+{
+    let word = octet_word(order, octets, at);
+    let next = octet_or_zero(order, octets, at + 8);
+    word << within | next as u64 >> (8 - within)
+}
+
+/// The eight octets whose bits are those of a word.
+pub(crate) fn word_octets(order: Order, word: u64) -> [u8; 8]
+    ensures { IsWordAt order result 0 word }
+{
+    match order {
+        Order::LsbFirst => word.reverse_bits().to_le_bytes(),
+        Order::MsbFirst => word.to_be_bytes(),
+    }
+}
+
+/// The word whose bits from a place below 8 on are so many of the lowest bits of a number, and else 0.
+pub(crate) fn number_word(value: u32, count: u32, within: u32) -> u64
+    requires count { count ≤ 32 }
+    requires within { within < 8 }
+    ensures before { (k : ℕ) → k < within → bit_of_word result k ≡ false }
+    ensures inside { (k : ℕ) → within ≤ k → k < within + count → bit_of_word result k ≡ nat_eq (bit_at value (within + count - 1 - k)) 1 }
+    ensures after { (k : ℕ) → within + count ≤ k → k < 64 → bit_of_word result k ≡ false }
+{
+    if count == 0 {
+        return 0;
+    }
+    (value as u64) << (64 - count) >> within
+}
+
+/// Ors octets to those from a place on.
+pub(crate) fn or_octets(octets: &mut Vec<u8>, at: usize, added: [u8; 8])
+    requires { length octets.old.items ≤ at + 8 }
+    ensures { AreOred octets.old.items added octets.new.items at }
+{
+    for j in at..octets.len() {
+        octets[j] |= added[j - at];
+    }
+}
+
+/// The octet whose bits from one place up to another are 1, and else 0.
+fn mask(order: Order, from: u32, end: u32) -> u8
+    requires order { from ≤ end }
+    requires within { end ≤ 8 }
+    ensures before { (k : ℕ) → k < from → bit_at result (place_in order k) ≡ 0 }
+    ensures inside { (k : ℕ) → from ≤ k → k < end → bit_at result (place_in order k) ≡ 1 }
+    ensures after { (k : ℕ) → end ≤ k → k < 8 → bit_at result (place_in order k) ≡ 0 }
+{
+    match order {
+        Order::LsbFirst => ((1u32 << end) - (1u32 << from)) as u8,
+        Order::MsbFirst => ((1u32 << (8 - from)) - (1u32 << (8 - end))) as u8,
+    }
+}
+
+/// Sets the bits of one octet from one place up to another.
+fn set_within(order: Order, octets: &mut Vec<u8>, from: u128, end: u128)
+    requires order { from < end }
+    requires within { end ≤ 8 * (from / 8) + 8 }
+    requires inside { end ≤ 8 * length octets.old.items }
+    ensures length { length octets.new.items ≡ length octets.old.items }
+    ensures before { (k : ℕ) → k < from → bit_in order octets.new.items k ≡ bit_in order octets.old.items k }
+    ensures set { (k : ℕ) → from ≤ k → k < end → bit_in order octets.new.items k ≡ true }
+    ensures after { (k : ℕ) → end ≤ k → bit_in order octets.new.items k ≡ bit_in order octets.old.items k }
+{
+    let first = (from % 8) as u32;
+    octets[(from / 8) as usize] |= mask(order, first, first + (end - from) as u32);
+}
+
+/// Sets the bits from one place up to another.
+pub(crate) fn set_run(order: Order, octets: &mut Vec<u8>, from: u128, end: u128)
+    requires order { from ≤ end }
+    requires inside { end ≤ 8 * length octets.old.items }
+    ensures length { length octets.new.items ≡ length octets.old.items }
+    ensures before { (k : ℕ) → k < from → bit_in order octets.new.items k ≡ bit_in order octets.old.items k }
+    ensures set { (k : ℕ) → from ≤ k → k < end → bit_in order octets.new.items k ≡ true }
+    ensures after { (k : ℕ) → end ≤ k → bit_in order octets.new.items k ≡ bit_in order octets.old.items k }
+{
+    let mut at = from;
+    while at < end {
+        let next = (8 * (at / 8) + 8).min(end);
+        set_within(order, octets, at, next);
+        at = next;
+    }
+}
