@@ -1,6 +1,7 @@
 pub mod PackedLemmas
 pub mod WordLemmas
 pub mod PushLemmas
+pub mod FirstLemmas
 pub mod OctetBits
 pub mod OctetLemmas
 pub mod RowLemmas

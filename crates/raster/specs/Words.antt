@@ -1,8 +1,11 @@
 -- Bits as numbers, the most significant first.
-use Rattle.std.specs.Prelude.{ℕ, ◌≡◌, ◌≤◌, ◌<◌, ◌+◌, ◌-◌, Bool, List, bit_or, length, map, nat_eq, slice_index}
+use Rattle.std.specs.Prelude.{ℕ, ◌≡◌, ◌≤◌, ◌<◌, ◌+◌, ◌-◌, Bool, List, Some, bit_or, length, map, nat_eq, not, slice_get, slice_index}
 use Rattle.std.specs.Int.{bit_at}
 use Rattle.std.specs.List.{range_with_len}
 use Rattle.raster.specs.declared.packed.Order.{Order}
+use Rattle.raster.specs.declared.packed.Order.TheVariants.{MsbFirst}
+use Rattle.raster.specs.declared.row.Color.{Color}
+use Rattle.raster.specs.Pixels.{other}
 use Rattle.raster.specs.Packed.{bit_in}
 
 -- the bit of a number of 64 bits at a place, the most significant at place 0
@@ -22,3 +25,31 @@ pub record AreOred (old added new : List ℕ) (at : ℕ) : Type 0 where
   pub same_length : length new ≡ length old
   pub before : (j : ℕ) → j < at → slice_index new j ≡ slice_index old j
   pub inside : (j : ℕ) → at ≤ j → j < length old → slice_index new j ≡ bit_or (slice_index old j) (slice_index added (j - at))
+
+-- the first place of a number of 64 bits, from a place on, whose bit is another, or 64
+pub record IsFirstInWord (word from : ℕ) (bit : Bool) (place : ℕ) : Type 0 where
+  pub low : from ≤ place
+  pub high : place ≤ 64
+  pub before : (k : ℕ) → from ≤ k → k < place → bit_of_word word k ≡ bit
+  pub hit : place < 64 → bit_of_word word place ≡ not bit
+
+-- the first place of octets, from a place on, whose bit is another, or the end
+pub record IsFirstOther (octets : List ℕ) (from end : ℕ) (bit : Bool) (place : ℕ) : Type 0 where
+  pub low : from ≤ place
+  pub high : place ≤ end
+  pub before : (k : ℕ) → from ≤ k → k < place → bit_in MsbFirst octets k ≡ bit
+  pub hit : place < end → bit_in MsbFirst octets place ≡ not bit
+
+-- the same of a list of bits
+pub record IsFirstOtherBit (bits : List Bool) (from : ℕ) (bit : Bool) (place : ℕ) : Type 0 where
+  pub low : from ≤ place
+  pub high : place ≤ length bits
+  pub before : (k : ℕ) → from ≤ k → k < place → slice_get bits k ≡ Some bit
+  pub hit : place < length bits → slice_get bits place ≡ Some (not bit)
+
+-- the same of a row
+pub record EndsRun (row : List Color) (from : ℕ) (color : Color) (place : ℕ) : Type 0 where
+  pub low : from ≤ place
+  pub high : place ≤ length row
+  pub before : (k : ℕ) → from ≤ k → k < place → slice_get row k ≡ Some color
+  pub hit : place < length row → slice_get row place ≡ Some (other color)

@@ -1,10 +1,10 @@
 //! Bits that are kept eight an octet, in either order. Rows and bit writers stand on it.
 
 ghost use Rattle.raster.specs.Packed.{bit_in, bits_in, bits_of, place_in, IsPacked, Bits, FillsOctets};
-ghost use Rattle.raster.specs.Words.{IsWordAt, number_bits};
-ghost use Rattle.std.specs.Prelude.{false, ◌≢◌, ℕ, ◌≡◌, ◌≤◌, ◌<◌, ◌+◌, ◌-◌, ◌*◌, ◌^◌, ◌||◌, ◌/◌, ◌++◌, ◌∷◌, [], nat_eq, length, replicate, take, slice_get, OnOk, OnErr};
+ghost use Rattle.raster.specs.Words.{IsWordAt, IsFirstOtherBit, number_bits};
+ghost use Rattle.std.specs.Prelude.{false, ◌≢◌, ℕ, ◌≡◌, ◌≤◌, ◌<◌, ◌+◌, ◌-◌, ◌*◌, ◌^◌, ◌||◌, ◌/◌, ◌++◌, ◌∷◌, [], nat_eq, length, replicate, take, slice_get, IfOk, OnOk, OnErr};
 
-use crate::words::{number_word, or_octets, set_run, shifted_word, word_octets};
+use crate::words::{first_other, number_word, or_octets, set_run, shifted_word, word_octets};
 use std::alloc::{AllocError, Global};
 use std::marker::Model;
 
@@ -192,6 +192,27 @@ impl PackedBits {
         }
     }
 
+    /// The first bits of octets.
+    #[tactic(auto, using(crate::proofs::PackedLemmas::views))]
+    pub(crate) fn copied(
+        alloc: Global,
+        order: Order,
+        octets: &[u8],
+        count: u32,
+    ) -> Result<Self, AllocError>
+        requires { count ≤ 8 * length octets.now }
+        ensures { IfOk result (λ p. p ≡ record { order = order; bits = bits_in order octets.now count }) }
+    {
+        let mut kept = Vec::new(alloc);
+        kept.extend_from_slice(&octets[..count.div_ceil(8) as usize])?;
+        cut(order, &mut kept, count as u128);
+        Ok(PackedBits {
+            octets: kept,
+            order,
+            count: count as u128,
+        })
+    }
+
     /// The number of bits.
     #[tactic(auto, using(crate::proofs::PackedLemmas::views))]
     pub fn len(&self) -> u128
@@ -207,6 +228,17 @@ impl PackedBits {
         ensures { slice_get self.now.bits place ≡ Some result }
     {
         bit_of(self.order, &self.octets, place)
+    }
+
+    /// The first place from a place on whose bit is another, or the number of bits.
+    #[tactic(auto, using(crate::proofs::PackedLemmas::views))]
+    pub(crate) fn first_other(&self, from: u32, bit: bool) -> u32
+        requires order { self.now.order ≡ Order.MsbFirst }
+        requires from { from ≤ length self.now.bits }
+        requires small { length self.now.bits ≤ 2432 }
+        ensures { IsFirstOtherBit self.now.bits from bit result }
+    {
+        first_other(&self.octets, from, self.count as u32, bit)
     }
 
     /// Appends a bit.

@@ -5,10 +5,11 @@ ghost use Rattle.raster.specs.Pbm.{row_pixels};
 ghost use Rattle.raster.specs.PbmText.{HoldsRow};
 ghost use Rattle.raster.specs.Pixels.{other, colors, IsWidth};
 ghost use Rattle.raster.specs.Runs.{colored, FromRuns, AppendsRuns, AreOwnRuns};
+ghost use Rattle.raster.specs.Words.{EndsRun};
 ghost use Rattle.std.specs.Prelude.{◌≡◌, ◌≤◌, ◌<◌, ◌+◌, ◌*◌, ◌^◌, ◌↔◌, ℕ, ◌++◌, ◌∷◌, [], replicate, length, slice_get, sum, OnOk, OnErr, IfOk, IfErr, SomeIff, IsOkUnless, IsTrue};
 
 use crate::fault::RasterFault;
-use crate::packed::{Order, PackedBits, bit_of};
+use crate::packed::{Order, PackedBits};
 use std::alloc::{AllocError, Global};
 use std::marker::Model;
 
@@ -60,9 +61,7 @@ fn push_run(pixels: &mut PackedBits, color: Color, run: u32) -> Result<(), Alloc
     ensures ok { OnOk result (colors pixels.new.bits ≡ colors pixels.old.bits ++ replicate run color) }
     ensures order { pixels.new.order ≡ pixels.old.order }
 {
-    for _ in 0..run {
-        pixels.push(color.is(Color::Black))?;
-    }
+    pixels.push_run(color.is(Color::Black), run)?;
     Ok(())
 }
 
@@ -123,10 +122,7 @@ impl Row {
         ensures ok { IfOk result (λ row. row ≡ row_pixels width octets.now) }
         ensures only { IsOkUnless result RasterFault.NoMemory }
     {
-        let mut pixels = PackedBits::new(alloc, Order::MsbFirst);
-        for place in 0..width {
-            pixels.push(bit_of(Order::MsbFirst, octets, place as u128))?;
-        }
+        let pixels = PackedBits::copied(alloc, Order::MsbFirst, octets, width)?;
         Ok(Row { pixels })
     }
 
@@ -161,6 +157,7 @@ impl Row {
         octets
     }
 
+    #[tactic(auto, using(crate::proofs::RowLemmas::lengths))]
     /// The least changing position at or above `from`, or the width where there is none
     /// (ITU-T T.6, 2.2.1).
     pub fn next_change(&self, from: u32) -> u32
@@ -170,19 +167,19 @@ impl Row {
         if from >= width {
             return width;
         }
-        let mut before = if from == 0 {
-            Color::White
-        } else {
-            self.pixel(from - 1)
-        };
-        for at in from..width {
-            let color = self.pixel(at);
-            if !color.is(before) {
-                return at;
-            }
-            before = color;
-        }
-        width
+        let before = from > 0 && self.pixels.bit(from as u128 - 1);
+        self.pixels.first_other(from, before)
+    }
+
+    /// The end of the run of a color that goes on at a place: the first place from there on with the
+    /// other color, or the width.
+    #[tactic(auto, using(crate::proofs::RowLemmas::lengths))]
+    fn end_of_run(&self, from: u32, color: Color) -> u32
+        requires { from ≤ length self.now }
+        ensures { EndsRun self.now from color result }
+    {
+        let _width = self.width();
+        self.pixels.first_other(from, color.is(Color::Black))
     }
 
     fn collected_runs(&self, alloc: Global) -> Result<Vec<u32>, AllocError>
@@ -190,17 +187,14 @@ impl Row {
     {
         let mut runs = Vec::new(alloc);
         let mut color = Color::White;
-        let mut run = 0u32;
-        for at in 0..self.width() {
-            if self.pixel(at).is(color) {
-                run += 1;
-            } else {
-                runs.push(run)?;
-                color = color.other();
-                run = 1;
-            }
+        let mut at = self.end_of_run(0, color);
+        runs.push(at)?;
+        while at < self.width() {
+            color = color.other();
+            let end = self.end_of_run(at, color);
+            runs.push(end - at)?;
+            at = end;
         }
-        runs.push(run)?;
         Ok(runs)
     }
 

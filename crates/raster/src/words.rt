@@ -1,7 +1,7 @@
 //! Bits of octets, up to 64 at a time.
 
 ghost use Rattle.raster.specs.Packed.{bit_in, place_in};
-ghost use Rattle.raster.specs.Words.{bit_of_word, IsWordAt, AreOred};
+ghost use Rattle.raster.specs.Words.{bit_of_word, IsWordAt, IsFirstInWord, IsFirstOther, AreOred};
 ghost use Rattle.std.specs.Int.{bit_at};
 ghost use Rattle.std.specs.Prelude.{ℕ, true, false, ◌≡◌, ◌≤◌, ◌<◌, ◌+◌, ◌-◌, ◌*◌, ◌/◌, length, nat_eq};
 
@@ -162,4 +162,33 @@ pub(crate) fn set_run(order: Order, octets: &mut Vec<u8>, from: u128, end: u128)
         set_within(order, octets, at, next);
         at = next;
     }
+}
+
+/// The first place of a word from a place on whose bit is another, or 64.
+fn first_in_word(word: u64, from: u32, bit: bool) -> u32
+    requires { from < 64 }
+    ensures { IsFirstInWord word from bit result }
+{
+    let turned = if bit { !word } else { word };
+    (turned & (u64::MAX >> from)).leading_zeros()
+}
+
+/// The first place of octets from a place on whose bit is another, or the end.
+pub(crate) fn first_other(octets: &[u8], from: u32, end: u32, bit: bool) -> u32
+    requires order { from ≤ end }
+    requires within { end ≤ 8 * length octets.now }
+    requires small { end ≤ 2432 }
+    ensures { IsFirstOther octets.now from end bit result }
+{
+    let mut at = from;
+    while at < end {
+        let word = octet_word(Order::MsbFirst, octets, (at / 8) as usize);
+        let place = first_in_word(word, at % 8, bit);
+        let base = at - at % 8;
+        if place < 64 {
+            return (base + place).min(end);
+        }
+        at = base + 64;
+    }
+    end
 }

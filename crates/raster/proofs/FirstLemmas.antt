@@ -1,0 +1,102 @@
+-- The first bit of octets that is another.
+use Rattle.std.proofs.Common.{◌≡◌, ℕ, ◌+◌, ◌-◌, ◌*◌, ◌/◌, ◌%◌, ◌^◌, ◌<◌, ◌≤◌, Bool, true, false, List, sym, ap, ◌∙◌, nat_eq, arith, bit_and, zero, suc, w64, inl, inr}
+use Rattle.std.specs.Prelude.{not}
+use Rattle.std.specs.Int.{bit_at, bit_not, leading_zeros}
+use Rattle.std.proofs.lemmas.Nat.{leading_length}
+use Rattle.std.proofs.lemmas.Nat.Bits.{bit_at_cat_high, bit_at_above, bit_at_and, bit_at_ones, bit_at_ones_above, bit_at_not, bit_at-lt, ones_shr}
+use Rattle.std.proofs.lemmas.Bool.{cases_lt}
+use Rattle.raster.specs.Packed.{bit_in}
+use Rattle.raster.specs.Words.{IsWordAt, bit_of_word, IsFirstInWord}
+use Rattle.raster.specs.declared.packed.Order.TheVariants.{MsbFirst}
+
+-- ---- the first 1
+
+top_bit : (n j : ℕ) → 2 ^ j ≤ n → n < 2 ^ (suc j) → bit_at n j ≡ 1
+top_bit n j low high =
+    let r : ℕ = n - 2 ^ j in
+    let split : n ≡ 1 * 2 ^ j + r = omega (arith, low) in
+    let twice : 2 ^ (suc j) ≡ 2 * 2 ^ j = omega arith in
+    let few : r < 2 ^ j = omega (arith, low, high, twice) in
+    let none : j - j ≡ 0 = omega arith in
+    ap (λ x. bit_at x j) split ∙ (bit_at_cat_high 1 j r j few (omega arith) ∙ ap (bit_at 1) none)
+
+pub record FirstOne (n c : ℕ) : Type 0 where
+  pub high : c ≤ 64
+  pub zeros : (k : ℕ) → k < c → bit_at n (63 - k) ≡ 0
+  pub one : c < 64 → bit_at n (63 - c) ≡ 1
+
+first_one_by : (n c m : ℕ) → c + m ≡ 64 → n < 2 ^ m → 2 ^ m ≤ 2 * n + 1 → FirstOne n c
+first_one_by n c zero e lt le = record {
+  high = omega arith;
+  zeros = λ k h. bit_at_above n 0 (63 - k) lt (omega arith);
+  one = λ h. absurd (omega arith);
+}
+first_one_by n c (suc j) e lt le =
+    let place : 63 - c ≡ j = omega arith in
+    let twice : 2 ^ (suc j) ≡ 2 * 2 ^ j = omega arith in
+    record {
+      high = omega arith;
+      zeros = λ k h. bit_at_above n (suc j) (63 - k) lt (omega arith);
+      one = λ h. ap (bit_at n) place ∙ top_bit n j (omega (arith, le, twice)) lt;
+    }
+
+pub first_one : (n : ℕ) → n < 2 ^ 64 → FirstOne n (leading_zeros w64 n)
+first_one n fits = let (m, e, lt, le) = leading_length 64 n fits in first_one_by n (leading_zeros w64 n) m e lt le
+
+-- ---- the first bit that is another
+
+-- a 0 stands for the bit, and a 1 for the other
+pub record Turns (bit : Bool) (word turned : ℕ) : Type 0 where
+  pub fits : turned < 2 ^ 64
+  pub same : (i : ℕ) → i < 64 → bit_at turned i ≡ 0 → nat_eq (bit_at word i) 1 ≡ bit
+  pub differs : (i : ℕ) → i < 64 → bit_at turned i ≡ 1 → nat_eq (bit_at word i) 1 ≡ not bit
+
+pub turns_not : (word : ℕ) → word < 2 ^ 64 → Turns true word (bit_not w64 word)
+turns_not word fits = record {
+  fits = omega arith;
+  same = λ i h e. let one : bit_at word i ≡ 1 = omega (arith, bit_at_not w64 word i fits h, e, bit_at-lt word i) in ap (λ b. nat_eq b 1) one;
+  differs = λ i h e. let none : bit_at word i ≡ 0 = omega (arith, bit_at_not w64 word i fits h, e, bit_at-lt word i) in ap (λ b. nat_eq b 1) none;
+}
+
+pub turns_as_is : (word : ℕ) → word < 2 ^ 64 → Turns false word word
+turns_as_is word fits = record {
+  fits = fits;
+  same = λ i h e. ap (λ b. nat_eq b 1) e;
+  differs = λ i h e. ap (λ b. nat_eq b 1) e;
+}
+
+masked_low : (turned from i : ℕ) → from < 64 → i < 64 - from → bit_at (bit_and turned ((2 ^ 64 - 1) / 2 ^ from)) i ≡ bit_at turned i
+masked_low turned from i few h =
+    let one : bit_at ((2 ^ 64 - 1) / 2 ^ from) i ≡ 1 = ap (λ m. bit_at m i) (ones_shr 64 from (omega arith)) ∙ bit_at_ones (64 - from) i h in
+    omega (arith, bit_at_and turned ((2 ^ 64 - 1) / 2 ^ from) i, one, bit_at-lt turned i)
+
+masked_high : (turned from i : ℕ) → from < 64 → 64 - from ≤ i → bit_at (bit_and turned ((2 ^ 64 - 1) / 2 ^ from)) i ≡ 0
+masked_high turned from i few h =
+    let none : bit_at ((2 ^ 64 - 1) / 2 ^ from) i ≡ 0 = ap (λ m. bit_at m i) (ones_shr 64 from (omega arith)) ∙ bit_at_ones_above (64 - from) i h in
+    omega (arith, bit_at_and turned ((2 ^ 64 - 1) / 2 ^ from) i, none)
+
+not_before : (turned from c : ℕ) → from < 64 → FirstOne (bit_and turned ((2 ^ 64 - 1) / 2 ^ from)) c → from ≤ c
+not_before turned from c few first =
+    elim (cases_lt c from) [
+      | inl h ↦ absurd (omega (arith, first.one (omega arith), masked_high turned from (63 - c) few (omega arith)))
+      | inr h ↦ h
+    ]
+
+pub first_in : (word from turned c : ℕ) (bit : Bool) → from < 64 → Turns bit word turned → FirstOne (bit_and turned ((2 ^ 64 - 1) / 2 ^ from)) c → IsFirstInWord word from bit c
+first_in word from turned c bit few turns first = record {
+  low = not_before turned from c few first;
+  high = first.high;
+  before = λ k low h.
+      let inside : k < 64 = omega (arith, first.high) in
+      turns.same (63 - k) (omega arith) (sym (masked_low turned from (63 - k) few (omega arith)) ∙ first.zeros k h);
+  hit = λ h.
+      let low : from ≤ c = not_before turned from c few first in
+      turns.differs (63 - c) (omega arith) (sym (masked_low turned from (63 - c) few (omega arith)) ∙ first.one h);
+}
+
+-- ---- over octets
+
+pub word_of_place : (octets : List ℕ) (at word k : ℕ) → IsWordAt MsbFirst octets (8 * (at / 8)) word → at - at % 8 ≤ k → k < at - at % 8 + 64 → bit_in MsbFirst octets k ≡ bit_of_word word (k - (at - at % 8))
+word_of_place octets at word k is low high =
+    let back : k ≡ 8 * (at / 8) + (k - (at - at % 8)) = omega arith in
+    ap (bit_in MsbFirst octets) back ∙ sym (is (k - (at - at % 8)) (omega arith))
