@@ -1,9 +1,22 @@
-//! Worked calls of a caller, step by step.
+//! Worked calls of a caller: what it hears, and the turns and items that answer.
 
 use super::*;
-use crate::Item;
+use crate::{Item, Items};
 use raster::{RasterFault, Row};
 use std::test::Fail;
+
+/// Inputs, each with the turn that answers it.
+type Heard = &'static [(CallerIn<'static>, Turn)];
+
+/// A call whose document has pages of one white row each, of these widths in pixels.
+#[derive(Clone, Copy)]
+struct Call {
+    first: u32,
+    others: &'static [u32],
+    heard: &'static [Heard],
+    confirmed: u64,
+    ending: Option<End>,
+}
 
 /// The DIS of an answerer with all modems, fine lines, every width and T.6.
 const DIS: CallerIn<'static> = CallerIn::Heard(Signal::Dis(Caps {
@@ -26,323 +39,334 @@ const MCF: CallerIn<'static> = CallerIn::Heard(Signal::Mcf);
 const RNR: CallerIn<'static> = CallerIn::Heard(Signal::Rnr);
 
 /// The map with the bit of frame 0 alone.
-fn first_frame() -> [u8; 32] {
-    let mut map = [0; 32];
-    map[0] = 1;
-    map
+const FRAME_0: [u8; 32] = [
+    1, 0, 0, 0, 0, 0, 0, 0, 0, 0, 0, 0, 0, 0, 0, 0, 0, 0, 0, 0, 0, 0, 0, 0, 0, 0, 0, 0, 0, 0, 0, 0,
+];
+
+const PPR: CallerIn<'static> = CallerIn::Heard(Signal::Ppr(FRAME_0));
+
+/// A whole block goes out.
+const BURST: Turn = Turn::Burst([0xFF; 32]);
+
+/// Three tries of a training check, the first of which answers a DIS or an FTT.
+const AFTER_DIS: Heard = &[
+    (DIS, Turn::Training),
+    (TIMEOUT, Turn::Training),
+    (TIMEOUT, Turn::Training),
+];
+
+const AFTER_FTT: Heard = &[
+    (FTT, Turn::Training),
+    (TIMEOUT, Turn::Training),
+    (TIMEOUT, Turn::Training),
+];
+
+/// A block's frames go out again; then its PPS twice more.
+const RESENT: Heard = &[
+    (PPR, Turn::Burst(FRAME_0)),
+    (TIMEOUT, Turn::Pps),
+    (TIMEOUT, Turn::Pps),
+];
+
+const SENT: Heard = &[(CFR, BURST), (TIMEOUT, Turn::Pps), (TIMEOUT, Turn::Pps)];
+
+const CALLS: [Call; 7] = [
+    // training fails at each of the six speeds
+    Call {
+        first: 1728,
+        others: &[],
+        heard: &[
+            AFTER_DIS,
+            AFTER_FTT,
+            AFTER_FTT,
+            AFTER_FTT,
+            AFTER_FTT,
+            AFTER_FTT,
+            &[(FTT, Turn::Dcn), (DIS, Turn::Silent)],
+        ],
+        confirmed: 0,
+        ending: Some(End::Training),
+    },
+    // a block is asked for a fourth time
+    Call {
+        first: 1728,
+        others: &[],
+        heard: &[AFTER_DIS, SENT, RESENT, RESENT, RESENT, &[(PPR, Turn::Dcn)]],
+        confirmed: 0,
+        ending: Some(End::Unreadable),
+    },
+    // a busy answerer that doesn't reply
+    Call {
+        first: 1728,
+        others: &[],
+        heard: &[
+            &[(DIS, Turn::Training), (CFR, BURST), (RNR, Turn::Rr)],
+            &[
+                (TIMEOUT, Turn::Rr),
+                (TIMEOUT, Turn::Rr),
+                (TIMEOUT, Turn::Dcn),
+            ],
+        ],
+        confirmed: 0,
+        ending: Some(End::NoReply),
+    },
+    // one that is busy for too long
+    Call {
+        first: 1728,
+        others: &[],
+        heard: &[
+            &[(DIS, Turn::Training), (CFR, BURST), (RNR, Turn::Rr)],
+            &[
+                (TIMEOUT, Turn::Rr),
+                (TIMEOUT, Turn::Rr),
+                (CallerIn::T5, Turn::Dcn),
+            ],
+        ],
+        confirmed: 0,
+        ending: Some(End::StillBusy),
+    },
+    // a DIS is one more try of a training check
+    Call {
+        first: 1728,
+        others: &[],
+        heard: &[
+            &[(DIS, Turn::Training), (DIS, Turn::Training)],
+            &[(TIMEOUT, Turn::Training), (DIS, Turn::Dcn)],
+        ],
+        confirmed: 0,
+        ending: Some(End::NoReply),
+    },
+    // a second page of the same group
+    Call {
+        first: 1728,
+        others: &[1728],
+        heard: &[&[
+            (DIS, Turn::Training),
+            (CFR, BURST),
+            (MCF, BURST),
+            (MCF, Turn::Dcn),
+        ]],
+        confirmed: 2,
+        ending: Some(End::Normal),
+    },
+    // a second group, which begins with another DIS
+    Call {
+        first: 1728,
+        others: &[2048],
+        heard: &[
+            AFTER_DIS,
+            AFTER_FTT,
+            AFTER_FTT,
+            AFTER_FTT,
+            AFTER_FTT,
+            AFTER_FTT,
+            &[(CFR, BURST), (MCF, Turn::Silent)],
+            AFTER_DIS,
+            AFTER_FTT,
+            AFTER_FTT,
+            AFTER_FTT,
+            AFTER_FTT,
+            AFTER_FTT,
+            &[(FTT, Turn::Dcn)],
+        ],
+        confirmed: 1,
+        ending: Some(End::Training),
+    },
+];
+
+/// The DCS of T.6 code, 1,728 pixels and frames of 256 octets, at a speed.
+macro_rules! dcs {
+    ($speed:ident) => {
+        Item::Frame {
+            signal: Signal::Dcs(Params {
+                speed: Speed::$speed,
+                fine: false,
+                width: PageWidth::W1728,
+                coding: Coding::T6,
+                small: false,
+            }),
+            last: true,
+        }
+    };
 }
 
-/// A page of so many rows, each with these runs.
-fn page_of(alloc: Global, runs: &[u32], rows: u32) -> Result<Page, Fail> {
-    let mut page = Page::new(alloc, Row::from_runs(alloc, runs)?.width(), false)?;
-    for _ in 0..rows {
-        page.push_row(Row::from_runs(alloc, runs)?)?;
-    }
+/// The code of one white row of 1,728 pixels and EOFB, 25 bits, filled to a frame.
+const DATA: [u8; 256] = [
+    0x01, 0x10, 0x00, 0x01, 0, 0, 0, 0, 0, 0, 0, 0, 0, 0, 0, 0, 0, 0, 0, 0, 0, 0, 0, 0, 0, 0, 0, 0,
+    0, 0, 0, 0, 0, 0, 0, 0, 0, 0, 0, 0, 0, 0, 0, 0, 0, 0, 0, 0, 0, 0, 0, 0, 0, 0, 0, 0, 0, 0, 0, 0,
+    0, 0, 0, 0, 0, 0, 0, 0, 0, 0, 0, 0, 0, 0, 0, 0, 0, 0, 0, 0, 0, 0, 0, 0, 0, 0, 0, 0, 0, 0, 0, 0,
+    0, 0, 0, 0, 0, 0, 0, 0, 0, 0, 0, 0, 0, 0, 0, 0, 0, 0, 0, 0, 0, 0, 0, 0, 0, 0, 0, 0, 0, 0, 0, 0,
+    0, 0, 0, 0, 0, 0, 0, 0, 0, 0, 0, 0, 0, 0, 0, 0, 0, 0, 0, 0, 0, 0, 0, 0, 0, 0, 0, 0, 0, 0, 0, 0,
+    0, 0, 0, 0, 0, 0, 0, 0, 0, 0, 0, 0, 0, 0, 0, 0, 0, 0, 0, 0, 0, 0, 0, 0, 0, 0, 0, 0, 0, 0, 0, 0,
+    0, 0, 0, 0, 0, 0, 0, 0, 0, 0, 0, 0, 0, 0, 0, 0, 0, 0, 0, 0, 0, 0, 0, 0, 0, 0, 0, 0, 0, 0, 0, 0,
+    0, 0, 0, 0, 0, 0, 0, 0, 0, 0, 0, 0, 0, 0, 0, 0, 0, 0, 0, 0, 0, 0, 0, 0, 0, 0, 0, 0, 0, 0, 0, 0,
+    0, 0, 0, 0,
+];
+
+const FCD: Item<'static> = Item::Frame {
+    signal: Signal::Fcd {
+        number: 0,
+        octets: &DATA,
+    },
+    last: false,
+};
+
+const RCP: Item<'static> = Item::Frame {
+    signal: Signal::Rcp,
+    last: false,
+};
+
+const PPS: Item<'static> = Item::Frame {
+    signal: Signal::Pps {
+        ends: PageEnd::Eop,
+        page: 0,
+        block: 0,
+        last: 0,
+    },
+    last: true,
+};
+
+/// Inputs, each with the items of the turn that answers it.
+const ITEMS: &[(CallerIn<'static>, &[Item<'static>])] = &[
+    (DIS, &[dcs!(V17At14400), Item::Training(2700)]),
+    (FTT, &[dcs!(V17At12000), Item::Training(2250)]),
+    (CFR, &[FCD, RCP, RCP, RCP, PPS]),
+    (TIMEOUT, &[PPS]),
+    (PPR, &[FCD, RCP, RCP, RCP, PPS]),
+    (
+        CallerIn::Heard(Signal::Ppr([0xFE; 32])),
+        &[RCP, RCP, RCP, PPS],
+    ),
+    (
+        RNR,
+        &[Item::Frame {
+            signal: Signal::Rr,
+            last: true,
+        }],
+    ),
+    (
+        CallerIn::T5,
+        &[Item::Frame {
+            signal: Signal::Dcn,
+            last: true,
+        }],
+    ),
+];
+
+/// A page of one row of these runs.
+fn page_of(alloc: Global, runs: &[u32]) -> Result<Page, RasterFault> {
+    let row = Row::from_runs(alloc, runs)?;
+    let mut page = Page::new(alloc, row.width(), false)?;
+    page.push_row(row)?;
     Ok(page)
 }
 
-/// A caller of pages of one white row each, of these widths in pixels, in T.6 code and frames of 256 octets.
-fn caller_of(alloc: Global, first: u32, others: &[u32]) -> Result<Caller, Fail> {
-    let mut document = Document::new(alloc, page_of(alloc, &[first], 1)?)?;
+/// Pages of one white row each, of these widths in pixels.
+fn white_pages(alloc: Global, first: u32, others: &[u32]) -> Result<Document, RasterFault> {
+    let mut document = Document::new(alloc, page_of(alloc, &[first])?)?;
     for width in others {
-        document.push(page_of(alloc, &[*width], 1)?)?;
+        document.push(page_of(alloc, &[*width])?)?;
     }
+    Ok(document)
+}
+
+/// A caller of a document in T.6 code and frames of 256 octets.
+fn caller_of(alloc: Global, document: Document) -> Result<Caller, CallerFault> {
     let wish = Wish {
         modems: Modems::V17,
         coding: Coding::T6,
         small: false,
     };
-    Ok(Caller::new(alloc, document, wish)?)
-}
-
-/// A row of one white and one black pixel, 1,216 times: 10,956 bits in T.4 code.
-fn comb(alloc: Global) -> Result<Vec<u32>, AllocError> {
-    let mut runs = Vec::new(alloc);
-    runs.resize(2432, 1)?;
-    Ok(runs)
-}
-
-/// A caller of one page in T.4 code and frames of 64 octets.
-fn one_dimensional(alloc: Global, document: Document) -> Result<Caller, CallerFault> {
-    let wish = Wish {
-        modems: Modems::V17,
-        coding: Coding::OneDim,
-        small: true,
-    };
     Caller::new(alloc, document, wish)
 }
 
-/// How many of the turns that answer these inputs are `turn`.
-fn count(caller: &mut Caller, inputs: &[CallerIn<'_>], turn: Turn) -> Result<u32, AllocError> {
-    let mut found = 0u32;
-    for input in inputs {
-        if caller.step(*input)? == turn {
-            found = found.saturating_add(1);
+/// Whether the caller answers each input with its turn.
+fn answers(caller: &mut Caller, heard: Heard) -> Result<bool, AllocError> {
+    for (input, turn) in heard {
+        if caller.step(*input)? != *turn {
+            return Ok(false);
         }
     }
-    Ok(found)
+    Ok(true)
 }
 
-/// 1 for a turn Training, 0 for any other.
-fn counted(turn: Turn) -> u32 {
-    if turn == Turn::Training { 1 } else { 0 }
-}
-
-/// The turns Training of one entry into the wait for a DIS, as many as there can be: DIS, five times two
-/// time-outs and FTT, two time-outs.
-fn trainings(caller: &mut Caller) -> Result<u32, AllocError> {
-    let mut found = counted(caller.step(DIS)?);
-    for round in 0..17u8 {
-        let input = if round % 3 == 2 { FTT } else { TIMEOUT };
-        found = found.saturating_add(counted(caller.step(input)?));
-    }
-    Ok(found)
-}
-
-#[test]
-fn eighteen_trainings(rt: HostRuntime) -> Result<(), Fail> {
-    let mut caller = caller_of(rt.alloc(), 1728, &[])?;
-    assert_eq!(rt; trainings(&mut caller)?, 18);
-    assert_eq!(rt; caller.step(FTT)?, Turn::Dcn);
-    assert_eq!(rt; caller.end(), Some(End::Training));
-    assert_eq!(rt; caller.step(DIS)?, Turn::Silent);
-    Ok(())
-}
-
-#[test]
-fn twelve_bursts_and_pps(rt: HostRuntime) -> Result<(), Fail> {
-    let mut caller = caller_of(rt.alloc(), 1728, &[])?;
-    assert_eq!(rt; trainings(&mut caller)?, 18);
-    assert_eq!(rt; caller.step(CFR)?, Turn::Burst([0xFF; 32]));
-    assert_eq!(rt; count(&mut caller, &[TIMEOUT, TIMEOUT], Turn::Pps)?, 2);
-    let ppr = CallerIn::Heard(Signal::Ppr(first_frame()));
-    for _ in 0..3u8 {
-        assert_eq!(rt; caller.step(ppr)?, Turn::Burst(first_frame()));
-        assert_eq!(rt; count(&mut caller, &[TIMEOUT, TIMEOUT], Turn::Pps)?, 2);
-    }
-    assert_eq!(rt; caller.step(ppr)?, Turn::Dcn);
-    assert_eq!(rt; caller.end(), Some(End::Unreadable));
-    assert_eq!(rt; caller.confirmed(), 0);
-    Ok(())
-}
-
-#[test]
-fn a_busy_answerer(rt: HostRuntime) -> Result<(), Fail> {
-    for (last, end) in [(TIMEOUT, End::NoReply), (CallerIn::T5, End::StillBusy)] {
-        let mut caller = caller_of(rt.alloc(), 1728, &[])?;
-        assert_eq!(rt; caller.step(DIS)?, Turn::Training);
-        assert_eq!(rt; caller.step(CFR)?, Turn::Burst([0xFF; 32]));
-        assert_eq!(rt; count(&mut caller, &[RNR, TIMEOUT, TIMEOUT], Turn::Rr)?, 3);
-        assert_eq!(rt; caller.step(last)?, Turn::Dcn);
-        assert_eq!(rt; caller.end(), Some(end));
-    }
-    Ok(())
-}
-
-#[test]
-fn tries_of_a_training_end(rt: HostRuntime) -> Result<(), Fail> {
-    let mut caller = caller_of(rt.alloc(), 1728, &[])?;
-    assert_eq!(rt;
-        count(&mut caller, &[DIS, DIS, TIMEOUT], Turn::Training)?,
-        3
-    );
-    assert_eq!(rt; caller.step(DIS)?, Turn::Dcn);
-    assert_eq!(rt; caller.end(), Some(End::NoReply));
-    Ok(())
-}
-
-#[test]
-fn two_groups(rt: HostRuntime) -> Result<(), Fail> {
-    let mut caller = caller_of(rt.alloc(), 1728, &[2048])?;
-    assert_eq!(rt; caller.between_groups(), false);
-    assert_eq!(rt; trainings(&mut caller)?, 18);
-    assert_eq!(rt; caller.step(CFR)?, Turn::Burst([0xFF; 32]));
-    assert_eq!(rt; caller.step(MCF)?, Turn::Silent);
-    assert_eq!(rt; caller.between_groups(), true);
-    assert_eq!(rt; trainings(&mut caller)?, 18);
-    assert_eq!(rt; caller.step(FTT)?, Turn::Dcn);
-    assert_eq!(rt; caller.end(), Some(End::Training));
-    assert_eq!(rt; caller.confirmed(), 1);
-    Ok(())
-}
-
-#[test]
-fn a_page_of_the_same_group(rt: HostRuntime) -> Result<(), Fail> {
-    let mut caller = caller_of(rt.alloc(), 1728, &[1728])?;
-    assert_eq!(rt; caller.step(DIS)?, Turn::Training);
-    assert_eq!(rt;
-        count(&mut caller, &[CFR, MCF], Turn::Burst([0xFF; 32]))?,
-        2
-    );
-    assert_eq!(rt; caller.end(), None);
-    assert_eq!(rt; caller.step(MCF)?, Turn::Dcn);
-    assert_eq!(rt; caller.end(), Some(End::Normal));
-    assert_eq!(rt; caller.confirmed(), 2);
-    Ok(())
-}
-
-/// Whether an item is a frame that says a signal, the last or not.
-fn is_frame(item: Option<Item<'_>>, wanted: Signal<'_>, is_last: bool) -> bool {
-    match item {
-        Some(Item::Frame { signal, last }) => signal == wanted && last == is_last,
-        _ => false,
-    }
-}
-
-/// Whether an item is a training check of so many octets.
-fn is_training(item: Option<Item<'_>>, octets: u32) -> bool {
-    match item {
-        Some(Item::Training(count)) => count == octets,
-        _ => false,
-    }
-}
-
-#[test]
-fn items_of_a_training(rt: HostRuntime) -> Result<(), Fail> {
-    let mut caller = caller_of(rt.alloc(), 1728, &[])?;
-    for (input, speed, octets) in [
-        (DIS, Speed::V17At14400, 2700),
-        (FTT, Speed::V17At12000, 2250),
-    ] {
-        let turn = caller.step(input)?;
-        let dcs = Signal::Dcs(Params {
-            speed,
-            fine: false,
-            width: PageWidth::W1728,
-            coding: Coding::T6,
-            small: false,
-        });
-        let mut items = caller.frames(&turn);
-        assert!(rt; is_frame(items.next(), dcs, true));
-        assert!(rt; is_training(items.next(), octets));
-        assert!(rt; items.next().is_none());
-    }
-    Ok(())
-}
-
-#[test]
-fn items_of_a_burst(rt: HostRuntime) -> Result<(), Fail> {
-    let mut caller = caller_of(rt.alloc(), 1728, &[])?;
-    let _training = caller.step(DIS)?;
-    let turn = caller.step(CFR)?;
-    let mut data = [0u8; 256];
-    data[0] = 0x01;
-    data[1] = 0x10;
-    data[3] = 0x01;
-    let fcd = Signal::Fcd {
-        number: 0,
-        octets: &data,
-    };
-    let pps = Signal::Pps {
-        ends: PageEnd::Eop,
-        page: 0,
-        block: 0,
-        last: 0,
-    };
-    let mut items = caller.frames(&turn);
-    assert!(rt; is_frame(items.next(), fcd, false));
-    for _ in 0..3u8 {
-        assert!(rt; is_frame(items.next(), Signal::Rcp, false));
-    }
-    assert!(rt; is_frame(items.next(), pps, true));
-    assert!(rt; items.next().is_none());
-    let mut alone = caller.frames(&Turn::Pps);
-    assert!(rt; is_frame(alone.next(), pps, true));
-    assert!(rt; alone.next().is_none());
-    Ok(())
-}
-
-/// How many FCDs a turn has before three RCP and this PPS.
-fn fcds_before(caller: &Caller, turn: Turn, pps: Signal<'_>) -> Option<u32> {
-    let mut fcds = 0u32;
-    let mut rcps = 0u32;
-    for item in caller.frames(&turn) {
-        let Item::Frame { signal, last } = item else {
-            return None;
-        };
-        match signal {
-            Signal::Fcd { number, octets } => {
-                if number as u32 != fcds || octets.len() != 64 || last {
-                    return None;
-                }
-                fcds = fcds.saturating_add(1);
-            }
-            Signal::Rcp => rcps = rcps.saturating_add(1),
-            _ => return if signal == pps && last && rcps == 3 {
-                Some(fcds)
-            } else {
-                None
-            },
+/// Whether these are the items, and no more.
+fn are_items(mut items: Items<'_>, wanted: &[Item<'_>]) -> bool {
+    for item in wanted {
+        if items.next() != Some(*item) {
+            return false;
         }
     }
-    None
+    items.next().is_none()
 }
 
 #[test]
-fn a_page_of_two_blocks(rt: HostRuntime) -> Result<(), Fail> {
+fn worked_calls(rt: HostRuntime) -> Result<(), Fail> {
     let alloc = rt.alloc();
-    // 20 rows of 10,956 bits and 72 bits: 27,399 octets, 429 frames
-    let page = page_of(alloc, &comb(alloc)?, 20)?;
-    let mut caller = one_dimensional(alloc, Document::new(alloc, page)?)?;
-    let _training = caller.step(DIS)?;
-    let pps = Signal::Pps {
-        ends: PageEnd::Null,
-        page: 0,
-        block: 0,
-        last: 255,
-    };
-    let burst = caller.step(CFR)?;
-    assert_eq!(rt; fcds_before(&caller, burst, pps), Some(256));
-    let pps = Signal::Pps {
-        ends: PageEnd::Eop,
-        page: 0,
-        block: 1,
-        last: 172,
-    };
-    let burst = caller.step(MCF)?;
-    assert_eq!(rt; burst, Turn::Burst([0xFF; 32]));
-    assert_eq!(rt; fcds_before(&caller, burst, pps), Some(173));
-    assert_eq!(rt; caller.confirmed(), 0);
-    assert_eq!(rt; caller.step(MCF)?, Turn::Dcn);
-    assert_eq!(rt; caller.confirmed(), 1);
+    for (number, call) in CALLS.iter().enumerate() {
+        let mut caller = caller_of(alloc, white_pages(alloc, call.first, call.others)?)?;
+        for heard in call.heard {
+            assert!(rt; answers(&mut caller, heard)?, "call {number}");
+        }
+        assert_eq!(rt; caller.confirmed(), call.confirmed, "call {number}");
+        assert_eq!(rt; caller.end(), call.ending, "call {number}");
+    }
     Ok(())
+}
+
+#[test]
+fn items_of_turns(rt: HostRuntime) -> Result<(), Fail> {
+    let mut caller = caller_of(rt.alloc(), white_pages(rt.alloc(), 1728, &[])?)?;
+    for (input, items) in ITEMS {
+        let turn = caller.step(*input)?;
+        assert!(rt; are_items(caller.frames(&turn), items));
+    }
+    Ok(())
+}
+
+/// Whether the items begin with FCDs of these numbers, in this order.
+fn begin_with(mut items: Items<'_>, numbers: &[u8]) -> bool {
+    for wanted in numbers {
+        let Some(
+            Item::Frame {
+                signal: Signal::Fcd { number, .. },
+                last: false,
+            },
+        ) = items.next()
+        else {
+            return false;
+        };
+        if number != *wanted {
+            return false;
+        }
+    }
+    items.next() == Some(RCP)
 }
 
 #[test]
 fn marked_frames_in_rising_order(rt: HostRuntime) -> Result<(), Fail> {
     let alloc = rt.alloc();
-    let page = page_of(alloc, &comb(alloc)?, 20)?;
-    let mut caller = one_dimensional(alloc, Document::new(alloc, page)?)?;
+    let mut runs = Vec::new(alloc);
+    runs.resize(2432, 1)?;
+    let document = Document::new(alloc, page_of(alloc, &runs)?)?;
+    let wish = Wish {
+        modems: Modems::V17,
+        coding: Coding::OneDim,
+        small: true,
+    };
+    let mut caller = Caller::new(alloc, document, wish)?;
     let _training = caller.step(DIS)?;
     let _burst = caller.step(CFR)?;
     let mut map = [0; 32];
     map[0] = 0x02;
-    map[31] = 0x80;
-    let turn = caller.step(CallerIn::Heard(Signal::Ppr(map)))?;
-    let mut items = caller.frames(&turn);
-    for wanted in [1u8, 255] {
-        match items.next() {
-            Some(
-                Item::Frame {
-                    signal: Signal::Fcd { number, .. },
-                    last: false,
-                },
-            ) => assert_eq!(rt; number, wanted),
-            _ => assert!(rt; false),
-        }
-    }
-    assert!(rt; is_frame(items.next(), Signal::Rcp, false));
+    map[2] = 0xF0;
+    assert!(rt; begin_with(caller.frames(&Turn::Burst(map)), &[1, 20, 21]));
     Ok(())
 }
 
 #[test]
 fn other_widths_are_not_called(rt: HostRuntime) -> Result<(), Fail> {
-    let alloc = rt.alloc();
-    let mut document = Document::new(alloc, page_of(alloc, &[1728], 1)?)?;
-    document.push(page_of(alloc, &[1727], 1)?)?;
-    match one_dimensional(alloc, document) {
-        Ok(_) => assert!(rt; false),
-        Err(fault) => assert_eq!(rt; fault.number(), 26),
-    }
+    let refused = caller_of(rt.alloc(), white_pages(rt.alloc(), 1728, &[1727])?);
+    assert_eq!(rt; refused.err(), Some(CallerFault::WidthNotCallable));
     Ok(())
 }
