@@ -1,9 +1,17 @@
--- A coded page as blocks of frames.
+-- A coded page as blocks of frames (ITU-T T.30, Annex A).
 use Rattle.std.specs.Prelude.{ℕ, ◌≡◌, ◌≤◌, ◌<◌, ◌+◌, ◌-◌, ◌*◌, ◌++◌, ◌∷◌, [], suc, zero, Bool, true, false, List, length, take, drop, replicate, All, slice_index_or, Result, Ok, Err}
 use Rattle.std.specs.Int.{div_ceil}
 use Rattle.std.specs.List.{flat_map}
 use Rattle.partial_page.specs.declared.fault.BlockFault.{BlockFault}
 use Rattle.partial_page.specs.declared.fault.BlockFault.TheVariants.{NoMemory, PageTooLong}
+
+-- the greatest number of octets of a coded page
+abbrev pub max_page_octets : ℕ
+max_page_octets = 8388608
+
+-- the greatest number of frames of a coded page: those of 64 octets
+abbrev pub max_page_frames : ℕ
+max_page_frames = 131072
 
 -- the octets of a frame: 64 where the small frames are agreed, else 256
 abbrev pub frame_size : Bool → ℕ
@@ -53,9 +61,9 @@ pub record IsCut (size : ℕ) (octets : List ℕ) (blocks : List (List (List ℕ
 
 -- what cutting a coded page answers
 abbrev pub CutsPage : Bool → List ℕ → Result (List (List (List ℕ))) BlockFault → Type 0
-CutsPage small coded (Ok blocks) = (length coded ≤ 8388608) × (blocks ≡ cut small coded)
-CutsPage small coded (Err PageTooLong) = 8388608 < length coded
-CutsPage small coded (Err NoMemory) = length coded ≤ 8388608
+CutsPage small coded (Ok blocks) = (length coded ≤ max_page_octets) × (blocks ≡ cut small coded)
+CutsPage small coded (Err PageTooLong) = max_page_octets < length coded
+CutsPage small coded (Err NoMemory) = length coded ≤ max_page_octets
 CutsPage small coded (Err fault) = ⊥
 
 -- what octets are cut into are blocks of full frames that join to them
@@ -64,7 +72,9 @@ CutIsFullFrames = (small : Bool) (octets : List ℕ) → IsCut (frame_size small
 
 -- since the page limit is a multiple of both frame sizes, each beginning of the joined frames of a page within the limit is within it
 abbrev pub JoinedPageIsWithinLimit : Type 0
-JoinedPageIsWithinLimit = (small : Bool) (octets front rest : List ℕ) → length octets ≤ 8388608 → joined (cut small octets) ≡ front ++ rest → length front ≤ 8388608
+JoinedPageIsWithinLimit =
+    (small : Bool) (octets front rest : List ℕ) → length octets ≤ max_page_octets → joined (cut small octets) ≡ front ++ rest →
+    length front ≤ max_page_octets
 
 -- octets that aren't empty have a block
 abbrev pub OctetsHaveABlock : Type 0

@@ -7,7 +7,8 @@ use Rattle.partial_page.specs.Frames.{frame_size, joined_block}
 use Rattle.partial_page.specs.declared.fault.BlockFault.{BlockFault}
 use Rattle.partial_page.specs.declared.fault.BlockFault.TheVariants.{NoMemory, TooLong}
 
--- a store: whether the small frames are agreed, at each number 0 to 255 its frame's data, where there is one, and whether its memory is taken
+-- a store: whether the small frames are agreed, at each number 0 to 255 its frame's data, where there is one, and whether its memory
+-- is taken
 pub record StoredFrames : Type 0 where
   pub small : Bool
   pub frames : List (Option (List ℕ))
@@ -57,7 +58,8 @@ joined_frames frames count = flat_map (λ n. unwrap_or (frame_of frames n) []) (
 
 -- what storing a frame leaves, and when it is refused: for want of memory only where the store's memory isn't taken yet
 abbrev pub PutsFrame : StoredFrames → ℕ → List ℕ → StoredFrames → Result (Unit {0}) BlockFault → Type 0
-PutsFrame old n octets new (Ok done) = (length octets ≤ frame_size old.small) × (new ≡ record old { frames = slice_set old.frames n (Some octets); ready = true })
+PutsFrame old n octets new (Ok done) =
+    (length octets ≤ frame_size old.small) × (new ≡ record old { frames = slice_set old.frames n (Some octets); ready = true })
 PutsFrame old n octets new (Err TooLong) = (frame_size old.small < length octets) × (new ≡ old)
 PutsFrame old n octets new (Err NoMemory) = (length octets ≤ frame_size old.small) × (old.ready ≡ false) × (new ≡ old)
 PutsFrame old n octets new (Err fault) = ⊥
@@ -86,8 +88,10 @@ pub record IsLaidOut (small : Bool) (buffer there lengths : List ℕ) : Type 0 w
 abbrev pub StoreJoinsToBlock : Type 0
 StoreJoinsToBlock =
     (frames : List (Option (List ℕ))) (block : List (List ℕ)) →
-    ((k : ℕ) → k < length block → frame_of frames k ≡ Some (slice_index_or block k [])) → joined_frames frames (length block) ≡ joined_block block
+    ((k : ℕ) → k < length block → frame_of frames k ≡ Some (slice_index_or block k [])) →
+    joined_frames frames (length block) ≡ joined_block block
 
 -- of 256 places none has a frame exactly if they are those of no frame
 abbrev pub NoFramesHaveNone : Type 0
-NoFramesHaveNone = (frames : List (Option (List ℕ))) → length frames ≡ 256 → (((n : ℕ) → n < 256 → has_frame frames n ≡ false) ↔ (frames ≡ no_frames))
+NoFramesHaveNone =
+    (frames : List (Option (List ℕ))) → length frames ≡ 256 → (((n : ℕ) → n < 256 → has_frame frames n ≡ false) ↔ (frames ≡ no_frames))

@@ -1,6 +1,6 @@
 //! The blocks of a coded page (ITU-T T.30, Annex A).
 
-ghost use Rattle.partial_page.specs.Frames.{frame_size, CutsPage, IsCut};
+ghost use Rattle.partial_page.specs.Frames.{frame_size, max_page_octets, CutsPage, IsCut};
 ghost use Rattle.std.specs.Prelude.{◌≡◌, ◌≤◌, ◌<◌, ◌+◌, ◌-◌, ◌*◌, [], length, take, drop, slice_index_or, IfOk};
 
 use crate::fault::BlockFault;
@@ -8,7 +8,7 @@ use std::alloc::Global;
 use std::marker::Model;
 
 /// The greatest number of octets of a coded page.
-pub const PAGE_LIMIT: usize = 8_388_608;
+pub const MAX_PAGE_OCTETS: usize = 8_388_608;
 
 /// The octets of a frame: 64 where `small`, else 256.
 pub(crate) fn frame_octets(small: bool) -> usize
@@ -19,9 +19,9 @@ pub(crate) fn frame_octets(small: bool) -> usize
     if small { 64 } else { 256 }
 }
 
-/// The frame at a place among frames that stand one after the other.
+/// The frame at a place among frames that lie one after the other.
 pub(crate) fn frame_at(octets: &[u8], place: usize, small: bool) -> &[u8]
-    requires few { place < 8388608 }
+    requires few { place < max_page_octets }
     requires within { (place + 1) * frame_size small ≤ length octets.now }
     ensures { result.now ≡ take (frame_size small) (drop (place * frame_size small) octets.now) }
 {
@@ -31,7 +31,7 @@ pub(crate) fn frame_at(octets: &[u8], place: usize, small: bool) -> &[u8]
 
 /// A coded page, cut into the frames of ITU-T T.30 Annex A: blocks of 256 frames, the last block with
 /// the rest, and each frame of the agreed size.
-#[derive(Drop)]
+#[derive(Debug, Drop)]
 pub struct Blocks {
     octets: Vec<u8>,
     frames: usize,
@@ -40,13 +40,13 @@ pub struct Blocks {
 
 impl Model for Blocks {
     ghost use Rattle.std.specs.Prelude.{ℕ, ◌≡◌, ◌≤◌, ◌*◌, List, length};
-    ghost use Rattle.partial_page.specs.Frames.{frame_size, blocks_of};
+    ghost use Rattle.partial_page.specs.Frames.{frame_size, blocks_of, max_page_frames};
 
     ghost Value = { List (List (List ℕ)) };
 
     ghost view = { λ b. blocks_of (frame_size b.small) b.frames b.octets.items };
 
-    ghost invariant = { λ b. (length b.octets.items ≡ b.frames * frame_size b.small) × (b.frames ≤ 131072) };
+    ghost invariant = { λ b. (length b.octets.items ≡ b.frames * frame_size b.small) × (b.frames ≤ max_page_frames) };
 }
 
 impl Blocks {
@@ -57,11 +57,11 @@ impl Blocks {
         ensures cuts { CutsPage small coded.items result }
         ensures full { IfOk result (λ blocks. IsCut (frame_size small) coded.items blocks) }
     {
-        if coded.len() > PAGE_LIMIT {
+        if coded.len() > MAX_PAGE_OCTETS {
             return Err(BlockFault::PageTooLong);
         }
         let mut octets = coded;
-        let size = frame_octets(small); // of the page
+        let size = frame_octets(small);
         let frames = octets.len().div_ceil(size);
         octets.resize(frames * size, 0)?;
         Ok(Blocks {

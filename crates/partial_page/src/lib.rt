@@ -1,5 +1,5 @@
 //! The partial pages of ITU-T T.30 Annex A: a coded page cut into blocks of frames, and a store that
-//! gathers the frames of a block.
+//! gathers the frames of a block. It uses `raster`.
 #![tactic(auto)]
 
 mod blocks;
@@ -9,7 +9,6 @@ mod store;
 #[cfg(test)]
 mod tests;
 
-pub use crate::blocks::{Blocks, PAGE_LIMIT};
+pub use crate::blocks::{Blocks, MAX_PAGE_OCTETS};
 pub use crate::fault::BlockFault;
-pub use crate::laws::{page_is_cut_into_full_frames, page_stays_within_limit};
 pub use crate::store::BlockStore;

@@ -2,8 +2,7 @@
 
 ghost use Rattle.partial_page.specs.Frames.{frame_size};
 ghost use Rattle.partial_page.specs.Store.{StoredFrames, no_frames, frame_of, has_frame, is_marked, IsStore, IsWhole, joined_frames, PutsFrame, IsKept, IsMissingMap, bit_of};
-ghost use Rattle.partial_page.specs.declared.fault.BlockFault.TheVariants.{NoMemory};
-ghost use Rattle.std.specs.Prelude.{◌≡◌, ◌≤◌, ◌<◌, ◌+◌, ◌⊎◌, ◌++◌, ◌&&◌, ◌||◌, ℕ, true, false, take, drop, length, nat_eq, slice_set, option_map, unwrap_or, [], IsOk, IsOkUnless, OnOk, OnErr, IsTrue, ◌↔◌};
+ghost use Rattle.std.specs.Prelude.{◌≡◌, ◌≤◌, ◌<◌, ◌+◌, ◌⊎◌, ◌++◌, ◌&&◌, ◌||◌, ℕ, true, false, take, drop, length, nat_eq, slice_set, option_map, unwrap_or, [], IsOk, OnOk, OnErr, IsTrue, ◌↔◌};
 
 use crate::blocks::{frame_at, frame_octets};
 use crate::fault::BlockFault;
@@ -32,7 +31,7 @@ fn write_from(buffer: &mut Vec<u8>, place: usize, octets: &[u8])
 
 /// The frames of a block that were received, by their numbers. All lie in one buffer of 256 places of
 /// the agreed size, which the first frame takes and the store then keeps.
-#[derive(Drop)]
+#[derive(Debug, Drop)]
 pub struct BlockStore {
     buffer: Vec<u8>,
     there: [u8; 32],
@@ -62,7 +61,7 @@ impl BlockStore {
             buffer: Vec::new(alloc),
             there: [0; 32],
             lengths: [0; 256],
-            small, // of a new store
+            small,
         }
     }
 
@@ -154,7 +153,7 @@ impl BlockStore {
         ensures store { IsStore self.now }
         ensures map { IsMissingMap self.now.frames last result }
     {
-        let _ready = self.ready(); // which says what each store keeps to
+        let _ready = self.ready(); // for the proof: what every store keeps to
         let mut octets = [0; 32];
         for number in 0u16..256 {
             let n = number as u8;
@@ -168,8 +167,8 @@ impl BlockStore {
         ensures store { IsStore self.now }
         ensures whole { IsTrue result ↔ IsWhole self.now.frames last }
     {
-        let _ready = self.ready(); // which says what each store keeps to
-        for number in 0..last as u16 + 1 { // the frames that must be there
+        let _ready = self.ready(); // for the proof: what every store keeps to
+        for number in 0..last as u16 + 1 {
             if !self.has(number as u8) {
                 return false;
             }
@@ -182,8 +181,8 @@ impl BlockStore {
         ensures store { IsStore self.now }
         ensures empty { IsTrue result ↔ (self.now.frames ≡ no_frames) }
     {
-        let _ready = self.ready(); // which says what each store keeps to
-        for number in 0u16..256 { // the frames that must not be there
+        let _ready = self.ready(); // for the proof: what every store keeps to
+        for number in 0u16..256 {
             if self.has(number as u8) {
                 return false;
             }
@@ -202,21 +201,20 @@ impl BlockStore {
         Ok(())
     }
 
-    /// Appends the frames 0 to `last`, which are all there, one after the other. Errs with `NoMemory`;
-    /// then the list is as it was.
-    pub fn append_joined(&self, last: u8, octets: &mut Vec<u8>) -> Result<(), BlockFault>
+    /// Appends the frames 0 to `last`, which are all there, one after the other. Errs where memory is
+    /// refused; then the list is as it was.
+    pub fn append_joined(&self, last: u8, octets: &mut Vec<u8>) -> Result<(), AllocError>
         requires { IsWhole self.now.frames last }
         ensures store { IsStore self.now }
         ensures ok { OnOk result (octets.new.items ≡ octets.old.items ++ joined_frames self.now.frames (last + 1)) }
         ensures err { OnErr result (octets.new.items ≡ octets.old.items) }
-        ensures only { IsOkUnless result NoMemory }
     {
-        let _ready = self.ready(); // which says what each store keeps to
+        let _ready = self.ready(); // for the proof: what every store keeps to
         let start = octets.len();
-        for number in 0..last as u16 + 1 { // the frames that are joined
+        for number in 0..last as u16 + 1 {
             if let Err(refused) = self.append_frame(number as u8, octets) {
                 octets.truncate(start);
-                return Err(BlockFault::from(refused));
+                return Err(refused);
             }
         }
         Ok(())

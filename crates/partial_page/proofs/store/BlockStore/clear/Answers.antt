@@ -12,5 +12,7 @@ returns-clause-store c = is_store _ _ _ _ _ (laid-cleared _ _ _ _ c.self.invaria
 
 pub returns-clause-empty : goal.returns-clause-empty
 returns-clause-empty c =
-    let with_frames : List (Option (List ℕ)) → StoredFrames = λ frames. record { small = c.self.inside.small; frames = frames; ready = nat_lt 0 (length c.self.inside.buffer.items) } in
-    rw (← c.self.view_is) (ap with_frames (none_in c.self.inside.small c.self.inside.buffer.items _ c.self.inside.lengths (λ k h. bit_of-zeros 32 k)))
+    let with_frames : List (Option (List ℕ)) → StoredFrames =
+    λ frames. record { small = c.self.inside.small; frames = frames; ready = nat_lt 0 (length c.self.inside.buffer.items) } in
+    rw (← c.self.view_is)
+    (ap with_frames (none_in c.self.inside.small c.self.inside.buffer.items _ c.self.inside.lengths (λ k h. bit_of-zeros 32 k)))
