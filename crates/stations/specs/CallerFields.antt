@@ -112,11 +112,15 @@ end_of_first (page ∷ following) = end_before page following
 abbrev pub AreCallable : Document → Type 0
 AreCallable document = All (λ (page : PagePixels). IsSome (width_of_pixels page.width)) document
 
+-- no page starts after an MCF: another block of the page does, or the document or the group is through
+abbrev pub NoPageStarts : CallerFields → Type 0
+NoPageStarts v = (next_in_page v.encoded v.block ≢ None) ⊎ (end_of_first (drop v.page v.document) ≢ Mps)
+
 -- an input that takes no memory: no page starts after it
 abbrev pub CallerTakesNoMemory : CallerState → CallerInput → CallerFields → Type 0
 CallerTakesNoMemory WaitCfr (hears cfr) v = ⊥
-CallerTakesNoMemory WaitBlock (hears mcf) v = (next_in_page v.encoded v.block ≢ None) ⊎ (end_of_first (drop v.page v.document) ≢ Mps)
-CallerTakesNoMemory WaitReady (hears mcf) v = (next_in_page v.encoded v.block ≢ None) ⊎ (end_of_first (drop v.page v.document) ≢ Mps)
+CallerTakesNoMemory WaitBlock (hears mcf) v = NoPageStarts v
+CallerTakesNoMemory WaitReady (hears mcf) v = NoPageStarts v
 CallerTakesNoMemory _ _ v = Unit {0}
 
 -- the end that a block's PPS carries: its page's, of the page's last block

@@ -17,7 +17,7 @@ use Rattle.signals.specs.declared.params.Caps.{Caps}
 use Rattle.signals.specs.declared.params.PageWidth.{PageWidth}
 use Rattle.signals.specs.declared.params.Params.{Params}
 use Rattle.signals.specs.declared.params.Wish.{Wish}
-use Rattle.partial_page.specs.Frames.{frame_size, cut}
+use Rattle.partial_page.specs.Frames.{frame_size, cut, max_page_octets}
 
 -- a document is its pages in order
 abbrev pub Document : Type 0
@@ -33,7 +33,7 @@ code_blocks params page = cut params.small (code_octets params page)
 
 -- octets are at most as many as a call carries for a page
 unfoldable pub within_page_limit : List ℕ → Bool
-within_page_limit octets = nat_le (length octets) 8388608
+within_page_limit octets = nat_le (length octets) max_page_octets
 
 -- the code of a page is at most as long as a call carries for a page
 unfoldable pub code_within_limit : Params → PagePixels → Bool
@@ -67,7 +67,7 @@ page_read params octets =
 -- octets are a page's by the grammar of its code: they are at most as many as a call carries for a page, and begin with bits that read
 -- as the page
 pub record IsPageOf (params : Params) (octets : List ℕ) (page : PagePixels) : Type 0 where
-  pub few : length octets ≤ 8388608
+  pub few : length octets ≤ max_page_octets
   pub used : ℕ
   pub reads : ReadsPage (ReadsIn params.coding) (pixels_of params.width) params.fine (bits_of LsbFirst octets) page used
 

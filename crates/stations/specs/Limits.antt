@@ -2,9 +2,14 @@
 use Rattle.std.specs.Prelude.{ℕ, ◌≡◌, ◌≤◌, ◌+◌, List, [], ◌∷◌, length, Some, None}
 use Rattle.signals.specs.declared.params.Caps.{Caps}
 use Rattle.signals.specs.declared.params.Params.{Params}
+use Rattle.partial_page.specs.Frames.{max_page_octets}
 use Rattle.stations.specs.AnswererStep.{Answerer, Frames, answerer_step, new_answerer}
 use Rattle.stations.specs.Inputs.{AnswererInput}
 use Rattle.stations.specs.Runs.{answerer_after}
+
+-- the greatest number of octets of the open frames: 256 frames of 256 octets
+abbrev pub max_open_octets : ℕ
+max_open_octets = 65536
 
 -- the octets of the open frames
 abbrev pub open_octets : Frames → ℕ
@@ -22,14 +27,14 @@ AreShort (Some octets ∷ frames) = (length octets ≤ 256) × AreShort frames
 pub record IsLimited (s : Answerer) : Type 0 where
   pub places : length s.frames ≡ 256
   pub short : AreShort s.frames
-  pub page : length s.octets ≤ 8388608
+  pub page : length s.octets ≤ max_page_octets
 
 -- whatever an answerer hears, its open frames hold at most 65,536 octets and its open page at most 8,388,608
 abbrev pub OpenIsLimited : Type 0
 OpenIsLimited =
     (caps : Caps) (params : Params) (inputs : List AnswererInput) →
-    (open_octets (answerer_after inputs (new_answerer caps params)).frames ≤ 65536) ×
-    (length (answerer_after inputs (new_answerer caps params)).octets ≤ 8388608)
+    (open_octets (answerer_after inputs (new_answerer caps params)).frames ≤ max_open_octets) ×
+    (length (answerer_after inputs (new_answerer caps params)).octets ≤ max_page_octets)
 
 -- a new answerer is within the limits
 abbrev pub NewIsLimited : Type 0

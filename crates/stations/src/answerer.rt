@@ -15,7 +15,7 @@ use crate::laws::open_is_limited;
 use crate::lending::Items;
 use crate::mark::{Accepted, Asked, Mark};
 use crate::turn::{AnswererState, End, Turn};
-use partial_page::{BlockFault, BlockStore, PAGE_LIMIT};
+use partial_page::{BlockFault, BlockStore, MAX_PAGE_OCTETS};
 use raster::Page;
 use raster::packed::Order;
 use run_tables::CodeFaultKind;
@@ -44,7 +44,7 @@ fn is_memory(kind: CodeFaultKind) -> bool
 fn read_page(alloc: Global, params: Params, octets: &[u8]) -> Result<Option<Page>, AllocError>
     ensures { IfOk result (λ page. page ≡ page_read params octets.now) }
 {
-    if octets.len() > PAGE_LIMIT {
+    if octets.len() > MAX_PAGE_OCTETS {
         return Ok(None);
     }
     let width = params.width.pixels();
@@ -63,7 +63,7 @@ fn read_page(alloc: Global, params: Params, octets: &[u8]) -> Result<Option<Page
 }
 
 /// The answering station of a call.
-#[derive(Drop)]
+#[derive(Debug, Drop)]
 pub struct Answerer {
     alloc: Global,
     caps: Caps,
@@ -164,7 +164,8 @@ impl Answerer {
         match self.store.put(number, octets) {
             Ok(()) => Ok(Turn::Silent),
             Err(BlockFault::TooLong) => Ok(Turn::Silent),
-            Err(_) => Err(AllocError),
+            Err(BlockFault::NoMemory) => Err(AllocError),
+            Err(BlockFault::PageTooLong) => unreachable!(),
         }
     }
 
@@ -241,7 +242,7 @@ impl Answerer {
         ensures next { self.new ≡ (takes_block (record self.old { octets = take start self.old.octets }) PageEnd.Null mark self.old.octets).next }
         ensures turn { result ≡ (takes_block (record self.old { octets = take start self.old.octets }) PageEnd.Null mark self.old.octets).turn }
     {
-        if self.octets.len() > PAGE_LIMIT {
+        if self.octets.len() > MAX_PAGE_OCTETS {
             self.octets.truncate(start);
             return self.refuse_page();
         }
@@ -269,9 +270,7 @@ impl Answerer {
         ensures { StepsOrRefuses self.old self.new result (takes_block self.old ends mark (self.old.octets ++ joined_frames self.old.frames (last + 1))) }
     {
         let start = self.octets.len();
-        let Ok(()) = self.store.append_joined(last, &mut self.octets) else {
-            return Err(AllocError);
-        };
+        self.store.append_joined(last, &mut self.octets)?;
         match ends {
             PageEnd::Null => Ok(self.take_open(mark, start)),
             _ => self.take_page(ends, mark, start),

@@ -10,7 +10,7 @@ ghost use Rattle.signals.specs.Agreement.{width_of_pixels};
 ghost use Rattle.page_code.specs.Codings.{code_of};
 ghost use Rattle.stations.specs.Layers.{agreed_for, lowered, in_one_group, code_blocks, code_blocks_within_limit, code_blocks_at};
 ghost use Rattle.stations.specs.Left.{SpendsOrRefuses};
-ghost use Rattle.stations.specs.CallerFields.{NewCaller, AreCallable, Represents, Answers, AnswersOrRefuses, IsSending, HasBlock, GivesPresent, end_of_fields, next_in_page, end_of_first, CallerTakesNoMemory};
+ghost use Rattle.stations.specs.CallerFields.{NewCaller, AreCallable, Represents, Answers, AnswersOrRefuses, IsSending, HasBlock, GivesPresent, end_of_fields, next_in_page, end_of_first, NoPageStarts, CallerTakesNoMemory};
 ghost use Rattle.stations.specs.declared.turn.CallerState.TheVariants.{WaitDis, WaitCfr, WaitBlock, WaitReady};
 ghost use Rattle.stations.specs.declared.turn.End.TheVariants.{PeerLeft};
 ghost use Rattle.stations.specs.declared.turn.Turn.TheVariants.{Silent};
@@ -53,7 +53,7 @@ fn are_callable(pages: &[Page]) -> bool
 }
 
 /// The calling station of a call.
-#[derive(Drop)]
+#[derive(Debug, Drop)]
 pub struct Caller {
     alloc: Global,
     document: Document,
@@ -272,11 +272,11 @@ impl Caller {
         every_frame()
     }
 
-    /// The number of the present page.
+    /// The number of the present page, from 0.
     fn number(&self) -> usize
         ensures { result ≡ self.now.page }
     {
-        self.page // from 0
+        self.page
     }
 
     /// Answers a CFR in `WaitCfr`. Errs where memory is refused, which changes nothing.
@@ -352,7 +352,7 @@ impl Caller {
         requires state { IsSending self.old.state }
         requires goes_on { self.old.ending ≡ None }
         ensures answers { AnswersOrRefuses self.old self.new result (λ t. answers_mcf t (slice_get (blocks_of t) t.place)) }
-        ensures lasts { (next_in_page self.old.encoded self.old.block ≢ None) ⊎ (end_of_first (drop self.old.page self.old.document) ≢ Mps) → IsOk result }
+        ensures lasts { NoPageStarts self.old → IsOk result }
     {
         octets_have_a_block();
         if let Some(block) = self.next_block() {
@@ -495,18 +495,18 @@ pub(crate) fn no_params() -> Params
 }
 
 impl Caller {
-    /// The parameters of the call.
+    /// The parameters of the present group.
     fn agreed_params(&self) -> Params
         ensures { result ≡ self.now.params }
     {
-        self.params // of the present group
+        self.params
     }
 
-    /// The place of the present block in its page.
+    /// The place of the present block in its page, from 0.
     fn place(&self) -> usize
         ensures { result ≡ self.now.block }
     {
-        self.block // from 0
+        self.block
     }
 
     /// The end that the present block's PPS carries.
@@ -639,6 +639,7 @@ fn code_blocks(alloc: Global, params: Params, page: &Page) -> Result<Option<Bloc
     match Blocks::cut(alloc, octets, params.small) {
         Ok(blocks) => Ok(Some(blocks)),
         Err(BlockFault::PageTooLong) => Ok(None),
-        Err(_) => Err(AllocError),
+        Err(BlockFault::NoMemory) => Err(AllocError),
+        Err(BlockFault::TooLong) => unreachable!(),
     }
 }

@@ -11,8 +11,8 @@ pub fn layers_hold()
     ensures { LayersHold }
 {
     page_code::laws::round_trip();
-    partial_page::page_is_cut_into_full_frames();
-    partial_page::page_stays_within_limit();
+    partial_page::laws::page_is_cut_into_full_frames();
+    partial_page::laws::page_stays_within_limit();
 }
 
 /// What octets read as is their page by the grammar of its code, and none where they have none.

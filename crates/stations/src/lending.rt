@@ -53,7 +53,7 @@ fn next_marked(map: &[u8; 32], from: u16, count: u16) -> u16
 }
 
 /// The FCDs of the marked frames of a block, lent one at a time.
-#[derive(Drop)]
+#[derive(Debug, Drop)]
 struct Marked<'a> {
     blocks: &'a Blocks,
     block: usize,
@@ -105,7 +105,7 @@ fn take_marked<'a>(marked: &mut Option<Marked<'a>>) -> Option<Signal<'a>>
 }
 
 /// The items of a turn, lent one at a time. Takes no memory.
-#[derive(Drop)]
+#[derive(Debug, Drop)]
 pub struct Items<'a> {
     marked: Option<Marked<'a>>,
     rcps: u8,

@@ -10,19 +10,19 @@ append_joined-requires c = all_there_is c.self.inside.store.frames c.args.last (
 pub returns-in-Null : goal.returns-in-Null
 returns-in-Null c =
     let after : c.append_joined.new.octets.items ≡ c.self.inside.octets.items ++
-    joined_frames c.self.inside.store.frames (c.args.last + 1) = c.in-Ok.ensures.ok in
+    joined_frames c.self.inside.store.frames (c.args.last + 1) = c.in_ok-append_joined.ensures.ok in
     let back : take c.len-start.result c.append_joined.new.octets.items ≡ c.self.inside.octets.items =
     ap (take c.len-start.result) after ∙ take_at c.self.inside.octets.items
     (joined_frames c.self.inside.store.frames (c.args.last + 1)) c.len-start.result
     (omega (arith, c.self.inside.octets.ok, c.len-start.ensures)) in
     rw (← c.self.view_is, c.in-Null.is) (rw (back, after) at c.take_open.ensures.next, rw (back, after) at c.take_open.ensures.turn)
 
-pub returns-in_default-ends : goal.returns-in_default-ends
-returns-in_default-ends c =
+pub returns-in_default : goal.returns-in_default
+returns-in_default c =
     let after : c.append_joined.new.octets.items ≡ c.self.inside.octets.items ++
-    joined_frames c.self.inside.store.frames (c.args.last + 1) = c.in-Ok.ensures.ok in
+    joined_frames c.self.inside.store.frames (c.args.last + 1) = c.in_ok-append_joined.ensures.ok in
     let back : take c.len-start.result c.append_joined.new.octets.items ≡ c.self.inside.octets.items =
     ap (take c.len-start.result) after ∙ take_at c.self.inside.octets.items
     (joined_frames c.self.inside.store.frames (c.args.last + 1)) c.len-start.result
     (omega (arith, c.self.inside.octets.ok, c.len-start.ensures)) in
-    rw (← c.self.view_is, takes_page _ c.args.ends c.args.mark _ c.in_default-ends.not-Null) (rw (back, after) at c.take_page.ensures)
+    rw (← c.self.view_is, takes_page _ c.args.ends c.args.mark _ c.in_default.not-Null) (rw (back, after) at c.take_page.ensures)
