@@ -8,6 +8,7 @@ pub mod ReadsAll
 pub mod Laws
 pub mod Prescribed
 pub mod Reading
+pub mod ChangeLists
 pub mod WritesMode
 pub mod StepsOn
 pub mod ReadsItsCode

@@ -4,5 +4,6 @@ pub mod Modes
 pub mod Code
 pub mod Fronts
 pub mod Laws
+pub mod Changes
 pub mod Writing
 pub mod Reading

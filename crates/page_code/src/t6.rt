@@ -6,6 +6,7 @@ ghost use Rattle.raster.specs.Packed.{bits_of};
 ghost use Rattle.raster.specs.Pixels.{IsWidth};
 
 mod a0;
+mod changes;
 mod line;
 pub(crate) mod mode;
 mod read;

@@ -1,8 +1,8 @@
 -- Writing the prescribed modes one after the other gives the row's code.
-use Rattle.std.proofs.Common.{ℕ, zero, suc, ◌≡◌, ◌+◌, ◌-◌, ◌<◌, ◌≤◌, inl, inr, Bool, true, false, List, [], ◌∷◌, ◌++◌, length, take, replicate, Some, None, refl, ap, subst, sym, ◌∙◌, arith, cond, nat_eq, append_assoc}
+use Rattle.std.proofs.Common.{ℕ, zero, suc, ◌≡◌, ◌+◌, ◌-◌, ◌<◌, ◌≤◌, inl, inr, Bool, true, false, List, [], ◌∷◌, ◌++◌, length, take, drop, replicate, Some, None, refl, ap, subst, sym, ◌∙◌, arith, cond, nat_eq, append_assoc, add-one}
 use Rattle.std.specs.Prelude.{◌≢◌, IsTrue, Result, Ok, Err, OnOk}
 use Rattle.std.proofs.lemmas.Bool.{false≢true, lt-ltb, le-ltb, ne_eqb, eq-eqb, eqb-false, cases_eq, cases_lt}
-use Rattle.std.proofs.lemmas.List.{append-nil, length-take-le}
+use Rattle.std.proofs.lemmas.List.{append-nil, length-take-le, drop_more}
 use Rattle.raster.specs.declared.row.Color.{Color}
 use Rattle.raster.specs.declared.row.Color.TheVariants.{White, Black}
 use Rattle.raster.specs.Pixels.{other}
@@ -17,7 +17,7 @@ use Rattle.page_code.specs.TwoDimensions.Positions.{CodingLine, white_line, righ
 use Rattle.page_code.specs.TwoDimensions.Modes.{vertical_word, pass_word, horizontal_word, eofb, Mode, mode_words}
 use Rattle.page_code.specs.TwoDimensions.Modes.Mode.{pass, vertical, horizontal}
 use Rattle.page_code.specs.TwoDimensions.Code.{verticals, vertical_to, a1_of, prescribed, moved, line_code, row_code, rows_code, page_code}
-use Rattle.page_code.specs.TwoDimensions.Writing.{IsUpTo, line_to, IsCodedTo, WritesMode}
+use Rattle.page_code.specs.TwoDimensions.Writing.{IsUpTo, line_to, IsCodedTo, WritesMode, reference_at, row_at}
 use Rattle.page_code.proofs.TwoDimensions.Positions.{b1_is, b2_is, change_is, other_than}
 use Rattle.page_code.proofs.TwoDimensions.Prescribed.{before_next, before_to, begin_stands, prescribed_moves}
 
@@ -282,6 +282,31 @@ row_end reference row to after start so_far coded whole is rest =
     let all : so_far ≡ row_code reference row = sym (append-nil so_far) ∙
     (ap (λ l. so_far ++ l) (sym (line_code_end reference row (line_to row to) full)) ∙ rest) in
     rw (← all) is
+
+-- each row is the reference line of the next
+pub reference_next : (white : List Color) (rows : List (List Color)) (at : ℕ) → reference_at white rows (at + 1) ≡ row_at rows at
+reference_next white rows at = rw add-one refl
+
+-- one row more of a page
+pub rows_on : (white reference row : List Color) (rows : List (List Color)) (at : ℕ) (before after start : Bits) (so_far : List Bool)
+    → at < length rows → reference ≡ reference_at white rows at → row ≡ row_at rows at → Appends (row_code reference row) before after
+    → before ≡ record start { bits = start.bits ++ so_far }
+    → so_far ++ rows_code (reference_at white rows at) (drop at rows) ≡ rows_code white rows
+    → (all : List Bool) × (after ≡ record start { bits = start.bits ++ all })
+    × (all ++ rows_code (reference_at white rows (at + 1)) (drop (at + 1) rows) ≡ rows_code white rows)
+rows_on white reference row rows at before after start so_far inside is_reference is_row coded is rest =
+    let word : List Bool = row_code (reference_at white rows at) (row_at rows at) in
+    let later : List Bool = rows_code (row_at rows at) (drop (at + 1) rows) in
+    let next : rows_code (reference_at white rows (at + 1)) (drop (at + 1) rows) ≡ later = ap (λ (r : List Color).
+    rows_code r (drop (at + 1) rows)) (reference_next white rows at) in
+    let written : Appends word before after = subst (λ (r : List Color). Appends (row_code (reference_at white rows at) r) before after)
+    is_row (subst (λ (r : List Color). Appends (row_code r row) before after) is_reference coded) in
+    let code : rows_code (reference_at white rows at) (drop at rows) ≡ word ++ later = ap (λ (l : List (List Color)).
+    rows_code (reference_at white rows at) l) (drop_more rows at [] inside) in (
+      so_far ++ word,
+      appends_on so_far word start before after is written,
+      ap (λ l. so_far ++ word ++ l) next ∙ (append_assoc so_far word later ∙ (ap (λ l. so_far ++ l) (sym code) ∙ rest)),
+    )
 
 -- the rows' codes and EOFB are the page's code
 pub wrote_page : (width count : ℕ) (white : List Color) (rows all : List (List Color)) (before mid after : Bits) → count ≡ width

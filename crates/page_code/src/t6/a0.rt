@@ -4,7 +4,8 @@ ghost use Rattle.page_code.specs.TwoDimensions.Positions.{IsB2, IsFirstTo, right
 ghost use Rattle.raster.specs.Pixels.{other};
 ghost use Rattle.std.specs.Prelude.{◌≡◌, ◌≤◌, length, true, false};
 
-use raster::{Color, Row};
+use crate::t6::changes::Changes;
+use raster::Color;
 
 /// The starting changing element a0: its place, whether it is on the coding line yet, and its color.
 #[derive(Clone, Copy, Debug, PartialEq, Eq)]
@@ -51,19 +52,21 @@ impl A0 {
 
     /// b1: the first changing element of the reference line to the right of a0 and of opposite color,
     /// or the line's end where there is none.
-    pub(crate) fn b1(self, reference: &Row) -> u32
+    pub(crate) fn b1(self, reference: &mut Changes) -> u32
         requires { self.place ≤ 2432 }
-        ensures first { IsFirstTo reference.now (other self.color) (right_of self) result }
+        ensures first { IsFirstTo reference.old (other self.color) (right_of self) result }
         ensures range { result ≤ 2432 }
+        ensures same { reference.new ≡ reference.old }
     {
         next_change_to(reference, self.color.other(), self.right())
     }
 }
 
 /// The first changing element of this color at or above a place, or the width where there is none.
-fn next_change_to(row: &Row, color: Color, from: u32) -> u32
-    ensures first { IsFirstTo row.now color from result }
+fn next_change_to(row: &mut Changes, color: Color, from: u32) -> u32
+    ensures first { IsFirstTo row.old color from result }
     ensures range { result ≤ 2432 }
+    ensures same { row.new ≡ row.old }
 {
     let first = row.next_change(from);
     if first >= row.width() || row.pixel(first).is(color) {
@@ -74,10 +77,11 @@ fn next_change_to(row: &Row, color: Color, from: u32) -> u32
 
 /// b2: the next changing element of the reference line to the right of b1, or the line's end where
 /// there is none.
-pub(crate) fn b2(reference: &Row, b1: u32) -> u32
+pub(crate) fn b2(reference: &mut Changes, b1: u32) -> u32
     requires { b1 ≤ 2432 }
-    ensures next { IsB2 reference.now b1 result }
+    ensures next { IsB2 reference.old b1 result }
     ensures range { result ≤ 2432 }
+    ensures same { reference.new ≡ reference.old }
 {
     let _width = reference.width(); // tells the proof that it is at most 2,432
     reference.next_change(b1 + 1)

@@ -11,6 +11,7 @@ ghost use Rattle.std.specs.Prelude.{◌≡◌, ◌≤◌, ◌<◌, ◌+◌, [], 
 
 use crate::page::{push_row, row_of};
 use crate::t6::a0::b2;
+use crate::t6::changes::Changes;
 use crate::t6::line::Line;
 use crate::t6::mode::{EOFB, ModeCode, Shift};
 use raster::{MAX_ROWS, Page, Row};
@@ -117,9 +118,10 @@ fn next_mode(reader: &mut BitReader) -> Result<ModeCode, CodeFault>
 }
 
 /// Pass mode: a0 goes under b2.
-fn pass(reference: &Row, line: &mut Line) -> Result<(), AllocError>
-    requires { length line.old.pixels < length reference.now }
-    ensures { OnOk result (LeadsOn reference.now line.old line.new ModeCode.Pass) }
+fn pass(reference: &mut Changes, line: &mut Line) -> Result<(), AllocError>
+    requires { length line.old.pixels < length reference.old }
+    ensures leads { OnOk result (LeadsOn reference.old line.old line.new ModeCode.Pass) }
+    ensures same { reference.new ≡ reference.old }
 {
     let a0 = line.a0();
     let b1 = a0.b1(reference);
@@ -129,9 +131,15 @@ fn pass(reference: &Row, line: &mut Line) -> Result<(), AllocError>
 }
 
 /// The vertical mode at a bit: a0 goes to a1.
-fn vertical(place: u128, reference: &Row, shift: Shift, line: &mut Line) -> Result<(), CodeFault>
-    requires { length line.old.pixels < length reference.now }
-    ensures { MovesTo reference.now place line.old line.new (ModeCode.Vertical shift) result }
+fn vertical(
+    place: u128,
+    reference: &mut Changes,
+    shift: Shift,
+    line: &mut Line,
+) -> Result<(), CodeFault>
+    requires { length line.old.pixels < length reference.old }
+    ensures moves { MovesTo reference.old place line.old line.new (ModeCode.Vertical shift) result }
+    ensures same { reference.new ≡ reference.old }
 {
     let a0 = line.a0();
     let from = a0.right();
@@ -170,9 +178,14 @@ fn horizontal(reader: &mut BitReader, width: u32, line: &mut Line) -> Result<(),
 }
 
 /// One mode of a row (ITU-T T.6, 2.2.2).
-fn read_mode(reader: &mut BitReader, reference: &Row, line: &mut Line) -> Result<(), CodeFault>
-    requires { length line.old.pixels < length reference.now }
-    ensures { StepsOn reference.now reader.old reader.new line.old line.new result }
+fn read_mode(
+    reader: &mut BitReader,
+    reference: &mut Changes,
+    line: &mut Line,
+) -> Result<(), CodeFault>
+    requires { length line.old.pixels < length reference.old }
+    ensures steps { StepsOn reference.old reader.old reader.new line.old line.new result }
+    ensures same { reference.new ≡ reference.old }
 {
     let place = reader.place();
     let code = next_mode(reader)?;
@@ -189,9 +202,10 @@ fn read_row(alloc: Global, reader: &mut BitReader, reference: &Row) -> Result<Ro
 {
     let _start = reader.place(); // tells the proof that it is within the bits
     let width = reference.width();
+    let mut changes = Changes::of(alloc, reference)?;
     let mut line = Line::new(alloc);
     while line.a0().place < width {
-        read_mode(reader, reference, &mut line)?;
+        read_mode(reader, &mut changes, &mut line)?;
     }
     Ok(line.into_row(alloc)?)
 }

@@ -7,6 +7,7 @@ ghost use Rattle.std.specs.Prelude.{◌≡◌, ◌≤◌, ◌<◌, ◌+◌, All,
 
 use crate::page::row_of;
 use crate::t6::a0::{A0, b2};
+use crate::t6::changes::Changes;
 use crate::t6::mode::{EOFB, ModeCode, Shift};
 use raster::{Page, Row};
 use run_tables::BitWriter;
@@ -45,14 +46,16 @@ fn shift_to(b1: u32, a1: u32) -> Option<Shift>
 /// Appends the prescribed mode, and moves a0.
 fn write_mode(
     writer: &mut BitWriter,
-    reference: &Row,
-    row: &Row,
+    reference: &mut Changes,
+    row: &mut Changes,
     a0: &mut A0,
 ) -> Result<(), AllocError>
-    requires even { length reference.now ≡ length row.now }
-    requires coded { IsCodedTo row.now a0.old }
-    requires short { a0.old.place < length row.now }
-    ensures { OnOk result (WritesMode reference.now row.now a0.old a0.new writer.old writer.new) }
+    requires even { length reference.old ≡ length row.old }
+    requires coded { IsCodedTo row.old a0.old }
+    requires short { a0.old.place < length row.old }
+    ensures writes { OnOk result (WritesMode reference.old row.old a0.old a0.new writer.old writer.new) }
+    ensures same_reference { reference.new ≡ reference.old }
+    ensures same_row { row.new ≡ row.old }
 {
     let _width = row.width(); // tells the proof that it is at most 2,432
     let color = a0.color;
@@ -78,9 +81,15 @@ fn write_mode(
 }
 
 /// Appends the code of a row after its reference row (ITU-T T.6, 2.2).
-fn write_row(writer: &mut BitWriter, reference: &Row, row: &Row) -> Result<(), AllocError>
-    requires { length reference.now ≡ length row.now }
-    ensures { OnOk result (Appends (row_code reference.now row.now) writer.old writer.new) }
+fn write_row(
+    writer: &mut BitWriter,
+    reference: &mut Changes,
+    row: &mut Changes,
+) -> Result<(), AllocError>
+    requires { length reference.old ≡ length row.old }
+    ensures code { OnOk result (Appends (row_code reference.old row.old) writer.old writer.new) }
+    ensures same_reference { reference.new ≡ reference.old }
+    ensures same_row { row.new ≡ row.old }
 {
     let width = row.width();
     let mut a0 = A0::begin();
@@ -90,30 +99,23 @@ fn write_row(writer: &mut BitWriter, reference: &Row, row: &Row) -> Result<(), A
     Ok(())
 }
 
-/// Appends the code of one of the rows after the row before it, or of the first after a white row.
-fn write_next(
-    writer: &mut BitWriter,
-    white: &Row,
-    rows: &[Row],
-    at: usize,
-) -> Result<(), AllocError>
-    requires within { at < length rows.now }
-    requires even { All (λ row. length row ≡ length white.now) rows.now }
-    ensures { OnOk result (Appends (row_code (reference_at white.now rows.now at) (row_at rows.now at)) writer.old writer.new) }
-{
-    if at == 0 {
-        return write_row(writer, white, &rows[at]);
-    }
-    write_row(writer, &rows[at - 1], &rows[at])
-}
-
 /// Appends the codes of rows, each after the one before and the first after a white row.
-fn write_rows(writer: &mut BitWriter, white: &Row, rows: &[Row]) -> Result<(), AllocError>
+fn write_rows<'a>(
+    alloc: Global,
+    writer: &mut BitWriter,
+    white: &'a Row,
+    rows: &'a [Row],
+) -> Result<(), AllocError>
     requires { All (λ row. length row ≡ length white.now) rows.now }
     ensures { OnOk result (Appends (rows_code white.now rows.now) writer.old writer.new) }
 {
+    let mut spare = Changes::of(alloc, white)?;
+    let mut reference = Changes::of(alloc, white)?;
     for at in 0..rows.len() {
-        write_next(writer, white, rows, at)?;
+        let mut row = spare.of_next(&rows[at])?;
+        write_row(writer, &mut reference, &mut row)?;
+        spare = reference;
+        reference = row;
     }
     Ok(())
 }
@@ -128,6 +130,6 @@ pub(crate) fn write_page(
 {
     let rows = page.rows();
     let white = row_of(alloc, &[page.width()])?;
-    write_rows(writer, &white, rows)?;
+    write_rows(alloc, writer, &white, rows)?;
     writer.push_digits(EOFB)
 }

@@ -4,29 +4,29 @@ use Rattle.page_code.specs.declared.t6.mode.ModeCode.TheVariants.{Pass, Vertical
 use Rattle.page_code.proofs.TwoDimensions.StepsOn.{mode_absent, mode_steps, vertical_steps, horizontal_steps}
 use Rattle.page_code.proofs.t6.read.read_mode.Goals as goal
 
-pub returns-in_err-code : goal.returns-in_err-code
-returns-in_err-code c =
+pub returns-in_err-code-clause-steps : goal.returns-in_err-code-clause-steps
+returns-in_err-code-clause-steps c =
     let p = err_from_is_err_and c.from_residual.result c.from_residual.ensures.1 in
     rw (p.1, p.2) (mode_absent c.args.reference.now c.args.reader.now c.next_mode.new.reader c.args.line.now c.args.line.now
     c.in_err-code.field-0.0 c.in_err-code.ensures)
 
-pub returns-in_err-pass-in-Pass : goal.returns-in_err-pass-in-Pass
-returns-in_err-pass-in-Pass c =
+pub returns-in_err-pass-in-Pass-clause-steps : goal.returns-in_err-pass-in-Pass-clause-steps
+returns-in_err-pass-in-Pass-clause-steps c =
     let p = err_from_is_err_and c.from_residual-in_err-pass-in-Pass.result c.from_residual-in_err-pass-in-Pass.ensures.1 in
     rw (p.1, p.2) (inl refl)
 
-pub returns-in_ok-pass-in-Pass : goal.returns-in_ok-pass-in-Pass
-returns-in_ok-pass-in-Pass c =
+pub returns-in_ok-pass-in-Pass-clause-steps : goal.returns-in_ok-pass-in-Pass-clause-steps
+returns-in_ok-pass-in-Pass-clause-steps c =
     let within : c.args.reader.now.place ≤ length c.args.reader.now.bits = omega (
       arith,
       c.place-place.ensures.place,
       c.place-place.ensures.within,
     ) in
     mode_steps c.args.reference.now c.args.reader.now c.next_mode.new.reader c.args.line.now c.pass.new.line Pass within (rw c.in-Pass.is at
-    c.in_ok-code.ensures) c.in_ok-pass-in-Pass.ensures
+    c.in_ok-code.ensures) c.in_ok-pass-in-Pass.ensures.leads
 
-pub returns-in-Horizontal : goal.returns-in-Horizontal
-returns-in-Horizontal c =
+pub returns-in-Horizontal-clause-steps : goal.returns-in-Horizontal-clause-steps
+returns-in-Horizontal-clause-steps c =
     let within : c.args.reader.now.place ≤ length c.args.reader.now.bits = omega (
       arith,
       c.place-place.ensures.place,
@@ -36,8 +36,8 @@ returns-in-Horizontal c =
     c.horizontal.new.line c.horizontal.result within (rw c.in-Horizontal.is at c.in_ok-code.ensures) (rw c.width.ensures.width at
     c.horizontal.ensures)
 
-pub returns-in-Vertical : goal.returns-in-Vertical
-returns-in-Vertical c =
+pub returns-in-Vertical-clause-steps : goal.returns-in-Vertical-clause-steps
+returns-in-Vertical-clause-steps c =
     let within : c.args.reader.now.place ≤ length c.args.reader.now.bits = omega (
       arith,
       c.place-place.ensures.place,
@@ -45,4 +45,4 @@ returns-in-Vertical c =
     ) in
     vertical_steps c.args.reference.now c.place-place.result c.args.reader.now c.next_mode.new.reader c.args.line.now c.vertical.new.line
     (Vertical c.in-Vertical.shift) c.vertical.result c.place-place.ensures.place within (rw c.in-Vertical.is at c.in_ok-code.ensures)
-    c.vertical.ensures
+    c.vertical.ensures.moves

@@ -1,12 +1,17 @@
-use Rattle.std.proofs.Common.{arith, ap, inl, refl, ◌≡◌, ◌<◌, length}
+use Rattle.std.proofs.Common.{arith, ap, inl, refl, ◌<◌, length}
 use Rattle.std.proofs.lemmas.Result.{err_from_is_err_and}
 use Rattle.page_code.specs.declared.t6.a0.A0.{A0}
 use Rattle.page_code.proofs.TwoDimensions.StepsOn.{row_stays}
 use Rattle.page_code.proofs.t6.read.read_row.Goals as goal
 
+pub returns-in_err-changes : goal.returns-in_err-changes
+returns-in_err-changes c =
+    let p = err_from_is_err_and c.from_residual.result c.from_residual.ensures.1 in
+    rw (p.1, p.2) (inl refl)
+
 pub returns-in_err-read_mode : goal.returns-in_err-read_mode
 returns-in_err-read_mode c =
-    let p = err_from_is_err_and c.from_residual.result c.from_residual.ensures.1 in
+    let p = err_from_is_err_and c.from_residual-in_err-read_mode.result c.from_residual-in_err-read_mode.ensures.1 in
     let place = ap (λ (a : A0). a.place) c.a0.ensures.is in
     let short : length c.loop-reader.line.pixels < length c.args.reference.now = omega (
       arith,
@@ -15,7 +20,7 @@ returns-in_err-read_mode c =
       c.width-width.ensures.width,
     ) in
     rw (p.1, p.2) (row_stays c.args.reference.now c.args.reader.now c.loop-reader.reader c.read_mode.new.reader c.loop-reader.line
-    c.read_mode.new.line c.in_err-read_mode.field-0.0 short c.loop-reader.invariant.reads c.in_err-read_mode.ensures)
+    c.read_mode.new.line c.in_err-read_mode.field-0.0 short c.loop-reader.invariant.reads (rw c.loop-reader.invariant.same at c.in_err-read_mode.ensures.steps))
 
 pub returns-in_err-into_row : goal.returns-in_err-into_row
 returns-in_err-into_row c =

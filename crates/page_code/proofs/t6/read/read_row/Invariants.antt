@@ -7,6 +7,7 @@ use Rattle.page_code.proofs.t6.read.read_row.Given as goal
 
 abbrev pub invariant-loop-reader : goal.invariant-loop-reader
 invariant-loop-reader l = record {
+  same : l.changes ≡ l.reference;
   short : length l.line.pixels ≤ length l.reference;
   bits : l.reader.bits ≡ l.fn.reader.bits;
   within : l.reader.place ≤ length l.reader.bits;

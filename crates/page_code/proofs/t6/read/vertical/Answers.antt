@@ -6,8 +6,8 @@ use Rattle.page_code.specs.TwoDimensions.Modes.{to_right, to_left}
 use Rattle.page_code.proofs.TwoDimensions.StepsOn.{backwards_leads, past_leads, vertical_leads}
 use Rattle.page_code.proofs.t6.read.vertical.Goals as goal
 
-pub returns-then-b1-right : goal.returns-then-b1-right
-returns-then-b1-right c =
+pub returns-then-b1-right-clause-moves : goal.returns-then-b1-right-clause-moves
+returns-then-b1-right-clause-moves c =
     let from : c.right-from.result ≡ right_of_a0 c.args.line.now = c.right-from.ensures ∙ ap right_of c.a0-a0.ensures.is in
     let back : c.b1-b1.result + to_right c.args.shift < right_of_a0 c.args.line.now + to_left c.args.shift = omega (
       arith,
@@ -19,8 +19,8 @@ returns-then-b1-right c =
     rw c.new.ensures (backwards_leads c.args.reference.now c.args.line.now c.requires c.a0-a0.result c.a0-a0.ensures.is c.b1-b1.result
     c.b1-b1.ensures.first c.args.shift c.args.place c.args.line.now back)
 
-pub returns-then-a1-width : goal.returns-then-a1-width
-returns-then-a1-width c =
+pub returns-then-a1-width-clause-moves : goal.returns-then-a1-width-clause-moves
+returns-then-a1-width-clause-moves c =
     let from : c.right-from.result ≡ right_of_a0 c.args.line.now = c.right-from.ensures ∙ ap right_of c.a0-a0.ensures.is in
     let right : right_of_a0 c.args.line.now + to_left c.args.shift ≤ c.b1-b1.result + to_right c.args.shift = omega (
       arith,
@@ -35,17 +35,18 @@ returns-then-a1-width c =
       c.right-right.ensures.right,
       c.left-left.ensures.left,
       c.width.ensures.width,
+      ap length c.b1-b1.ensures.same,
     ) in
     rw c.new-then-a1-width.ensures (past_leads c.args.reference.now c.args.line.now c.requires c.a0-a0.result c.a0-a0.ensures.is
     c.b1-b1.result c.b1-b1.ensures.first c.args.shift c.args.place c.args.line.now right past)
 
-pub returns-in_err-push_run : goal.returns-in_err-push_run
-returns-in_err-push_run c =
+pub returns-in_err-push_run-clause-moves : goal.returns-in_err-push_run-clause-moves
+returns-in_err-push_run-clause-moves c =
     let p = err_from_is_err_and c.from_residual.result c.from_residual.ensures.1 in
     rw (p.1, p.2) (inl refl)
 
-pub returns : goal.returns
-returns c =
+pub returns-clause-moves : goal.returns-clause-moves
+returns-clause-moves c =
     let from : c.right-from.result ≡ right_of_a0 c.args.line.now = c.right-from.ensures ∙ ap right_of c.a0-a0.ensures.is in
     let place : c.a0-a0.result.place ≡ length c.args.line.now.pixels = ap (λ (a : A0). a.place) c.a0-a0.ensures.is in
     let right : right_of_a0 c.args.line.now + to_left c.args.shift ≤ c.b1-b1.result + to_right c.args.shift = omega (
@@ -61,6 +62,7 @@ returns c =
       arith,
       c.if-a1-width.false,
       c.width.ensures.width,
+      ap length c.b1-b1.ensures.same,
     ) in
     vertical_leads c.args.reference.now c.args.line.now c.requires c.a0-a0.result c.a0-a0.ensures.is c.b1-b1.result c.b1-b1.ensures.first
     c.args.shift (c.b1-b1.result + c.right-right.result - c.left-left.result) c.a0-a0.result.place c.push_run.new.self there right

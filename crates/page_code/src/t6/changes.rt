@@ -1,0 +1,119 @@
+//! The changing elements of a line as a list, in which a0 goes on (ITU-T T.6, 2.2.1).
+
+ghost use Rattle.page_code.specs.TwoDimensions.Changes.{AreChanges, IsFirstFrom, IsLeftBefore};
+ghost use Rattle.raster.specs.Changes.{IsNextChange};
+ghost use Rattle.raster.specs.Pixels.{IsWidth};
+ghost use Rattle.std.specs.Prelude.{◌≡◌, ◌≤◌, ◌<◌, IfOk, Some, length, slice_get};
+
+use raster::{Color, Row};
+use std::alloc::{AllocError, Global};
+use std::marker::Model;
+
+/// The places of a row's changing elements, from left to right (ITU-T T.6, 2.2.1), in the memory of a list.
+fn changes_of(row: &Row, mut places: Vec<u32>) -> Result<Vec<u32>, AllocError>
+    ensures { IfOk result (λ places. AreChanges row.now places.items) }
+{
+    let width = row.width();
+    places.clear();
+    let mut place = row.next_change(0);
+    while place < width {
+        places.push(place)?;
+        place = row.next_change(place + 1);
+    }
+    Ok(places)
+}
+
+/// An index at or below `start` before which a place is to the left of `from`, if there is one before it.
+fn step_back(places: &[u32], from: u32, start: usize) -> usize
+    requires { start ≤ length places.now }
+    ensures within { result ≤ start }
+    ensures left { IsLeftBefore places.now from result }
+{
+    let mut at = start;
+    while at > 0 && places[at - 1] >= from {
+        at -= 1;
+    }
+    at
+}
+
+/// The index of the first place that isn't to the left of `from`, at or above `start`.
+fn step_on(places: &[u32], from: u32, start: usize) -> usize
+    requires within { start ≤ length places.now }
+    requires left { IsLeftBefore places.now from start }
+    ensures { IsFirstFrom places.now from result }
+{
+    let mut at = start;
+    while at < places.len() && places[at] < from {
+        at += 1;
+    }
+    at
+}
+
+/// A row, seen as its pixels. Its changing elements are listed once, and each is sought from the last
+/// one found, so that all of them are found in a time linear in their number.
+#[derive(Drop)]
+pub(crate) struct Changes<'a> {
+    row: &'a Row,
+    places: Vec<u32>,
+    at: usize,
+}
+
+impl<'a> Model for Changes<'a> {
+    ghost use Rattle.std.specs.Prelude.{◌≤◌, List, length};
+    ghost use Rattle.raster.specs.declared.row.Color.{Color};
+    ghost use Rattle.page_code.specs.TwoDimensions.Changes.{AreChanges};
+
+    ghost Value = { List Color };
+
+    ghost view = { λ changes. changes.row.now };
+
+    ghost invariant = { λ changes. AreChanges changes.row.now changes.places.items × (changes.at ≤ length changes.places.items) };
+}
+
+impl<'a> Changes<'a> {
+    /// The changing elements of a row.
+    pub(crate) fn of(alloc: Global, row: &'a Row) -> Result<Self, AllocError>
+        ensures { IfOk result (λ changes. changes ≡ row.now) }
+    {
+        let places = changes_of(row, Vec::new(alloc))?;
+        Ok(Changes { row, places, at: 0 })
+    }
+
+    /// The changing elements of another row, in the same memory.
+    pub(crate) fn of_next(self, row: &'a Row) -> Result<Self, AllocError>
+        ensures { IfOk result (λ changes. changes ≡ row.now) }
+    {
+        let places = changes_of(row, self.places)?;
+        Ok(Changes { row, places, at: 0 })
+    }
+
+    /// The row's width in pixels.
+    pub(crate) fn width(&self) -> u32
+        ensures width { result ≡ length self.now }
+        ensures range { IsWidth result }
+    {
+        self.row.width()
+    }
+
+    /// The pixel at a place.
+    pub(crate) fn pixel(&self, at: u32) -> Color
+        requires { at < length self.now }
+        ensures { slice_get self.now at ≡ Some result }
+    {
+        self.row.pixel(at)
+    }
+
+    /// The first changing element at or above a place, or the width where there is none.
+    pub(crate) fn next_change(&mut self, from: u32) -> u32
+        ensures next { IsNextChange self.old from result }
+        ensures same { self.new ≡ self.old }
+    {
+        let back = step_back(&self.places, from, self.at);
+        let at = step_on(&self.places, from, back);
+        self.at = at;
+        if at >= self.places.len() {
+            return self.row.width();
+        }
+        self.places[at]
+    }
+}
