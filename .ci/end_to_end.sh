@@ -261,6 +261,8 @@ try_call() {
     if [ -f "$case.rows" ]; then
         printf 'P4\n2432 %s\n' "$(cat "$case.rows")" > "$input"
         head -c $(($(cat "$case.rows") * 304)) /dev/zero | tr '\0' U >> "$input"
+    elif [ -f "$case.copies" ]; then
+        for copy in $(seq "$(cat "$case.copies")"); do cat "$case.pbm"; done > "$input"
     else
         cp "$case.pbm" "$input"
     fi
