@@ -4,6 +4,7 @@ pub mod LawsOfFlags
 pub mod Gaps
 pub mod UnstuffedLemmas
 pub mod Division
+pub mod CheckOctets
 pub mod Assembling
 pub mod Collecting
 pub mod DeframerPartsLemmas

@@ -1,5 +1,8 @@
 -- The check sequence bit by bit, with a register of 16 bits in place of the long division.
-use Rattle.std.specs.Prelude.{ℕ, ◌/◌, ◌%◌, Bool, false, List, [], ◌∷◌, ◌++◌, drop, get_or, nat_eq, bit_xor, if◌then◌else◌}
+use Rattle.std.specs.Prelude.{ℕ, ◌/◌, ◌%◌, Bool, false, List, [], ◌∷◌, ◌++◌, drop, get_or, map, replicate, nat_eq, bit_xor, if◌then◌else◌}
+use Rattle.std.specs.List.{fold, range_with_len}
+use Rattle.raster.specs.Packed.{bits_of}
+use Rattle.raster.specs.declared.packed.Order.TheVariants.{LsbFirst}
 use Rattle.hdlc.specs.Fcs.{xor, add, divisor}
 
 -- a register of 16 bits takes one more bit of the octets
@@ -9,3 +12,15 @@ shift_in register b = if xor b (get_or register 0 false) then add (drop 1 regist
 -- the same on a number, with the first bit as the least significant
 abbrev pub crc_bit : ℕ → Bool → ℕ
 crc_bit register b = if xor b (nat_eq (register % 2) 1) then bit_xor (register / 2) 0x8408 else register / 2
+
+-- the same with the eight bits of an octet
+abbrev pub crc_octet : ℕ → ℕ → ℕ
+crc_octet register octet = fold crc_bit register (bits_of LsbFirst (octet ∷ []))
+
+-- a register after eight 0 bits more
+abbrev pub remainder_of : ℕ → ℕ
+remainder_of register = fold crc_bit register (replicate 8 false)
+
+-- the same of each register whose high octet is 0
+abbrev pub remainders : List ℕ
+remainders = map remainder_of (range_with_len 0 256)

@@ -1,24 +1,27 @@
 //! The frame check sequence.
 
-ghost use Rattle.raster.specs.declared.packed.Order.TheVariants.{LsbFirst};
 ghost use Rattle.hdlc.specs.Fcs.{fcs_of};
-ghost use Rattle.hdlc.specs.Register.{crc_bit};
+ghost use Rattle.hdlc.specs.Register.{crc_octet, remainders};
 ghost use Rattle.std.specs.Prelude.{◌≡◌};
 
-use raster::packed::{Order, bit_of};
+use crate::remainders::REMAINDERS;
 
 #[cfg(test)]
 mod tests;
 
-/// A register of 16 bits takes one bit more.
-fn crc_bit(register: u16, bit: bool) -> u16
-    ensures { result ≡ crc_bit register bit }
+/// What registers whose high octet is 0 become with eight 0 bits more.
+fn remainders() -> &'static [u16]
+    ensures { result.now ≡ remainders }
 {
-    if bit != (register % 2 == 1) {
-        (register >> 1) ^ 0x8408
-    } else {
-        register >> 1
-    }
+    &REMAINDERS
+}
+
+/// A register of 16 bits takes the eight bits of an octet, the least significant first.
+fn crc_octet(register: u16, octet: u8) -> u16
+    ensures { result ≡ crc_octet register octet }
+{
+    let low = (register % 256) as u8 ^ octet;
+    (register >> 8) ^ remainders()[low as usize]
 }
 
 /// The frame check sequence of octets, the least significant bit of each first: what the division by
@@ -28,8 +31,8 @@ pub fn fcs(octets: &[u8]) -> u16
     ensures { result ≡ fcs_of octets.now }
 {
     let mut register = 0xFFFF;
-    for place in 0..8 * octets.len() as u128 {
-        register = crc_bit(register, bit_of(Order::LsbFirst, octets, place));
+    for octet in octets {
+        register = crc_octet(register, *octet);
     }
     0xFFFF - register
 }

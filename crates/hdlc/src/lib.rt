@@ -11,6 +11,7 @@ mod cutter;
 mod deframer;
 mod frame;
 pub mod laws;
+mod remainders;
 
 pub use crate::check_sequence::fcs;
 pub use crate::counts::{Class, Counts};

@@ -1,9 +1,9 @@
-use Rattle.std.proofs.Common.{◌≡◌}
+use Rattle.std.proofs.Common.{◌≡◌, take}
 use Rattle.std.specs.List.{fold}
-use Rattle.raster.specs.Packed.{bits_in}
+use Rattle.raster.specs.Packed.{bits_of}
 use Rattle.raster.specs.declared.packed.Order.TheVariants.{LsbFirst}
 use Rattle.hdlc.specs.Register.{crc_bit}
 use Rattle.hdlc.proofs.check_sequence.fcs.Given as goal
 
-abbrev pub invariant-loop-place : goal.invariant-loop-place
-invariant-loop-place l = l.register ≡ fold crc_bit 65535 (bits_in LsbFirst l.octets l.place)
+abbrev pub invariant-loop-octet : goal.invariant-loop-octet
+invariant-loop-octet l = l.register ≡ fold crc_bit 65535 (bits_of LsbFirst (take l.octet-index l.octets))
