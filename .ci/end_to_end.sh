@@ -88,6 +88,13 @@ try_small() {
     codes mmr msb "50 34 0A 38 20 33 0A 30 30 00" "2F F8 C0 04 00 40" 8
     printf '..##....\n..##....\n........\n' > "$work/wanted"
     is_same "$work/shown_mmr_msb" "$work/wanted" "show of three rows"
+    works code "$(octets "$image")" --order=msb "$work/made" --code=mh
+    is_same "$work/made" "$(octets "00 17 EC 00 40 04 00 40 04 00 40 04")" "code with its options after IN"
+    for width in +8 008; do
+        works show --code mh --width $width "$work/made"
+        is_same "$work/output" "$work/shown_mh_msb" "show --width $width"
+    done
+    codes mh msb "50 34 0A 31 20 31 0A 00" "00 11 C0 04 00 40 04 00 40 04 00 40" 1
     codes mmr lsb "$white" "01 10 00 01" 1728
     codes mmr msb "$white" "80 08 00 80" 1728
     codes mh msb "$white" "00 14 D9 A8 00 80 08 00 80 08 00 80 08" 1728
@@ -120,6 +127,20 @@ try_frames() {
     works frames "$work/nothing"
     echo "good 0 aborted 0 ragged 0 short 0 long 0 damaged 0" > "$work/wanted"
     is_same "$work/output" "$work/wanted" "frames of nothing"
+}
+
+# Bits with one gap of each class that is no good frame, and what there is counted.
+try_gaps() {
+    while read -r hex counts; do
+        works frames "$(octets "$(echo "$hex" | sed 's/../& /g')")"
+        echo "good 0 $counts" > "$work/wanted"
+        is_same "$work/output" "$work/wanted" "frames of a gap"
+    done << CASES
+7EFF7E aborted 1 ragged 0 short 0 long 0 damaged 0
+7E00FC00 aborted 0 ragged 1 short 0 long 0 damaged 0
+7E007E aborted 0 ragged 0 short 1 long 0 damaged 0
+7E$(printf '%0606d' 0)7E aborted 0 ragged 0 short 0 long 1 damaged 0
+CASES
 }
 
 # Refused images: OUT is left as it was, and isn't made.
@@ -165,6 +186,7 @@ mh 4 12 00 10 00
 mh 12 0 17 EC
 CASES
     faults "fault 17 at bit 0" show --code mmr --width 8 "$work/nothing"
+    faults "fault 4 at bit 0" show --code mh --width 8 "$work/nothing"
     for words in "show --code mh --width 8" "show --code mmr --width 8" frames; do
         faults "fault 8" $words "$work/missing"
         faults "fault 8" $words "$work"
@@ -234,8 +256,17 @@ try_words() {
     for words in --help help -h --version "code --help" "show --help" "frames --help" fax \
         "code a b" "code --code g3 a b" "code --code mh a" "code --code mh a b c" "code --code mh --code mh a b" \
         "code --code mh --order up a b" "show --code mh a" "show --width 8 a" "show --code mh --width 0 a" \
-        "show --code mh --width 2433 a" "show --code mh --width x a" "frames" "frames a b" "frames --code mh a"; do
+        "show --code mh --width 2433 a" "show --code mh --width x a" "frames" "frames a b" "frames --code mh a" \
+        "help show" "call --help" paint "code --code mr a b" "code --code mh --order MSB a b" "show --code mh --width 8" \
+        "show --code mh --width 8.0 a" "show --code mh --width 4294967304 a" "show --code mh --width 18446744073709551624 a" \
+        "call a" "call --script a" "call --script a --frame 128 b" "call --script a --modems v34 b" \
+        "call --script a --fine --fine b"; do
         refuses $words
+    done
+    refuses show --code mh --width "" a
+    refuses show --help
+    for text in "<FILE>  The file of the coded page" "--width <N>" "[default: msb] [possible values: msb, lsb]"; do
+        grep -qF -e "$text" "$work/error" || fails "show --help doesn't say: $text"
     done
 }
 
@@ -288,6 +319,34 @@ try_call() {
     tail -1 "$work/output" | grep -q ' pages 0$' || [ -e "$work/pages" ] || fails "call ${case##*/} made no file of its pages"
 }
 
+# Scripts that are refused, each at its line: the line, and the script as printf writes it.
+try_scripts() {
+    input=$(octets "$white")
+    while read -r line script; do
+        printf "$script" > "$work/script"
+        faults "fault 30 at line $line" call --script "$work/script" "$input"
+    done << 'CASES'
+1 spoil 0
+1 polite
+3 # x\n\nto-caller  2\n
+1 to-caller\r\n
+2 busy\nspoil +1\n
+1 spoil 1000001
+1 spoil 00000001
+1 spoil\040
+1 spoil 1\040
+1 \040spoil
+1 \040
+1 spoil\t1
+1 spoil 1x
+1 Spoil
+1 deliver
+1 # \377
+3 busy\n\n\303\050\nready\n
+3 ready\nbusy\npolite -1
+CASES
+}
+
 # The calls, where there are cases of them.
 try_calls() {
     for script in "$top"/.ci/calls/*.script; do
@@ -329,6 +388,7 @@ for program in "$@"; do
     try_small
     try_page
     try_frames
+    try_gaps
     try_images
     try_codes
     try_large_pages
@@ -337,6 +397,7 @@ for program in "$@"; do
     try_large_frames
     try_words
     try_outputs
+    try_scripts
     try_calls
     echo "end to end: ${program##*/} passed $count runs"
 done

@@ -155,7 +155,7 @@ def copied(root, crates, kept):
         shutil.copytree(f"{root}/crates/{name}", f"{crates}/{name}", symlinks=True, ignore=leave)
     top = os.path.dirname(crates)
     shutil.copy(f"{root}/HANDLES", top)
-    rows = [row for row in read(f"{root}/crates.txt").split("\n") if not row.startswith("faxtool")]
+    rows = [row for row in read(f"{root}/crates.txt").split("\n") if not row.startswith(("engines", "faxtool"))]
     write(f"{top}/crates.txt", "\n".join(rows) + "\n")
     subprocess.run(["git", "init", "-q", top], check=True)
 

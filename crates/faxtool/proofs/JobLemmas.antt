@@ -1,5 +1,6 @@
 -- What a parse of the program's words says of its width, and of the words themselves.
-use Rattle.std.proofs.Common.{◌≡◌, ◌≤◌, ◌∙◌, ◌∷◌, [], ℕ, List, Option, Some, None, Result, Ok, Err, true, ap, subst, sym, codes, slice_index, inl, inr, unwrap_or, arith, refl}
+use Rattle.std.proofs.Common.{◌≡◌, ◌≤◌, ◌∙◌, ◌∷◌, [], ℕ, List, Option, Some, None, Result, Ok, Err, true, ap, subst, sym, codes}
+use Rattle.std.proofs.Common.{slice_index, inl, inr, unwrap_or, arith, refl}
 use Rattle.std.specs.Str.Parse.{ParsesUnsigned, digits_value, without_leading_plus}
 use Rattle.std.specs.Prelude.{IfOk, false}
 use Rattle.clap.specs.Words.{AddsSubcommand, App, HasKind, IsAmong, ReadsOne, Row, Text, app_of, fault_of, is_simple}
@@ -81,19 +82,22 @@ pub is_faxtool : {E : Type 0} (codings orders sizes modems : ValueParser) → Ta
     → (pages call : Command) → app_of pages ≡ page_app codings orders → app_of call ≡ call_app codings sizes modems
     → (fields_of call).has_globals ≡ false → (r : Result Command E) → IfOk r (λ new. AddsSubcommand pages call new)
     → IfOk r (λ command. IsFaxtool (app_of command))
-is_faxtool {E} codings orders sizes modems takes_codings takes_orders takes_sizes takes_modems pages call pages_are call_is local (Ok new) adds = record {
-  codings = codings;
-  orders = orders;
-  sizes = sizes;
-  modems = modems;
-  takes_codings = takes_codings;
-  takes_orders = takes_orders;
-  takes_sizes = takes_sizes;
-  takes_modems = takes_modems;
-  commands = adds.shape local
-      ∙ (ap (λ (a : App). with_subcommand a (shape_of call)) pages_are ∙ ap (λ (a : App). with_subcommand (page_app codings orders) a.top) call_is);
-}
-is_faxtool {E} codings orders sizes modems takes_codings takes_orders takes_sizes takes_modems pages call pages_are call_is local (Err e) adds = tt
+is_faxtool {E} codings orders sizes modems takes_codings takes_orders takes_sizes takes_modems pages call pages_are call_is local (Ok new)
+    adds = record {
+      codings = codings;
+      orders = orders;
+      sizes = sizes;
+      modems = modems;
+      takes_codings = takes_codings;
+      takes_orders = takes_orders;
+      takes_sizes = takes_sizes;
+      takes_modems = takes_modems;
+      commands = adds.shape local
+          ∙ (ap (λ (a : App). with_subcommand a (shape_of call)) pages_are
+          ∙ ap (λ (a : App). with_subcommand (page_app codings orders) a.top) call_is);
+    }
+is_faxtool {E} codings orders sizes modems takes_codings takes_orders takes_sizes takes_modems pages call pages_are call_is local (Err e)
+    adds = tt
 
 -- clap's own refusal
 pub refused_by_kind : (words : List Text) (a : App) (error : Error) (outcome : Outcome) → IsFaxtool a
@@ -162,4 +166,5 @@ no_options rows none (Show coding order width input) (others, e, is) =
 no_options rows none (Frames input) (others, e, is) =
     call_is_frames (some_name (codes "call") (codes "frames") rows others e)
 no_options rows none (Call script options out input) (others, e, is) =
-    none options (subst (λ (xs : List Row). AreOptionsIn xs options) (sym (some_rows (codes "call") (codes "call") rows others e)) is.options_are)
+    none options (subst (λ (xs : List Row). AreOptionsIn xs options) (sym (some_rows (codes "call") (codes "call") rows others e))
+    is.options_are)

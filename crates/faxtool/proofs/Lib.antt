@@ -1,10 +1,2 @@
+-- The lemmas of the program.
 mod JobLemmas
-mod Listing
-mod MarkedFrames
-mod HexText
-mod ScriptLines
-mod ScriptWords
-mod OneScript
-mod CallEnds
-mod CallSteps
-mod EntryLines

@@ -16,10 +16,10 @@ use Rattle.page_code.specs.declared.Coding.TheVariants.{OneDim, T6}
 use Rattle.raster.specs.Pixels.{IsWidth}
 use Rattle.raster.specs.declared.packed.Order.{Order}
 use Rattle.raster.specs.declared.packed.Order.TheVariants.{LsbFirst, MsbFirst}
-use Rattle.faxtool.specs.declared.fault.ToolFault.TheVariants.{No}
+use Rattle.engines.specs.declared.fault.ToolFault.TheVariants.{No}
 use Rattle.signals.specs.declared.params.Modems.{Modems}
 use Rattle.signals.specs.declared.params.Modems.TheVariants.{Fallback, V27, V29, V27V29, V17}
-use Rattle.faxtool.specs.declared.options.CallOptions.{CallOptions}
+use Rattle.engines.specs.declared.options.CallOptions.{CallOptions}
 use Rattle.faxtool.specs.declared.words.Job.{Job}
 use Rattle.faxtool.specs.declared.words.Job.TheVariants.{Call, Code, Frames, Show}
 use Rattle.faxtool.specs.declared.words.Outcome.{Outcome}

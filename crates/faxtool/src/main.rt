@@ -2,29 +2,15 @@
 //! calls from scripts.
 #![tactic(auto)]
 
-ghost use Rattle.faxtool.specs.Calls.{HaveRows};
+ghost use Rattle.engines.specs.Calls.{HaveRows};
 ghost use Rattle.faxtool.specs.Jobs.{HasWidth};
 ghost use Rattle.raster.specs.Pixels.{IsWidth};
 
-mod call;
-mod engine;
-mod fault;
-mod frames;
-mod options;
-mod script;
-#[cfg(test)]
-mod seam_tests;
-#[cfg(test)]
-mod test_streams;
-mod texts;
-mod transcript;
 mod words;
 
-use call::call_engine;
-use engine::{code_engine, show_engine};
-use fault::{NO_MEMORY, ToolFault};
-use frames::frames_engine;
-use options::CallOptions;
+use engines::{
+    CallOptions, NO_MEMORY, ToolFault, call_engine, code_engine, frames_engine, show_engine,
+};
 use page_code::Coding;
 use raster::{Page, write_pbm};
 use run_tables::Order;

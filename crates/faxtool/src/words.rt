@@ -10,11 +10,10 @@ ghost use Rattle.faxtool.specs.Jobs.{IsWidthIn, ReadsAs, ReadsWidth, call_app, c
 ghost use Rattle.faxtool.specs.Jobs.{empty_app, file_option_rule, file_rule, fine_rule, is_named, modems_named, order_named, order_rule};
 ghost use Rattle.faxtool.specs.Jobs.{page_app, show_app, frames_app, status_of, width_rule, with_choices};
 
-use crate::fault::{NO_MEMORY, ToolFault};
-use crate::options::CallOptions;
 use clap::builder::ValueParser;
 use clap::error::ErrorKind;
 use clap::{Arg, ArgAction, ArgMatches, Command, Error};
+use engines::{CallOptions, NO_MEMORY, ToolFault};
 use page_code::Coding;
 use run_tables::Order;
 use signals::Modems;
@@ -95,7 +94,7 @@ static MODEMS: [&str; 5] = ["v17", "v27v29", "v29", "v27", "fallback"];
 
 impl From<AllocError> for Outcome {
     ghost use Rattle.std.specs.Prelude.{◌≡◌};
-    ghost use Rattle.faxtool.specs.declared.fault.ToolFault.TheVariants.{No};
+    ghost use Rattle.engines.specs.declared.fault.ToolFault.TheVariants.{No};
     ghost use Rattle.faxtool.specs.declared.words.Outcome.TheVariants.{Fault};
 
     ghost from_gives = { λ _ outcome. outcome ≡ Fault (No 9) };

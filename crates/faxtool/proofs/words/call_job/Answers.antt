@@ -1,3 +1,4 @@
+-- What the check asks of `call_job`.
 use Rattle.clap.specs.Words.{found_of, rows_of}
 use Rattle.faxtool.proofs.JobLemmas.{no_options}
 use Rattle.faxtool.proofs.words.call_job.Goals as goal

@@ -1,3 +1,4 @@
+-- What the check asks of `faxtool_command`.
 use Rattle.std.proofs.Common.{rules}
 use Rattle.faxtool.proofs.JobLemmas.{is_faxtool}
 use Rattle.faxtool.proofs.words.faxtool_command.Goals as goal

@@ -1,3 +1,4 @@
+-- What the check asks of `number_in`.
 use Rattle.std.specs.Str.Parse.{ParsesUnsigned, ExplainsUnsignedError, HasUnsignedDigitsIfOk}
 use Rattle.clap.specs.Words.{found_of}
 use Rattle.faxtool.proofs.JobLemmas.{width_reads}

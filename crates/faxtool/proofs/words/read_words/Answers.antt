@@ -1,3 +1,4 @@
+-- What the check asks of `read_words`.
 use Rattle.std.proofs.Common.{List, map, rules, subst}
 use Rattle.std.specs.Prelude.{Option}
 use Rattle.clap.specs.Words.{Row, Text, app_of}

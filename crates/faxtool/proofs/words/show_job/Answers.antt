@@ -1,3 +1,4 @@
+-- What the check asks of `show_job`.
 use Rattle.clap.specs.Words.{found_of, rows_of}
 use Rattle.faxtool.proofs.JobLemmas.{no_width}
 use Rattle.faxtool.proofs.words.show_job.Goals as goal

@@ -1,3 +1,4 @@
+-- What the check asks of `width_in`.
 use Rattle.std.proofs.Common.{◌≡◌, ◌≤◌, Some, None, subst, rules}
 use Rattle.clap.specs.Words.{found_of, rows_of}
 use Rattle.faxtool.specs.Jobs.{ReadsWidth}

@@ -1,0 +1,10 @@
+-- The lemmas of the engines.
+mod Listing
+mod MarkedFrames
+mod HexText
+mod ScriptLines
+mod ScriptWords
+mod OneScript
+mod CallEnds
+mod CallSteps
+mod EntryLines

@@ -1,0 +1,58 @@
+-- What the commands that code and show pages do with what they read.
+use Rattle.std.specs.Prelude.{ℕ, ◌≡◌, ◌≢◌, ◌≤◌, ◌⊎◌, false, List, [], ◌∷◌, Option, length, Err}
+use Rattle.std.specs.Io.KnownBytes.{Appends}
+use Rattle.raster.specs.declared.packed.Order.{Order}
+use Rattle.raster.specs.declared.row.Color.{Color}
+use Rattle.raster.specs.Faults.{number_of}
+use Rattle.raster.specs.Packed.{bits_of, FillsOctets}
+use Rattle.raster.specs.Pages.{PagePixels}
+use Rattle.raster.specs.Pbm.{AreImages, read_images}
+use Rattle.raster.specs.Text.{page_text}
+use Rattle.raster.specs.declared.fault.RasterFault.{RasterFault}
+use Rattle.run_tables.specs.declared.fault.CodeFault.{CodeFault}
+use Rattle.run_tables.specs.declared.fault.CodeFaultKind.TheVariants.{NoMemory}
+use Rattle.run_tables.specs.Faults.{number_of as kind_number}
+use Rattle.page_code.specs.declared.Coding.{Coding}
+use Rattle.page_code.specs.Codings.{IsLongestIn, ReadsIn, code_of}
+use Rattle.page_code.specs.PageCodes.{RefusesPage}
+use Rattle.engines.specs.Faults.{IsOutside}
+use Rattle.engines.specs.declared.fault.ToolFault.{ToolFault}
+use Rattle.engines.specs.declared.fault.ToolFault.TheVariants.{No, AtBit}
+
+-- the octets read are one image, and its code with 0 bits to an octet is written
+pub record CodesImage (coding : Coding) (order : Order) (before after : Option (List ℕ)) (octets : List ℕ) : Type 0 where
+  pub page : PagePixels
+  pub image : AreImages false octets (page ∷ [])
+  pub code : List ℕ
+  pub coded : FillsOctets order (code_of coding page.width page.rows) code
+  pub written : Appends before after code
+
+-- several images were read
+abbrev pub AreSeveral : List ℕ → ToolFault → Type 0
+AreSeveral octets fault = (pages : List PagePixels) × AreImages false octets pages × (2 ≤ length pages) × (fault ≡ No 27)
+
+-- no image list was read: the fault is its first one
+abbrev pub AreNoImages : List ℕ → ToolFault → Type 0
+AreNoImages octets fault = (first : RasterFault) × (read_images false octets ≡ Err first) × (fault ≡ No (number_of first))
+
+-- why no code was written
+abbrev pub RefusesImage : List ℕ → ToolFault → Type 0
+RefusesImage octets fault = IsOutside fault ⊎ (AreNoImages octets fault ⊎ AreSeveral octets fault)
+
+-- the octets read begin with a page's code, and the page's text is written
+pub record ShowsPage (coding : Coding) (order : Order) (width : ℕ) (before after : Option (List ℕ)) (octets : List ℕ) : Type 0 where
+  pub rows : List (List Color)
+  pub used : ℕ
+  pub reads : ReadsIn coding width (bits_of order octets) rows used
+  pub written : Appends before after (page_text rows)
+
+-- the octets read begin with no page's code: the fault's bit and number
+pub record RefusesCode (coding : Coding) (order : Order) (width : ℕ) (octets : List ℕ) (fault : ToolFault) : Type 0 where
+  pub code_fault : CodeFault
+  pub refuses : RefusesPage (ReadsIn coding) (IsLongestIn coding) width (bits_of order octets) code_fault
+  pub other : code_fault.kind ≢ NoMemory
+  pub is : fault ≡ AtBit (kind_number code_fault.kind) code_fault.place
+
+-- why no page was shown
+abbrev pub RefusesShow : Coding → Order → ℕ → List ℕ → ToolFault → Type 0
+RefusesShow coding order width octets fault = IsOutside fault ⊎ RefusesCode coding order width octets fault

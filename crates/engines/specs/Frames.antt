@@ -1,0 +1,47 @@
+-- What the command that lists frames writes of bits.
+use Rattle.std.specs.Prelude.{ℕ, ◌+◌, ◌-◌, ◌^◌, ◌++◌, ◌∷◌, [], Bool, List, codes, min}
+use Rattle.std.specs.Fmt.{decimal}
+use Rattle.hex.specs.Hex.{encode_lower}
+use Rattle.hdlc.specs.Gaps.{count_of, good}
+use Rattle.hdlc.specs.declared.counts.Class.{Class}
+use Rattle.hdlc.specs.declared.counts.Class.TheVariants.{Good, Aborted, Ragged, Short, Long, Damaged}
+use Rattle.hdlc.specs.declared.counts.Counts.{Counts}
+use Rattle.engines.specs.Texts.{content_text, spaced}
+
+-- words with a space between each two, and a line feed
+abbrev pub line : List (List ℕ) → List ℕ
+line words = spaced words ++ 10 ∷ []
+
+-- the line of a good frame: its number, its content in lower-case hex, and what it says
+abbrev pub frame_line : ℕ → List ℕ → List ℕ
+frame_line number content = line (decimal number ∷ encode_lower content ∷ content_text content ∷ [])
+
+-- the lines of good frames, numbered from the first one's number
+abbrev pub frame_lines : ℕ → List (List ℕ) → List ℕ
+frame_lines first [] = []
+frame_lines first (content ∷ contents) = frame_line first content ++ frame_lines (first + 1) contents
+
+-- how many gaps of bits are of a class, up to 2 ^ 64 - 1
+abbrev pub counted : List Bool → Class → ℕ
+counted bits class = min (2 ^ 64 - 1) (count_of class bits)
+
+-- how many gaps of bits there are of each class
+abbrev pub counts_of : List Bool → Counts
+counts_of bits = record {
+  good = counted bits Good;
+  aborted = counted bits Aborted;
+  ragged = counted bits Ragged;
+  short = counted bits Short;
+  long = counted bits Long;
+  damaged = counted bits Damaged;
+}
+
+-- the line of the counts
+abbrev pub counts_line : Counts → List ℕ
+counts_line counts = line (codes "good" ∷ decimal counts.good ∷ codes "aborted" ∷ decimal counts.aborted
+    ∷ codes "ragged" ∷ decimal counts.ragged ∷ codes "short" ∷ decimal counts.short
+    ∷ codes "long" ∷ decimal counts.long ∷ codes "damaged" ∷ decimal counts.damaged ∷ [])
+
+-- a line for each good frame of bits, numbered from 1, and the line of the counts
+abbrev pub listing : List Bool → List ℕ
+listing bits = frame_lines 1 (good bits) ++ counts_line (counts_of bits)

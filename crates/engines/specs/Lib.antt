@@ -1,0 +1,8 @@
+-- The definitions of the engines.
+pub mod Faults
+pub mod CodedPages
+pub mod Texts
+pub mod Frames
+pub mod Scripts
+pub mod Transcripts
+pub mod Calls

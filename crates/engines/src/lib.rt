@@ -1,0 +1,24 @@
+//! What each command of the program does, over any readers and any writer: with no command line, no file and no clock.
+#![tactic(auto)]
+
+mod call;
+mod fault;
+mod frames;
+mod options;
+mod pages;
+mod script;
+#[cfg(test)]
+mod seam_tests;
+#[cfg(test)]
+mod test_streams;
+mod texts;
+mod transcript;
+
+pub use crate::call::call_engine;
+pub use crate::fault::{FAILED, NO_MEMORY, ToolFault};
+pub use crate::frames::frames_engine;
+pub use crate::options::CallOptions;
+pub use crate::pages::{code_engine, show_engine};
+pub use crate::script::{Command, read_script};
+pub use crate::texts::{ContentText, SignalText};
+pub use crate::transcript::write_report;

@@ -1,0 +1,96 @@
+//! What no clause says of `code` and `show`: octets that come and go one by one, and readers and writers that fail.
+
+use super::{code_engine, show_engine};
+use crate::fault::{FAILED, ToolFault};
+use crate::test_streams::{Narrow, OneByOne};
+use page_code::Coding;
+use run_tables::Order;
+use std::test::Fail;
+
+const IMAGE: [u8; 8] = [0x50, 0x34, 0x0A, 0x38, 0x20, 0x31, 0x0A, 0x30];
+
+const CODE: [u8; 12] = [
+    0x00, 0x17, 0xEC, 0x00, 0x40, 0x04, 0x00, 0x40, 0x04, 0x00, 0x40, 0x04,
+];
+
+const TEXT: &[u8] = b"..##....\n";
+
+#[test]
+fn a_failing_reader_is_fault_8(rt: HostRuntime) {
+    let alloc = rt.alloc();
+    for given in 0..=IMAGE.len() {
+        let mut reader = OneByOne {
+            left: &IMAGE[..given],
+            fails: true,
+        };
+        let mut octets = Vec::new(alloc);
+        let done = code_engine(
+            alloc,
+            &mut reader,
+            &mut octets,
+            Coding::OneDim,
+            Order::MsbFirst,
+        );
+        assert_eq!(rt; done, Err(FAILED), "{given} octets");
+    }
+}
+
+#[test]
+fn a_failing_writer_is_fault_8(rt: HostRuntime) {
+    let alloc = rt.alloc();
+    for room in 0..TEXT.len() {
+        let mut reader = CODE.as_slice();
+        let mut writer = Narrow {
+            taken: Vec::new(alloc),
+            room,
+        };
+        let done = show_engine(
+            alloc,
+            &mut reader,
+            &mut writer,
+            Coding::OneDim,
+            Order::MsbFirst,
+            8,
+        );
+        assert_eq!(rt; done, Err(FAILED), "room for {room}");
+    }
+}
+
+#[test]
+fn octets_come_and_go_one_by_one(rt: HostRuntime) -> Result<(), Fail> {
+    let alloc = rt.alloc();
+    let mut image = OneByOne {
+        left: &IMAGE,
+        fails: false,
+    };
+    let mut code = Narrow {
+        taken: Vec::with_capacity(alloc, 100)?,
+        room: 100,
+    };
+    code_engine(
+        alloc,
+        &mut image,
+        &mut code,
+        Coding::OneDim,
+        Order::MsbFirst,
+    )?;
+    assert_eq!(rt; code.taken.as_slice(), CODE.as_slice());
+    let mut coded = OneByOne {
+        left: &code.taken,
+        fails: false,
+    };
+    let mut text = Narrow {
+        taken: Vec::with_capacity(alloc, 100)?,
+        room: 100,
+    };
+    show_engine(
+        alloc,
+        &mut coded,
+        &mut text,
+        Coding::OneDim,
+        Order::MsbFirst,
+        8,
+    )?;
+    assert_eq!(rt; text.taken.as_slice(), TEXT);
+    Ok(())
+}

@@ -1,8 +1,0 @@
-use Rattle.std.proofs.Common.{take}
-use Rattle.line_sim.specs.Line.{World}
-use Rattle.line_sim.specs.Standing.{Shows}
-use Rattle.faxtool.specs.Calls.{FollowsAll}
-use Rattle.faxtool.proofs.call.follow_all.Given as goal
-
-abbrev pub invariant-loop-command : goal.invariant-loop-command
-invariant-loop-command l = (w : World) → Shows l.fn.world.call w → FollowsAll (take l.command-index l.commands) l.fn.world l.world w

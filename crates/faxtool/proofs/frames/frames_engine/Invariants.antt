@@ -1,6 +1,0 @@
-use Rattle.faxtool.proofs.Listing.{ListedSo}
-use Rattle.faxtool.proofs.frames.frames_engine.Given as goal
-
-abbrev pub invariant-loop-read : goal.invariant-loop-read
-invariant-loop-read g l =
-    ListedSo (g.R.Read.remaining l.initial.reader) (g.R.Read.remaining l.reader) (g.W.Write.contents l.initial.writer) (g.W.Write.contents l.writer) l.deframer l.number

@@ -1,7 +1,0 @@
-use Rattle.std.proofs.lemmas.List.{take_all}
-use Rattle.faxtool.proofs.EntryLines.{one_line}
-use Rattle.faxtool.proofs.transcript.write_entries.Goals as goal
-
-pub loop-place-preserved : goal.loop-place-preserved
-loop-place-preserved g c =
-    one_line _ _ _ c.args.entries.now c.loop-place.place _ c.loop-place-test.true c.loop-place.invariant c.in_ok-write_entry.ensures.line
