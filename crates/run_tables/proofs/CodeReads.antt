@@ -1,12 +1,11 @@
 use Rattle.std.proofs.Common.{◌≡◌, ℕ, Bool, true, List, map, Some, None, refl}
-use Rattle.std.specs.Prelude.{Ok, Err, Result}
 use Rattle.raster.specs.declared.row.Color.{Color}
 use Rattle.raster.specs.declared.row.Color.TheVariants.{White, Black}
 use Rattle.run_tables.specs.declared.fault.CodeFault.{CodeFault}
 use Rattle.run_tables.specs.declared.reader.Among.{Among}
 use Rattle.run_tables.specs.declared.reader.Among.TheVariants.{AllCodes, TerminatingCodes}
 use Rattle.run_tables.specs.Codes.{code_word}
-use Rattle.run_tables.specs.CodeReading.{first_runs, runs_among, kind_among, IsNext, RefusesCode, ReadsCode, PicksCode}
+use Rattle.run_tables.specs.CodeReading.{first_runs, runs_among, kind_among, IsNext, RefusesCode}
 use Rattle.run_tables.specs.Reading.{Reading, rest_of}
 use Rattle.run_tables.specs.Texts.{apart, pick}
 use Rattle.run_tables.proofs.BeginsLemmas.{pick_begun, pick_begins}
@@ -53,8 +52,3 @@ refuses_pick color among reader fault none is = rw is (record {
   kind =
       refl;
 })
-
-pub reads_pick : (color : Color) (among : Among) (old new : Reading) (result : Result ℕ CodeFault)
-    → PicksCode color among old new result → ReadsCode color among old new result
-reads_pick color among old new (Ok run) picks = (stands_pick color among (rest_of old) run picks.0, picks.1)
-reads_pick color among old new (Err fault) picks = (refuses_pick color among old fault picks.0 picks.1, picks.2)

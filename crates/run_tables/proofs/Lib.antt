@@ -1,9 +1,12 @@
 pub mod BeginsLemmas
 pub mod TableLemmas
+pub mod NumberLemmas
 pub mod CodeLemmas
 pub mod PickLemmas
 pub mod CodeReads
+pub mod ReadTableLemmas
 pub mod RunReads
+pub mod CodePicks
 pub mod FrontLaws
 pub mod FrontWalks
 pub mod CodeLooks

@@ -1,8 +1,8 @@
-use Rattle.std.proofs.Common.{ℕ, suc, ◌≡◌, ◌+◌, ◌-◌, ◌<◌, ◌≤◌, Bool, true, false, List, [], ◌∷◌, map, Some, None, refl, arith}
+use Rattle.std.proofs.Common.{ℕ, suc, ◌≡◌, ◌+◌, ◌-◌, ◌<◌, ◌≤◌, Bool, true, false, List, [], ◌∷◌, map, refl, arith}
 use Rattle.std.specs.List.{range_with_len}
 use Rattle.run_tables.specs.Codes.{run_at}
 use Rattle.run_tables.specs.CodeReading.{first_runs}
-use Rattle.run_tables.specs.Texts.{begins, pick, is_cut}
+use Rattle.run_tables.specs.Texts.{begins, is_cut}
 
 -- the runs of the first codes from a place on
 unfoldable pub left_runs : ℕ → ℕ → List ℕ
@@ -19,17 +19,6 @@ left_none at count h = let e : count - at ≡ 0 = omega arith in rw e refl
 pub left_more : (at count : ℕ) → at < count → left_runs at count ≡ run_at at ∷ left_runs (at + 1) count
 unfolding left_runs
 left_more at count h = let e : count - at ≡ suc (count - (at + 1)) = omega arith in rw e refl
-
-pub pick_here : (word : ℕ → List Bool) (at count : ℕ) (x : List Bool) → at < count → begins (word (run_at at)) x ≡ true
-    → pick word (left_runs at count) x ≡ Some (run_at at)
-pick_here word at count x h e = rw (left_more at count h, e) refl
-
-pub pick_later : (word : ℕ → List Bool) (at count : ℕ) (x : List Bool) → at < count → begins (word (run_at at)) x ≡ false
-    → pick word (left_runs at count) x ≡ pick word (left_runs (at + 1) count) x
-pick_later word at count x h e = rw (left_more at count h, e) refl
-
-pub pick_none : (word : ℕ → List Bool) (at count : ℕ) (x : List Bool) → count ≤ at → pick word (left_runs at count) x ≡ None
-pick_none word at count x h = rw (left_none at count h) refl
 
 pub cut_here : (word : ℕ → List Bool) (at count : ℕ) (x : List Bool) → at < count → begins x (word (run_at at)) ≡ true
     → is_cut word (left_runs at count) x ≡ true

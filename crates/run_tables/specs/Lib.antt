@@ -4,6 +4,9 @@ pub mod Tables
 pub mod Texts
 pub mod Reading
 pub mod CodeReading
+pub mod Numbers
+pub mod ReadTables
+pub mod WriteTables
 pub mod RunWords
 pub mod Written
 pub mod Fronts

@@ -4,11 +4,13 @@
 
 mod fault;
 pub mod laws;
+mod read_table;
 mod reader;
 mod row_reader;
 mod table;
 #[cfg(test)]
 mod tests;
+mod write_table;
 mod writer;
 
 pub use crate::fault::{CodeFault, CodeFaultKind};

@@ -1,17 +1,20 @@
 //! Reading of bits, and of run codes among them (ITU-T T.4, 4.1.1).
 
 ghost use Rattle.raster.specs.Packed.{bits_of};
-ghost use Rattle.run_tables.specs.CodeReading.{PicksCode, ReadsCode, ReadsRun, ReadsRunCode, ReadsRunWithin, count_among, first_runs, kind_among};
+ghost use Rattle.raster.specs.Words.{number_bits};
+ghost use Rattle.run_tables.specs.CodeReading.{PicksCode, ReadsCode, ReadsRun, ReadsRunCode, ReadsRunWithin, count_among, first_runs, kind_among, runs_among};
 ghost use Rattle.run_tables.specs.Codes.{code_word, text};
+ghost use Rattle.run_tables.specs.Numbers.{IsFirst64, first_bits, number_text};
 ghost use Rattle.run_tables.specs.Reading.{rest_of};
 ghost use Rattle.run_tables.specs.Texts.{begins, is_cut, pick};
 ghost use Rattle.std.specs.Bool.{OnTrue};
-ghost use Rattle.std.specs.Prelude.{None, OnSome, Some, IfNone, IfSome, if◌then◌else◌, is_some, length, slice_get, ◌*◌, ◌+◌, ◌<◌, ◌≡◌, ◌≤◌};
+ghost use Rattle.std.specs.Prelude.{None, OnSome, Some, IfNone, IfSome, if◌then◌else◌, is_some, length, slice_get, ◌*◌, ◌+◌, ◌^◌, ◌<◌, ◌≡◌, ◌≤◌};
 
 use crate::fault::{CodeFault, CodeFaultKind};
-use crate::table::{Code, code_at};
+use crate::read_table::entry;
+use crate::table::code_at;
 use raster::Color;
-use raster::packed::{Order, bit_of};
+use raster::packed::{Order, bit_of, word_at};
 use std::marker::Model;
 
 /// Which codes of a color may be at a place.
@@ -166,21 +169,62 @@ impl<'a> BitReader<'a> {
         self.ahead(digits.len()).is_none()
     }
 
-    /// The code among the first ones of a color's table that begins the bits that are left.
-    fn find_code(&self, color: Color, count: usize) -> Option<Code>
-        requires { count ≤ 104 }
-        ensures found { IfSome result (λ code. pick (code_word color) (first_runs count) (rest_of self.now) ≡ Some code.0) }
-        ensures text { IfSome result (λ code. text code.1.now ≡ code_word color code.0) }
-        ensures fits { IfSome result (λ code. self.now.place + length code.1.now ≤ length self.now.bits) }
-        ensures none { IfNone result (pick (code_word color) (first_runs count) (rest_of self.now) ≡ None) }
+    /// The number of bits that are left.
+    #[tactic(auto, using(raster::proofs::PackedLemmas::views))]
+    fn left(&self) -> u128
+        ensures { result ≡ length (rest_of self.now) }
     {
-        for at in 0..count {
-            let code = code_at(color, at);
-            if self.begins_with(code.1) {
-                return Some(code);
-            }
+        8 * self.octets.len() as u128 - self.place
+    }
+
+    /// The next 64 bits as a number, the first of them the most significant; past the end they are 0.
+    pub fn peek(&self) -> u64
+        ensures { IsFirst64 (rest_of self.now) result }
+    {
+        word_at(self.order, self.octets, self.place)
+    }
+
+    /// Whether so many of the lowest bits of a number, the most significant of them first, begin the
+    /// bits that are left: 1 to 32 bits, and the number has no others.
+    pub fn starts_with(&self, value: u32, count: u32) -> bool
+        requires some { 0 < count }
+        requires most { count ≤ 32 }
+        requires small { value < 2 ^ count }
+        ensures { result ≡ begins (number_bits count value) (rest_of self.now) }
+    {
+        if count as u128 > self.left() {
+            return false;
         }
-        None
+        self.peek() >> (64 - count) == value as u64
+    }
+
+    /// The next 13 bits as a number; past the end they are 0.
+    fn next_13(&self) -> u32
+        ensures below { result < 2 ^ 13 }
+        ensures bits { number_text 13 result ≡ first_bits 13 (rest_of self.now) }
+    {
+        (self.peek() >> 51) as u32
+    }
+
+    /// The code that may come and begins the bits that are left: its run, and its code word's length.
+    fn find_code(&self, color: Color, among: Among) -> Option<(u32, usize)>
+        ensures found { IfSome result (λ code. pick (code_word color) (runs_among among) (rest_of self.now) ≡ Some code.0) }
+        ensures length { IfSome result (λ code. code.1 ≡ length (code_word color code.0)) }
+        ensures fits { IfSome result (λ code. self.now.place + code.1 ≤ length self.now.bits) }
+        ensures none { IfNone result (pick (code_word color) (runs_among among) (rest_of self.now) ≡ None) }
+    {
+        let (run, length) = entry(color, self.next_13());
+        if length == 0 {
+            return None;
+        }
+        if length as u128 > self.left() {
+            return None;
+        }
+        let code = (run as u32, length as usize);
+        match among {
+            Among::AllCodes => Some(code),
+            Among::TerminatingCodes => { if run >= 64 { None } else { Some(code) } }
+        }
     }
 
     /// Whether the bits that are left are a beginning of one of the first codes of a color's table.
@@ -216,11 +260,11 @@ impl<'a> BitReader<'a> {
         ensures reads { ReadsCode color among self.old self.new result }
         ensures picks { PicksCode color among self.old self.new result }
     {
-        let Some(code) = self.find_code(color, among.count()) else {
+        let Some((run, length)) = self.find_code(color, among) else {
             return Err(self.refusal(color, among));
         };
-        self.skip(code.1.len());
-        Ok(code.0)
+        self.skip(length);
+        Ok(run)
     }
 
     /// The next run code of a color (ITU-T T.4, 4.1.1). Errs at the reader's place where none of the

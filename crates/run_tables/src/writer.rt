@@ -2,12 +2,13 @@
 
 ghost use Rattle.raster.specs.Packed.{FillsOctets};
 ghost use Rattle.raster.specs.Runs.{AreOwnRuns};
+ghost use Rattle.raster.specs.Words.{number_bits};
 ghost use Rattle.run_tables.specs.Codes.{run_words, text};
 ghost use Rattle.run_tables.specs.RunWords.{runs_words};
 ghost use Rattle.run_tables.specs.Written.{Appends, AppendsRow, eol};
-ghost use Rattle.std.specs.Prelude.{◌≡◌, ◌≤◌, ◌++◌, ◌∷◌, [], All, length, take, IfOk, OnOk, OnErr};
+ghost use Rattle.std.specs.Prelude.{◌≡◌, ◌≤◌, ◌++◌, ◌∷◌, [], All, length, replicate, take, IfOk, OnOk, OnErr};
 
-use crate::table::code_at;
+use crate::write_table::run_word;
 use raster::packed::{Order, PackedBits};
 use raster::{Color, RasterFault, Row};
 use std::alloc::{AllocError, Global};
@@ -65,6 +66,24 @@ impl BitWriter {
         self.packed.push(bit)
     }
 
+    /// Appends so many of the lowest bits of a number, at most 32, the most significant of them first.
+    /// Errs where memory is refused, which changes nothing.
+    pub fn push_bits(&mut self, value: u32, count: u32) -> Result<(), AllocError>
+        requires { count ≤ 32 }
+        ensures ok { OnOk result (Appends (number_bits count value) self.old self.new) }
+        ensures err { OnErr result (self.new ≡ self.old) }
+    {
+        self.packed.push_bits(value, count)
+    }
+
+    /// Appends a bit so many times. Errs where memory is refused, which changes nothing.
+    pub fn push_run(&mut self, bit: bool, count: u32) -> Result<(), AllocError>
+        ensures ok { OnOk result (Appends (replicate count bit) self.old self.new) }
+        ensures err { OnErr result (self.new ≡ self.old) }
+    {
+        self.packed.push_run(bit, count)
+    }
+
     /// Forgets all bits but so many first ones.
     pub fn truncate(&mut self, bits: u128)
         requires { bits ≤ length self.old.bits }
@@ -105,16 +124,8 @@ impl BitWriter {
         ensures ok { OnOk result (Appends (run_words color run) self.old self.new) }
         ensures err { OnErr result (self.new ≡ self.old) }
     {
-        if run < 64 {
-            return self.push_digits(code_at(color, run as usize).1);
-        }
-        let start = self.bits();
-        self.push_digits(code_at(color, 63 + (run / 64) as usize).1)?;
-        if let Err(refused) = self.push_digits(code_at(color, (run % 64) as usize).1) {
-            self.truncate(start); // forget the make-up code
-            return Err(refused);
-        }
-        Ok(())
+        let (value, count) = run_word(color, run);
+        self.push_bits(value, count)
     }
 
     /// Appends the end of a line: eleven 0 bits and a 1 (ITU-T T.4, 4.1.2). Errs where memory is
@@ -123,7 +134,7 @@ impl BitWriter {
         ensures ok { OnOk result (Appends eol self.old self.new) }
         ensures err { OnErr result (self.new ≡ self.old) }
     {
-        self.push_digits(b"000000000001")
+        self.push_bits(1, 12)
     }
 
     /// Appends the code words of alternating runs, white first. Errs where memory is refused, which

@@ -1,35 +1,30 @@
-use Rattle.std.proofs.Common.{◌≡◌, ◌∙◌, sym, ap, ℕ, Bool, List, Some, true, false, arith}
-use Rattle.run_tables.specs.Codes.{code_word, text, run_at}
+use Rattle.std.proofs.Common.{arith}
 use Rattle.run_tables.specs.Reading.{rest_of}
-use Rattle.run_tables.specs.Texts.{begins, pick}
-use Rattle.run_tables.proofs.PickLemmas.{left_all, pick_here, pick_later, pick_none}
+use Rattle.run_tables.proofs.CodePicks.{entry_found, entry_low, entry_none, entry_past, entry_high}
 use Rattle.run_tables.proofs.reader.BitReader.find_code.Goals as goal
 
-pub loop-at-init : goal.loop-at-init
-loop-at-init c = ap (λ (runs : List ℕ). pick (code_word c.args.color) runs (rest_of c.args.self.now)) (left_all c.args.count)
+pub returns-then-length-eq0-clause-none : goal.returns-then-length-eq0-clause-none
+returns-then-length-eq0-clause-none c =
+    entry_none c.args.color c.args.among (rest_of c.args.self.now) c.entry-run.result.0 c.entry-run.result.1 (rw c.next_13.ensures.bits at
+    c.entry-run.ensures) (omega arith)
 
-pub returns-then-begins_with-clause-found : goal.returns-then-begins_with-clause-found
-returns-then-begins_with-clause-found c =
-    let is : text c.code_at-code.result.1.now ≡ code_word c.args.color (run_at c.loop-at.at) = ap (λ (p : ℕ
-    × List Bool). p.1) c.code_at-code.ensures in
-    let begun : begins (code_word c.args.color (run_at c.loop-at.at)) (rest_of c.args.self.now) ≡ true = ap (λ t. begins t (rest_of
-    c.args.self.now)) (sym is) ∙ (sym c.begins_with.ensures.begun ∙ c.if-begins_with.true) in
-    sym c.loop-at.invariant ∙ (pick_here (code_word c.args.color) c.loop-at.at c.args.count (rest_of c.args.self.now) (omega arith) begun ∙
-    ap Some (sym (ap (λ (p : ℕ × List Bool). p.0) c.code_at-code.ensures)))
+pub returns-then-length-left-clause-none : goal.returns-then-length-left-clause-none
+returns-then-length-left-clause-none c =
+    entry_past c.args.color c.args.among (rest_of c.args.self.now) c.entry-run.result.0 c.entry-run.result.1 (rw c.next_13.ensures.bits at
+    c.entry-run.ensures) (omega arith)
 
-pub returns-then-begins_with-clause-text : goal.returns-then-begins_with-clause-text
-returns-then-begins_with-clause-text c =
-    ap (λ (p : ℕ × List Bool). p.1) c.code_at-code.ensures ∙ ap (λ n. code_word c.args.color n) (sym (ap (λ (p : ℕ
-    × List Bool). p.0) c.code_at-code.ensures))
+pub returns-in-AllCodes-clause-found : goal.returns-in-AllCodes-clause-found
+returns-in-AllCodes-clause-found c =
+    rw c.in-AllCodes.is ((entry_found c.args.color (rest_of c.args.self.now) c.entry-run.result.0 c.entry-run.result.1 (rw
+    c.next_13.ensures.bits at c.entry-run.ensures) (omega arith) (omega arith)).0)
 
-pub loop-at-preserved : goal.loop-at-preserved
-loop-at-preserved c =
-    let is : text c.code_at-code.result.1.now ≡ code_word c.args.color (run_at c.loop-at.at) = ap (λ (p : ℕ
-    × List Bool). p.1) c.code_at-code.ensures in
-    let absent : begins (code_word c.args.color (run_at c.loop-at.at)) (rest_of c.args.self.now) ≡ false = ap (λ t. begins t (rest_of
-    c.args.self.now)) (sym is) ∙ (sym c.begins_with.ensures.begun ∙ c.if-begins_with.false) in
-    sym (pick_later (code_word c.args.color) c.loop-at.at c.args.count (rest_of c.args.self.now) (omega arith) absent) ∙ c.loop-at.invariant
+pub returns-then-run-ge64-clause-none : goal.returns-then-run-ge64-clause-none
+returns-then-run-ge64-clause-none c =
+    rw c.in-TerminatingCodes.is (entry_high c.args.color (rest_of c.args.self.now) c.entry-run.result.0 c.entry-run.result.1 (rw
+    c.next_13.ensures.bits at c.entry-run.ensures) (omega arith))
 
-pub returns-clause-none : goal.returns-clause-none
-returns-clause-none c =
-    sym c.loop-at.invariant ∙ pick_none (code_word c.args.color) c.loop-at.at c.args.count (rest_of c.args.self.now) (omega arith)
+pub returns-else-run-ge64-clause-found : goal.returns-else-run-ge64-clause-found
+returns-else-run-ge64-clause-found c =
+    rw c.in-TerminatingCodes.is (entry_low c.args.color (rest_of c.args.self.now) c.entry-run.result.0 ((entry_found c.args.color (rest_of
+    c.args.self.now) c.entry-run.result.0 c.entry-run.result.1 (rw c.next_13.ensures.bits at c.entry-run.ensures) (omega arith) (omega
+    arith)).0) (omega arith))

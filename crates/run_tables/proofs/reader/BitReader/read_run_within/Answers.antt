@@ -1,4 +1,4 @@
-use Rattle.std.proofs.Common.{arith, inl, inr, refl}
+use Rattle.std.proofs.Common.{inl, inr, refl}
 use Rattle.std.proofs.lemmas.Result.{err_from_is_err_and}
 use Rattle.run_tables.proofs.RunReads.{low_run}
 use Rattle.run_tables.proofs.reader.BitReader.read_run_within.Goals as goal

@@ -1,0 +1,37 @@
+-- The tables by which run codes are read: an entry for each text of so many bits (ITU-T T.4, 4.1.1, tables 2 and 3).
+use Rattle.std.specs.Prelude.{ℕ, ◌^◌, ◌++◌, Bool, false, List, [], ◌∷◌, map, length, replicate, Option, Some, None, if◌then◌else◌}
+use Rattle.std.specs.List.{range_with_len}
+use Rattle.raster.specs.declared.row.Color.{Color}
+use Rattle.raster.specs.declared.row.Color.TheVariants.{White, Black}
+use Rattle.run_tables.specs.Codes.{code_word}
+use Rattle.run_tables.specs.CodeReading.{first_runs}
+use Rattle.run_tables.specs.Numbers.{number_text}
+use Rattle.run_tables.specs.Texts.{begins, pick}
+
+-- the run and the length of the first code word that begins the bits, or 0 and 0
+unfoldable pub entry_of : List (ℕ × List Bool) → List Bool → ℕ × ℕ
+entry_of [] bits = (0, 0)
+entry_of ((run, word) ∷ codes) bits = if begins word bits then (run, length word) else entry_of codes bits
+
+-- the entries of all texts of so many bits, after so many 0 bits
+unfoldable pub entries : List (ℕ × List Bool) → ℕ → ℕ → List (ℕ × ℕ)
+entries codes zeros count = map (λ key. entry_of codes (replicate zeros false ++ number_text count key)) (range_with_len 0 (2 ^ count))
+
+-- the bits by which the short table of a color is read
+abbrev pub short_bits : Color → ℕ
+short_bits White = 9
+short_bits Black = 6
+
+-- the 0 bits that begin each text of the long table of a color
+abbrev pub long_zeros : Color → ℕ
+long_zeros White = 7
+long_zeros Black = 4
+
+-- the run that was picked and the length of its code word, or 0 and 0
+abbrev pub entry_picked : Color → Option ℕ → ℕ × ℕ
+entry_picked color None = (0, 0)
+entry_picked color (Some run) = (run, length (code_word color run))
+
+-- the run and the length of the code word that begins the bits, or 0 and 0
+abbrev pub entry_for : Color → List Bool → ℕ × ℕ
+entry_for color bits = entry_picked color (pick (code_word color) (first_runs 104) bits)
