@@ -3,15 +3,13 @@ use Rattle.std.proofs.Common.{◌≡◌, ℕ, zero, suc, ◌+◌, ◌-◌, ◌*�
 use Rattle.std.specs.List.{fold}
 use Rattle.std.specs.Cmp.Lexicographic.{pointwise}
 use Rattle.std.proofs.lemmas.List.{length-drop, length-append, length-map}
-use Rattle.std.proofs.lemmas.List.Sums.{fold-append}
 use Rattle.std.proofs.lemmas.Bool.{ne_eqb, eq-eqb, cases_eq}
 use Rattle.std.proofs.lemmas.Nat.{xor_block}
-use Rattle.raster.specs.Packed.{bits_of, bits_in, bit_in}
+use Rattle.raster.specs.Packed.{bits_of}
 use Rattle.raster.specs.declared.packed.Order.TheVariants.{LsbFirst}
 use Rattle.raster.specs.Octets.{number}
 use Rattle.hdlc.specs.Fcs.{xor, add, divisor, remainder, sixteen, check_bits, fcs_of, check_octets}
 use Rattle.hdlc.specs.Register.{shift_in, crc_bit}
-use Rattle.hdlc.proofs.BitPlaces.{bits_in-next}
 use Rattle.hdlc.proofs.UnstuffedLemmas.{sixteen_bits}
 
 xor_false : (x : Bool) → xor x false ≡ x
@@ -175,15 +173,6 @@ fcs_is octets =
 
 pub length-check_bits : (bits : List Bool) → length (check_bits bits) ≡ 16
 length-check_bits bits = rw (check_bits_is bits, length-map) (length-fold bits (sixteen true) refl)
-
--- one bit on
-pub register_more : (octets : List ℕ) (place register : ℕ) → register ≡ fold crc_bit 65535 (bits_in LsbFirst octets place)
-    → crc_bit register (bit_in LsbFirst octets place) ≡ fold crc_bit 65535 (bits_in LsbFirst octets (place + 1))
-register_more octets place register is =
-    let bits : List Bool = bits_in LsbFirst octets place in
-    let bit : Bool = bit_in LsbFirst octets place in
-    ap (λ r. crc_bit r bit) is
-    ∙ (sym (fold-append crc_bit 65535 bits (bit ∷ [])) ∙ ap (fold crc_bit 65535) (sym (bits_in-next octets place)))
 
 -- the low octet of the check sequence is sent first
 pub check_octets_are : (octets : List ℕ) → check_octets octets ≡ fcs_of octets % 256 ∷ fcs_of octets / 256 ∷ []

@@ -1,11 +1,11 @@
 -- A deframer that hears the octets of one frame after the other.
-use Rattle.std.proofs.Common.{◌≡◌, ℕ, ◌+◌, ◌≤◌, ◌<◌, Bool, List, [], ◌∷◌, ◌++◌, length, drop, refl, ap, sym, ◌∙◌, subst, arith, inl}
+use Rattle.std.proofs.Common.{◌≡◌, ◌+◌, Bool, List, [], ◌∷◌, ◌++◌, length, drop, refl, ap, sym, ◌∙◌, subst, arith, inl}
 use Rattle.std.proofs.lemmas.List.{length-append, drop_at}
-use Rattle.raster.specs.Packed.{bits_of, FillsOctets}
+use Rattle.raster.specs.Packed.{bits_of}
 use Rattle.raster.specs.declared.packed.Order.TheVariants.{LsbFirst}
 use Rattle.hdlc.specs.Flags.{flags, gaps}
 use Rattle.hdlc.specs.Frames.{IsReady}
-use Rattle.hdlc.specs.DeframerState.{DeframerState, IsAfter, IsIdle}
+use Rattle.hdlc.specs.DeframerState.{DeframerState, IsAfter}
 use Rattle.hdlc.specs.Gaps.{good}
 use Rattle.hdlc.specs.Laws.{FrameOctetsGrow, NewIsIdle, FrameIsHeard}
 use Rattle.hdlc.proofs.FrameGrowsLemmas.{frame_grows}

@@ -7,8 +7,12 @@ pub mod Division
 pub mod CheckOctets
 pub mod Assembling
 pub mod Collecting
+pub mod AssemblingOctets
+pub mod CollectingOctets
 pub mod DeframerPartsLemmas
 pub mod KeptLemmas
+pub mod QuietOctets
+pub mod FlagRuns
 pub mod FrameGrowsLemmas
 pub mod Hearing
 pub mod Written

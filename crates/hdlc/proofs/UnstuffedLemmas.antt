@@ -113,7 +113,7 @@ has_six-more gap b =
     last = ap (λ xs. nat_lt 5 (ones xs)) (take_all (suc (length gap)) (gap ++ b ∷ []) (let e : length (gap ++ b ∷ []) ≡ suc (length gap) =
         length-more gap b in omega arith))
 
-map_range_agree : {X : Type 0} (f g : ℕ → X) (n : ℕ) → ((k : ℕ) → k < n → f k ≡ g k)
+pub map_range_agree : {X : Type 0} (f g : ℕ → X) (n : ℕ) → ((k : ℕ) → k < n → f k ≡ g k)
     → map f (range_with_len 0 n) ≡ map g (range_with_len 0 n)
 map_range_agree f g zero same = refl
 map_range_agree f g (suc n) same =
@@ -125,7 +125,7 @@ map_range_agree f g (suc n) same =
     rest : (n : ℕ) → range_with_len 0 (suc n) ≡ range_with_len 0 n ++ n ∷ []
     rest n = let next : 0 + n ≡ n = omega arith in range_more 0 n ∙ ap (λ j. range_with_len 0 n ++ j ∷ []) next
 
-octet_at-append : (bits ys : List Bool) (i : ℕ) → 8 * i + 8 ≤ length bits → octet_at (bits ++ ys) i ≡ octet_at bits i
+pub octet_at-append : (bits ys : List Bool) (i : ℕ) → 8 * i + 8 ≤ length bits → octet_at (bits ++ ys) i ≡ octet_at bits i
 octet_at-append bits ys i h =
     let within : 8 * i ≤ length bits = omega arith in
     let room : 8 ≤ length (drop (8 * i) bits) = rw length-drop (omega arith) in

@@ -10,6 +10,7 @@ pub mod DeframerState
 pub mod Register
 pub mod Assembles
 pub mod Collects
+pub mod EightBits
 pub mod Contents
 pub mod Writing
 pub mod Examples

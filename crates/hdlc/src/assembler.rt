@@ -1,6 +1,8 @@
 //! Bits put together to octets.
 
 ghost use Rattle.hdlc.specs.Assembles.{Assembles};
+ghost use Rattle.raster.specs.Packed.{bits_of};
+ghost use Rattle.raster.specs.declared.packed.Order.TheVariants.{LsbFirst};
 ghost use Rattle.std.specs.Prelude.{◌≡◌, ◌+◌, ◌/◌, ◌++◌, ◌∷◌, [], List, Bool, cond};
 
 use arrayvec::ArrayVec;
@@ -73,5 +75,19 @@ impl Assembler {
             return;
         }
         self.whole.push(self.window);
+    }
+
+    /// The eight bits of an octet more, the least significant first.
+    pub fn push_octet(&mut self, octet: u8)
+        ensures { (bits : List Bool) → Assembles self.old bits → Assembles self.new (bits ++ bits_of LsbFirst (octet ∷ [])) }
+    {
+        let both = u16::from(octet) * 256 + u16::from(self.window);
+        let whole = ((both >> (8 - self.part % 8)) % 256) as u8;
+        self.window = octet;
+        if self.whole.is_full() {
+            self.long = true;
+            return;
+        }
+        self.whole.push(whole);
     }
 }

@@ -1,9 +1,12 @@
 //! The bits of one gap, as they come.
 
 ghost use Rattle.hdlc.specs.Collects.{Collects};
+ghost use Rattle.hdlc.specs.EightBits.{has_no_stuffed};
+ghost use Rattle.raster.specs.Packed.{bits_of, bit_in};
+ghost use Rattle.raster.specs.declared.packed.Order.TheVariants.{LsbFirst};
 ghost use Rattle.hdlc.specs.Gaps.{class_of, checks, content};
 ghost use Rattle.hdlc.specs.declared.counts.Class.TheVariants.{Good};
-ghost use Rattle.std.specs.Prelude.{◌≡◌, ◌≤◌, ◌+◌, ◌++◌, ◌∷◌, [], List, Bool, cond, min, length};
+ghost use Rattle.std.specs.Prelude.{◌≡◌, ◌<◌, ◌≤◌, ◌+◌, ◌++◌, ◌∷◌, [], List, Bool, cond, min, length};
 
 use crate::assembler::Assembler;
 use crate::check_sequence::fcs;
@@ -28,6 +31,25 @@ fn ones_after(ones: u8, bit: bool) -> u8
     } else {
         0
     }
+}
+
+/// Whether no bit of an octet is stuffed, after so many 1 bits in a row.
+fn has_no_stuffed(ones: u8, octet: u8) -> bool
+    ensures { result ≡ has_no_stuffed ones (bits_of LsbFirst (octet ∷ [])) }
+{
+    if ones >= 5 {
+        return false;
+    }
+    let bits = u16::from(octet) * 32 + (32 - (32 >> ones));
+    (bits & (bits >> 1) & (bits >> 2) & (bits >> 3) & (bits >> 4)) % 256 == 0
+}
+
+/// The bit at a place of an octet, from the least significant.
+pub fn bit_at(octet: u8, place: u32) -> bool
+    requires { place < 8 }
+    ensures { result ≡ bit_in LsbFirst (octet ∷ []) place }
+{
+    (octet >> place) % 2 == 1
 }
 
 /// What is kept of the bits of a gap whose end has not come.
@@ -80,6 +102,28 @@ impl Collector {
             return;
         }
         self.unstuffed.push(bit);
+    }
+
+    /// The eight bits of an octet more, the least significant first, bit by bit.
+    fn push_each(&mut self, octet: u8)
+        ensures { (gap : List Bool) → Collects self.old gap → Collects self.new (gap ++ bits_of LsbFirst (octet ∷ [])) }
+    {
+        for place in 0..8 {
+            self.push(bit_at(octet, place));
+        }
+    }
+
+    /// The eight bits of an octet more, the least significant first.
+    pub fn push_octet(&mut self, octet: u8)
+        ensures { (gap : List Bool) → Collects self.old gap → Collects self.new (gap ++ bits_of LsbFirst (octet ∷ [])) }
+    {
+        if !has_no_stuffed(self.ones, octet) {
+            self.push_each(octet);
+            return;
+        }
+        self.seen = 8;
+        self.ones = octet.leading_ones() as u8;
+        self.unstuffed.push_octet(octet);
     }
 
     /// The class of the gap, if it ends here.

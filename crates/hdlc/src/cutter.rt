@@ -1,15 +1,19 @@
 //! Bits cut into gaps at the flags, one bit after the other.
 
+ghost use Rattle.raster.specs.Packed.{bits_of};
+ghost use Rattle.raster.specs.declared.packed.Order.TheVariants.{LsbFirst};
 ghost use Rattle.hdlc.specs.Collects.{Collects};
 ghost use Rattle.hdlc.specs.Contents.{contents_of};
 ghost use Rattle.hdlc.specs.Gaps.{class_of, is_class, content};
 ghost use Rattle.hdlc.specs.OpenGap.{settled};
 ghost use Rattle.hdlc.specs.DeframerParts.{Cuts, PartsAfter, Grows, count_in};
+ghost use Rattle.hdlc.specs.EightBits.{ends_no_flag, repeated};
 ghost use Rattle.hdlc.specs.declared.counts.Class.{Class as AnyClass};
-ghost use Rattle.std.specs.Prelude.{ℕ, ◌≡◌, ◌+◌, ◌/◌, ◌≤◌, ◌++◌, ◌∷◌, ◌&&◌, [], List, Bool, cond, min, nat_lt, length, OnOk};
+ghost use Rattle.hdlc.specs.declared.counts.Counts.{Counts as AnyCounts};
+ghost use Rattle.std.specs.Prelude.{ℕ, ◌≡◌, ◌+◌, ◌/◌, ◌%◌, ◌≤◌, ◌++◌, ◌∷◌, ◌&&◌, [], List, Bool, true, cond, min, nat_lt, length, OnOk};
 
 use crate::assembler::shifted;
-use crate::collector::Collector;
+use crate::collector::{Collector, bit_at};
 use crate::counts::{Class, Counts};
 use std::alloc::{AllocError, Global};
 use std::collections::VecDeque;
@@ -36,6 +40,38 @@ fn held_after(begun: bool, held: u8) -> u8
     } else {
         0
     }
+}
+
+/// The last eight bits where flags alone came, by how many bits are after the last one.
+const REPEATED: [u8; 8] = [0x7E, 0x3F, 0x9F, 0xCF, 0xE7, 0xF3, 0xF9, 0xFC];
+
+/// The same as a slice.
+fn repeated() -> &'static [u8]
+    ensures { result.now ≡ repeated }
+{
+    &REPEATED
+}
+
+/// Whether no bit of an octet, after these last eight bits, ends a flag.
+fn ends_no_flag(window: u8, octet: u8) -> bool
+    ensures { result ≡ ends_no_flag window (bits_of LsbFirst (octet ∷ [])) }
+{
+    let both = u16::from(octet) * 256 + u16::from(window);
+    (both / 2 % 256 != 0x7E)
+        & (both / 4 % 256 != 0x7E)
+        & (both / 8 % 256 != 0x7E)
+        & (both / 16 % 256 != 0x7E)
+        & (both / 32 % 256 != 0x7E)
+        & (both / 64 % 256 != 0x7E)
+        & (both / 128 % 256 != 0x7E)
+        & (both / 256 % 256 != 0x7E)
+}
+
+/// Eight where a flag has come, else none.
+fn full(begun: bool) -> u8
+    ensures { result ≡ cond begun 8 0 }
+{
+    if begun { 8 } else { 0 }
 }
 
 impl Cutter {
@@ -79,6 +115,42 @@ impl Cutter {
     }
 }
 
+impl Cutter {
+    /// Whether an octet repeats flags, which changes nothing: flags alone came, and go on.
+    fn repeats_flags(&self, octet: u8) -> bool
+        ensures { result ≡ true → (counts : AnyCounts) (queue : List (List ℕ)) (bits : List Bool) (handed : ℕ)
+            → PartsAfter self.now counts queue bits handed
+            → PartsAfter self.now counts queue (bits ++ bits_of LsbFirst (octet ∷ [])) handed }
+    {
+        if !self.begun {
+            return false;
+        }
+        if self.held > 7 {
+            return false;
+        }
+        if octet != self.window {
+            return false;
+        }
+        octet == repeated()[self.held as usize]
+    }
+
+    /// Takes an octet none of whose bits ends a flag, where none or all of the last eight bits came
+    /// after the last flag.
+    fn take_quiet(&mut self, octet: u8)
+        requires whole { self.old.held % 8 ≡ 0 }
+        requires quiet { ends_no_flag self.old.window (bits_of LsbFirst (octet ∷ [])) ≡ true }
+        ensures { (bits : List Bool) → Cuts self.old bits → Cuts self.new (bits ++ bits_of LsbFirst (octet ∷ [])) }
+    {
+        if self.held == 8 {
+            self.gap.push_octet(self.window);
+            self.window = octet;
+            return;
+        }
+        self.held = full(self.begun);
+        self.window = octet;
+    }
+}
+
 /// Counts a gap that a flag has ended, and keeps the content of a good one.
 fn close(
     gap: &Collector,
@@ -109,7 +181,7 @@ fn close(
 }
 
 /// Takes one bit more. An `Err` leaves the queue longer or as it was, and the rest in any state.
-pub fn take_bit(
+fn take_bit(
     cutter: &mut Cutter,
     counts: &mut Counts,
     queue: &mut VecDeque<Vec<u8>>,
@@ -129,5 +201,50 @@ pub fn take_bit(
     cutter.begun = true;
     cutter.held = 0;
     cutter.gap = Collector::new();
+    Ok(())
+}
+
+/// Takes the eight bits of an octet, the least significant first, bit by bit.
+fn take_each(
+    cutter: &mut Cutter,
+    counts: &mut Counts,
+    queue: &mut VecDeque<Vec<u8>>,
+    alloc: Global,
+    octet: u8,
+) -> Result<(), AllocError>
+    ensures ok { OnOk result ((bits : List Bool) (handed : ℕ) → PartsAfter cutter.old counts.old (contents_of queue.old.items) bits handed
+        → PartsAfter cutter.new counts.new (contents_of queue.new.items) (bits ++ bits_of LsbFirst (octet ∷ [])) handed) }
+    ensures keeps { Grows queue.old.items queue.new.items }
+{
+    for place in 0..8 {
+        take_bit(cutter, counts, queue, alloc, bit_at(octet, place))?;
+    }
+    Ok(())
+}
+
+/// Takes the eight bits of an octet, the least significant first, all at once where none ends a flag
+/// or where flags alone come. An `Err` leaves the queue longer or as it was, and the rest in any
+/// state.
+pub fn take_octet(
+    cutter: &mut Cutter,
+    counts: &mut Counts,
+    queue: &mut VecDeque<Vec<u8>>,
+    alloc: Global,
+    octet: u8,
+) -> Result<(), AllocError>
+    ensures ok { OnOk result ((bits : List Bool) (handed : ℕ) → PartsAfter cutter.old counts.old (contents_of queue.old.items) bits handed
+        → PartsAfter cutter.new counts.new (contents_of queue.new.items) (bits ++ bits_of LsbFirst (octet ∷ [])) handed) }
+    ensures keeps { Grows queue.old.items queue.new.items }
+{
+    if cutter.repeats_flags(octet) {
+        return Ok(());
+    }
+    if cutter.held % 8 != 0 {
+        return take_each(cutter, counts, queue, alloc, octet);
+    }
+    if !ends_no_flag(cutter.window, octet) {
+        return take_each(cutter, counts, queue, alloc, octet);
+    }
+    cutter.take_quiet(octet);
     Ok(())
 }

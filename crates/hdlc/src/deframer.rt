@@ -12,8 +12,7 @@ ghost use Rattle.std.specs.Io.BufRead.{Rests};
 ghost use Rattle.std.specs.Prelude.{ℕ, ◌≡◌, ◌++◌, [], List, Bool, min, length, OnOk, OnErr, IfSome, IfNone, slice_get, drop};
 
 use crate::counts::Counts;
-use crate::cutter::{Cutter, take_bit};
-use raster::packed::{Order, bit_of};
+use crate::cutter::{Cutter, take_octet};
 use std::alloc::{AllocError, Global};
 use std::collections::VecDeque;
 use std::marker::Model;
@@ -68,14 +67,13 @@ impl Deframer {
         let mut cutter = self.cutter.copy();
         let mut counts = self.counts;
         let before = self.queue.len();
-        for place in 0..8 * piece.len() as u128 {
-            let bit = bit_of(Order::LsbFirst, piece, place);
-            if let Err(refused) = take_bit(
+        for octet in piece {
+            if let Err(refused) = take_octet(
                 &mut cutter,
                 &mut counts,
                 &mut self.queue,
                 self.alloc,
-                bit,
+                *octet,
             ) {
                 self.queue.truncate(before);
                 return Err(refused);

@@ -1,0 +1,243 @@
+-- Eight bits more in a cutter: those that end no flag, and those that repeat flags.
+use Rattle.std.proofs.Common.{◌≡◌, ℕ, zero, suc, ◌+◌, ◌-◌, ◌*◌, ◌/◌, ◌%◌, ◌^◌, ◌<◌, ◌≤◌, Bool, true, false, not, ◌&&◌, List, [], ◌∷◌, ◌++◌, length, take, drop, cond, min, refl, ap, sym, ◌∙◌, arith, nat_eq, append_assoc, Option, Some, None}
+use Rattle.std.specs.Prelude.{is_some}
+use Rattle.std.proofs.lemmas.List.{append-nil, drop-append-le, length-append, take_at, take-append-drop, drop_all, length-take-le}
+use Rattle.std.proofs.lemmas.Bool.{and_parts}
+use Rattle.hdlc.specs.declared.counts.Class.{Class}
+use Rattle.hdlc.specs.declared.counts.Counts.{Counts}
+use Rattle.hdlc.specs.declared.cutter.Cutter.{Cutter}
+use Rattle.raster.specs.Octets.{number}
+use Rattle.raster.specs.Packed.{bits_of}
+use Rattle.raster.specs.declared.packed.Order.TheVariants.{LsbFirst}
+use Rattle.raster.proofs.OctetBits.{octet_bits}
+use Rattle.raster.proofs.OctetLemmas.{octet_bits-number, number-octet_bits}
+use Rattle.hdlc.specs.Gaps.{good, count_of}
+use Rattle.hdlc.specs.OpenGap.{begun, held, recent, unclosed, unclosed_after, at_flag, last_flag, held_after}
+use Rattle.hdlc.specs.Collects.{Collects}
+use Rattle.hdlc.specs.DeframerParts.{Cuts, PartsAfter}
+use Rattle.hdlc.specs.EightBits.{ends_no_flag}
+use Rattle.hdlc.proofs.BitPlaces.{bits_of-one}
+use Rattle.hdlc.proofs.Flags.{length-recent, recent_long, last_flag_within}
+use Rattle.hdlc.proofs.UnstuffedLemmas.{number-recent, at_flag_is}
+use Rattle.hdlc.proofs.Gaps.{last_flag-more, good-more, count-more}
+use Rattle.hdlc.proofs.AssemblingOctets.{recent_after}
+
+not_false : (x : Bool) → not x ≡ true → x ≡ false
+not_false true h = sym h
+not_false false h = refl
+
+-- bits that end no flag add no gap
+record Unflagged (bits more : List Bool) : Type 0 where
+  last : last_flag (bits ++ more) ≡ last_flag bits
+  good_same : good (bits ++ more) ≡ good bits
+  counts : (class : Class) → count_of class (bits ++ more) ≡ count_of class bits
+
+unflagged : (bits more : List Bool) → ends_no_flag (number (recent true bits)) more ≡ true → Unflagged bits more
+unflagged bits [] h = record {
+  last = ap last_flag (append-nil bits);
+  good_same = ap good (append-nil bits);
+  counts = λ class. ap (count_of class) (append-nil bits);
+}
+unflagged bits (b ∷ more) h =
+    let next : ℕ = number (recent true bits) / 2 + cond b 128 0 in
+    let parts = and_parts (not (nat_eq next 126)) (ends_no_flag next more) h in
+    let window : number (recent true (bits ++ b ∷ [])) ≡ next = number-recent true bits b in
+    let isnt : at_flag (bits ++ b ∷ []) ≡ false =
+    at_flag_is (bits ++ b ∷ []) ∙ (ap (λ n. nat_eq n 126) window ∙ not_false (nat_eq next 126) parts.0) in
+    let quiet : ends_no_flag (number (recent true (bits ++ b ∷ []))) more ≡ true = rw window parts.1 in
+    let rest : Unflagged (bits ++ b ∷ []) more = unflagged (bits ++ b ∷ []) more quiet in
+    let joined : bits ++ b ∷ more ≡ (bits ++ b ∷ []) ++ more = sym (append_assoc bits (b ∷ []) more) in
+    record {
+      last = ap last_flag joined ∙ (rest.last ∙ (last_flag-more bits b ∙ (rw isnt refl)));
+      good_same = ap good joined ∙ (rest.good_same ∙ (good-more bits b ∙ (rw isnt (append-nil (good bits)))));
+      counts = λ class. ap (count_of class) joined ∙ (rest.counts class ∙ (count-more class bits b ∙ (rw isnt (omega arith))));
+    }
+
+-- ---- where the last flag stays
+
+module _ (bits eight : List Bool) (size : length eight ≡ 8) where
+  all_size : length (bits ++ eight) ≡ length bits + 8
+  all_size = length-append bits eight ∙ ap (λ n. length bits + n) size
+
+  held_with : (o : Option ℕ) → last_flag bits ≡ o → held_after (bits ++ eight) o ≡ cond (is_some o) 8 0
+  held_with None e = refl
+  held_with (Some p) e =
+      let within : p + 8 ≤ length bits = last_flag_within bits p e in
+      let n : length (bits ++ eight) ≡ length bits + 8 = all_size in
+      omega arith
+
+  front : take (length (bits ++ eight) - 8) (bits ++ eight) ≡ bits
+  front =
+      let n : length (bits ++ eight) ≡ length bits + 8 = all_size in
+      let less : length (bits ++ eight) - 8 ≡ length bits = omega arith in
+      ap (λ k. take k (bits ++ eight)) less ∙ take_at bits eight (length bits) refl
+
+  unclosed_full : (o : Option ℕ) → last_flag bits ≡ o → held_after bits o ≡ 8
+      → unclosed_after (bits ++ eight) o ≡ unclosed_after bits o ++ recent true bits
+  unclosed_full None e h = absurd (omega arith)
+  unclosed_full (Some p) e h =
+      let within : p + 8 ≤ length bits = last_flag_within bits p e in
+      let long : 8 ≤ length bits = omega arith in
+      let cut : length (take (length bits - 8) bits) ≡ length bits - 8 = length-take-le (length bits - 8) bits (omega arith) in
+      let room : p + 8 ≤ length (take (length bits - 8) bits) = omega arith in
+      ap (drop (p + 8)) (front ∙ sym (take-append-drop (length bits - 8) bits))
+      ∙ (drop-append-le (p + 8) (take (length bits - 8) bits) (drop (length bits - 8) bits) room
+      ∙ ap (λ xs. drop (p + 8) (take (length bits - 8) bits) ++ xs) (sym (recent_long true bits long)))
+
+  unclosed_empty : (o : Option ℕ) → last_flag bits ≡ o → held_after bits o ≡ 0
+      → unclosed_after (bits ++ eight) o ≡ unclosed_after bits o
+  unclosed_empty None e h = refl
+  unclosed_empty (Some p) e h =
+      let few : length bits ≤ p + 8 = omega arith in
+      let cut : length (take (length bits - 8) bits) ≤ p + 8 = rw (length-take-le (length bits - 8) bits (omega arith)) (omega arith) in
+      ap (drop (p + 8)) front ∙ (drop_all (p + 8) bits few ∙ sym (drop_all (p + 8) (take (length bits - 8) bits) cut))
+
+  same_begun : Unflagged bits eight → begun (bits ++ eight) ≡ begun bits
+  same_begun u = ap is_some u.last
+
+  next_held : Unflagged bits eight → held (bits ++ eight) ≡ cond (begun bits) 8 0
+  next_held u = ap (held_after (bits ++ eight)) u.last ∙ held_with (last_flag bits) refl
+
+  next_full : Unflagged bits eight → held bits ≡ 8 → unclosed (bits ++ eight) ≡ unclosed bits ++ recent true bits
+  next_full u h = ap (unclosed_after (bits ++ eight)) u.last ∙ unclosed_full (last_flag bits) refl h
+
+  next_empty : Unflagged bits eight → held bits ≡ 0 → unclosed (bits ++ eight) ≡ unclosed bits
+  next_empty u h = ap (unclosed_after (bits ++ eight)) u.last ∙ unclosed_empty (last_flag bits) refl h
+
+begun_if_full : (bits : List Bool) → held bits ≡ 8 → begun bits ≡ true
+begun_if_full bits h = go (last_flag bits) h
+  where
+    go : (o : Option ℕ) → held_after bits o ≡ 8 → is_some o ≡ true
+    go None h = absurd (omega arith)
+    go (Some p) h = refl
+
+quiet_from : (cutter : Cutter) (bits eight : List Bool) → Cuts cutter bits → ends_no_flag cutter.window eight ≡ true → Unflagged bits eight
+quiet_from cutter bits eight cuts quiet = unflagged bits eight (rw (← cuts.window) quiet)
+
+-- what was in the register goes to the gap
+pub cuts_full : (cutter new : Cutter) (bits : List Bool) (octet : ℕ) → octet < 256 → Cuts cutter bits
+    → ends_no_flag cutter.window (bits_of LsbFirst (octet ∷ [])) ≡ true → cutter.held ≡ 8 → new.begun ≡ cutter.begun → new.held ≡ 8
+    → new.window ≡ octet → Collects new.gap (unclosed bits ++ bits_of LsbFirst (cutter.window ∷ []))
+    → Cuts new (bits ++ bits_of LsbFirst (octet ∷ []))
+cuts_full cutter new bits octet small cuts quiet full new_begun new_held new_window gap =
+    let eight : List Bool = octet_bits octet in
+    let is : bits_of LsbFirst (octet ∷ []) ≡ eight = bits_of-one octet in
+    let u : Unflagged bits eight = quiet_from cutter bits eight cuts (ap (ends_no_flag cutter.window) (sym is) ∙ quiet) in
+    let h : held bits ≡ 8 = sym cuts.held ∙ full in
+    let left : bits_of LsbFirst (cutter.window ∷ []) ≡ recent true bits =
+    bits_of-one cutter.window ∙ (ap octet_bits cuts.window ∙ octet_bits-number (recent true bits) (length-recent true bits)) in
+    rw is (record {
+      begun = new_begun ∙ (cuts.begun ∙ sym (same_begun bits eight refl u));
+      held = new_held ∙ sym (next_held bits eight refl u ∙ (rw (begun_if_full bits h) refl));
+      window = new_window ∙ (sym (number-octet_bits octet small) ∙ ap number (sym (recent_after true bits eight refl)));
+      gap = rw (next_full bits eight refl u h, ← left) gap;
+    })
+
+-- none of what was in the register does
+pub cuts_empty : (cutter new : Cutter) (bits : List Bool) (octet : ℕ) → octet < 256 → Cuts cutter bits
+    → ends_no_flag cutter.window (bits_of LsbFirst (octet ∷ [])) ≡ true → cutter.held ≡ 0 → new.begun ≡ cutter.begun
+    → new.held ≡ cond cutter.begun 8 0 → new.window ≡ octet → new.gap ≡ cutter.gap → Cuts new (bits ++ bits_of LsbFirst (octet ∷ []))
+cuts_empty cutter new bits octet small cuts quiet empty new_begun new_held new_window gap =
+    let eight : List Bool = octet_bits octet in
+    let is : bits_of LsbFirst (octet ∷ []) ≡ eight = bits_of-one octet in
+    let u : Unflagged bits eight = quiet_from cutter bits eight cuts (ap (ends_no_flag cutter.window) (sym is) ∙ quiet) in
+    let h : held bits ≡ 0 = sym cuts.held ∙ empty in
+    rw is (record {
+      begun = new_begun ∙ (cuts.begun ∙ sym (same_begun bits eight refl u));
+      held = new_held ∙ (ap (λ x. cond x 8 0) cuts.begun ∙ sym (next_held bits eight refl u));
+      window = new_window ∙ (sym (number-octet_bits octet small) ∙ ap number (sym (recent_after true bits eight refl)));
+      gap = rw (next_empty bits eight refl u h, gap) cuts.gap;
+    })
+
+held_at_most : (bits : List Bool) → held bits ≤ 8
+held_at_most bits = go (last_flag bits)
+  where
+    go : (o : Option ℕ) → held_after bits o ≤ 8
+    go None = omega arith
+    go (Some p) = omega arith
+
+-- of none or eight bits, those that aren't eight are none
+pub none_if_not_full : (cutter : Cutter) (bits : List Bool) → Cuts cutter bits → cutter.held % 8 ≡ 0 → (cutter.held ≡ 8 → ⊥) → cutter.held ≡ 0
+none_if_not_full cutter bits cuts e ne =
+    let most : held bits ≤ 8 = held_at_most bits in
+    let is : cutter.held ≡ held bits = cuts.held in
+    omega (arith, ne)
+
+-- an octet that ends no flag adds nothing to the counts and the queue
+pub parts_quiet : (cutter new : Cutter) (counts : Counts) (queue : List (List ℕ)) (bits eight : List Bool) (handed : ℕ)
+    → PartsAfter cutter counts queue bits handed → ends_no_flag cutter.window eight ≡ true → Cuts new (bits ++ eight)
+    → PartsAfter new counts queue (bits ++ eight) handed
+parts_quiet cutter new counts queue bits eight handed old quiet cuts =
+    let u : Unflagged bits eight = quiet_from cutter bits eight old.cuts quiet in
+    record {
+      cuts = cuts;
+      counted = λ class. old.counted class ∙ ap (min (2 ^ 64 - 1)) (sym (u.counts class));
+      within = rw u.good_same old.within;
+      queued = old.queued ∙ ap (drop handed) (sym u.good_same);
+    }
+
+-- ---- the test of an octet, by its sixteen bits
+
+-- of a number, shifted one bit after the other, no lowest octet is a flag
+abbrev no_flag_below : ℕ → ℕ → Bool
+no_flag_below zero both = true
+no_flag_below (suc n) both = not (nat_eq (both / 2 % 256) 126) && no_flag_below n (both / 2)
+
+shifted_test : (bits : List Bool) (w : ℕ) → w < 256 → no_flag_below (length bits) (w + 256 * number bits) ≡ ends_no_flag w bits
+shifted_test [] w h = refl
+shifted_test (b ∷ bits) w h = go b (shifted_test bits)
+  where
+    go : (b : Bool) → ((w : ℕ) → w < 256 → no_flag_below (length bits) (w + 256 * number bits) ≡ ends_no_flag w bits)
+        → no_flag_below (suc (length bits)) (w + 256 * (cond b 1 0 + 2 * number bits)) ≡ ends_no_flag w (b ∷ bits)
+    go true rest =
+        let next : (w + 256 * (1 + 2 * number bits)) / 2 ≡ (w / 2 + 128) + 256 * number bits = omega arith in
+        let low : ((w / 2 + 128) + 256 * number bits) % 256 ≡ w / 2 + 128 = omega arith in
+        ap (λ n. not (nat_eq (n % 256) 126) && no_flag_below (length bits) n) next ∙
+        (ap (λ n. not (nat_eq n 126) && no_flag_below (length bits) ((w / 2 + 128) + 256 * number bits)) low ∙
+        ap (λ t. not (nat_eq (w / 2 + 128) 126) && t) (rest (w / 2 + 128) (omega arith)))
+    go false rest =
+        let next : (w + 256 * (0 + 2 * number bits)) / 2 ≡ (w / 2 + 0) + 256 * number bits = omega arith in
+        let low : ((w / 2 + 0) + 256 * number bits) % 256 ≡ w / 2 + 0 = omega arith in
+        ap (λ n. not (nat_eq (n % 256) 126) && no_flag_below (length bits) n) next ∙
+        (ap (λ n. not (nat_eq n 126) && no_flag_below (length bits) ((w / 2 + 0) + 256 * number bits)) low ∙
+        ap (λ t. not (nat_eq (w / 2 + 0) 126) && t) (rest (w / 2 + 0) (omega arith)))
+
+-- the eight comparisons of a number of sixteen bits
+abbrev pub differs : ℕ → Bool
+differs n = not (nat_eq (n % 256) 126)
+
+abbrev pub no_flag_in : ℕ → Bool
+no_flag_in x =
+    differs (x / 2) && (differs (x / 4) && (differs (x / 8) && (differs (x / 16) && (differs (x / 32)
+    && (differs (x / 64) && (differs (x / 128) && differs (x / 256)))))))
+
+and_assoc : (x y z : Bool) → ((x && y) && z) ≡ (x && (y && z))
+and_assoc true y z = refl
+and_assoc false y z = refl
+
+-- the same in the order of the code
+pub no_flag_left : (x : ℕ) → (((((((differs (x / 2) && differs (x / 4)) && differs (x / 8)) && differs (x / 16)) && differs (x / 32))
+    && differs (x / 64)) && differs (x / 128)) && differs (x / 256)) ≡ no_flag_in x
+no_flag_left x = simp and_assoc
+
+and_true : (x : Bool) → (x && true) ≡ x
+and_true true = refl
+and_true false = refl
+
+pub no_flag_is : (window octet : ℕ) → window < 256 → octet < 256
+    → no_flag_in (octet * 256 + window) ≡ ends_no_flag window (bits_of LsbFirst (octet ∷ []))
+no_flag_is window octet small fits =
+    let swap : octet * 256 + window ≡ window + 256 * number (octet_bits octet) = rw (number-octet_bits octet fits) (omega arith) in
+    same (octet * 256 + window)
+    ∙ (ap (no_flag_below 8) swap ∙ (shifted_test (octet_bits octet) window small ∙ ap (ends_no_flag window) (sym (bits_of-one octet))))
+  where
+    same : (x : ℕ) → no_flag_in x ≡ no_flag_below 8 x
+    same x =
+        let e2 : x / 2 / 2 ≡ x / 4 = omega arith in
+        let e3 : x / 4 / 2 ≡ x / 8 = omega arith in
+        let e4 : x / 8 / 2 ≡ x / 16 = omega arith in
+        let e5 : x / 16 / 2 ≡ x / 32 = omega arith in
+        let e6 : x / 32 / 2 ≡ x / 64 = omega arith in
+        let e7 : x / 64 / 2 ≡ x / 128 = omega arith in
+        let e8 : x / 128 / 2 ≡ x / 256 = omega arith in
+        rw (e2, e3, e4, e5, e6, e7, e8, and_true (differs (x / 256))) refl

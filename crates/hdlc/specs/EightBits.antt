@@ -1,0 +1,30 @@
+-- Eight bits that come at once: whether each of them may be taken as it is. The clauses of private functions name this.
+use Rattle.std.specs.Prelude.{ℕ, ◌+◌, ◌/◌, Bool, true, not, ◌&&◌, List, [], ◌∷◌, cond, nat_eq, nat_lt}
+
+-- none of these bits, that come into a register of the last eight bits, ends a flag
+abbrev pub ends_no_flag : ℕ → List Bool → Bool
+ends_no_flag window [] = true
+ends_no_flag window (b ∷ bits) =
+    not (nat_eq (window / 2 + cond b 128 0) 126) && ends_no_flag (window / 2 + cond b 128 0) bits
+
+-- none of these bits, that come after so many 1 bits in a row, is directly after five of them
+abbrev pub has_no_stuffed : ℕ → List Bool → Bool
+has_no_stuffed ones [] = true
+has_no_stuffed ones (b ∷ bits) = nat_lt ones 5 && has_no_stuffed (cond b (1 + ones) 0) bits
+
+-- how many 1 bits in a row there are at the end, with these bits after so many
+abbrev pub ones_at_end : ℕ → List Bool → ℕ
+ones_at_end ones [] = ones
+ones_at_end ones (b ∷ bits) = ones_at_end (cond b (1 + ones) 0) bits
+
+-- From so many bits after a flag, at most seven, and a register of the last eight bits, these bits lead to so many after a
+-- flag and such a register, with at most seven bits between two flags.
+abbrev pub leads_to : ℕ → ℕ → List Bool → ℕ → ℕ → Bool
+leads_to held window [] last_held last_window = nat_eq held last_held && nat_eq window last_window
+leads_to held window (b ∷ bits) last_held last_window =
+    nat_lt held 8
+    && leads_to (cond (nat_eq (window / 2 + cond b 128 0) 126) 0 (held + 1)) (window / 2 + cond b 128 0) bits last_held last_window
+
+-- the last eight bits where flags alone came, by how many bits are after the last one, from none to seven
+abbrev pub repeated : List ℕ
+repeated = 0x7E ∷ 0x3F ∷ 0x9F ∷ 0xCF ∷ 0xE7 ∷ 0xF3 ∷ 0xF9 ∷ 0xFC ∷ []
