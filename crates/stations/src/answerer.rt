@@ -26,43 +26,7 @@ use std::marker::Model;
 #[cfg(test)]
 mod tests;
 
-/// Whether two marks are the same.
-fn is_same(mark: Mark, other: Mark) -> bool
-    ensures { result ≡ same_mark mark other }
-{
-    mark.page == other.page && mark.block == other.block
-}
-
-/// Whether memory was refused.
-fn is_memory(kind: CodeFaultKind) -> bool
-    ensures { IsTrue result ↔ (kind ≡ CodeFaultKind.NoMemory) }
-{
-    kind == CodeFaultKind::NoMemory
-}
-
-/// The page that octets begin with; none where they begin with no page, or are too many.
-fn read_page(alloc: Global, params: Params, octets: &[u8]) -> Result<Option<Page>, AllocError>
-    ensures { IfOk result (λ page. page ≡ page_read params octets.now) }
-{
-    if octets.len() > MAX_PAGE_OCTETS {
-        return Ok(None);
-    }
-    let width = params.width.pixels();
-    let read = params
-        .coding
-        .decode(alloc, octets, Order::LsbFirst, width, params.fine);
-    match read {
-        Ok((page, _)) => Ok(Some(page)),
-        Err(fault) => {
-            if is_memory(fault.kind) {
-                return Err(AllocError);
-            }
-            Ok(None)
-        }
-    }
-}
-
-/// The answering station of a call.
+/// The answering station of a call (ITU-T T.30, phases B to E and Annex A).
 #[derive(Debug, Drop)]
 pub struct Answerer {
     alloc: Global,
@@ -104,270 +68,104 @@ impl Model for Answerer {
 }
 
 impl Answerer {
-    /// MCF, or RNR while busy.
-    fn confirm(&self) -> Turn
-        ensures { result ≡ confirms self.now }
+    /// An answerer in phase B (ITU-T T.30), and its first turn, which is DIS. Takes no memory.
+    pub fn new(alloc: Global, caps: Caps) -> (Answerer, Turn)
+        requires receiver { caps.receiver ≡ true }
+        requires ecm { caps.ecm ≡ true }
+        ensures station { result.0 ≡ new_answerer caps no_params }
+        ensures limits { IsLimited result.0 }
+        ensures turn { result.1 ≡ Turn.Dis }
     {
-        if self.busy { Turn::Rnr } else { Turn::Mcf }
-    }
-
-    /// Answers a DCS in `PhaseB`.
-    fn hear_first_dcs(&mut self, params: Params) -> Turn
-        requires state { self.old.state ≡ PhaseB }
-        ensures { Steps self.old self.new result (first_dcs self.old params) }
-    {
-        if !allows(&self.caps, &params) {
-            return Turn::Silent;
-        }
-        self.state = AnswererState::WaitTraining;
-        self.params = params;
-        self.store = BlockStore::new(self.alloc, params.small);
-        Turn::Silent
-    }
-
-    /// Answers a DCS past phase B.
-    fn hear_later_dcs(&mut self, params: Params) -> Turn
-        ensures { Steps self.old self.new result (later_dcs self.old params) }
-    {
-        if !allows(&self.caps, &params) {
-            return Turn::Silent;
-        }
-        self.state = AnswererState::WaitTraining;
-        self.params = params;
-        self.store = BlockStore::new(self.alloc, params.small);
-        self.asked = None;
-        Turn::Silent
-    }
-
-    /// Answers a training check in `WaitTraining`.
-    #[tactic(auto, unfolding(crate::specs::Layers::is_good_training))]
-    fn hear_training(&mut self, octets: &[u8]) -> Turn
-        requires state { self.old.state ≡ WaitTraining }
-        ensures { Steps self.old self.new result (judges_training self.old octets.now) }
-    {
-        if training_good(octets, self.params.speed) {
-            self.state = AnswererState::Message;
-            Turn::Cfr
-        } else {
-            self.state = AnswererState::PhaseB;
-            Turn::Ftt
-        }
-    }
-
-    /// Answers an FCD in `Message`. Errs where memory is refused, which changes nothing.
-    #[tactic(auto, unfolding(crate::specs::Layers::within_frame_size))]
-    fn hear_fcd(&mut self, number: u8, octets: &[u8]) -> Result<Turn, AllocError>
-        requires state { self.old.state ≡ Message }
-        ensures answers { StepsOrRefuses self.old self.new result (keeps_frame self.old number octets.now) }
-        ensures lasts { (within_frame_size self.old.params octets.now ≡ false) ⊎ (self.old.ready ≡ true) → IsOk result }
-    {
-        match self.store.put(number, octets) {
-            Ok(()) => Ok(Turn::Silent),
-            Err(BlockFault::TooLong) => Ok(Turn::Silent),
-            Err(BlockFault::NoMemory) => Err(AllocError),
-            Err(BlockFault::PageTooLong) => unreachable!(),
-        }
-    }
-
-    /// Whether the mark is that of the last accepted block.
-    fn has_accepted(&self, mark: Mark) -> bool
-        ensures { result ≡ is_repeated self.now.accepted mark }
-    {
-        match self.accepted {
-            Some(accepted) => is_same(accepted.mark, mark),
-            None => false,
-        }
-    }
-
-    /// The last frame that counts.
-    fn counted(&self, mark: Mark, last: u8) -> u8
-        ensures { result ≡ last_counted self.now.asked mark last }
-    {
-        match self.asked {
-            Some(asked) => {
-                if is_same(asked.mark, mark) {
-                    asked.last.max(last)
-                } else {
-                    last
-                }
-            }
-            None => last,
-        }
-    }
-
-    /// Whether the frames 0 to `last` are all there.
-    fn is_whole(&self, last: u8) -> bool
-        ensures { result ≡ all_there self.now.frames last }
-    {
-        self.store.whole(last)
-    }
-
-    /// The map of the missing frames.
-    fn missing(&self, last: u8) -> [u8; 32]
-        ensures { result ≡ ppr_map self.now.frames last }
-    {
-        let map = self.store.missing(last);
-        is_missing_map(&map);
-        map
-    }
-
-    /// Ends the call over a page that can't be read.
-    fn refuse_page(&mut self) -> Turn
-        ensures next { self.new ≡ record self.old { ending = Some BadPage } }
-        ensures turn { result ≡ Turn.Dcn }
-    {
-        self.end = Some(End::BadPage);
-        Turn::Dcn
-    }
-
-    /// Accepts a block.
-    fn accept(&mut self, ends: PageEnd, mark: Mark) -> Turn
-        ensures next { self.new ≡ record self.old { state = state_after ends; accepted = Some (record { mark = mark; ends = ends }); asked = None; frames = no_frames } }
-        ensures turn { result ≡ confirms self.old }
-    {
-        self.accepted = Some(Accepted { mark, ends });
-        self.asked = None;
-        self.store.clear();
-        self.state = match ends {
-            PageEnd::Eom => AnswererState::PhaseB,
-            _ => AnswererState::Message,
+        open_is_limited();
+        let station = Answerer {
+            alloc,
+            caps,
+            params: crate::caller::no_params(),
+            state: AnswererState::PhaseB,
+            busy: false,
+            accepted: None,
+            asked: None,
+            octets: Vec::new(alloc),
+            store: BlockStore::new(alloc, false),
+            pages: Vec::new(alloc),
+            end: None,
         };
-        self.confirm()
+        (station, Turn::Dis)
     }
 
-    /// Takes a block that isn't its page's last, whose octets are those of the open page from `start` on.
-    #[tactic(auto, unfolding(crate::specs::Layers::within_page_limit))]
-    fn take_open(&mut self, mark: Mark, start: usize) -> Turn
-        requires start { start ≤ length self.old.octets }
-        ensures next { self.new ≡ (takes_block (record self.old { octets = take start self.old.octets }) PageEnd.Null mark self.old.octets).next }
-        ensures turn { result ≡ (takes_block (record self.old { octets = take start self.old.octets }) PageEnd.Null mark self.old.octets).turn }
+    /// Answers an input; an ended call answers silently. Errs where memory is refused, which changes
+    /// nothing. The open frames and the open page stay within their limits.
+    pub fn step(&mut self, input: AnswererIn<'_>) -> Result<Turn, AllocError>
+        ensures answers { StepsOrRefuses self.old self.new result (answerer_step self.old (answerer_input input.entry)) }
+        ensures lasts { (self.old.ending ≢ None) ⊎ AnswererTakesNoMemory self.old.state (answerer_input input.entry) self.old → IsOk result }
+        ensures ended { IsSome self.old.ending → (self.new ≡ self.old) × (result ≡ Ok Turn.Silent) }
+        ensures limits { IsLimited self.old → IsLimited self.new }
     {
-        if self.octets.len() > MAX_PAGE_OCTETS {
-            self.octets.truncate(start);
-            return self.refuse_page();
-        }
-        self.accept(PageEnd::Null, mark)
+        open_is_limited();
+        self.advance(input)
     }
 
-    /// Takes a block that is its page's last, whose octets are those of the open page from `start` on.
-    fn take_page(&mut self, ends: PageEnd, mark: Mark, start: usize) -> Result<Turn, AllocError>
-        requires start { start ≤ length self.old.octets }
-        ensures { StepsOrRefuses (record self.old { octets = take start self.old.octets }) self.new result (stores (record self.old { octets = take start self.old.octets }) ends mark (page_read self.old.params self.old.octets)) }
+    /// The items of a turn, lent one at a time. A turn that is no answerer's has none. Takes no memory.
+    pub fn frames(&self, turn: &Turn) -> Items<'_>
+        ensures { result ≡ answerer_items self.now turn.now }
     {
-        let read = read_page(self.alloc, self.params, &self.octets);
-        self.octets.truncate(start);
-        let Some(page) = read? else {
-            return Ok(self.refuse_page());
-        };
-        self.pages.push(page)?;
-        self.octets.clear();
-        Ok(self.accept(ends, mark))
-    }
-
-    /// Takes a block whose frames are all there. Errs where memory is refused, which changes nothing.
-    fn take_block(&mut self, ends: PageEnd, mark: Mark, last: u8) -> Result<Turn, AllocError>
-        requires whole { all_there self.old.frames last ≡ true }
-        ensures { StepsOrRefuses self.old self.new result (takes_block self.old ends mark (self.old.octets ++ joined_frames self.old.frames (last + 1))) }
-    {
-        let start = self.octets.len();
-        self.store.append_joined(last, &mut self.octets)?;
-        match ends {
-            PageEnd::Null => Ok(self.take_open(mark, start)),
-            _ => self.take_page(ends, mark, start),
+        match *turn {
+            Turn::Dis => Items::one(Signal::Dis(self.caps)),
+            Turn::Cfr => Items::one(Signal::Cfr),
+            Turn::Ftt => Items::one(Signal::Ftt),
+            Turn::Mcf => Items::one(Signal::Mcf),
+            Turn::Ppr(map) => Items::one(Signal::Ppr(map)),
+            Turn::Rnr => Items::one(Signal::Rnr),
+            Turn::Dcn => Items::one(Signal::Dcn),
+            _ => Items::none(),
         }
     }
 
-    /// Answers a PPS in `Message`. Errs where memory is refused, which changes nothing.
-    fn hear_pps(&mut self, ends: PageEnd, mark: Mark, last: u8) -> Result<Turn, AllocError>
-        requires state { self.old.state ≡ Message }
-        ensures answers { StepsOrRefuses self.old self.new result (answers_pps self.old ends mark last) }
-        ensures lasts { (is_repeated self.old.accepted mark ≡ true) ⊎ (all_there self.old.frames (last_counted self.old.asked mark last) ≡ false) → IsOk result }
+    /// The stored pages, in the order in which they came.
+    pub fn pages(&self) -> &[Page]
+        ensures { result.now ≡ self.now.pages }
     {
-        if self.has_accepted(mark) {
-            return Ok(self.confirm());
-        }
-        let last = self.counted(mark, last);
-        if self.is_whole(last) {
-            return self.take_block(ends, mark, last);
-        }
-        let map = self.missing(last);
-        self.asked = Some(Asked { mark, last });
-        Ok(Turn::Ppr(map))
+        &self.pages
+    }
+
+    /// The stored pages, in the order in which they came; the station is given up.
+    pub fn into_pages(self) -> Vec<Page>
+        ensures { result.items ≡ self.pages }
+    {
+        self.pages // all that were stored
+    }
+
+    /// Why the call ended, if it has.
+    pub fn end(&self) -> Option<End>
+        ensures { result ≡ self.now.ending }
+    {
+        self.end // once the call is over
+    }
+
+    /// Whether the station is in phase B, in which it waits for a DCS.
+    pub fn in_phase_b(&self) -> bool
+        ensures { IsTrue result ↔ (self.now.state ≡ PhaseB) }
+    {
+        matches!(self.state, AnswererState::PhaseB)
     }
 }
 
+// The table: what each state answers to an input.
 impl Answerer {
-    /// Whether no frame is open.
-    fn is_clear(&self) -> bool
-        ensures { result ≡ is_clear self.now.frames }
+    /// Answers an input; an ended call answers silently.
+    fn advance(&mut self, input: AnswererIn<'_>) -> Result<Turn, AllocError>
+        ensures answers { StepsOrRefuses self.old self.new result (answerer_step self.old (answerer_input input.entry)) }
+        ensures lasts { (self.old.ending ≢ None) ⊎ AnswererTakesNoMemory self.old.state (answerer_input input.entry) self.old → IsOk result }
+        ensures ended { IsSome self.old.ending → (self.new ≡ self.old) × (result ≡ Ok Turn.Silent) }
     {
-        self.store.is_empty()
-    }
-
-    /// Answers an RR, which changes nothing.
-    fn hear_rr(&self) -> Turn
-        ensures { Steps self.now self.now result (answers_rr self.now) }
-    {
-        if self.accepted.is_some() && self.is_clear() {
-            self.confirm()
-        } else {
-            Turn::Silent
+        if self.end.is_some() {
+            return Ok(Turn::Silent);
         }
-    }
-
-    /// Answers a PPS outside `Message`, which changes nothing.
-    fn hear_repeated(&self, mark: Mark) -> Turn
-        ensures { Steps self.now self.now result (answers_repeated self.now mark) }
-    {
-        let repeated = self.has_accepted(mark);
-        if repeated {
-            self.confirm()
-        } else {
-            Turn::Silent
+        match self.state {
+            AnswererState::PhaseB => Ok(self.in_phase_b_step(input)),
+            AnswererState::WaitTraining => Ok(self.in_wait_training(input)),
+            AnswererState::Message => self.in_message(input),
         }
-    }
-
-    /// Why the call ends when the caller leaves.
-    fn leaves(&self) -> End
-        ensures { result ≡ leaves self.now.accepted }
-    {
-        match self.accepted {
-            Some(accepted) => end_after(accepted.ends),
-            None => End::PeerLeft,
-        }
-    }
-
-    /// Answers a DCN.
-    fn hear_dcn(&mut self) -> Turn
-        ensures { Steps self.old self.new result (answerer_ends self.old (leaves self.old.accepted)) }
-    {
-        self.end = Some(self.leaves());
-        Turn::Silent
-    }
-
-    /// Ends the call for want of a caller.
-    fn hear_nothing(&mut self) -> Turn
-        ensures { Steps self.old self.new result (answerer_ends self.old NoAnswer) }
-    {
-        self.end = Some(End::NoAnswer);
-        Turn::Silent
-    }
-
-    /// Whether pages can't be taken for now.
-    fn set_busy(&mut self, busy: bool) -> Turn
-        ensures { Steps self.old self.new result (record { next = record self.old { busy = busy }; turn = Turn.Silent }) }
-    {
-        self.busy = busy;
-        Turn::Silent
-    }
-
-    /// Sends DIS again.
-    fn repeat_dis(&mut self) -> Turn
-        requires state { self.old.state ≢ Message }
-        ensures { Steps self.old self.new result (record { next = record self.old { state = PhaseB }; turn = Turn.Dis }) }
-    {
-        self.state = AnswererState::PhaseB;
-        Turn::Dis
     }
 
     /// Answers an input in `PhaseB`.
@@ -433,103 +231,312 @@ impl Answerer {
             _ => Ok(Turn::Silent),
         }
     }
+}
 
-    /// Answers an input; an ended call answers silently.
-    fn advance(&mut self, input: AnswererIn<'_>) -> Result<Turn, AllocError>
-        ensures answers { StepsOrRefuses self.old self.new result (answerer_step self.old (answerer_input input.entry)) }
-        ensures lasts { (self.old.ending ≢ None) ⊎ AnswererTakesNoMemory self.old.state (answerer_input input.entry) self.old → IsOk result }
-        ensures ended { IsSome self.old.ending → (self.new ≡ self.old) × (result ≡ Ok Turn.Silent) }
+// The rows of the table but that of a PPS while blocks are taken.
+impl Answerer {
+    /// Answers a DCS in `PhaseB`.
+    fn hear_first_dcs(&mut self, params: Params) -> Turn
+        requires state { self.old.state ≡ PhaseB }
+        ensures { Steps self.old self.new result (first_dcs self.old params) }
     {
-        if self.end.is_some() {
-            return Ok(Turn::Silent);
+        if !allows(&self.caps, &params) {
+            return Turn::Silent;
         }
-        match self.state {
-            AnswererState::PhaseB => Ok(self.in_phase_b_step(input)),
-            AnswererState::WaitTraining => Ok(self.in_wait_training(input)),
-            AnswererState::Message => self.in_message(input),
+        self.state = AnswererState::WaitTraining;
+        self.params = params;
+        self.store = BlockStore::new(self.alloc, params.small);
+        Turn::Silent
+    }
+
+    /// Answers a DCS past phase B.
+    fn hear_later_dcs(&mut self, params: Params) -> Turn
+        ensures { Steps self.old self.new result (later_dcs self.old params) }
+    {
+        if !allows(&self.caps, &params) {
+            return Turn::Silent;
+        }
+        self.state = AnswererState::WaitTraining;
+        self.params = params;
+        self.store = BlockStore::new(self.alloc, params.small);
+        self.asked = None;
+        Turn::Silent
+    }
+
+    /// Answers a training check in `WaitTraining`.
+    #[tactic(auto, unfolding(crate::specs::Layers::is_good_training))]
+    fn hear_training(&mut self, octets: &[u8]) -> Turn
+        requires state { self.old.state ≡ WaitTraining }
+        ensures { Steps self.old self.new result (judges_training self.old octets.now) }
+    {
+        if training_good(octets, self.params.speed) {
+            self.state = AnswererState::Message;
+            Turn::Cfr
+        } else {
+            self.state = AnswererState::PhaseB;
+            Turn::Ftt
         }
     }
 
-    /// Answers an input; an ended call answers silently. Errs where memory is refused, which changes
-    /// nothing. The open frames and the open page stay within their limits.
-    pub fn step(&mut self, input: AnswererIn<'_>) -> Result<Turn, AllocError>
-        ensures answers { StepsOrRefuses self.old self.new result (answerer_step self.old (answerer_input input.entry)) }
-        ensures lasts { (self.old.ending ≢ None) ⊎ AnswererTakesNoMemory self.old.state (answerer_input input.entry) self.old → IsOk result }
-        ensures ended { IsSome self.old.ending → (self.new ≡ self.old) × (result ≡ Ok Turn.Silent) }
-        ensures limits { IsLimited self.old → IsLimited self.new }
+    /// Answers an FCD in `Message`. Errs where memory is refused, which changes nothing.
+    #[tactic(auto, unfolding(crate::specs::Layers::within_frame_size))]
+    fn hear_fcd(&mut self, number: u8, octets: &[u8]) -> Result<Turn, AllocError>
+        requires state { self.old.state ≡ Message }
+        ensures answers { StepsOrRefuses self.old self.new result (keeps_frame self.old number octets.now) }
+        ensures lasts { (within_frame_size self.old.params octets.now ≡ false) ⊎ (self.old.ready ≡ true) → IsOk result }
     {
-        open_is_limited();
-        self.advance(input)
+        match self.store.put(number, octets) {
+            Ok(()) => Ok(Turn::Silent),
+            Err(BlockFault::TooLong) => Ok(Turn::Silent),
+            Err(BlockFault::NoMemory) => Err(AllocError),
+            Err(BlockFault::PageTooLong) => unreachable!(),
+        }
     }
 
-    /// An answerer in `PhaseB`, and its first turn, which is DIS. Takes no memory.
-    pub fn new(alloc: Global, caps: Caps) -> (Answerer, Turn)
-        requires receiver { caps.receiver ≡ true }
-        requires ecm { caps.ecm ≡ true }
-        ensures station { result.0 ≡ new_answerer caps no_params }
-        ensures limits { IsLimited result.0 }
-        ensures turn { result.1 ≡ Turn.Dis }
+    /// Answers an RR, which changes nothing.
+    fn hear_rr(&self) -> Turn
+        ensures { Steps self.now self.now result (answers_rr self.now) }
     {
-        open_is_limited();
-        let station = Answerer {
-            alloc,
-            caps,
-            params: crate::caller::no_params(),
-            state: AnswererState::PhaseB,
-            busy: false,
-            accepted: None,
-            asked: None,
-            octets: Vec::new(alloc),
-            store: BlockStore::new(alloc, false),
-            pages: Vec::new(alloc),
-            end: None,
+        if self.accepted.is_some() && self.is_clear() {
+            self.confirm()
+        } else {
+            Turn::Silent
+        }
+    }
+
+    /// Answers a PPS outside `Message`, which changes nothing.
+    fn hear_repeated(&self, mark: Mark) -> Turn
+        ensures { Steps self.now self.now result (answers_repeated self.now mark) }
+    {
+        let repeated = self.has_accepted(mark);
+        if repeated {
+            self.confirm()
+        } else {
+            Turn::Silent
+        }
+    }
+
+    /// Answers a DCN.
+    fn hear_dcn(&mut self) -> Turn
+        ensures { Steps self.old self.new result (answerer_ends self.old (leaves self.old.accepted)) }
+    {
+        self.end = Some(self.leaves());
+        Turn::Silent
+    }
+
+    /// Ends the call for want of a caller.
+    fn hear_nothing(&mut self) -> Turn
+        ensures { Steps self.old self.new result (answerer_ends self.old NoAnswer) }
+    {
+        self.end = Some(End::NoAnswer);
+        Turn::Silent
+    }
+
+    /// Whether pages can't be taken for now.
+    fn set_busy(&mut self, busy: bool) -> Turn
+        ensures { Steps self.old self.new result (record { next = record self.old { busy = busy }; turn = Turn.Silent }) }
+    {
+        self.busy = busy;
+        Turn::Silent
+    }
+
+    /// Sends DIS again.
+    fn repeat_dis(&mut self) -> Turn
+        requires state { self.old.state ≢ Message }
+        ensures { Steps self.old self.new result (record { next = record self.old { state = PhaseB }; turn = Turn.Dis }) }
+    {
+        self.state = AnswererState::PhaseB;
+        Turn::Dis
+    }
+
+    /// MCF, or RNR while busy.
+    fn confirm(&self) -> Turn
+        ensures { result ≡ confirms self.now }
+    {
+        if self.busy { Turn::Rnr } else { Turn::Mcf }
+    }
+
+    /// Whether the mark is that of the last accepted block.
+    fn has_accepted(&self, mark: Mark) -> bool
+        ensures { result ≡ is_repeated self.now.accepted mark }
+    {
+        match self.accepted {
+            Some(accepted) => is_same(accepted.mark, mark),
+            None => false,
+        }
+    }
+
+    /// Whether no frame is open.
+    fn is_clear(&self) -> bool
+        ensures { result ≡ is_clear self.now.frames }
+    {
+        self.store.is_empty()
+    }
+
+    /// Why the call ends when the caller leaves.
+    fn leaves(&self) -> End
+        ensures { result ≡ leaves self.now.accepted }
+    {
+        match self.accepted {
+            Some(accepted) => end_after(accepted.ends),
+            None => End::PeerLeft,
+        }
+    }
+}
+
+// A PPS while blocks are taken: the block is accepted, or its missing frames are asked for.
+impl Answerer {
+    /// Answers a PPS in `Message`. Errs where memory is refused, which changes nothing.
+    fn hear_pps(&mut self, ends: PageEnd, mark: Mark, last: u8) -> Result<Turn, AllocError>
+        requires state { self.old.state ≡ Message }
+        ensures answers { StepsOrRefuses self.old self.new result (answers_pps self.old ends mark last) }
+        ensures lasts { (is_repeated self.old.accepted mark ≡ true) ⊎ (all_there self.old.frames (last_counted self.old.asked mark last) ≡ false) → IsOk result }
+    {
+        if self.has_accepted(mark) {
+            return Ok(self.confirm());
+        }
+        let last = self.counted(mark, last);
+        if self.is_whole(last) {
+            return self.take_block(ends, mark, last);
+        }
+        let map = self.missing(last);
+        self.asked = Some(Asked { mark, last });
+        Ok(Turn::Ppr(map))
+    }
+
+    /// The last frame that counts.
+    fn counted(&self, mark: Mark, last: u8) -> u8
+        ensures { result ≡ last_counted self.now.asked mark last }
+    {
+        match self.asked {
+            Some(asked) => {
+                if is_same(asked.mark, mark) {
+                    asked.last.max(last)
+                } else {
+                    last
+                }
+            }
+            None => last,
+        }
+    }
+
+    /// Whether the frames 0 to `last` are all there.
+    fn is_whole(&self, last: u8) -> bool
+        ensures { result ≡ all_there self.now.frames last }
+    {
+        self.store.whole(last)
+    }
+
+    /// The map of the missing frames.
+    fn missing(&self, last: u8) -> [u8; 32]
+        ensures { result ≡ ppr_map self.now.frames last }
+    {
+        let map = self.store.missing(last);
+        is_missing_map(&map);
+        map
+    }
+
+    /// Takes a block whose frames are all there. Errs where memory is refused, which changes nothing.
+    fn take_block(&mut self, ends: PageEnd, mark: Mark, last: u8) -> Result<Turn, AllocError>
+        requires whole { all_there self.old.frames last ≡ true }
+        ensures { StepsOrRefuses self.old self.new result (takes_block self.old ends mark (self.old.octets ++ joined_frames self.old.frames (last + 1))) }
+    {
+        let start = self.octets.len();
+        self.store.append_joined(last, &mut self.octets)?;
+        match ends {
+            PageEnd::Null => Ok(self.take_open(mark, start)),
+            _ => self.take_page(ends, mark, start),
+        }
+    }
+
+    /// Takes a block that isn't its page's last, whose octets are those of the open page from `start` on.
+    #[tactic(auto, unfolding(crate::specs::Layers::within_page_limit))]
+    fn take_open(&mut self, mark: Mark, start: usize) -> Turn
+        requires start { start ≤ length self.old.octets }
+        ensures next { self.new ≡ (takes_block (record self.old { octets = take start self.old.octets }) PageEnd.Null mark self.old.octets).next }
+        ensures turn { result ≡ (takes_block (record self.old { octets = take start self.old.octets }) PageEnd.Null mark self.old.octets).turn }
+    {
+        if self.octets.len() > MAX_PAGE_OCTETS {
+            self.octets.truncate(start);
+            return self.refuse_page();
+        }
+        self.accept(PageEnd::Null, mark)
+    }
+
+    /// Takes a block that is its page's last, whose octets are those of the open page from `start` on.
+    fn take_page(&mut self, ends: PageEnd, mark: Mark, start: usize) -> Result<Turn, AllocError>
+        requires start { start ≤ length self.old.octets }
+        ensures { StepsOrRefuses (record self.old { octets = take start self.old.octets }) self.new result (stores (record self.old { octets = take start self.old.octets }) ends mark (page_read self.old.params self.old.octets)) }
+    {
+        let read = read_page(self.alloc, self.params, &self.octets);
+        self.octets.truncate(start);
+        let Some(page) = read? else {
+            return Ok(self.refuse_page());
         };
-        (station, Turn::Dis)
+        self.pages.push(page)?;
+        self.octets.clear();
+        Ok(self.accept(ends, mark))
     }
 
-    /// The items of a turn, lent one at a time. A turn that is no answerer's has none. Takes no memory.
-    pub fn frames(&self, turn: &Turn) -> Items<'_>
-        ensures { result ≡ answerer_items self.now turn.now }
+    /// Ends the call over a page that can't be read.
+    fn refuse_page(&mut self) -> Turn
+        ensures next { self.new ≡ record self.old { ending = Some BadPage } }
+        ensures turn { result ≡ Turn.Dcn }
     {
-        match *turn {
-            Turn::Dis => Items::one(Signal::Dis(self.caps)),
-            Turn::Cfr => Items::one(Signal::Cfr),
-            Turn::Ftt => Items::one(Signal::Ftt),
-            Turn::Mcf => Items::one(Signal::Mcf),
-            Turn::Ppr(map) => Items::one(Signal::Ppr(map)),
-            Turn::Rnr => Items::one(Signal::Rnr),
-            Turn::Dcn => Items::one(Signal::Dcn),
-            _ => Items::none(),
+        self.end = Some(End::BadPage);
+        Turn::Dcn
+    }
+
+    /// Accepts a block.
+    fn accept(&mut self, ends: PageEnd, mark: Mark) -> Turn
+        ensures next { self.new ≡ record self.old { state = state_after ends; accepted = Some (record { mark = mark; ends = ends }); asked = None; frames = no_frames } }
+        ensures turn { result ≡ confirms self.old }
+    {
+        self.accepted = Some(Accepted { mark, ends });
+        self.asked = None;
+        self.store.clear();
+        self.state = match ends {
+            PageEnd::Eom => AnswererState::PhaseB,
+            _ => AnswererState::Message,
+        };
+        self.confirm()
+    }
+}
+
+/// The page that octets begin with; none where they begin with no page, or are too many.
+fn read_page(alloc: Global, params: Params, octets: &[u8]) -> Result<Option<Page>, AllocError>
+    ensures { IfOk result (λ page. page ≡ page_read params octets.now) }
+{
+    if octets.len() > MAX_PAGE_OCTETS {
+        return Ok(None);
+    }
+    let width = params.width.pixels();
+    let read = params
+        .coding
+        .decode(alloc, octets, Order::LsbFirst, width, params.fine);
+    match read {
+        Ok((page, _)) => Ok(Some(page)),
+        Err(fault) => {
+            if is_memory(fault.kind) {
+                return Err(AllocError);
+            }
+            Ok(None)
         }
     }
+}
 
-    /// The stored pages in order.
-    pub fn pages(&self) -> &[Page]
-        ensures { result.now ≡ self.now.pages }
-    {
-        &self.pages
-    }
+/// Whether memory was refused.
+fn is_memory(kind: CodeFaultKind) -> bool
+    ensures { IsTrue result ↔ (kind ≡ CodeFaultKind.NoMemory) }
+{
+    kind == CodeFaultKind::NoMemory
+}
 
-    /// The stored pages in order.
-    pub fn into_pages(self) -> Vec<Page>
-        ensures { result.items ≡ self.pages }
-    {
-        self.pages // all that were stored
-    }
-
-    /// Why the call ended, if it has.
-    pub fn end(&self) -> Option<End>
-        ensures { result ≡ self.now.ending }
-    {
-        self.end // once the call is over
-    }
-
-    /// Whether the station is in phase B.
-    pub fn in_phase_b(&self) -> bool
-        ensures { IsTrue result ↔ (self.now.state ≡ PhaseB) }
-    {
-        matches!(self.state, AnswererState::PhaseB)
-    }
+/// Whether two marks are the same.
+fn is_same(mark: Mark, other: Mark) -> bool
+    ensures { result ≡ same_mark mark other }
+{
+    mark.page == other.page && mark.block == other.block
 }
 
 /// Why the call ends when the caller leaves after a block with this end.

@@ -33,26 +33,7 @@ use std::marker::Model;
 #[cfg(test)]
 mod tests;
 
-/// Whether a call can have a page's width.
-fn is_callable(page: &Page) -> bool
-    ensures { IsTrue result ↔ IsSome (width_of_pixels page.now.width) }
-{
-    PageWidth::of_pixels(page.width()).is_some()
-}
-
-/// Whether a call can have the width of each page.
-fn are_callable(pages: &[Page]) -> bool
-    ensures { IsTrue result ↔ AreCallable pages.now }
-{
-    for page in pages {
-        if !is_callable(page) {
-            return false;
-        }
-    }
-    true
-}
-
-/// The calling station of a call.
+/// The calling station of a call (ITU-T T.30, phases B to E and Annex A).
 #[derive(Debug, Drop)]
 pub struct Caller {
     alloc: Global,
@@ -90,8 +71,8 @@ impl Model for Caller {
 }
 
 impl Caller {
-    /// A caller of a document, in `WaitDis`. Errs where the width of a page is none that a call can have.
-    /// Takes no memory.
+    /// A caller of a document, which waits for a DIS. Errs with `WidthNotCallable` where a page isn't 1,728, 2,048 or
+    /// 2,432 pixels wide. Takes no memory.
     pub fn new(alloc: Global, document: Document, wish: Wish) -> Result<Caller, CallerFault>
         ensures { NewCaller document wish result }
     {
@@ -121,14 +102,42 @@ impl Caller {
         })
     }
 
-    /// How many pages were confirmed.
+    /// Answers an input; an ended call answers silently. Errs where memory is refused, which changes
+    /// nothing.
+    pub fn step(&mut self, input: CallerIn<'_>) -> Result<Turn, AllocError>
+        ensures answers { AnswersOrRefuses self.old self.new result (λ t. caller_step t (caller_input input.entry)) }
+        ensures lasts { (self.old.ending ≢ None) ⊎ CallerTakesNoMemory self.old.state (caller_input input.entry) self.old → IsOk result }
+        ensures ended { IsSome self.old.ending → (self.new ≡ self.old) × (result ≡ Ok Silent) }
+        ensures spends { SpendsOrRefuses self.old (caller_input input.entry) self.new result }
+    {
+        steps_spend();
+        self.advance(input)
+    }
+
+    /// The items of a turn, lent one at a time. A turn that the state has nothing for has none. Takes no
+    /// memory.
+    pub fn frames(&self, turn: &Turn) -> Items<'_>
+        ensures { (t : CallerTuple) → Represents self.now t → result ≡ caller_items t turn.now }
+    {
+        match *turn {
+            Turn::Training => self.training(),
+            Turn::Burst(map) => self.burst(map),
+            Turn::Pps => self.pps_alone(),
+            Turn::Rr => Items::one(Signal::Rr),
+            Turn::Dcn => Items::one(Signal::Dcn),
+            _ => Items::none(),
+        }
+    }
+
+    /// How many pages are confirmed: those whose last block was answered by MCF.
     pub fn confirmed(&self) -> u64
         ensures { (t : CallerTuple) → Represents self.now t → result ≡ confirmed t }
     {
         self.page as u64
     }
 
-    /// Whether the caller waits for the DIS of a further group.
+    /// Whether the caller waits for the DIS of a further group: a page is confirmed, and the next one has another width
+    /// or other lines.
     pub fn between_groups(&self) -> bool
         ensures { (t : CallerTuple) → Represents self.now t → IsTrue result ↔ ((t.state ≡ WaitDis) × (0 < confirmed t)) }
     {
@@ -141,250 +150,27 @@ impl Caller {
     {
         self.end // once the call is over
     }
-
-    /// Ends the call.
-    fn give_up(&mut self, why: End) -> Turn
-        ensures { Answers self.old self.new result (λ t. caller_gives_up t why) }
-    {
-        self.end = Some(why);
-        Turn::Dcn
-    }
-
-    /// The same once more; after the third try the call ends.
-    fn try_again(&mut self, turn: Turn) -> Turn
-        ensures { Answers self.old self.new result (λ t. tries_again t turn) }
-    {
-        if self.tries < 3 {
-            self.tries += 1;
-            turn
-        } else {
-            self.give_up(End::NoReply)
-        }
-    }
-
-    /// What both stations agree on for the page due.
-    #[tactic(auto, unfolding(crate::specs::Layers::agreed_for))]
-    fn agreed(&self, caps: &Caps) -> Option<Params>
-        ensures { result ≡ agreed_for caps.now self.now.wish (slice_get self.now.document self.now.page) }
-    {
-        let page = self.document.pages().get(self.page)?;
-        let width = PageWidth::of_pixels(page.width())?;
-        agree(caps, &self.wish, width, page.fine()).ok()
-    }
-
-    /// Answers a DIS in `WaitDis`.
-    fn hear_dis(&mut self, caps: Caps) -> Turn
-        requires state { self.old.state ≡ WaitDis }
-        requires goes_on { self.old.ending ≡ None }
-        ensures { Answers self.old self.new result (λ t. answers_dis t caps (agreed_for caps t.wish (slice_get t.document (confirmed t)))) }
-    {
-        let Some(params) = self.agreed(&caps) else {
-            return self.give_up(End::NotCompatible);
-        };
-        self.caps = caps;
-        self.params = params;
-        self.state = CallerState::WaitCfr;
-        self.tries = 1;
-        Turn::Training
-    }
-
-    /// The parameters at the next lower speed.
-    #[tactic(auto, unfolding(crate::specs::Layers::lowered))]
-    fn lowered(&self) -> Option<Params>
-        ensures { result ≡ lowered self.now.caps self.now.wish self.now.params }
-    {
-        let speed = lower(&self.caps, &self.wish, self.params.speed)?;
-        Some(Params {
-            speed,
-            ..self.params
-        })
-    }
-
-    /// Answers an FTT in `WaitCfr`.
-    fn hear_ftt(&mut self) -> Turn
-        requires state { self.old.state ≡ WaitCfr }
-        requires goes_on { self.old.ending ≡ None }
-        ensures { Answers self.old self.new result (λ t. answers_ftt t (lowered t.caps t.wish t.params)) }
-    {
-        let Some(params) = self.lowered() else {
-            return self.give_up(End::Training);
-        };
-        self.params = params;
-        self.tries = 1;
-        Turn::Training
-    }
-
-    /// Answers a PPR.
-    fn hear_ppr(&mut self, map: [u8; 32]) -> Turn
-        requires state { IsSending self.old.state }
-        requires goes_on { self.old.ending ≡ None }
-        ensures { Answers self.old self.new result (λ t. answers_ppr t map) }
-    {
-        if self.pprs >= 3 {
-            return self.give_up(End::Unreadable);
-        }
-        self.state = CallerState::WaitBlock;
-        self.tries = 1;
-        self.pprs += 1;
-        Turn::Burst(map)
-    }
-
-    /// Answers an RNR.
-    fn hear_rnr(&mut self) -> Turn
-        requires state { IsSending self.old.state }
-        requires goes_on { self.old.ending ≡ None }
-        ensures { Answers self.old self.new result (λ t. answers_rnr t) }
-    {
-        self.state = CallerState::WaitReady;
-        self.tries = 1;
-        Turn::Rr
-    }
-
-    /// Answers a DCN.
-    fn hear_dcn(&mut self) -> Turn
-        ensures { Answers self.old self.new result (λ t. record { next = record t { ending = Some PeerLeft }; turn = Silent }) }
-    {
-        self.end = Some(End::PeerLeft);
-        Turn::Silent
-    }
-
-    /// The blocks of the code of the page at a number, if there is one and a call can carry it.
-    fn code_blocks(&self, number: usize) -> Result<Option<Blocks>, AllocError>
-        ensures { IfOk result (λ blocks. blocks ≡ code_blocks_at self.now.params (slice_get self.now.document number)) }
-    {
-        let Some(page) = self.document.pages().get(number) else {
-            return Ok(None);
-        };
-        code_blocks(self.alloc, self.params, page)
-    }
-
-    /// Sends the first block of the page at a number, which has this code.
-    fn send_page(&mut self, page: usize, blocks: Blocks) -> Turn
-        ensures next { self.new ≡ record self.old { state = WaitBlock; page = page; block = 0; encoded = Some blocks; try = 1; pprs = 0 } }
-        ensures turn { result ≡ Turn.Burst all_frames }
-    {
-        self.state = CallerState::WaitBlock;
-        self.page = page;
-        self.block = 0;
-        self.blocks = Some(blocks);
-        self.tries = 1;
-        self.pprs = 0;
-        every_frame()
-    }
-
-    /// The number of the present page, from 0.
-    fn number(&self) -> usize
-        ensures { result ≡ self.now.page }
-    {
-        self.page
-    }
-
-    /// Answers a CFR in `WaitCfr`. Errs where memory is refused, which changes nothing.
-    fn hear_cfr(&mut self) -> Result<Turn, AllocError>
-        requires state { self.old.state ≡ WaitCfr }
-        requires goes_on { self.old.ending ≡ None }
-        ensures { AnswersOrRefuses self.old self.new result (λ t. goes_on t Mps (slice_get (blocks_of t) t.place)) }
-    {
-        octets_have_a_block();
-        let number = self.number();
-        let Some(blocks) = self.code_blocks(number)? else {
-            return Ok(self.give_up(End::PageTooLong));
-        };
-        Ok(self.send_page(number, blocks))
-    }
-
-    /// The place of the block after the present one in its page.
-    fn next_block(&self) -> Option<usize>
-        ensures { result ≡ next_in_page self.now.encoded self.now.block }
-    {
-        let blocks = self.blocks.as_ref()?;
-        let count = blocks.count();
-        if count > self.block && count - self.block > 1 {
-            Some(self.block + 1)
-        } else {
-            None
-        }
-    }
-
-    /// How the present page ends.
-    fn page_end(&self) -> PageEnd
-        ensures { result ≡ end_of_first (drop self.now.page self.now.document) }
-    {
-        let pages = self.document.pages();
-        let Some(page) = pages.get(self.page) else {
-            return PageEnd::Eop;
-        };
-        let Some(next) = pages.get(self.page + 1) else {
-            return PageEnd::Eop;
-        };
-        if is_alike(page, next) {
-            PageEnd::Mps
-        } else {
-            PageEnd::Eom
-        }
-    }
-
-    /// The number of the page after the present one.
-    fn next_page(&self) -> Option<usize>
-        ensures { result ≡ cond (nat_lt self.now.page (length self.now.document)) (Some (self.now.page + 1)) None }
-    {
-        if self.page < self.document.pages().len() {
-            Some(self.page + 1)
-        } else {
-            None
-        }
-    }
-
-    /// Sends the block at a place of the present page for the first time.
-    fn send_block(&mut self, block: usize) -> Turn
-        ensures next { self.new ≡ record self.old { state = WaitBlock; block = block; try = 1; pprs = 0 } }
-        ensures turn { result ≡ Turn.Burst all_frames }
-    {
-        self.state = CallerState::WaitBlock;
-        self.block = block;
-        self.tries = 1;
-        self.pprs = 0;
-        every_frame()
-    }
-
-    /// Answers an MCF. Errs where memory is refused, which changes nothing.
-    fn hear_mcf(&mut self) -> Result<Turn, AllocError>
-        requires state { IsSending self.old.state }
-        requires goes_on { self.old.ending ≡ None }
-        ensures answers { AnswersOrRefuses self.old self.new result (λ t. answers_mcf t (slice_get (blocks_of t) t.place)) }
-        ensures lasts { NoPageStarts self.old → IsOk result }
-    {
-        octets_have_a_block();
-        if let Some(block) = self.next_block() {
-            return Ok(self.send_block(block));
-        }
-        let Some(number) = self.next_page() else {
-            return Ok(Turn::Silent);
-        };
-        match self.page_end() {
-            PageEnd::Eom => {
-                self.page = number;
-                self.state = CallerState::WaitDis;
-                Ok(Turn::Silent)
-            }
-            PageEnd::Mps => {
-                let Some(blocks) = self.code_blocks(number)? else {
-                    self.page = number;
-                    self.end = Some(End::PageTooLong);
-                    return Ok(Turn::Dcn);
-                };
-                Ok(self.send_page(number, blocks))
-            }
-            PageEnd::Eop | PageEnd::Null => {
-                self.page = number;
-                self.end = Some(End::Normal);
-                Ok(Turn::Dcn)
-            }
-        }
-    }
 }
 
+// The table: what each state answers to an input.
 impl Caller {
+    /// Answers an input; an ended call answers silently.
+    fn advance(&mut self, input: CallerIn<'_>) -> Result<Turn, AllocError>
+        ensures answers { AnswersOrRefuses self.old self.new result (λ t. caller_step t (caller_input input.entry)) }
+        ensures lasts { (self.old.ending ≢ None) ⊎ CallerTakesNoMemory self.old.state (caller_input input.entry) self.old → IsOk result }
+        ensures ended { IsSome self.old.ending → (self.new ≡ self.old) × (result ≡ Ok Silent) }
+    {
+        if self.end.is_some() {
+            return Ok(Turn::Silent);
+        }
+        match self.state {
+            CallerState::WaitDis => Ok(self.in_wait_dis(input)),
+            CallerState::WaitCfr => self.in_wait_cfr(input),
+            CallerState::WaitBlock => self.in_wait_block(input),
+            CallerState::WaitReady => self.in_wait_ready(input),
+        }
+    }
+
     /// Answers an input in `WaitDis`.
     fn in_wait_dis(&mut self, input: CallerIn<'_>) -> Turn
         requires state { self.old.state ≡ WaitDis }
@@ -450,98 +236,264 @@ impl Caller {
             _ => Ok(Turn::Silent),
         }
     }
-
-    /// Answers an input; an ended call answers silently.
-    fn advance(&mut self, input: CallerIn<'_>) -> Result<Turn, AllocError>
-        ensures answers { AnswersOrRefuses self.old self.new result (λ t. caller_step t (caller_input input.entry)) }
-        ensures lasts { (self.old.ending ≢ None) ⊎ CallerTakesNoMemory self.old.state (caller_input input.entry) self.old → IsOk result }
-        ensures ended { IsSome self.old.ending → (self.new ≡ self.old) × (result ≡ Ok Silent) }
-    {
-        if self.end.is_some() {
-            return Ok(Turn::Silent);
-        }
-        match self.state {
-            CallerState::WaitDis => Ok(self.in_wait_dis(input)),
-            CallerState::WaitCfr => self.in_wait_cfr(input),
-            CallerState::WaitBlock => self.in_wait_block(input),
-            CallerState::WaitReady => self.in_wait_ready(input),
-        }
-    }
-
-    /// Answers an input; an ended call answers silently. Errs where memory is refused, which changes
-    /// nothing.
-    pub fn step(&mut self, input: CallerIn<'_>) -> Result<Turn, AllocError>
-        ensures answers { AnswersOrRefuses self.old self.new result (λ t. caller_step t (caller_input input.entry)) }
-        ensures lasts { (self.old.ending ≢ None) ⊎ CallerTakesNoMemory self.old.state (caller_input input.entry) self.old → IsOk result }
-        ensures ended { IsSome self.old.ending → (self.new ≡ self.old) × (result ≡ Ok Silent) }
-        ensures spends { SpendsOrRefuses self.old (caller_input input.entry) self.new result }
-    {
-        steps_spend();
-        self.advance(input)
-    }
 }
 
-/// The parameters of a station that has none yet.
-pub(crate) fn no_params() -> Params
-    ensures { result ≡ no_params }
-{
-    Params {
-        speed: Speed::V27At2400,
-        fine: false,
-        width: PageWidth::W1728,
-        coding: Coding::OneDim,
-        small: false,
-    }
-}
-
+// The rows of the table but that of an MCF.
 impl Caller {
-    /// The parameters of the present group.
-    fn agreed_params(&self) -> Params
-        ensures { result ≡ self.now.params }
+    /// Answers a DIS in `WaitDis`.
+    fn hear_dis(&mut self, caps: Caps) -> Turn
+        requires state { self.old.state ≡ WaitDis }
+        requires goes_on { self.old.ending ≡ None }
+        ensures { Answers self.old self.new result (λ t. answers_dis t caps (agreed_for caps t.wish (slice_get t.document (confirmed t)))) }
     {
-        self.params
+        let Some(params) = self.agreed(&caps) else {
+            return self.give_up(End::NotCompatible);
+        };
+        self.caps = caps;
+        self.params = params;
+        self.state = CallerState::WaitCfr;
+        self.tries = 1;
+        Turn::Training
     }
 
-    /// The place of the present block in its page, from 0.
-    fn place(&self) -> usize
-        ensures { result ≡ self.now.block }
+    /// What both stations agree on for the page due.
+    #[tactic(auto, unfolding(crate::specs::Layers::agreed_for))]
+    fn agreed(&self, caps: &Caps) -> Option<Params>
+        ensures { result ≡ agreed_for caps.now self.now.wish (slice_get self.now.document self.now.page) }
     {
-        self.block
+        let page = self.document.pages().get(self.page)?;
+        let width = PageWidth::of_pixels(page.width())?;
+        agree(caps, &self.wish, width, page.fine()).ok()
     }
 
-    /// The end that the present block's PPS carries.
-    fn block_end(&self) -> PageEnd
-        ensures { result ≡ end_of_fields self.now }
+    /// Answers a CFR in `WaitCfr`. Errs where memory is refused, which changes nothing.
+    fn hear_cfr(&mut self) -> Result<Turn, AllocError>
+        requires state { self.old.state ≡ WaitCfr }
+        requires goes_on { self.old.ending ≡ None }
+        ensures { AnswersOrRefuses self.old self.new result (λ t. goes_on t Mps (slice_get (blocks_of t) t.place)) }
     {
-        match self.next_block() {
-            Some(_) => PageEnd::Null,
-            None => self.page_end(),
+        octets_have_a_block();
+        let number = self.number();
+        let Some(blocks) = self.code_blocks(number)? else {
+            return Ok(self.give_up(End::PageTooLong));
+        };
+        Ok(self.send_page(number, blocks))
+    }
+
+    /// Answers an FTT in `WaitCfr`.
+    fn hear_ftt(&mut self) -> Turn
+        requires state { self.old.state ≡ WaitCfr }
+        requires goes_on { self.old.ending ≡ None }
+        ensures { Answers self.old self.new result (λ t. answers_ftt t (lowered t.caps t.wish t.params)) }
+    {
+        let Some(params) = self.lowered() else {
+            return self.give_up(End::Training);
+        };
+        self.params = params;
+        self.tries = 1;
+        Turn::Training
+    }
+
+    /// The parameters at the next lower speed.
+    #[tactic(auto, unfolding(crate::specs::Layers::lowered))]
+    fn lowered(&self) -> Option<Params>
+        ensures { result ≡ lowered self.now.caps self.now.wish self.now.params }
+    {
+        let speed = lower(&self.caps, &self.wish, self.params.speed)?;
+        Some(Params {
+            speed,
+            ..self.params
+        })
+    }
+
+    /// Answers a PPR.
+    fn hear_ppr(&mut self, map: [u8; 32]) -> Turn
+        requires state { IsSending self.old.state }
+        requires goes_on { self.old.ending ≡ None }
+        ensures { Answers self.old self.new result (λ t. answers_ppr t map) }
+    {
+        if self.pprs >= 3 {
+            return self.give_up(End::Unreadable);
+        }
+        self.state = CallerState::WaitBlock;
+        self.tries = 1;
+        self.pprs += 1;
+        Turn::Burst(map)
+    }
+
+    /// Answers an RNR.
+    fn hear_rnr(&mut self) -> Turn
+        requires state { IsSending self.old.state }
+        requires goes_on { self.old.ending ≡ None }
+        ensures { Answers self.old self.new result (λ t. answers_rnr t) }
+    {
+        self.state = CallerState::WaitReady;
+        self.tries = 1;
+        Turn::Rr
+    }
+
+    /// Answers a DCN.
+    fn hear_dcn(&mut self) -> Turn
+        ensures { Answers self.old self.new result (λ t. record { next = record t { ending = Some PeerLeft }; turn = Silent }) }
+    {
+        self.end = Some(End::PeerLeft);
+        Turn::Silent
+    }
+
+    /// The same once more; after the third try the call ends.
+    fn try_again(&mut self, turn: Turn) -> Turn
+        ensures { Answers self.old self.new result (λ t. tries_again t turn) }
+    {
+        if self.tries < 3 {
+            self.tries += 1;
+            turn
+        } else {
+            self.give_up(End::NoReply)
         }
     }
 
-    /// The blocks of the present page, where the present one is among them.
-    fn coded_blocks(&self) -> Option<&Blocks>
-        ensures { HasBlock self.now result }
+    /// Ends the call.
+    fn give_up(&mut self, why: End) -> Turn
+        ensures { Answers self.old self.new result (λ t. caller_gives_up t why) }
+    {
+        self.end = Some(why);
+        Turn::Dcn
+    }
+}
+
+// An MCF: the block is confirmed, and the next one goes out, or a group or the document is through.
+impl Caller {
+    /// Answers an MCF. Errs where memory is refused, which changes nothing.
+    fn hear_mcf(&mut self) -> Result<Turn, AllocError>
+        requires state { IsSending self.old.state }
+        requires goes_on { self.old.ending ≡ None }
+        ensures answers { AnswersOrRefuses self.old self.new result (λ t. answers_mcf t (slice_get (blocks_of t) t.place)) }
+        ensures lasts { NoPageStarts self.old → IsOk result }
+    {
+        octets_have_a_block();
+        if let Some(block) = self.next_block() {
+            return Ok(self.send_block(block));
+        }
+        let Some(number) = self.next_page() else {
+            return Ok(Turn::Silent);
+        };
+        match self.page_end() {
+            PageEnd::Eom => {
+                self.page = number;
+                self.state = CallerState::WaitDis;
+                Ok(Turn::Silent)
+            }
+            PageEnd::Mps => {
+                let Some(blocks) = self.code_blocks(number)? else {
+                    self.page = number;
+                    self.end = Some(End::PageTooLong);
+                    return Ok(Turn::Dcn);
+                };
+                Ok(self.send_page(number, blocks))
+            }
+            PageEnd::Eop | PageEnd::Null => {
+                self.page = number;
+                self.end = Some(End::Normal);
+                Ok(Turn::Dcn)
+            }
+        }
+    }
+
+    /// The place of the block after the present one in its page.
+    fn next_block(&self) -> Option<usize>
+        ensures { result ≡ next_in_page self.now.encoded self.now.block }
     {
         let blocks = self.blocks.as_ref()?;
-        if self.block < blocks.count() {
-            Some(blocks)
+        let count = blocks.count();
+        if count > self.block && count - self.block > 1 {
+            Some(self.block + 1)
         } else {
             None
         }
     }
 
-    /// The blocks of the page that is being sent.
-    fn sending(&self) -> Option<&Blocks>
-        ensures { GivesPresent self.now result }
+    /// The number of the page after the present one.
+    fn next_page(&self) -> Option<usize>
+        ensures { result ≡ cond (nat_lt self.now.page (length self.now.document)) (Some (self.now.page + 1)) None }
     {
-        if self.end.is_some() {
-            return None;
+        if self.page < self.document.pages().len() {
+            Some(self.page + 1)
+        } else {
+            None
         }
+    }
+
+    /// How the present page ends.
+    fn page_end(&self) -> PageEnd
+        ensures { result ≡ end_of_first (drop self.now.page self.now.document) }
+    {
+        let pages = self.document.pages();
+        let Some(page) = pages.get(self.page) else {
+            return PageEnd::Eop;
+        };
+        let Some(next) = pages.get(self.page + 1) else {
+            return PageEnd::Eop;
+        };
+        if is_alike(page, next) {
+            PageEnd::Mps
+        } else {
+            PageEnd::Eom
+        }
+    }
+
+    /// The number of the present page, from 0.
+    fn number(&self) -> usize
+        ensures { result ≡ self.now.page }
+    {
+        self.page
+    }
+
+    /// The blocks of the code of the page at a number, if there is one and a call can carry it.
+    fn code_blocks(&self, number: usize) -> Result<Option<Blocks>, AllocError>
+        ensures { IfOk result (λ blocks. blocks ≡ code_blocks_at self.now.params (slice_get self.now.document number)) }
+    {
+        let Some(page) = self.document.pages().get(number) else {
+            return Ok(None);
+        };
+        code_blocks(self.alloc, self.params, page)
+    }
+
+    /// Sends the first block of the page at a number, which has this code.
+    fn send_page(&mut self, page: usize, blocks: Blocks) -> Turn
+        ensures next { self.new ≡ record self.old { state = WaitBlock; page = page; block = 0; encoded = Some blocks; try = 1; pprs = 0 } }
+        ensures turn { result ≡ Turn.Burst all_frames }
+    {
+        self.state = CallerState::WaitBlock;
+        self.page = page;
+        self.block = 0;
+        self.blocks = Some(blocks);
+        self.tries = 1;
+        self.pprs = 0;
+        every_frame()
+    }
+
+    /// Sends the block at a place of the present page for the first time.
+    fn send_block(&mut self, block: usize) -> Turn
+        ensures next { self.new ≡ record self.old { state = WaitBlock; block = block; try = 1; pprs = 0 } }
+        ensures turn { result ≡ Turn.Burst all_frames }
+    {
+        self.state = CallerState::WaitBlock;
+        self.block = block;
+        self.tries = 1;
+        self.pprs = 0;
+        every_frame()
+    }
+}
+
+// The items of the turns.
+impl Caller {
+    /// DCS and a training check; none before a DIS agrees on parameters for the group.
+    fn training(&self) -> Items<'_>
+        ensures { (t : CallerTuple) → Represents self.now t → result ≡ training_items t.state t.params }
+    {
         match self.state {
-            CallerState::WaitBlock => self.coded_blocks(),
-            CallerState::WaitReady => self.coded_blocks(),
-            _ => None,
+            CallerState::WaitDis => Items::none(),
+            _ => Items::training(self.agreed_params()),
         }
     }
 
@@ -571,29 +523,86 @@ impl Caller {
         Items::one(pps(blocks, place, ends, page))
     }
 
-    /// DCS and a training check; none before a DIS agrees on parameters for the group.
-    fn training(&self) -> Items<'_>
-        ensures { (t : CallerTuple) → Represents self.now t → result ≡ training_items t.state t.params }
+    /// The blocks of the page that is being sent.
+    fn sending(&self) -> Option<&Blocks>
+        ensures { GivesPresent self.now result }
     {
+        if self.end.is_some() {
+            return None;
+        }
         match self.state {
-            CallerState::WaitDis => Items::none(),
-            _ => Items::training(self.agreed_params()),
+            CallerState::WaitBlock => self.coded_blocks(),
+            CallerState::WaitReady => self.coded_blocks(),
+            _ => None,
         }
     }
 
-    /// The items of a turn, lent one at a time. A turn that the state has nothing for has none. Takes no
-    /// memory.
-    pub fn frames(&self, turn: &Turn) -> Items<'_>
-        ensures { (t : CallerTuple) → Represents self.now t → result ≡ caller_items t turn.now }
+    /// The blocks of the present page, where the present one is among them.
+    fn coded_blocks(&self) -> Option<&Blocks>
+        ensures { HasBlock self.now result }
     {
-        match *turn {
-            Turn::Training => self.training(),
-            Turn::Burst(map) => self.burst(map),
-            Turn::Pps => self.pps_alone(),
-            Turn::Rr => Items::one(Signal::Rr),
-            Turn::Dcn => Items::one(Signal::Dcn),
-            _ => Items::none(),
+        let blocks = self.blocks.as_ref()?;
+        if self.block < blocks.count() {
+            Some(blocks)
+        } else {
+            None
         }
+    }
+
+    /// The end that the present block's PPS carries.
+    fn block_end(&self) -> PageEnd
+        ensures { result ≡ end_of_fields self.now }
+    {
+        match self.next_block() {
+            Some(_) => PageEnd::Null,
+            None => self.page_end(),
+        }
+    }
+
+    /// The place of the present block in its page, from 0.
+    fn place(&self) -> usize
+        ensures { result ≡ self.now.block }
+    {
+        self.block
+    }
+
+    /// The parameters of the present group.
+    fn agreed_params(&self) -> Params
+        ensures { result ≡ self.now.params }
+    {
+        self.params
+    }
+}
+
+/// Whether a call can have the width of each page.
+fn are_callable(pages: &[Page]) -> bool
+    ensures { IsTrue result ↔ AreCallable pages.now }
+{
+    for page in pages {
+        if !is_callable(page) {
+            return false;
+        }
+    }
+    true
+}
+
+/// Whether a call can have a page's width.
+fn is_callable(page: &Page) -> bool
+    ensures { IsTrue result ↔ IsSome (width_of_pixels page.now.width) }
+{
+    PageWidth::of_pixels(page.width()).is_some()
+}
+
+/// The parameters of a station that has none yet.
+pub(crate) fn no_params() -> Params
+    ensures { result ≡ no_params }
+{
+    Params {
+        speed: Speed::V27At2400,
+        fine: false,
+        width: PageWidth::W1728,
+        coding: Coding::OneDim,
+        small: false,
     }
 }
 
@@ -613,22 +622,6 @@ fn every_frame() -> Turn
     Turn::Burst([255; 32])
 }
 
-/// Octets that bits fill are the packed bits. Nothing runs.
-fn are_packed(octets: &[u8])
-    ensures { (bits : List Bool) → FillsOctets LsbFirst bits octets.now → octets.now ≡ packed bits }
-{}
-
-/// The octets of a page's code.
-fn encoded(alloc: Global, coding: Coding, page: &Page) -> Result<Vec<u8>, AllocError>
-    requires { 0 < length page.now.rows }
-    ensures { IfOk result (λ octets. octets.items ≡ packed (code_of coding page.now.width page.now.rows)) }
-{
-    let mut octets = Vec::new(alloc);
-    coding.encode(alloc, page, Order::LsbFirst, &mut octets)?;
-    are_packed(&octets);
-    Ok(octets)
-}
-
 /// The blocks of a page's code, if a call can carry it.
 #[tactic(auto, unfolding(crate::specs::Layers::code_blocks, crate::specs::Layers::code_within_limit, crate::specs::Layers::within_page_limit, crate::specs::Layers::code_octets))]
 fn code_blocks(alloc: Global, params: Params, page: &Page) -> Result<Option<Blocks>, AllocError>
@@ -643,3 +636,19 @@ fn code_blocks(alloc: Global, params: Params, page: &Page) -> Result<Option<Bloc
         Err(BlockFault::TooLong) => unreachable!(),
     }
 }
+
+/// The octets of a page's code.
+fn encoded(alloc: Global, coding: Coding, page: &Page) -> Result<Vec<u8>, AllocError>
+    requires { 0 < length page.now.rows }
+    ensures { IfOk result (λ octets. octets.items ≡ packed (code_of coding page.now.width page.now.rows)) }
+{
+    let mut octets = Vec::new(alloc);
+    coding.encode(alloc, page, Order::LsbFirst, &mut octets)?;
+    are_packed(&octets);
+    Ok(octets)
+}
+
+/// Octets that bits fill are the packed bits. Nothing runs.
+fn are_packed(octets: &[u8])
+    ensures { (bits : List Bool) → FillsOctets LsbFirst bits octets.now → octets.now ≡ packed bits }
+{}

@@ -28,82 +28,6 @@ pub enum Item<'a> {
     Training(u32),
 }
 
-/// Whether the bit of a frame is 1 in a map.
-fn is_marked(map: &[u8; 32], number: u8) -> bool
-    ensures { result ≡ bit_of map.now number }
-{
-    bit_of(Order::LsbFirst, map, number as u128)
-}
-
-/// The first marked number from one on, or the count where there is none below it.
-fn next_marked(map: &[u8; 32], from: u16, count: u16) -> u16
-    requires order { from ≤ count }
-    requires few { count ≤ 256 }
-    ensures above { from ≤ result }
-    ensures below { result ≤ count }
-    ensures least { (n : ℕ) → from ≤ n → n < result → bit_of map.now n ≡ false }
-    ensures marked { result < count → bit_of map.now result ≡ true }
-{
-    for number in from..count {
-        if is_marked(map, number as u8) {
-            return number;
-        }
-    }
-    count
-}
-
-/// The FCDs of the marked frames of a block, lent one at a time.
-#[derive(Debug, Drop)]
-struct Marked<'a> {
-    blocks: &'a Blocks,
-    block: usize,
-    map: [u8; 32],
-    next: u16,
-}
-
-impl<'a> Model for Marked<'a> {
-    ghost use Rattle.std.specs.Prelude.{◌<◌, ◌≤◌, List, ℕ, [], drop, length, slice_index_or};
-    ghost use Rattle.stations.specs.CallerStep.{fcds};
-    ghost use Rattle.stations.specs.Inputs.{PlainItem};
-
-    ghost Value = { List PlainItem };
-
-    ghost view = { λ m. fcds m.map m.next (drop m.next (slice_index_or m.blocks.now m.block [])) };
-
-    ghost invariant = { λ m. (m.block < length m.blocks.now) × (m.next ≤ length (slice_index_or m.blocks.now m.block [])) };
-}
-
-impl<'a> Marked<'a> {
-    /// The next one.
-    fn take_next(&mut self) -> Option<Signal<'a>>
-        ensures { GivesSignal self.old result self.new }
-    {
-        let blocks = self.blocks;
-        let count = blocks.last(self.block) as u16 + 1;
-        let number = next_marked(&self.map, self.next, count);
-        if number >= count {
-            self.next = count;
-            return None;
-        }
-        let octets = blocks.frame(self.block, number as u8);
-        self.next = number + 1;
-        Some(Signal::Fcd {
-            number: number as u8,
-            octets,
-        })
-    }
-}
-
-/// The next FCD, where there are any.
-fn take_marked<'a>(marked: &mut Option<Marked<'a>>) -> Option<Signal<'a>>
-    ensures { GivesSignal (fcds_left marked.old) result (fcds_left marked.new) }
-{
-    match marked {
-        Some(frames) => frames.take_next(),
-        None => None,
-    }
-}
-
 /// The items of a turn, lent one at a time. Takes no memory.
 #[derive(Debug, Drop)]
 pub struct Items<'a> {
@@ -127,6 +51,30 @@ impl<'a> Model for Items<'a> {
 }
 
 impl<'a> Items<'a> {
+    /// The next item; none where all were lent.
+    pub fn take_next(&mut self) -> Option<Item<'a>>
+        ensures { GivesItem self.old result self.new }
+    {
+        if let Some(signal) = take_marked(&mut self.marked) {
+            return Some(Item::Frame {
+                signal,
+                last: false,
+            });
+        }
+        if self.rcps > 0 {
+            self.rcps -= 1;
+            return Some(Item::Frame {
+                signal: Signal::Rcp,
+                last: false,
+            });
+        }
+        if let Some(signal) = self.end.take() {
+            return Some(Item::Frame { signal, last: true });
+        }
+        let count = self.training.take()?;
+        Some(Item::Training(count))
+    }
+
     /// No item.
     pub(crate) fn none() -> Items<'a>
         ensures { result ≡ [] }
@@ -187,30 +135,6 @@ impl<'a> Items<'a> {
             training: None,
         }
     }
-
-    /// The next item.
-    pub fn take_next(&mut self) -> Option<Item<'a>>
-        ensures { GivesItem self.old result self.new }
-    {
-        if let Some(signal) = take_marked(&mut self.marked) {
-            return Some(Item::Frame {
-                signal,
-                last: false,
-            });
-        }
-        if self.rcps > 0 {
-            self.rcps -= 1;
-            return Some(Item::Frame {
-                signal: Signal::Rcp,
-                last: false,
-            });
-        }
-        if let Some(signal) = self.end.take() {
-            return Some(Item::Frame { signal, last: true });
-        }
-        let count = self.training.take()?;
-        Some(Item::Training(count))
-    }
 }
 
 impl<'a> Iterator for Items<'a> {
@@ -239,4 +163,80 @@ pub(crate) fn pps<'a>(blocks: &Blocks, block: usize, ends: PageEnd, page: usize)
         block: (block % 256) as u8,
         last: blocks.last(block),
     }
+}
+
+/// The FCDs of the marked frames of a block, lent one at a time.
+#[derive(Debug, Drop)]
+struct Marked<'a> {
+    blocks: &'a Blocks,
+    block: usize,
+    map: [u8; 32],
+    next: u16,
+}
+
+impl<'a> Model for Marked<'a> {
+    ghost use Rattle.std.specs.Prelude.{◌<◌, ◌≤◌, List, ℕ, [], drop, length, slice_index_or};
+    ghost use Rattle.stations.specs.CallerStep.{fcds};
+    ghost use Rattle.stations.specs.Inputs.{PlainItem};
+
+    ghost Value = { List PlainItem };
+
+    ghost view = { λ m. fcds m.map m.next (drop m.next (slice_index_or m.blocks.now m.block [])) };
+
+    ghost invariant = { λ m. (m.block < length m.blocks.now) × (m.next ≤ length (slice_index_or m.blocks.now m.block [])) };
+}
+
+impl<'a> Marked<'a> {
+    /// The next one.
+    fn take_next(&mut self) -> Option<Signal<'a>>
+        ensures { GivesSignal self.old result self.new }
+    {
+        let blocks = self.blocks;
+        let count = blocks.last(self.block) as u16 + 1;
+        let number = next_marked(&self.map, self.next, count);
+        if number >= count {
+            self.next = count;
+            return None;
+        }
+        let octets = blocks.frame(self.block, number as u8);
+        self.next = number + 1;
+        Some(Signal::Fcd {
+            number: number as u8,
+            octets,
+        })
+    }
+}
+
+/// The next FCD, where there are any.
+fn take_marked<'a>(marked: &mut Option<Marked<'a>>) -> Option<Signal<'a>>
+    ensures { GivesSignal (fcds_left marked.old) result (fcds_left marked.new) }
+{
+    match marked {
+        Some(frames) => frames.take_next(),
+        None => None,
+    }
+}
+
+/// The first marked number from one on, or the count where there is none below it.
+fn next_marked(map: &[u8; 32], from: u16, count: u16) -> u16
+    requires order { from ≤ count }
+    requires few { count ≤ 256 }
+    ensures above { from ≤ result }
+    ensures below { result ≤ count }
+    ensures least { (n : ℕ) → from ≤ n → n < result → bit_of map.now n ≡ false }
+    ensures marked { result < count → bit_of map.now result ≡ true }
+{
+    for number in from..count {
+        if is_marked(map, number as u8) {
+            return number;
+        }
+    }
+    count
+}
+
+/// Whether the bit of a frame is 1 in a map.
+fn is_marked(map: &[u8; 32], number: u8) -> bool
+    ensures { result ≡ bit_of map.now number }
+{
+    bit_of(Order::LsbFirst, map, number as u128)
 }
