@@ -48,7 +48,7 @@ const PPR: CallerIn<'static> = CallerIn::Heard(Signal::Ppr(FRAME_0));
 /// A whole block goes out.
 const BURST: Turn = Turn::Burst([0xFF; 32]);
 
-/// Three tries of a training check, the first of which answers a DIS or an FTT.
+/// Three tries of a training check, the first of which answers a DIS, or an FTT. With five FTTs these are the 18 of one group.
 const AFTER_DIS: Heard = &[
     (DIS, Turn::Training),
     (TIMEOUT, Turn::Training),
@@ -91,7 +91,19 @@ const CALLS: [Call; 7] = [
     Call {
         first: 1728,
         others: &[],
-        heard: &[AFTER_DIS, SENT, RESENT, RESENT, RESENT, &[(PPR, Turn::Dcn)]],
+        heard: &[
+            AFTER_DIS,
+            AFTER_FTT,
+            AFTER_FTT,
+            AFTER_FTT,
+            AFTER_FTT,
+            AFTER_FTT,
+            SENT,
+            RESENT,
+            RESENT,
+            RESENT,
+            &[(PPR, Turn::Dcn)],
+        ],
         confirmed: 0,
         ending: Some(End::Unreadable),
     },
