@@ -2,6 +2,7 @@ pub mod PackedLemmas
 pub mod WordLemmas
 pub mod PushLemmas
 pub mod FirstLemmas
+pub mod BlockLemmas
 pub mod OctetBits
 pub mod OctetLemmas
 pub mod RowLemmas

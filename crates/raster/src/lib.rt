@@ -2,6 +2,7 @@
 //! of pages, and their PBM and text forms. It uses no other crate of this repository.
 #![tactic(auto)]
 
+mod blocks;
 mod fault;
 pub mod laws;
 pub mod packed;
@@ -14,6 +15,7 @@ mod tests;
 mod text;
 mod words;
 
+pub use crate::blocks::block_change;
 pub use crate::fault::RasterFault;
 pub use crate::page::{Document, MAX_ROWS, Page};
 pub use crate::pbm::read_pbm;

@@ -3,7 +3,7 @@
 ghost use Rattle.raster.specs.Changes.{IsNextChange};
 ghost use Rattle.raster.specs.Pbm.{row_pixels};
 ghost use Rattle.raster.specs.PbmText.{HoldsRow};
-ghost use Rattle.raster.specs.Pixels.{other, colors, IsWidth};
+ghost use Rattle.raster.specs.Pixels.{other, color_of, colors, IsWidth};
 ghost use Rattle.raster.specs.Runs.{colored, FromRuns, AppendsRuns, AreOwnRuns};
 ghost use Rattle.raster.specs.Words.{EndsRun};
 ghost use Rattle.std.specs.Prelude.{◌≡◌, ◌≤◌, ◌<◌, ◌+◌, ◌*◌, ◌^◌, ◌↔◌, ℕ, ◌++◌, ◌∷◌, [], replicate, length, slice_get, sum, OnOk, OnErr, IfOk, IfErr, SomeIff, IsOkUnless, IsTrue};
@@ -26,6 +26,13 @@ impl Color {
         ensures { IsTrue result ↔ (self ≡ color) }
     {
         self == color
+    }
+
+    /// Black for a 1 bit.
+    pub(crate) fn of_bit(bit: bool) -> Color
+        ensures { result ≡ color_of bit }
+    {
+        if bit { Color::Black } else { Color::White }
     }
 
     /// The other color.
@@ -141,11 +148,7 @@ impl Row {
         requires { at < length self.now }
         ensures { slice_get self.now at ≡ Some result }
     {
-        if self.pixels.bit(at as u128) {
-            Color::Black
-        } else {
-            Color::White
-        }
+        Color::of_bit(self.pixels.bit(at as u128))
     }
 
     /// The row's octets as Netpbm's raw PBM format has them: eight pixels an octet, the leftmost in the

@@ -5,7 +5,9 @@ ghost use Rattle.raster.specs.Words.{bit_of_word, IsWordAt, IsFirstInWord, IsFir
 ghost use Rattle.std.specs.Int.{bit_at};
 ghost use Rattle.std.specs.Prelude.{ℕ, true, false, ◌≡◌, ◌≤◌, ◌<◌, ◌+◌, ◌-◌, ◌*◌, ◌/◌, length, nat_eq};
 
+use crate::blocks::block_change;
 use crate::packed::Order;
+use crate::row::Color;
 
 /// The octet with its first bit the most significant.
 fn first_highest(order: Order, octet: u8) -> u8
@@ -173,6 +175,41 @@ fn first_in_word(word: u64, from: u32, bit: bool) -> u32
     (turned & (u64::MAX >> from)).leading_zeros()
 }
 
+/// The first place of a piece of octets whose bit is another, or its end, counted from the piece's
+/// first bit; and the octets of the piece: 32 where as many are left, and else 8, which are 0 past the end.
+fn first_in_piece(octets: &[u8], at: usize, bit: bool) -> (u32, u32)
+    requires { at ≤ length octets.now }
+    ensures some { 0 < result.1 }
+    ensures few { result.1 ≤ 32 }
+    ensures first { IsFirstOther octets.now (8 * at) (8 * at + 8 * result.1) bit (8 * at + result.0) }
+{
+    match octets[at..].first_chunk::<32>() {
+        Some(block) => (block_change(block, Color::of_bit(bit)), 32),
+        None => {
+            let word = octet_word(Order::MsbFirst, octets, at);
+            (first_in_word(word, 0, bit), 8)
+        }
+    }
+}
+
+/// The first place of octets from an octet on whose bit is another, or the end.
+fn first_other_after(octets: &[u8], from: u32, end: u32, bit: bool) -> u32
+    requires order { 8 * from ≤ end }
+    requires within { end ≤ 8 * length octets.now }
+    requires small { end ≤ 2432 }
+    ensures { IsFirstOther octets.now (8 * from) end bit result }
+{
+    let mut at = from;
+    while 8 * at < end {
+        let (place, size) = first_in_piece(octets, at as usize, bit);
+        if place < 8 * size {
+            return (8 * at + place).min(end);
+        }
+        at += size;
+    }
+    end
+}
+
 /// The first place of octets from a place on whose bit is another, or the end.
 pub(crate) fn first_other(octets: &[u8], from: u32, end: u32, bit: bool) -> u32
     requires order { from ≤ end }
@@ -180,15 +217,14 @@ pub(crate) fn first_other(octets: &[u8], from: u32, end: u32, bit: bool) -> u32
     requires small { end ≤ 2432 }
     ensures { IsFirstOther octets.now from end bit result }
 {
-    let mut at = from;
-    while at < end {
-        let word = octet_word(Order::MsbFirst, octets, (at / 8) as usize);
-        let place = first_in_word(word, at % 8, bit);
-        let base = at - at % 8;
-        if place < 64 {
-            return (base + place).min(end);
-        }
-        at = base + 64;
+    let word = octet_word(Order::MsbFirst, octets, (from / 8) as usize);
+    let place = first_in_word(word, from % 8, bit);
+    let base = from - from % 8;
+    if place < 64 {
+        return (base + place).min(end);
     }
-    end
+    if base + 64 >= end {
+        return end;
+    }
+    first_other_after(octets, from / 8 + 8, end, bit)
 }
