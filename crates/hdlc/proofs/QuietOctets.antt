@@ -1,8 +1,11 @@
 -- Eight bits more in a cutter: those that end no flag, and those that repeat flags.
-use Rattle.std.proofs.Common.{◌≡◌, ℕ, zero, suc, ◌+◌, ◌-◌, ◌*◌, ◌/◌, ◌%◌, ◌^◌, ◌<◌, ◌≤◌, Bool, true, false, not, ◌&&◌, List, [], ◌∷◌, ◌++◌, length, take, drop, cond, min, refl, ap, sym, ◌∙◌, arith, nat_eq, append_assoc, Option, Some, None}
+use Rattle.std.proofs.Common.{◌≡◌, ℕ, zero, suc, ◌+◌, ◌-◌, ◌*◌, ◌/◌, ◌%◌, ◌^◌, ◌<◌, ◌≤◌, Bool, true, false, not, ◌&&◌, List, [], ◌∷◌, ◌++◌, length, take, drop, cond, min, refl, ap, sym, ◌∙◌, arith, nat_eq, bit_and, inl, inr, append_assoc, Option, Some, None}
 use Rattle.std.specs.Prelude.{is_some}
 use Rattle.std.proofs.lemmas.List.{append-nil, drop-append-le, length-append, take_at, take-append-drop, drop_all, length-take-le}
-use Rattle.std.proofs.lemmas.Bool.{and_parts}
+use Rattle.std.specs.Int.{bit_at}
+use Rattle.std.proofs.lemmas.Nat.{and_shr}
+use Rattle.std.proofs.lemmas.Nat.Bits.{bit_at_and}
+use Rattle.std.proofs.lemmas.Bool.{and_parts, cases_eq, ne_eqb}
 use Rattle.hdlc.specs.declared.counts.Class.{Class}
 use Rattle.hdlc.specs.declared.counts.Counts.{Counts}
 use Rattle.hdlc.specs.declared.cutter.Cutter.{Cutter}
@@ -214,6 +217,97 @@ no_flag_in x =
 and_assoc : (x y z : Bool) → ((x && y) && z) ≡ (x && (y && z))
 and_assoc true y z = refl
 and_assoc false y z = refl
+
+-- ---- no six 1 bits in a row
+
+abbrev pub sixes : ℕ → ℕ
+sixes x = bit_and (bit_and (bit_and x (x / 2)) (bit_and x (x / 2) / 4)) (bit_and x (x / 2) / 16)
+
+six_at : (x k : ℕ) → x / 2 ^ k % 2 ≡ 1 → x / 2 / 2 ^ k % 2 ≡ 1 → x / 4 / 2 ^ k % 2 ≡ 1 → x / 2 / 4 / 2 ^ k % 2 ≡ 1
+    → x / 16 / 2 ^ k % 2 ≡ 1 → x / 2 / 16 / 2 ^ k % 2 ≡ 1 → sixes x / 2 ^ k % 2 ≡ 1
+six_at x k a b c d e f =
+    let pairs : ℕ = bit_and x (x / 2) in
+    let p0 : bit_at pairs k ≡ 1 = bit_at_and x (x / 2) k ∙ (rw (a, b) refl) in
+    let p2 : bit_at (pairs / 4) k ≡ 1 = ap (λ n. bit_at n k) (and_shr x (x / 2) 2) ∙ (bit_at_and (x / 4) (x / 2 / 4) k ∙ (rw (c, d) refl)) in
+    let p4 : bit_at (pairs / 16) k ≡ 1 = ap (λ n. bit_at n k) (and_shr x (x / 2) 4) ∙ (bit_at_and (x / 16) (x / 2 / 16) k ∙ (rw (e, f) refl)) in
+    let four : bit_at (bit_and pairs (pairs / 4)) k ≡ 1 = bit_at_and pairs (pairs / 4) k ∙ (rw (p0, p2) refl) in
+    bit_at_and (bit_and pairs (pairs / 4)) (pairs / 16) k ∙ (rw (four, p4) refl)
+
+none_1 : (x : ℕ) → sixes x / 4 % 256 ≡ 0 → differs (x / 2) ≡ true
+none_1 x h = elim (cases_eq (x / 2 % 256) 126) [
+  | inl e ↦
+      let six : sixes x / 4 % 2 ≡ 1 =
+      six_at x 2 (omega arith) (omega arith) (omega arith) (omega arith) (omega arith) (omega arith) in
+      absurd (omega arith)
+  | inr ne ↦ ap not (ne_eqb (x / 2 % 256) 126 ne)
+]
+
+none_2 : (x : ℕ) → sixes x / 4 % 256 ≡ 0 → differs (x / 4) ≡ true
+none_2 x h = elim (cases_eq (x / 4 % 256) 126) [
+  | inl e ↦
+      let six : sixes x / 8 % 2 ≡ 1 =
+      six_at x 3 (omega arith) (omega arith) (omega arith) (omega arith) (omega arith) (omega arith) in
+      absurd (omega arith)
+  | inr ne ↦ ap not (ne_eqb (x / 4 % 256) 126 ne)
+]
+
+none_3 : (x : ℕ) → sixes x / 4 % 256 ≡ 0 → differs (x / 8) ≡ true
+none_3 x h = elim (cases_eq (x / 8 % 256) 126) [
+  | inl e ↦
+      let six : sixes x / 16 % 2 ≡ 1 =
+      six_at x 4 (omega arith) (omega arith) (omega arith) (omega arith) (omega arith) (omega arith) in
+      absurd (omega arith)
+  | inr ne ↦ ap not (ne_eqb (x / 8 % 256) 126 ne)
+]
+
+none_4 : (x : ℕ) → sixes x / 4 % 256 ≡ 0 → differs (x / 16) ≡ true
+none_4 x h = elim (cases_eq (x / 16 % 256) 126) [
+  | inl e ↦
+      let six : sixes x / 32 % 2 ≡ 1 =
+      six_at x 5 (omega arith) (omega arith) (omega arith) (omega arith) (omega arith) (omega arith) in
+      absurd (omega arith)
+  | inr ne ↦ ap not (ne_eqb (x / 16 % 256) 126 ne)
+]
+
+none_5 : (x : ℕ) → sixes x / 4 % 256 ≡ 0 → differs (x / 32) ≡ true
+none_5 x h = elim (cases_eq (x / 32 % 256) 126) [
+  | inl e ↦
+      let six : sixes x / 64 % 2 ≡ 1 =
+      six_at x 6 (omega arith) (omega arith) (omega arith) (omega arith) (omega arith) (omega arith) in
+      absurd (omega arith)
+  | inr ne ↦ ap not (ne_eqb (x / 32 % 256) 126 ne)
+]
+
+none_6 : (x : ℕ) → sixes x / 4 % 256 ≡ 0 → differs (x / 64) ≡ true
+none_6 x h = elim (cases_eq (x / 64 % 256) 126) [
+  | inl e ↦
+      let six : sixes x / 128 % 2 ≡ 1 =
+      six_at x 7 (omega arith) (omega arith) (omega arith) (omega arith) (omega arith) (omega arith) in
+      absurd (omega arith)
+  | inr ne ↦ ap not (ne_eqb (x / 64 % 256) 126 ne)
+]
+
+none_7 : (x : ℕ) → sixes x / 4 % 256 ≡ 0 → differs (x / 128) ≡ true
+none_7 x h = elim (cases_eq (x / 128 % 256) 126) [
+  | inl e ↦
+      let six : sixes x / 256 % 2 ≡ 1 =
+      six_at x 8 (omega arith) (omega arith) (omega arith) (omega arith) (omega arith) (omega arith) in
+      absurd (omega arith)
+  | inr ne ↦ ap not (ne_eqb (x / 128 % 256) 126 ne)
+]
+
+none_8 : (x : ℕ) → sixes x / 4 % 256 ≡ 0 → differs (x / 256) ≡ true
+none_8 x h = elim (cases_eq (x / 256 % 256) 126) [
+  | inl e ↦
+      let six : sixes x / 512 % 2 ≡ 1 =
+      six_at x 9 (omega arith) (omega arith) (omega arith) (omega arith) (omega arith) (omega arith) in
+      absurd (omega arith)
+  | inr ne ↦ ap not (ne_eqb (x / 256 % 256) 126 ne)
+]
+
+pub no_six : (x : ℕ) → sixes x / 4 % 256 ≡ 0 → no_flag_in x ≡ true
+no_six x h =
+    rw (none_1 x h, none_2 x h, none_3 x h, none_4 x h, none_5 x h, none_6 x h, none_7 x h, none_8 x h) refl
 
 -- the same in the order of the code
 pub no_flag_left : (x : ℕ) → (((((((differs (x / 2) && differs (x / 4)) && differs (x / 8)) && differs (x / 16)) && differs (x / 32))

@@ -10,7 +10,7 @@ ghost use Rattle.hdlc.specs.DeframerParts.{Cuts, PartsAfter, Grows, count_in};
 ghost use Rattle.hdlc.specs.EightBits.{ends_no_flag, repeated};
 ghost use Rattle.hdlc.specs.declared.counts.Class.{Class as AnyClass};
 ghost use Rattle.hdlc.specs.declared.counts.Counts.{Counts as AnyCounts};
-ghost use Rattle.std.specs.Prelude.{ℕ, ◌≡◌, ◌+◌, ◌/◌, ◌%◌, ◌≤◌, ◌++◌, ◌∷◌, ◌&&◌, [], List, Bool, true, cond, min, nat_lt, length, OnOk};
+ghost use Rattle.std.specs.Prelude.{ℕ, ◌≡◌, ◌+◌, ◌/◌, ◌%◌, ◌≤◌, ◌++◌, ◌∷◌, ◌&&◌, [], List, Bool, true, false, cond, min, nat_lt, length, OnOk};
 
 use crate::assembler::shifted;
 use crate::collector::{Collector, bit_at};
@@ -57,6 +57,11 @@ fn ends_no_flag(window: u8, octet: u8) -> bool
     ensures { result ≡ ends_no_flag window (bits_of LsbFirst (octet ∷ [])) }
 {
     let both = u16::from(octet) * 256 + u16::from(window);
+    let pairs = both & (both / 2);
+    let fours = pairs & (pairs / 4);
+    if (fours & (pairs / 16)) / 4 % 256 == 0 {
+        return true; // no six 1 bits in a row
+    }
     (both / 2 % 256 != 0x7E)
         & (both / 4 % 256 != 0x7E)
         & (both / 8 % 256 != 0x7E)
@@ -149,6 +154,27 @@ impl Cutter {
         self.held = full(self.begun);
         self.window = octet;
     }
+
+    /// Takes an octet that ends no flag or repeats flags, which changes no count and brings no
+    /// content, and answers whether it did; else nothing is changed.
+    pub fn take_at_once(&mut self, octet: u8) -> bool
+        ensures taken { result ≡ true → (counts : AnyCounts) (queue : List (List ℕ)) (bits : List Bool) (handed : ℕ)
+            → PartsAfter self.old counts queue bits handed
+            → PartsAfter self.new counts queue (bits ++ bits_of LsbFirst (octet ∷ [])) handed }
+        ensures left { result ≡ false → self.new ≡ self.old }
+    {
+        if self.repeats_flags(octet) {
+            return true;
+        }
+        if self.held % 8 != 0 {
+            return false;
+        }
+        if !ends_no_flag(self.window, octet) {
+            return false;
+        }
+        self.take_quiet(octet);
+        true
+    }
 }
 
 /// Counts a gap that a flag has ended, and keeps the content of a good one.
@@ -236,15 +262,8 @@ pub fn take_octet(
         → PartsAfter cutter.new counts.new (contents_of queue.new.items) (bits ++ bits_of LsbFirst (octet ∷ [])) handed) }
     ensures keeps { Grows queue.old.items queue.new.items }
 {
-    if cutter.repeats_flags(octet) {
+    if cutter.take_at_once(octet) {
         return Ok(());
     }
-    if cutter.held % 8 != 0 {
-        return take_each(cutter, counts, queue, alloc, octet);
-    }
-    if !ends_no_flag(cutter.window, octet) {
-        return take_each(cutter, counts, queue, alloc, octet);
-    }
-    cutter.take_quiet(octet);
-    Ok(())
+    take_each(cutter, counts, queue, alloc, octet)
 }

@@ -9,7 +9,7 @@ ghost use Rattle.hdlc.specs.contracts.deframer.Deframer.{the_row};
 ghost use Rattle.hdlc.specs.declared.counts.Class.{Class as AnyClass};
 ghost use Rattle.std.specs.Borrow.{sem};
 ghost use Rattle.std.specs.Io.BufRead.{Rests};
-ghost use Rattle.std.specs.Prelude.{ℕ, ◌≡◌, ◌++◌, [], List, Bool, min, length, OnOk, OnErr, IfSome, IfNone, slice_get, drop};
+ghost use Rattle.std.specs.Prelude.{ℕ, ◌≡◌, ◌++◌, [], List, Bool, true, false, min, length, OnOk, OnErr, IfSome, IfNone, slice_get, drop};
 
 use crate::counts::Counts;
 use crate::cutter::{Cutter, take_octet};
@@ -57,9 +57,21 @@ impl Deframer {
         }
     }
 
-    /// Takes the next bits: those of the octets, the least significant of each first. Errs where
-    /// memory is refused for a content, which changes nothing.
-    pub fn feed(&mut self, piece: &[u8]) -> Result<(), AllocError>
+    /// Takes a piece of one octet that needs no memory, and answers whether it did; else nothing is
+    /// changed.
+    fn take_one(&mut self, piece: &[u8]) -> bool
+        ensures taken { result ≡ true → (bits : List Bool) (handed : ℕ) → IsAfter self.old bits handed
+            → IsAfter self.new (bits ++ bits_of LsbFirst piece.now) handed }
+        ensures left { result ≡ false → self.new ≡ self.old }
+    {
+        let [octet] = piece else {
+            return false;
+        };
+        self.cutter.take_at_once(*octet)
+    }
+
+    /// Takes a piece of any octets.
+    fn take_all(&mut self, piece: &[u8]) -> Result<(), AllocError>
         ensures ok { OnOk result ((bits : List Bool) (handed : ℕ) → IsAfter self.old bits handed
             → IsAfter self.new (bits ++ bits_of LsbFirst piece.now) handed) }
         ensures err { OnErr result (self.new ≡ self.old) }
@@ -82,6 +94,19 @@ impl Deframer {
         self.cutter = cutter;
         self.counts = counts;
         Ok(())
+    }
+
+    /// Takes the next bits: those of the octets, the least significant of each first. Errs where
+    /// memory is refused for a content, which changes nothing.
+    pub fn feed(&mut self, piece: &[u8]) -> Result<(), AllocError>
+        ensures ok { OnOk result ((bits : List Bool) (handed : ℕ) → IsAfter self.old bits handed
+            → IsAfter self.new (bits ++ bits_of LsbFirst piece.now) handed) }
+        ensures err { OnErr result (self.new ≡ self.old) }
+    {
+        if self.take_one(piece) {
+            return Ok(());
+        }
+        self.take_all(piece)
     }
 
     /// Hands out the oldest content that was not yet handed out: the octets of a good frame but its

@@ -4,7 +4,7 @@ use Rattle.raster.specs.declared.packed.Order.TheVariants.{LsbFirst}
 use Rattle.hdlc.specs.Contents.{contents_of}
 use Rattle.hdlc.specs.DeframerState.{IsAfter}
 use Rattle.hdlc.specs.DeframerParts.{PartsAfter, Grows}
-use Rattle.hdlc.proofs.deframer.Deframer.feed.Given as goal
+use Rattle.hdlc.proofs.deframer.Deframer.take_all.Given as goal
 
 abbrev pub invariant-loop-octet : goal.invariant-loop-octet
 invariant-loop-octet l = record {

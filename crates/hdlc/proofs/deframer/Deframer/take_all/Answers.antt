@@ -7,7 +7,7 @@ use Rattle.hdlc.specs.DeframerParts.{kept_in}
 use Rattle.hdlc.proofs.KeptLemmas.{parts_seen, parts_inside}
 use Rattle.hdlc.proofs.DeframerPartsLemmas.{grows_twice, grows_cut, state_same}
 use Rattle.hdlc.proofs.BitPlaces.{octets-none, octets-next, octets-all}
-use Rattle.hdlc.proofs.deframer.Deframer.feed.Goals as goal
+use Rattle.hdlc.proofs.deframer.Deframer.take_all.Goals as goal
 
 pub returns-in-Err-clause-err : goal.returns-in-Err-clause-err
 returns-in-Err-clause-err c =
