@@ -8,3 +8,4 @@ mod OneScript
 mod CallEnds
 mod CallSteps
 mod EntryLines
+mod DecodedRows

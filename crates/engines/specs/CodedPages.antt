@@ -1,5 +1,5 @@
--- What the commands that code and show pages do with what they read.
-use Rattle.std.specs.Prelude.{ℕ, ◌≡◌, ◌≢◌, ◌≤◌, ◌⊎◌, false, List, [], ◌∷◌, Option, length, Err}
+-- What the commands that code, show and decode pages do with what they read.
+use Rattle.std.specs.Prelude.{ℕ, ◌≡◌, ◌≢◌, ◌≤◌, ◌⊎◌, Bool, false, List, [], ◌∷◌, Option, length, Err}
 use Rattle.std.specs.Io.KnownBytes.{Appends}
 use Rattle.raster.specs.declared.packed.Order.{Order}
 use Rattle.raster.specs.declared.row.Color.{Color}
@@ -7,6 +7,7 @@ use Rattle.raster.specs.Faults.{number_of}
 use Rattle.raster.specs.Packed.{bits_of, FillsOctets}
 use Rattle.raster.specs.Pages.{PagePixels}
 use Rattle.raster.specs.Pbm.{AreImages, read_images}
+use Rattle.raster.specs.PbmText.{AppendsSome, ArePagesText}
 use Rattle.raster.specs.Text.{page_text}
 use Rattle.raster.specs.declared.fault.RasterFault.{RasterFault}
 use Rattle.run_tables.specs.declared.fault.CodeFault.{CodeFault}
@@ -14,7 +15,7 @@ use Rattle.run_tables.specs.declared.fault.CodeFaultKind.TheVariants.{NoMemory}
 use Rattle.run_tables.specs.Faults.{number_of as kind_number}
 use Rattle.page_code.specs.declared.Coding.{Coding}
 use Rattle.page_code.specs.Codings.{IsLongestIn, ReadsIn, code_of}
-use Rattle.page_code.specs.PageCodes.{RefusesPage}
+use Rattle.page_code.specs.PageCodes.{ReadsPage, RefusesPage}
 use Rattle.engines.specs.Faults.{IsOutside}
 use Rattle.engines.specs.declared.fault.ToolFault.{ToolFault}
 use Rattle.engines.specs.declared.fault.ToolFault.TheVariants.{No, AtBit}
@@ -46,6 +47,14 @@ pub record ShowsPage (coding : Coding) (order : Order) (width : ℕ) (before aft
   pub reads : ReadsIn coding width (bits_of order octets) rows used
   pub written : Appends before after (page_text rows)
 
+-- the octets read begin with a page's code, of so many bits, and the image of the page, which has so many rows, is written
+pub record DecodesPage (coding : Coding) (order : Order) (width : ℕ) (fine : Bool) (before after : Option (List ℕ)) (rows used : ℕ)
+    (octets : List ℕ) : Type 0 where
+  pub page : PagePixels
+  pub read : ReadsPage (ReadsIn coding) width fine (bits_of order octets) page used
+  pub rows_are : rows ≡ length page.rows
+  pub written : AppendsSome (ArePagesText (page ∷ [])) before after
+
 -- the octets read begin with no page's code: the fault's bit and number
 pub record RefusesCode (coding : Coding) (order : Order) (width : ℕ) (octets : List ℕ) (fault : ToolFault) : Type 0 where
   pub code_fault : CodeFault
@@ -53,6 +62,6 @@ pub record RefusesCode (coding : Coding) (order : Order) (width : ℕ) (octets :
   pub other : code_fault.kind ≢ NoMemory
   pub is : fault ≡ AtBit (kind_number code_fault.kind) code_fault.place
 
--- why no page was shown
+-- why no page was shown or decoded
 abbrev pub RefusesShow : Coding → Order → ℕ → List ℕ → ToolFault → Type 0
 RefusesShow coding order width octets fault = IsOutside fault ⊎ RefusesCode coding order width octets fault

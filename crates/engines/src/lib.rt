@@ -18,7 +18,7 @@ pub use crate::call::call_engine;
 pub use crate::fault::{FAILED, NO_MEMORY, ToolFault};
 pub use crate::frames::frames_engine;
 pub use crate::options::CallOptions;
-pub use crate::pages::{code_engine, show_engine};
+pub use crate::pages::{code_engine, decode_engine, show_engine};
 pub use crate::script::{Command, read_script};
 pub use crate::texts::{ContentText, SignalText};
 pub use crate::transcript::write_report;

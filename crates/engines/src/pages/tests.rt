@@ -1,6 +1,6 @@
-//! What no clause says of `code` and `show`: octets that come and go one by one, and readers and writers that fail.
+//! What no clause says of images and coded pages: octets that come and go one by one, and readers and writers that fail.
 
-use super::{code_engine, show_engine};
+use super::{code_engine, decode_engine, show_engine};
 use crate::fault::{FAILED, ToolFault};
 use crate::test_streams::{Narrow, OneByOne};
 use page_code::Coding;
@@ -92,5 +92,31 @@ fn octets_come_and_go_one_by_one(rt: HostRuntime) -> Result<(), Fail> {
         8,
     )?;
     assert_eq!(rt; text.taken.as_slice(), TEXT);
+    Ok(())
+}
+
+/// The code is EOL (12 bits), a row of white 2, black 2 and white 4 (10 bits), and six EOLs.
+#[test]
+fn a_code_is_decoded_to_its_image(rt: HostRuntime) -> Result<(), Fail> {
+    let alloc = rt.alloc();
+    let mut coded = OneByOne {
+        left: &CODE,
+        fails: false,
+    };
+    let mut image = Narrow {
+        taken: Vec::with_capacity(alloc, 100)?,
+        room: 100,
+    };
+    let told = decode_engine(
+        alloc,
+        &mut coded,
+        &mut image,
+        Coding::OneDim,
+        Order::MsbFirst,
+        8,
+        false,
+    )?;
+    assert_eq!(rt; told, (1, 94));
+    assert_eq!(rt; image.taken.as_slice(), IMAGE.as_slice());
     Ok(())
 }
