@@ -11,4 +11,5 @@ pub mod Reading
 pub mod ChangeLists
 pub mod WritesMode
 pub mod StepsOn
+pub mod ModeTable
 pub mod ReadsItsCode

@@ -3,6 +3,7 @@ pub mod Positions
 pub mod Modes
 pub mod Code
 pub mod Fronts
+pub mod ModeTable
 pub mod Laws
 pub mod Changes
 pub mod Writing

@@ -9,6 +9,7 @@ mod a0;
 mod changes;
 mod line;
 pub(crate) mod mode;
+mod mode_table;
 mod read;
 #[cfg(test)]
 mod tests;

@@ -1,9 +1,9 @@
 -- Reading a T.6 page by its parts: mode codes, runs, modes and rows.
-use Rattle.std.proofs.Common.{ℕ, suc, ◌≡◌, ◌+◌, ◌-◌, ◌<◌, ◌≤◌, ◌⊎◌, inl, inr, Bool, true, false, ◌&&◌, not, List, [], ◌∷◌, ◌++◌, length, drop, replicate, Some, None, refl, ap, subst, sym, ◌∙◌, arith, cond, nat_eq, length-append, drop-cons, add-one}
-use Rattle.std.specs.Prelude.{Option, Contains, Result, Ok, Err, OnOk, slice_get, slice_index_or}
+use Rattle.std.proofs.Common.{ℕ, suc, ◌≡◌, ◌+◌, ◌-◌, ◌<◌, ◌≤◌, ◌⊎◌, inl, inr, Bool, true, false, ◌&&◌, not, List, [], ◌∷◌, ◌++◌, length, drop, replicate, Some, None, refl, ap, subst, sym, ◌∙◌, arith, cond, length-append, drop-cons, add-one}
+use Rattle.std.specs.Prelude.{Option, Contains, Result, Ok, Err, slice_get, slice_index_or}
 use Rattle.std.specs.Option.{option_map}
 use Rattle.std.proofs.lemmas.Bool.{lt-ltb, le-ltb, ne_eqb, cases_eq}
-use Rattle.std.proofs.lemmas.List.{drop-drop, length-drop, length-map, length-replicate, append-nil}
+use Rattle.std.proofs.lemmas.List.{drop-drop, length-drop, length-replicate, append-nil}
 use Rattle.std.proofs.lemmas.Option.{slice_get_cases}
 use Rattle.raster.specs.declared.row.Color.{Color}
 use Rattle.raster.specs.declared.row.Color.TheVariants.{White}
@@ -13,7 +13,7 @@ use Rattle.run_tables.specs.declared.fault.CodeFault.{CodeFault}
 use Rattle.run_tables.specs.declared.fault.CodeFaultKind.{CodeFaultKind}
 use Rattle.run_tables.specs.declared.fault.CodeFaultKind.TheVariants.{NoMemory, BadCode, Truncated, Backwards, PastEnd, EmptyHorizontal}
 use Rattle.run_tables.specs.declared.reader.Among.TheVariants.{AllCodes, TerminatingCodes}
-use Rattle.run_tables.specs.Codes.{code_word, text}
+use Rattle.run_tables.specs.Codes.{code_word}
 use Rattle.run_tables.specs.CodeReading.{first_runs, PicksCode, BeginsRun, RefusesCodeWithin, ReadsRunWithin}
 use Rattle.run_tables.specs.Reading.{Reading, rest_of}
 use Rattle.run_tables.specs.Texts.{begins, all_zero, pick, is_cut}
@@ -64,36 +64,6 @@ none_cut x at whole h = rw (
   h 7 (omega arith),
   h 8 (omega arith),
 ) refl
-
--- none begins the bits
-pub none_begins : (x : List Bool) (at : ℕ) → 9 ≤ at → ((k : ℕ) → k < at
-    → begins (mode_word (slice_index_or mode_codes k Pass)) x ≡ false) → (code : ModeCode) → begins (mode_word code) x ≡ false
-none_begins x at whole h Pass = h 0 (omega arith)
-none_begins x at whole h Horizontal = h 1 (omega arith)
-none_begins x at whole h (Vertical V0) = h 2 (omega arith)
-none_begins x at whole h (Vertical VR1) = h 3 (omega arith)
-none_begins x at whole h (Vertical VR2) = h 4 (omega arith)
-none_begins x at whole h (Vertical VR3) = h 5 (omega arith)
-none_begins x at whole h (Vertical VL1) = h 6 (omega arith)
-none_begins x at whole h (Vertical VL2) = h 7 (omega arith)
-none_begins x at whole h (Vertical VL3) = h 8 (omega arith)
-
--- a mode code that begins the bits was passed by
-pub mode_taken : (old now new : Reading) (code : ModeCode) (digits : List ℕ) (begun : Bool) → now ≡ old → text digits ≡ mode_word code
-    → begun ≡ begins (text digits) (rest_of now) → begun ≡ true → new ≡ record { bits = now.bits; place = now.place + length digits }
-    → ReadsMode old new (Ok code)
-mode_taken old now new code digits begun same is tested holds skipped =
-    let count : length digits ≡ length (mode_word code) = sym (length-map digits (λ (digit : ℕ). nat_eq digit 49)) ∙ ap length is in
-    subst (λ (o : Reading). ReadsMode o new (Ok code)) same (
-      ap (λ t. begins t (rest_of now)) (sym is) ∙ (sym tested ∙ holds),
-      skipped ∙
-          ap (λ (n : ℕ). record { bits = now.bits; place = now.place + n }) count,
-    )
-
-pub mode_none : (old now new : Reading) (fault : CodeFault) → now ≡ old
-    → fault ≡ record { place = now.place; kind = missing_mode (rest_of now) } → ((code : ModeCode)
-    → begins (mode_word code) (rest_of now) ≡ false) → ReadsMode old new (Err fault)
-mode_none old now new fault same is none = subst (λ (o : Reading). ReadsMode o new (Err fault)) same (is, none)
 
 -- Only 0 bits
 

@@ -14,6 +14,7 @@ use crate::t6::a0::b2;
 use crate::t6::changes::Changes;
 use crate::t6::line::Line;
 use crate::t6::mode::{EOFB, ModeCode, Shift};
+use crate::t6::mode_table::mode_of;
 use raster::{MAX_ROWS, Page, Row};
 use run_tables::{BitReader, CodeFault, CodeFaultKind};
 use std::alloc::{AllocError, Global};
@@ -106,15 +107,16 @@ fn no_mode(reader: &BitReader) -> CodeFault
 fn next_mode(reader: &mut BitReader) -> Result<ModeCode, CodeFault>
     ensures { ReadsMode reader.old reader.new result }
 {
-    for at in 0..9 {
-        let code = MODE_CODES[at];
-        let digits = code.digits();
-        if reader.begins_with(digits) {
-            reader.skip(digits.len());
-            return Ok(code);
-        }
-    }
-    Err(no_mode(reader))
+    let _start = reader.place(); // tells the proof that it is within the bits
+    let Some(code) = mode_of((reader.peek() >> 57) as u32) else {
+        return Err(no_mode(reader));
+    };
+    let length = code.digits().len();
+    let Some(_last) = reader.ahead(length - 1) else {
+        return Err(no_mode(reader));
+    };
+    reader.skip(length);
+    Ok(code)
 }
 
 /// Pass mode: a0 goes under b2.

@@ -1,18 +1,41 @@
-use Rattle.std.proofs.Common.{arith}
-use Rattle.std.specs.Prelude.{slice_index_or}
+use Rattle.std.proofs.Common.{ℕ, ◌+◌, arith, ap, ◌∙◌}
+use Rattle.std.proofs.lemmas.List.{length-drop}
 use Rattle.run_tables.specs.Reading.{rest_of}
-use Rattle.page_code.specs.declared.t6.mode.ModeCode.TheVariants.{Pass}
-use Rattle.page_code.specs.TwoDimensions.Fronts.{mode_codes}
-use Rattle.page_code.proofs.TwoDimensions.StepsOn.{mode_taken, mode_none, none_begins}
+use Rattle.page_code.proofs.TwoDimensions.ModeTable.{cut_seen, digits_count, found_seen, mode_some, none_seen}
 use Rattle.page_code.proofs.t6.read.next_mode.Goals as goal
 
-pub returns-then-begins_with : goal.returns-then-begins_with
-returns-then-begins_with c =
-    mode_taken c.args.reader.now c.loop-at.reader c.skip.new.self (slice_index_or mode_codes c.loop-at.at Pass) c.digits-digits.result.now
-    c.begins_with.result c.loop-at.invariant.same c.digits-digits.ensures c.begins_with.ensures.begun c.if-begins_with.true
-    c.skip.ensures
+pub returns-in_default : goal.returns-in_default
+returns-in_default c = (
+  c.no_mode.ensures,
+  none_seen (rest_of c.args.reader.now) c.peek.result c.mode_of.result c.peek.ensures c.mode_of.ensures c.in_default.is,
+)
+
+pub returns-in_default-ahead : goal.returns-in_default-ahead
+returns-in_default-ahead c =
+    let count = digits_count c.in-Some.code c.digits-length.result.now c.digits-length.ensures in (
+      c.no_mode-in_default-ahead.ensures,
+      cut_seen (rest_of c.args.reader.now) c.peek.result c.mode_of.result c.in-Some.code c.peek.ensures c.mode_of.ensures c.in-Some.is
+          (omega (
+            arith,
+            count,
+            (mode_some c.in-Some.code).0,
+            c.in_default-ahead.ensures.past,
+            c.place-start.ensures.place,
+            c.place-start.ensures.within,
+            length-drop c.args.reader.now.place c.args.reader.now.bits,
+          )),
+    )
 
 pub returns : goal.returns
 returns c =
-    mode_none c.args.reader.now c.loop-at.reader c.loop-at.reader c.no_mode.result c.loop-at.invariant.same c.no_mode.ensures (none_begins
-    (rest_of c.loop-at.reader) c.loop-at.at (omega arith) c.loop-at.invariant.none)
+    let count = digits_count c.in-Some.code c.digits-length.result.now c.digits-length.ensures in (
+      found_seen (rest_of c.args.reader.now) c.peek.result c.mode_of.result c.in-Some.code c.peek.ensures c.mode_of.ensures c.in-Some.is
+          (omega (
+            arith,
+            count,
+            (mode_some c.in-Some.code).0,
+            c.in-Some-ahead.ensures.within,
+            length-drop c.args.reader.now.place c.args.reader.now.bits,
+          )),
+      c.skip.ensures ∙ ap (λ (n : ℕ). record { bits = c.args.reader.now.bits; place = c.args.reader.now.place + n }) count,
+    )
