@@ -1,6 +1,8 @@
 -- Lemmas of the codes of pages.
+pub mod FrontEnds
 pub mod OneDimension
 pub mod GivesPage
 pub mod TwoDimensions
 pub mod CodingLaws
 pub mod CodingPacked
+pub mod PageReaders

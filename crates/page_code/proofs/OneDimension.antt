@@ -9,5 +9,6 @@ pub mod Laws
 pub mod WorkedPages
 pub mod Reading
 pub mod SeesEol
-pub mod ReadsRowOfPage
+pub mod RowsOn
+pub mod ReadsItsCode
 pub mod RowsWords

@@ -10,6 +10,8 @@ pub mod Prescribed
 pub mod Reading
 pub mod ChangeLists
 pub mod WritesMode
+pub mod RowReading
 pub mod StepsOn
 pub mod ModeTable
+pub mod RowsOn
 pub mod ReadsItsCode

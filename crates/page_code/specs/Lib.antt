@@ -1,5 +1,7 @@
 -- What the codes of pages are.
 pub mod PageCodes
 pub mod Codings
+pub mod RowsSoFar
+pub mod PageReaders
 pub mod OneDimension
 pub mod TwoDimensions

@@ -1,5 +1,6 @@
 //! Laws of pages in either code: what their contracts say is proved, and nothing runs.
 
+ghost use Rattle.page_code.specs.RowsSoFar.{RowsStay};
 ghost use Rattle.page_code.specs.Codings.{GivesCodedRows, ReadsCode, ReadsExactly, RefusesAtLongest, RefusesNoPage};
 
 pub mod one_dim;
@@ -25,4 +26,9 @@ pub fn refuses_at_longest()
 pub fn round_trip()
     ensures reads { ReadsCode }
     ensures gives { GivesCodedRows }
+{}
+
+/// Rows that are whole stay whole when bits follow.
+pub fn rows_stay()
+    ensures { RowsStay }
 {}

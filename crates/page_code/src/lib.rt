@@ -6,9 +6,11 @@ mod coding;
 pub mod laws;
 mod one_dim;
 mod page;
+mod page_reader;
 mod t6;
 
 pub use crate::coding::{Coding, PageCode};
 pub use crate::one_dim::OneDim;
+pub use crate::page_reader::PageReader;
 pub use crate::t6::T6;
 pub use crate::t6::mode::{ModeCode, Shift};

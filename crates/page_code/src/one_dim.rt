@@ -1,21 +1,22 @@
 //! Pages in the one-dimensional code (ITU-T T.4, 4.1).
 
 ghost use Rattle.page_code.specs.PageCodes.{GivesPage};
-ghost use Rattle.page_code.specs.OneDimension.Fronts.{CodeBegins, read_page as read_bits};
+ghost use Rattle.page_code.specs.OneDimension.Fronts.{read_page as read_bits};
 ghost use Rattle.page_code.specs.OneDimension.Pages.{rows_words, eol_words, rtc};
-ghost use Rattle.page_code.specs.OneDimension.Reading.{BeginsPage, ReadsRowOfPage, SeesStart};
+ghost use Rattle.page_code.specs.OneDimension.Reading.{FindsRow, ReadsRowOfPage, SeesStart};
+ghost use Rattle.page_code.specs.RowsSoFar.{IsReadTo, ReadsOn};
 ghost use Rattle.raster.specs.Packed.{Bits, bits_of};
 ghost use Rattle.raster.specs.Pixels.{IsWidth};
 ghost use Rattle.raster.specs.declared.row.Color.{Color};
-ghost use Rattle.std.specs.Prelude.{◌≡◌, ◌≤◌, ◌<◌, ◌+◌, ◌*◌, ◌++◌, ◌∷◌, [], ℕ, List, length, drop, OnOk, All};
+ghost use Rattle.std.specs.Prelude.{◌≡◌, ◌≤◌, ◌<◌, ◌+◌, ◌*◌, ◌++◌, ◌∷◌, [], ℕ, List, length, OnOk, All};
 
 mod eol;
 #[cfg(test)]
 mod tests;
 
-use crate::coding::PageCode;
+use crate::coding::{Coding, PageCode};
 use crate::one_dim::eol::{Eol, after_five_eols, eol_at};
-use crate::page::push_row;
+use crate::page::{Progress, push_row};
 use raster::packed::Order;
 use raster::{MAX_ROWS, Page, Row};
 use run_tables::{BitReader, BitWriter, CodeFault, CodeFaultKind};
@@ -29,15 +30,15 @@ pub struct OneDim;
 
 /// What is found where a row may begin.
 enum Start {
-    /// A row.
-    Row,
+    /// A row, at this place.
+    Row(u128),
     /// The page's end, with so many bits used.
     End(u128),
     /// Nothing that may be there.
-    Refused(CodeFaultKind),
+    Refused(CodeFault),
 }
 
-/// What is found at a place where a row may begin, after so many rows.
+/// What is found at a place after an EOL, after so many rows.
 fn start_at(octets: &[u8], order: Order, place: u128, rows: usize) -> Start
     requires { place ≤ 8 * length octets.now }
     ensures { SeesStart (bits_of order octets.now) place rows result }
@@ -45,21 +46,21 @@ fn start_at(octets: &[u8], order: Order, place: u128, rows: usize) -> Start
     match eol_at(octets, order, place) {
         Eol::Absent => {
             if rows < MAX_ROWS {
-                Start::Row
+                Start::Row(place)
             } else {
-                Start::Refused(CodeFaultKind::TooManyCodedRows)
+                Start::Refused(CodeFault::new(place, CodeFaultKind::TooManyCodedRows))
             }
         }
         Eol::OnlyZeros => {
             if rows == 0 {
-                Start::Refused(CodeFaultKind::NoRows)
+                Start::Refused(CodeFault::new(place, CodeFaultKind::NoRows))
             } else {
                 Start::End(place)
             }
         }
         Eol::Present(_) => {
             if rows == 0 {
-                Start::Refused(CodeFaultKind::NoRows)
+                Start::Refused(CodeFault::new(place, CodeFaultKind::NoRows))
             } else {
                 Start::End(after_five_eols(octets, order, place))
             }
@@ -67,36 +68,72 @@ fn start_at(octets: &[u8], order: Order, place: u128, rows: usize) -> Start
     }
 }
 
-/// The place where the first row begins: at the beginning, or after one EOL.
-fn first_row(octets: &[u8], order: Order) -> Result<u128, CodeFault>
-    ensures { BeginsPage (bits_of order octets.now) result }
+/// What is found after the rows read so far: the next row begins at the page's beginning or after one
+/// EOL, and each later one after one EOL.
+fn next_row(octets: &[u8], order: Order, to: &Progress) -> Start
+    requires { to.now.place ≤ 8 * length octets.now }
+    ensures finds { FindsRow (bits_of order octets.now) to.now.page.width to.now.page.rows to.now.place result }
+    ensures few { length to.now.page.rows ≤ 20000 }
 {
-    match eol_at(octets, order, 0) {
-        Eol::Present(bits) => Ok(bits),
-        Eol::Absent => Ok(0),
-        Eol::OnlyZeros => Err(CodeFault::new(0, CodeFaultKind::NoRows)),
+    let rows = to.page.rows().len();
+    match eol_at(octets, order, to.place) {
+        Eol::Present(bits) => start_at(octets, order, to.place + bits, rows),
+        Eol::Absent => {
+            if rows == 0 {
+                Start::Row(to.place)
+            } else {
+                Start::Refused(CodeFault::new(to.place, CodeFaultKind::BadCode))
+            }
+        }
+        Eol::OnlyZeros => {
+            if rows == 0 {
+                Start::Refused(CodeFault::new(to.place, CodeFaultKind::NoRows))
+            } else {
+                Start::End(to.place)
+            }
+        }
     }
 }
 
-/// Reads the row at a place into the page, and answers the place after it.
-#[tactic(auto, using(raster::proofs::PackedLemmas::views))]
+/// Reads the row at a place.
 fn read_row(
     alloc: Global,
     octets: &[u8],
     order: Order,
     place: u128,
-    page: &mut Page,
-) -> Result<u128, CodeFault>
+    to: &mut Progress,
+) -> Result<(), CodeFault>
     requires within { place ≤ 8 * length octets.now }
-    requires starts { CodeBegins (drop place (bits_of order octets.now)) }
-    requires room { length page.old.rows < 20000 }
-    requires width { IsWidth page.old.width }
-    ensures { ReadsRowOfPage (bits_of order octets.now) place page.old page.new result }
+    requires room { length to.old.page.rows < 20000 }
+    requires width { IsWidth to.old.page.width }
+    ensures { ReadsRowOfPage (bits_of order octets.now) place to.old to.new result }
 {
     let mut reader = BitReader::at(octets, order, place);
-    let row = reader.read_row_1d(alloc, page.width())?;
-    push_row(page, row)?;
-    Ok(reader.place())
+    let row = reader.read_row_1d(alloc, to.page.width())?;
+    push_row(&mut to.page, row)?;
+    to.place = reader.place();
+    Ok(())
+}
+
+/// Reads on from the rows read so far to the page's end, and answers how many bits the page uses. After
+/// an error the rows before it were read.
+pub(crate) fn read_on(
+    alloc: Global,
+    octets: &[u8],
+    order: Order,
+    to: &mut Progress,
+) -> Result<u128, CodeFault>
+    requires width { IsWidth to.old.page.width }
+    requires read { IsReadTo Coding.OneDim to.old.page.width (bits_of order octets.now) to.old.page.rows to.old.place }
+    ensures { ReadsOn Coding.OneDim (bits_of order octets.now) to.old to.new result }
+{
+    loop {
+        match next_row(octets, order, to) {
+            Start::Row(place) => read_row(alloc, octets, order, place, to)?,
+            Start::End(used) => return Ok(used),
+            Start::Refused(fault) => return Err(fault),
+        }
+    }
 }
 
 /// Writes the return to control: six EOLs (ITU-T T.4, 4.1.4).
@@ -162,7 +199,6 @@ impl PageCode for OneDim {
 }
 
 /// The page and the bits used, as the bits read.
-#[tactic(auto, using(raster::proofs::PackedLemmas::views))]
 fn read_page(
     alloc: Global,
     octets: &[u8],
@@ -173,19 +209,7 @@ fn read_page(
     requires { IsWidth width }
     ensures { GivesPage (read_bits width (bits_of order octets.now)) width fine result }
 {
-    let mut page = Page::new(alloc, width, fine).unwrap();
-    let mut place = first_row(octets, order)?;
-    loop {
-        match start_at(octets, order, place, page.rows().len()) {
-            Start::Row => {}
-            Start::End(used) => return Ok((page, used)),
-            Start::Refused(kind) => return Err(CodeFault::new(place, kind)),
-        }
-        let row_end = read_row(alloc, octets, order, place, &mut page)?;
-        match eol_at(octets, order, row_end) {
-            Eol::Present(bits) => place = row_end + bits,
-            Eol::OnlyZeros => return Ok((page, row_end)),
-            Eol::Absent => return Err(CodeFault::new(row_end, CodeFaultKind::BadCode)),
-        }
-    }
+    let mut to = Progress::new(alloc, width, fine);
+    let used = read_on(alloc, octets, order, &mut to)?;
+    Ok((to.page, used))
 }

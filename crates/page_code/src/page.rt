@@ -19,6 +19,26 @@ pub(crate) fn row_of(alloc: Global, runs: &[u32]) -> Result<Row, AllocError>
     }
 }
 
+/// A page that is read: its whole rows so far, and the place in the bits after them.
+#[derive(Drop)]
+pub(crate) struct Progress {
+    pub(crate) page: Page,
+    pub(crate) place: u128,
+}
+
+impl Progress {
+    /// No rows of a page of this width in pixels. Takes no memory.
+    pub(crate) fn new(alloc: Global, width: u32, fine: bool) -> Self
+        requires { IsWidth width }
+        ensures { result ≡ record { page = record { width = width; fine = fine; rows = [] }; place = 0 } }
+    {
+        Progress {
+            page: Page::new(alloc, width, fine).unwrap(),
+            place: 0,
+        }
+    }
+}
+
 /// Appends a row of the page's width, where there is room for it. Errs where memory is refused.
 pub(crate) fn push_row(page: &mut Page, row: Row) -> Result<(), AllocError>
     requires wide { length row ≡ page.old.width }

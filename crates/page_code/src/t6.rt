@@ -10,17 +10,18 @@ mod changes;
 mod line;
 pub(crate) mod mode;
 mod mode_table;
-mod read;
+pub(crate) mod read;
 #[cfg(test)]
 mod tests;
 mod write;
 
 use crate::coding::PageCode;
-use crate::t6::read::read_page;
+use crate::page::Progress;
+use crate::t6::read::read_on;
 use crate::t6::write::write_page;
 use raster::Page;
 use raster::packed::Order;
-use run_tables::{BitReader, BitWriter, CodeFault};
+use run_tables::{BitWriter, CodeFault};
 use std::alloc::{AllocError, Global};
 
 /// The two-dimensional code of ITU-T T.6, 2.2. A page is written as its rows by the prescribed modes,
@@ -31,7 +32,6 @@ use std::alloc::{AllocError, Global};
 pub struct T6;
 
 /// The page and the bits used, as the bits read.
-#[tactic(auto, using(raster::proofs::PackedLemmas::views))]
 fn read_whole_page(
     alloc: Global,
     octets: &[u8],
@@ -42,9 +42,9 @@ fn read_whole_page(
     requires { IsWidth width }
     ensures { GivesPage (read_bits width (bits_of order octets.now)) width fine result }
 {
-    let mut reader = BitReader::at(octets, order, 0);
-    let page = read_page(alloc, &mut reader, width, fine)?;
-    Ok((page, reader.place()))
+    let mut to = Progress::new(alloc, width, fine);
+    let used = read_on(alloc, octets, order, &mut to)?;
+    Ok((to.page, used))
 }
 
 impl PageCode for T6 {

@@ -20,7 +20,7 @@ use Rattle.page_code.proofs.OneDimension.RowInPage.{put_row, reading_walk, readi
 abbrev pub PageWay : ℕ → PageState → PageState → List Bool → Type 0
 PageWay width s t bits = Way item_word (Step width) s t bits
 
-later_way : (width : ℕ) (later rows : List (List Color)) (bits : List Bool) → 0 < width → width ≤ 2432
+pub later_way : (width : ℕ) (later rows : List (List Color)) (bits : List Bool) → 0 < width → width ≤ 2432
     → length rows + length later ≤ 20000 → SpellsLater width later bits → PageWay width (row_end rows) (row_end (rows ++ later)) bits
 later_way width [] rows bits some wide few spells = rw (spells, append-nil) (way_none item_word (Step width) (row_end rows))
 later_way width (row ∷ later) rows bits some wide few spells =
@@ -33,7 +33,7 @@ later_way width (row ∷ later) rows bits some wide few spells =
     (way_on item_word (Step width) (row_start rows) (row_end (rows ++ row ∷ [])) (row_end (rows ++ row ∷ later)) spells.1 spells.2 one (rw
     regroup at more)))
 
-lead_way : (width : ℕ) (row : List Color) (lead front : List Bool) → 0 < width → width ≤ 2432 → IsLead lead → length row ≡ width
+pub lead_way : (width : ℕ) (row : List Color) (lead front : List Bool) → 0 < width → width ≤ 2432 → IsLead lead → length row ≡ width
     → SpellsRow row front → PageWay width first (row_end (row ∷ [])) (lead ++ front)
 lead_way width row lead front some wide (inl e) full spells = rw e (put_row width first [] row front some wide refl full spells)
 lead_way width row lead front some wide (inr e) full spells =

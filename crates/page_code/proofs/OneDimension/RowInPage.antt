@@ -75,7 +75,7 @@ begin_step width (row_start before) rows code t may step = (may.0, rw (← may.1
 begin_step width (in_row before pixels color makeup) rows code t may step = absurd may
 begin_step width (row_end before) rows code t may step = absurd may
 
-begin_walk : (width : ℕ) (s : PageState) (rows : List (List Color)) (code : RunItem) (codes : List RunItem) (t : RowState)
+pub begin_walk : (width : ℕ) (s : PageState) (rows : List (List Color)) (code : RunItem) (codes : List RunItem) (t : RowState)
     → MayBegin s rows → Walk (RowStep width) row_begin (code ∷ codes) t → Walk (Step width) s (map coded (code ∷ codes)) (put rows t)
 begin_walk width s rows code codes t may walk = (
   put rows walk.0,
@@ -112,7 +112,7 @@ reading_row width s rows row front rest place some wide may full spells =
     ap (λ l. reading width (row_end (rows ++ row ∷ [])) (place + length l) rest) way.spelled)
 
 -- what is refused at a row's first code
-begin_refused : (width : ℕ) (s : PageState) (rows : List (List Color)) (x : List Bool) (kind : CodeFaultKind) → MayBegin s rows
+pub begin_refused : (width : ℕ) (s : PageState) (rows : List (List Color)) (x : List Bool) (kind : CodeFaultKind) → MayBegin s rows
     → CodeBegins x → row_look width row_begin x ≡ refuse kind → look width s x ≡ refuse kind
 begin_refused width first rows x kind may stands e = by_eol_other x (refuse NoRows) (λ n. go (eol n) (row_start [])) (look_in_row width []
     [] White None x) stands ∙ refuse_put (put []) width [] White None coded x kind e
@@ -124,7 +124,7 @@ begin_refused width (in_row before pixels color makeup) rows x kind may stands e
 begin_refused width (row_end before) rows x kind may stands e = absurd may
 
 -- what is refused in a row
-put_refused : (width : ℕ) (rows : List (List Color)) (s : RowState) (x : List Bool) (kind : CodeFaultKind)
+pub put_refused : (width : ℕ) (rows : List (List Color)) (s : RowState) (x : List Bool) (kind : CodeFaultKind)
     → row_look width s x ≡ refuse kind → look width (put rows s) x ≡ refuse kind
 put_refused width rows (inside pixels color makeup) x kind e = refuse_put (put rows) width pixels color makeup coded x kind e
 put_refused width rows (whole row) x kind e = cc

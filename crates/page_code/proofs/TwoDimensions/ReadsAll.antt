@@ -197,7 +197,7 @@ row_way : (width : ℕ) (page : PageSoFar) (row : List Color) (bits : List Bool)
 row_way width page row bits some wide room spells = line_way width page spells.0 line_begin (between page) row bits wide (between_takes
     width page room) (λ e. absurd (omega arith)) spells.1
 
-rows_way : (width : ℕ) (more : List (List Color)) (page : PageSoFar) (bits : List Bool) → 0 < width → width ≤ 2432
+pub rows_way : (width : ℕ) (more : List (List Color)) (page : PageSoFar) (bits : List Bool) → 0 < width → width ≤ 2432
     → length page.rows + length more ≤ 20000 → SpellsRows width page.reference more bits
     → (reference : List Color) × PageWay width (between page) (between (record { rows = page.rows ++ more; reference = reference })) bits
 rows_way width [] page bits some wide few spells = (

@@ -30,7 +30,7 @@ Bounded (between page) = length page.rows ≤ 20000
 Bounded (inside page line) = length page.rows < 20000
 Bounded (running page line first makeup) = length page.rows < 20000
 
-let_pass : (b : Bool) (k : CodeFaultKind) (r : Result PageState CodeFaultKind) (t : PageState) → cond b (Err k) r ≡ Ok t → r ≡ Ok t
+pub let_pass : (b : Bool) (k : CodeFaultKind) (r : Result PageState CodeFaultKind) (t : PageState) → cond b (Err k) r ≡ Ok t → r ≡ Ok t
 let_pass true k r t e = cc
 let_pass false k r t e = e
 

@@ -32,15 +32,16 @@ use Rattle.page_code.specs.declared.t6.mode.ModeCode.{ModeCode}
 use Rattle.page_code.specs.declared.t6.mode.ModeCode.TheVariants.{Pass, Horizontal, Vertical}
 use Rattle.page_code.specs.TwoDimensions.Positions.{a0_of, right_of, CodingLine, line_begin, white_line, right_of_a0, filled_to, IsFirstTo, IsB1, b1_of, b2_of}
 use Rattle.page_code.specs.TwoDimensions.Modes.{to_right, to_left, eofb, runs_added}
-use Rattle.page_code.specs.TwoDimensions.Fronts.{mode_word, mode_codes, PageSoFar, PageState, page_begin, row_added, mode_ended, after_mode, run_color, run_ended, after_run, found_run, look_run, reading}
+use Rattle.page_code.specs.TwoDimensions.Fronts.{mode_word, mode_codes, PageSoFar, PageState, page_begin, row_added, mode_ended, after_mode, run_color, run_ended, after_run, found_run, look_run}
 use Rattle.page_code.specs.TwoDimensions.Fronts.PageItem.{run_item}
 use Rattle.page_code.specs.TwoDimensions.Fronts.PageState.{between, inside, running}
-use Rattle.page_code.specs.TwoDimensions.Reading.{ReadsMode, HasRoom, ReadsRun, LeadsOn, MovesTo, ReadsHorizontal, ReadsPageOn, StepsOn, ReadsRow, SeesStart, missing_mode}
+use Rattle.page_code.specs.TwoDimensions.Reading.{row_reading, ReadsMode, HasRoom, ReadsRun, LeadsOn, MovesTo, ReadsHorizontal, StepsOn, ReadsRow, missing_mode}
 use Rattle.page_code.specs.TwoDimensions.Writing.{reference_at}
 use Rattle.page_code.proofs.TwoDimensions.Positions.{b1_is, b2_is}
 use Rattle.page_code.proofs.TwoDimensions.Prescribed.{other_twice}
 use Rattle.page_code.proofs.TwoDimensions.ReadsAll.{vertical_stands}
-use Rattle.page_code.proofs.TwoDimensions.Reading.{reading_go, reading_refuse, mode_read, mode_refused, mode_missing, mode_ended_short, mode_ended_whole, reading_row_begins, reading_eofb}
+use Rattle.page_code.proofs.TwoDimensions.Reading.{mode_ended_short, mode_ended_whole}
+use Rattle.page_code.proofs.TwoDimensions.RowReading.{row_go, row_refuse, row_whole, mode_read, mode_refused, mode_missing}
 
 -- Mode codes
 
@@ -115,52 +116,52 @@ module _ (width : ℕ) (page : PageSoFar) (line : CodingLine) (first makeup : Op
   code_read : (color : Color) → run_color line first ≡ color → (place : ℕ) (bits : List Bool) (run : ℕ) (t : PageState)
       → pick (code_word color) (first_runs (codes_after makeup)) (drop place bits) ≡ Some run
       → after_run width page line first makeup run ≡ Ok t
-      → reading width (running page line first makeup) place (drop place bits) ≡ reading width t (place + length (code_word color run))
+      → row_reading width (running page line first makeup) place (drop place bits) ≡ row_reading width t (place + length (code_word color run))
       (drop (place + length (code_word color run)) bits)
   code_read color is place bits run t found leads = subst (λ (c : Color). pick (code_word c) (first_runs (codes_after makeup)) (drop place
-      bits) ≡ Some run → reading width (running page line first makeup) place (drop place bits) ≡ reading width t (place + length (code_word
+      bits) ≡ Some run → row_reading width (running page line first makeup) place (drop place bits) ≡ row_reading width t (place + length (code_word
       c run)) (drop (place + length (code_word c run)) bits)) is here found
     where
       here : pick (code_word (run_color line first)) (first_runs (codes_after makeup)) (drop place bits) ≡ Some run
-          → reading width (running page line first makeup) place (drop place bits) ≡ reading width t (place + length (code_word (run_color
+          → row_reading width (running page line first makeup) place (drop place bits) ≡ row_reading width t (place + length (code_word (run_color
           line first) run)) (drop (place + length (code_word (run_color line first) run)) bits)
       here found =
           let there = pick_sound run_item_word (allowed (run_color line first) makeup) (run_code (run_color line first) run) (drop place
           bits) (code_is (drop place bits) run found) in
           let on : drop (length (code_word (run_color line first) run)) (drop place bits) ≡ drop (place + length (code_word (run_color line
           first) run)) bits = drop-drop (length (code_word (run_color line first) run)) place bits in
-          ap (reading width (running page line first makeup) place) there.1 ∙
-          (reading_go width (running page line first makeup) t (run_item (run_code (run_color line first) run)) place (drop (length
+          ap (row_reading width (running page line first makeup) place) there.1 ∙
+          (row_go width (running page line first makeup) t (run_item (run_code (run_color line first) run)) place (drop (length
           (code_word (run_color line first) run)) (drop place bits)) (record { stands = there.0; leads = leads }) ∙
-          ap (reading width t (place + length (code_word (run_color line first) run))) on)
+          ap (row_reading width t (place + length (code_word (run_color line first) run))) on)
 
   -- a code that is there is refused
   code_refused : (color : Color) → run_color line first ≡ color → (place : ℕ) (x : List Bool) (run : ℕ) (kind : CodeFaultKind)
       → pick (code_word color) (first_runs (codes_after makeup)) x ≡ Some run → after_run width page line first makeup run ≡ Err kind
-      → reading width (running page line first makeup) place x ≡ Err (place, kind)
+      → row_reading width (running page line first makeup) place x ≡ Err (place, kind)
   unfolding look_run
   code_refused color is place x run kind found leads =
       let here : pick (code_word (run_color line first)) (first_runs (codes_after makeup)) x ≡ Some run = subst (λ (c : Color). pick
       (code_word c) (first_runs (codes_after makeup)) x ≡ Some run) (sym is) found in
-      reading_refuse width (running page line first makeup) place x kind (ap (found_run width page line first makeup x) (code_is x run here)
+      row_refuse width (running page line first makeup) place x kind (ap (found_run width page line first makeup x) (code_is x run here)
       ∙ ap (judged (run_item (run_code (run_color line first) run))) leads)
 
   -- no code is there
   code_missing : (color : Color) → run_color line first ≡ color → (place : ℕ) (x : List Bool)
       → pick (code_word color) (first_runs (codes_after makeup)) x ≡ None
-      → reading width (running page line first makeup) place x ≡ Err (
+      → row_reading width (running page line first makeup) place x ≡ Err (
         place,
         cond (is_cut (code_word color) (first_runs (codes_after
             makeup)) x) Truncated BadCode,
       )
   unfolding look_run
   code_missing color is place x none = subst (λ (c : Color). pick (code_word c) (first_runs (codes_after makeup)) x ≡ None
-      → reading width (running page line first makeup) place x ≡ Err (
+      → row_reading width (running page line first makeup) place x ≡ Err (
         place,
         cond (is_cut (code_word c) (first_runs (codes_after makeup)) x)
             Truncated BadCode,
       )) is (λ absent.
-      reading_refuse width (running page line first makeup) place x _ (ap (found_run width page line first makeup x) (pick_items (run_color
+      row_refuse width (running page line first makeup) place x _ (ap (found_run width page line first makeup x) (pick_items (run_color
       line first) (codes_after makeup) x ∙ ap (option_map (run_code (run_color line first))) absent) ∙
       ap (λ (b : Bool). refuse (cond b Truncated BadCode)) (cut_items (run_color line first) (codes_after makeup) x))) none
 
@@ -220,13 +221,13 @@ low_run_read color room old new run picks fits low =
 high_run_read : (color : Color) (room : ℕ) (old mid : Reading) (high : ℕ) → PicksCode color AllCodes old mid (Ok high) → high ≤ room
     → 64 ≤ high → (mid.bits ≡ old.bits) × (old.place < mid.place)
     × ((width : ℕ) (page : PageSoFar) (line : CodingLine) (first : Option ℕ) → HasRoom width line first color room
-    → reading width (running page line first None) old.place (rest_of old) ≡ reading width (running page line first (Some high)) mid.place
+    → row_reading width (running page line first None) old.place (rest_of old) ≡ row_reading width (running page line first (Some high)) mid.place
     (rest_of mid))
 high_run_read color room old mid high picks fits up =
     let on = went_on color None old high picks.0 in
     subst (λ (m : Reading). (m.bits ≡ old.bits) × (old.place < m.place)
     × ((width : ℕ) (page : PageSoFar) (line : CodingLine) (first : Option ℕ) → HasRoom width line first color room
-    → reading width (running page line first None) old.place (rest_of old) ≡ reading width (running page line first (Some high)) m.place
+    → row_reading width (running page line first None) old.place (rest_of old) ≡ row_reading width (running page line first (Some high)) m.place
     (rest_of m))) (sym picks.1) (
       refl,
       omega (arith, on.0),
@@ -479,7 +480,7 @@ pub horizontal_empty : (width place : ℕ) (line next : CodingLine) (old between
 horizontal_empty width place line next old between_runs new color a0a1 a1a2 place_is within color_is one two none none' =
     let seen : Option ℕ = Some a0a1 in
     inr (λ page. one.4 width page line None (running page line (Some a0a1) None) (refl, omega arith) refl ∙
-    (ap (λ (n : ℕ). reading width (running page line (Some n) None) between_runs.place (rest_of between_runs)) none ∙
+    (ap (λ (n : ℕ). row_reading width (running page line (Some n) None) between_runs.place (rest_of between_runs)) none ∙
     two.5 width page line (sym color_is, omega (arith, one.0)) none'))
 
 -- Whole modes
@@ -534,7 +535,7 @@ mode_steps reference old mid line next code within reads leads =
       leads.0,
       λ page is. mode_read (length reference) page line code (mode_ended (length reference) page next)
           old.place (rest_of old) (rest_of mid) (mode_stands code) split.2 (leads.1 page is) ∙
-          ap (λ (n : ℕ). reading (length reference) (mode_ended (length reference) page next) n (rest_of mid)) (sym split.1),
+          ap (λ (n : ℕ). row_reading (length reference) (mode_ended (length reference) page next) n (rest_of mid)) (sym split.1),
     )
 
 mode_stays : (reference : List Color) (old mid : Reading) (line next : CodingLine) (code : ModeCode) (fault : CodeFault)
@@ -560,12 +561,12 @@ mode_absent reference old mid line next fault reads = rw reads.0 (inr (λ page i
 
 -- the flag of horizontal mode
 flag_read : (width : ℕ) (page : PageSoFar) (line : CodingLine) (old mid : Reading) → ReadsMode old mid (Ok Horizontal)
-    → reading width (inside page line) old.place (rest_of old) ≡ reading width (running page line None None) mid.place (rest_of mid)
+    → row_reading width (inside page line) old.place (rest_of old) ≡ row_reading width (running page line None None) mid.place (rest_of mid)
 unfolding after_mode
 flag_read width page line old mid reads =
     let split = mode_split Horizontal old mid reads in
     mode_read width page line Horizontal (running page line None None) old.place (rest_of old) (rest_of mid) (mode_stands Horizontal)
-    split.2 refl ∙ ap (λ (n : ℕ). reading width (running page line None None) n (rest_of mid)) (sym split.1)
+    split.2 refl ∙ ap (λ (n : ℕ). row_reading width (running page line None None) n (rest_of mid)) (sym split.1)
 
 pub horizontal_steps : (reference : List Color) (old mid new : Reading) (line next : CodingLine) (result : Result (Unit {0}) CodeFault)
     → old.place ≤ length old.bits → ReadsMode old mid (Ok Horizontal) → ReadsHorizontal (length reference) mid new line next result
@@ -589,43 +590,44 @@ horizontal_steps reference old mid new line next (Err fault) within reads (inr r
 -- one mode more of a row
 pub row_steps : (reference : List Color) (start old new : Reading) (line next : CodingLine) → length line.pixels < length reference
     → ((page : PageSoFar) → page.reference ≡ reference
-    → reading (length reference) (inside page line_begin) start.place (rest_of start) ≡ reading (length reference) (mode_ended (length
+    → row_reading (length reference) (inside page line_begin) start.place (rest_of start) ≡ row_reading (length reference) (mode_ended (length
     reference) page line) old.place (rest_of old)) → StepsOn reference old new line next (Ok tt) → (page : PageSoFar)
-    → page.reference ≡ reference → reading (length reference) (inside page line_begin) start.place (rest_of start) ≡ reading (length
+    → page.reference ≡ reference → row_reading (length reference) (inside page line_begin) start.place (rest_of start) ≡ row_reading (length
     reference) (mode_ended (length reference) page next) new.place (rest_of new)
 row_steps reference start old new line next short before step page is =
-    before page is ∙ (ap (λ (s : PageState). reading (length reference) s old.place (rest_of old)) (mode_ended_short (length reference) page
+    before page is ∙ (ap (λ (s : PageState). row_reading (length reference) s old.place (rest_of old)) (mode_ended_short (length reference) page
     line short) ∙ step.4 page is)
 
 pub row_stays : (reference : List Color) (start old new : Reading) (line next : CodingLine) (fault : CodeFault)
     → length line.pixels < length reference → ((page : PageSoFar) → page.reference ≡ reference
-    → reading (length reference) (inside page line_begin) start.place (rest_of start) ≡ reading (length reference) (mode_ended (length
+    → row_reading (length reference) (inside page line_begin) start.place (rest_of start) ≡ row_reading (length reference) (mode_ended (length
     reference) page line) old.place (rest_of old)) → StepsOn reference old new line next (Err fault)
     → (fault.kind ≡ NoMemory) ⊎ ((page : PageSoFar) → page.reference ≡ reference
-    → reading (length reference) (inside page line_begin) start.place (rest_of start) ≡ Err (fault.place, fault.kind))
+    → row_reading (length reference) (inside page line_begin) start.place (rest_of start) ≡ Err (fault.place, fault.kind))
 row_stays reference start old new line next fault short before (inl memory) = inl memory
 row_stays reference start old new line next fault short before (inr step) =
-    inr (λ page is. before page is ∙ (ap (λ (s : PageState). reading (length reference) s old.place (rest_of old)) (mode_ended_short (length
+    inr (λ page is. before page is ∙ (ap (λ (s : PageState). row_reading (length reference) s old.place (rest_of old)) (mode_ended_short (length
     reference) page line short) ∙ step page is))
 
 -- a row before its first mode
 pub row_starts : (reference : List Color) (start now : Reading) (line : CodingLine) → 0 < length reference → now ≡ start
     → line ≡ line_begin → (page : PageSoFar) → page.reference ≡ reference
-    → reading (length reference) (inside page line_begin) start.place (rest_of start) ≡ reading (length reference) (mode_ended (length
+    → row_reading (length reference) (inside page line_begin) start.place (rest_of start) ≡ row_reading (length reference) (mode_ended (length
     reference) page line) now.place (rest_of now)
-row_starts reference start now line some same begins page is = rw (same, begins) (ap (λ (s : PageState). reading (length reference) s
+row_starts reference start now line some same begins page is = rw (same, begins) (ap (λ (s : PageState). row_reading (length reference) s
     start.place (rest_of start)) (sym (mode_ended_short (length reference) page line_begin (omega arith))))
 
 -- a whole row
 pub row_ends : (reference : List Color) (start now : Reading) (line : CodingLine) (row : List Color) → row ≡ line.pixels
     → length line.pixels ≡ length reference → ((page : PageSoFar) → page.reference ≡ reference
-    → reading (length reference) (inside page line_begin) start.place (rest_of start) ≡ reading (length reference) (mode_ended (length
-    reference) page line) now.place (rest_of now)) → (page : PageSoFar) → page.reference ≡ reference
-    → reading (length reference) (inside page line_begin) start.place (rest_of start) ≡ reading (length reference) (between (row_added page
-    row)) now.place (rest_of now)
+    → row_reading (length reference) (inside page line_begin) start.place (rest_of start) ≡ row_reading (length reference) (mode_ended
+    (length reference) page line) now.place (rest_of now)) → (page : PageSoFar) → page.reference ≡ reference
+    → row_reading (length reference) (inside page line_begin) start.place (rest_of start) ≡ Ok (page.rows ++ row ∷ [], now.place)
 row_ends reference start now line row same full reads page is =
-    reads page is ∙ (ap (λ (s : PageState). reading (length reference) s now.place (rest_of now)) (mode_ended_whole (length reference) page
-    line full) ∙ ap (λ (r : List Color). reading (length reference) (between (row_added page r)) now.place (rest_of now)) (sym same))
+    let here : now.place + 0 ≡ now.place = omega arith in
+    reads page is ∙ (ap (λ (s : PageState). row_reading (length reference) s now.place (rest_of now)) (mode_ended_whole (length reference)
+    page line full) ∙ (row_whole (length reference) (row_added page line.pixels) now.place (rest_of now) ∙
+    (ap (λ (n : ℕ). Ok (page.rows ++ line.pixels ∷ [], n)) here ∙ ap (λ (r : List Color). Ok (page.rows ++ r ∷ [], now.place)) (sym same))))
 
 -- Pages
 
@@ -635,113 +637,8 @@ pub last_added : (white row : List Color) (rows : List (List Color))
 last_added white row [] = refl
 last_added white row (r ∷ rows) = last_added r row rows
 
--- one row more of a page
-pub page_on : (width : ℕ) (start old new : Reading) (rows : List (List Color)) (reference row : List Color) → length reference ≡ width
-    → reading width (page_begin width) start.place (rest_of start) ≡ reading width (between (record { rows = rows; reference = reference }))
-    old.place (rest_of old) → SeesStart (rest_of old) (length rows) Row → ReadsRow reference old new (Ok row)
-    → reading width (page_begin width) start.place (rest_of start) ≡ reading width (between (record {
-      rows = rows ++ row ∷ [];
-      reference =
-          row;
-    })) new.place (rest_of new)
-page_on width start old new rows reference row even before sees reads =
-    let page : PageSoFar = record { rows = rows; reference = reference } in
-    let row_read : reading width (inside page line_begin) old.place (rest_of old) ≡ reading width (between (row_added page row)) new.place
-    (rest_of new) = subst (λ (w : ℕ). reading w (inside page line_begin) old.place (rest_of old) ≡ reading w (between (row_added page
-    row)) new.place (rest_of new)) even (reads.3 page refl) in
-    before ∙ (reading_row_begins width page old.place (rest_of old) sees.0 sees.1 sees.2 sees.3 ∙ row_read)
-
--- a row of a page is refused
-pub page_stays : (width : ℕ) (start old new : Reading) (rows : List (List Color)) (reference : List Color) (fault : CodeFault)
-    → length reference ≡ width → reading width (page_begin width) start.place (rest_of start) ≡ reading width (between (record {
-      rows =
-          rows;
-      reference = reference;
-    })) old.place (rest_of old) → SeesStart (rest_of old) (length rows) Row
-    → ReadsRow reference old new (Err fault)
-    → (fault.kind ≡ NoMemory) ⊎ (reading width (page_begin width) start.place (rest_of start) ≡ Err (fault.place, fault.kind))
-page_stays width start old new rows reference fault even before sees (inl memory) = inl memory
-page_stays width start old new rows reference fault even before sees (inr reads) =
-    let page : PageSoFar = record { rows = rows; reference = reference } in
-    let refused : reading width (inside page line_begin) old.place (rest_of old) ≡ Err (fault.place, fault.kind) = subst (λ (w : ℕ). reading
-    w (inside page line_begin) old.place (rest_of old) ≡ Err (fault.place, fault.kind)) even (reads page refl) in
-    inr (before ∙ (reading_row_begins width page old.place (rest_of old) sees.0 sees.1 sees.2 sees.3 ∙ refused))
-
--- nothing that may be there
-pub page_refused : (width : ℕ) (start old : Reading) (rows : List (List Color)) (reference : List Color) (kind : CodeFaultKind) (place : ℕ)
-    → reading width (page_begin width) start.place (rest_of start) ≡ reading width (between (record { rows = rows; reference = reference }))
-    old.place (rest_of old) → SeesStart (rest_of old) (length rows) (Refused kind) → place ≡ old.place
-    → reading width (page_begin width) start.place (rest_of start) ≡ Err (place, kind)
-page_refused width start old rows reference kind place before sees is =
-    let page : PageSoFar = record { rows = rows; reference = reference } in
-    before ∙ (reading_refuse width (between page) old.place (rest_of old) kind (sees width page refl) ∙
-    ap (λ (n : ℕ). Err (n, kind)) (sym is))
-
--- EOFB after a row
-pub page_ends : (width : ℕ) (start old : Reading) (rows : List (List Color)) (reference : List Color) (place : ℕ)
-    → reading width (page_begin width) start.place (rest_of start) ≡ reading width (between (record { rows = rows; reference = reference }))
-    old.place (rest_of old) → SeesStart (rest_of old) (length rows) End → place ≡ old.place + 24
-    → reading width (page_begin width) start.place (rest_of start) ≡ Ok (rows, place)
-page_ends width start old rows reference place before sees is =
-    let page : PageSoFar = record { rows = rows; reference = reference } in
-    before ∙ (reading_eofb width page old.place (rest_of old) sees.1 sees.0 ∙ ap (λ (n : ℕ). Ok (rows, n)) (sym is))
-
 -- EOFB fits into the bits that it begins
 pub eofb_fits : (reader : Reading) → begins eofb (rest_of reader) ≡ true → reader.place + 24 ≤ length reader.bits
 eofb_fits reader is =
     let split = begins_split eofb (rest_of reader) is in
     omega (arith, ap length split, length-append eofb (drop 24 (rest_of reader)), length-drop reader.place reader.bits)
-
--- where a page begins
-pub page_starts : (width : ℕ) (white : List Color) (rows : List (List Color)) (start : Reading) → white ≡ white_line width → rows ≡ []
-    → (length rows ≤ 20000) × (length (reference_at white rows (length rows)) ≡ width)
-    × (reading width (page_begin width) start.place (rest_of start) ≡ reading width (between (record {
-      rows = rows;
-      reference = reference_at
-          white rows (length rows);
-    })) start.place (rest_of start))
-page_starts width white rows start is none =
-    subst (λ (r : List (List Color)). (length r ≤ 20000) × (length (reference_at white r (length r)) ≡ width)
-    × (reading width (page_begin width) start.place (rest_of start) ≡ reading width (between (record {
-      rows = r;
-      reference =
-          reference_at white r (length r);
-    })) start.place (rest_of start))) (sym none)
-    (subst (λ (w : List Color). (0 ≤ 20000) × (length w ≡ width)
-    × (reading width (page_begin width) start.place (rest_of start) ≡ reading width (between (record { rows = []; reference = w }))
-    start.place (rest_of start))) (sym is) (omega arith, length-replicate width White, refl))
-
--- a page with one row more
-pub page_more : (width : ℕ) (start old new : Reading) (white row : List Color) (rows more : List (List Color)) → more ≡ rows ++ row ∷ []
-    → length (reference_at white rows (length rows)) ≡ width
-    → reading width (page_begin width) start.place (rest_of start) ≡ reading width (between (record {
-      rows = rows;
-      reference = reference_at
-          white rows (length rows);
-    })) old.place (rest_of old) → SeesStart (rest_of old) (length rows) Row
-    → ReadsRow (reference_at white rows (length rows)) old new (Ok row)
-    → reading width (page_begin width) start.place (rest_of start) ≡ reading width (between (record {
-      rows = more;
-      reference = reference_at
-          white more (length more);
-    })) new.place (rest_of new)
-page_more width start old new white row rows more is even before sees reads =
-    subst (λ (m : List (List Color)). reading width (page_begin width) start.place (rest_of start) ≡ reading width (between (record {
-      rows =
-          m;
-      reference = reference_at white m (length m);
-    })) new.place (rest_of new)) (sym is)
-    (page_on width start old new rows (reference_at white rows (length rows)) row even before sees reads ∙
-    ap (λ (r : List Color). reading width (between (record { rows = rows ++ row ∷ []; reference = r })) new.place (rest_of new)) (sym
-    (last_added white row rows)))
-
-pub page_more_even : (width : ℕ) (white row : List Color) (rows more : List (List Color)) → more ≡ rows ++ row ∷ [] → length row ≡ width
-    → length (reference_at white more (length more)) ≡ width
-page_more_even width white row rows more is wide = ap (λ (m : List (List Color)). length (reference_at white m (length m))) is ∙
-    (ap (λ (r : List Color). length r) (last_added white row rows) ∙ wide)
-
--- a whole page that is refused
-pub whole_refused : (width : ℕ) (fine : Bool) (bits : List Bool) (start new : Reading) (fault : CodeFault)
-    → start ≡ record { bits = bits; place = 0 } → ReadsPageOn width fine start new (Err fault)
-    → (fault.kind ≡ NoMemory) ⊎ (reading width (page_begin width) 0 bits ≡ Err (fault.place, fault.kind))
-whole_refused width fine bits start new fault is reads = subst (λ (r : Reading). ReadsPageOn width fine r new (Err fault)) is reads

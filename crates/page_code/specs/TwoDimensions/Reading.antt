@@ -1,5 +1,5 @@
 -- What the parts of a T.6 page's reader answer (ITU-T T.6, 2.2).
-use Rattle.std.specs.Prelude.{ℕ, ◌≡◌, ◌+◌, ◌<◌, ◌≤◌, ◌⊎◌, Bool, true, false, List, ◌++◌, length, if◌then◌else◌, Option, None, Some, Result, Ok, Err}
+use Rattle.std.specs.Prelude.{ℕ, suc, ◌≡◌, ◌+◌, ◌<◌, ◌≤◌, ◌⊎◌, Bool, true, false, List, [], ◌∷◌, ◌++◌, length, if◌then◌else◌, Option, None, Some, Result, Ok, Err}
 use Rattle.raster.specs.declared.row.Color.{Color}
 use Rattle.raster.specs.declared.row.Color.TheVariants.{White}
 use Rattle.raster.specs.Pages.{PagePixels}
@@ -10,14 +10,32 @@ use Rattle.run_tables.specs.declared.fault.CodeFaultKind.TheVariants.{NoMemory, 
 use Rattle.run_tables.specs.Reading.{Reading, rest_of, after}
 use Rattle.run_tables.specs.RowFronts.{amount}
 use Rattle.run_tables.specs.Texts.{begins, all_zero, is_cut}
-use Rattle.run_tables.specs.Fronts.Look.{refuse}
+use Rattle.run_tables.specs.Fronts.{read_from}
+use Rattle.run_tables.specs.Fronts.Look.{stop, refuse}
 use Rattle.page_code.specs.declared.t6.mode.ModeCode.{ModeCode}
 use Rattle.page_code.specs.declared.t6.read.Start.{Start}
 use Rattle.page_code.specs.declared.t6.read.Start.TheVariants.{Row, End, Refused}
 use Rattle.page_code.specs.TwoDimensions.Positions.{CodingLine, line_begin}
 use Rattle.page_code.specs.TwoDimensions.Modes.{eofb, extension_word}
-use Rattle.page_code.specs.TwoDimensions.Fronts.{mode_word, mode_codes, PageSoFar, PageState, page_begin, row_added, mode_ended, after_mode, run_color, run_ended, page_look, reading, read_page}
+use Rattle.page_code.specs.TwoDimensions.Fronts.{mode_word, mode_codes, PageItem, page_item_word, PageSoFar, PageState, page_begin, mode_ended, after_mode, run_color, run_ended, PageStep, PageLook, look_mode, look_run, page_look, reading}
 use Rattle.page_code.specs.TwoDimensions.Fronts.PageState.{between, inside, running}
+
+-- what is seen in the bits of a row: what is seen in those of a page, until the row is whole
+abbrev pub row_look : ℕ → PageState → List Bool → PageLook
+row_look width (between page) x = stop page.rows 0
+row_look width (inside page line) x = look_mode width page line x
+row_look width (running page line first makeup) x = look_run width page line first makeup x
+
+-- the item may be there in a row, and leads to the state
+abbrev pub RowStep : ℕ → PageState → PageItem → PageState → Type 0
+RowStep width (between page) item state = ⊥
+RowStep width (inside page line) item state = PageStep width (inside page line) item state
+RowStep width (running page line first makeup) item state = PageStep width (running page line first makeup) item state
+
+-- reading a row of a page, item by item, from a place on: the page's rows with it and the place after it, or the place and the kind of a
+-- refusal
+unfoldable pub row_reading : ℕ → PageState → ℕ → List Bool → Result (List (List Color) × ℕ) (ℕ × CodeFaultKind)
+row_reading width state place x = read_from page_item_word (row_look width) BadCode (suc (length x)) state place x
 
 -- whatever runs follow, the first of them has this color
 abbrev pub GoesOnWith : List ℕ → Color → Type 0
@@ -43,12 +61,12 @@ ReadsRun color room old new (Ok run) =
     (run ≤ room) × (new.bits ≡ old.bits) × (old.place < new.place) × (new.place ≤ length new.bits) ×
     ((width : ℕ) (page : PageSoFar) (line : CodingLine) (first : Option ℕ) (state : PageState) → HasRoom width line first color room
     → run_ended width page line first run ≡ Ok state
-    → reading width (running page line first None) old.place (rest_of old) ≡ reading width state new.place (rest_of new)) ×
+    → row_reading width (running page line first None) old.place (rest_of old) ≡ row_reading width state new.place (rest_of new)) ×
     ((width : ℕ) (page : PageSoFar) (line : CodingLine) → HasRoom width line (Some 0) color room → run ≡ 0
-    → reading width (running page line (Some 0) None) old.place (rest_of old) ≡ Err (old.place, EmptyHorizontal))
+    → row_reading width (running page line (Some 0) None) old.place (rest_of old) ≡ Err (old.place, EmptyHorizontal))
 ReadsRun color room old new (Err fault) =
     (width : ℕ) (page : PageSoFar) (line : CodingLine) (first : Option ℕ) → HasRoom width line first color room
-    → reading width (running page line first None) old.place (rest_of old) ≡ Err (fault.place, fault.kind)
+    → row_reading width (running page line first None) old.place (rest_of old) ≡ Err (fault.place, fault.kind)
 
 -- the mode code leads on to the next line
 abbrev pub LeadsOn : List Color → CodingLine → CodingLine → ModeCode → Type 0
@@ -67,33 +85,32 @@ MovesTo reference place line next code (Err fault) =
 abbrev pub ReadsHorizontal : ℕ → Reading → Reading → CodingLine → CodingLine → Result (Unit {0}) CodeFault → Type 0
 ReadsHorizontal width old new line next (Ok done) =
     (new.bits ≡ old.bits) × (old.place < new.place) × (new.place ≤ length new.bits) × (length next.pixels ≤ width) ×
-    ((page : PageSoFar) → reading width (running page line None None) old.place (rest_of old) ≡ reading width (mode_ended width page next)
+    ((page : PageSoFar) → row_reading width (running page line None None) old.place (rest_of old) ≡ row_reading width (mode_ended width page next)
     new.place (rest_of new))
 ReadsHorizontal width old new line next (Err fault) =
     (fault.kind ≡ NoMemory) ⊎ ((page : PageSoFar)
-    → reading width (running page line None None) old.place (rest_of old) ≡ Err (fault.place, fault.kind))
+    → row_reading width (running page line None None) old.place (rest_of old) ≡ Err (fault.place, fault.kind))
 
 -- one mode was read: reading the page from before it is reading on after it; or it is refused there, or memory is
 abbrev pub StepsOn : List Color → Reading → Reading → CodingLine → CodingLine → Result (Unit {0}) CodeFault → Type 0
 StepsOn reference old new line next (Ok done) =
     (new.bits ≡ old.bits) × (old.place < new.place) × (new.place ≤ length new.bits) × (length next.pixels ≤ length reference) ×
     ((page : PageSoFar) → page.reference ≡ reference
-    → reading (length reference) (inside page line) old.place (rest_of old) ≡ reading (length reference) (mode_ended (length reference)
+    → row_reading (length reference) (inside page line) old.place (rest_of old) ≡ row_reading (length reference) (mode_ended (length reference)
     page next) new.place (rest_of new))
 StepsOn reference old new line next (Err fault) =
     (fault.kind ≡ NoMemory) ⊎ ((page : PageSoFar) → page.reference ≡ reference
-    → reading (length reference) (inside page line) old.place (rest_of old) ≡ Err (fault.place, fault.kind))
+    → row_reading (length reference) (inside page line) old.place (rest_of old) ≡ Err (fault.place, fault.kind))
 
 -- one row was read, or it is refused, or memory is
 abbrev pub ReadsRow : List Color → Reading → Reading → Result (List Color) CodeFault → Type 0
 ReadsRow reference old new (Ok row) =
     (length row ≡ length reference) × (new.bits ≡ old.bits) × (new.place ≤ length new.bits) ×
     ((page : PageSoFar) → page.reference ≡ reference
-    → reading (length reference) (inside page line_begin) old.place (rest_of old) ≡ reading (length reference) (between (row_added page
-    row)) new.place (rest_of new))
+    → row_reading (length reference) (inside page line_begin) old.place (rest_of old) ≡ Ok (page.rows ++ row ∷ [], new.place))
 ReadsRow reference old new (Err fault) =
     (fault.kind ≡ NoMemory) ⊎ ((page : PageSoFar) → page.reference ≡ reference
-    → reading (length reference) (inside page line_begin) old.place (rest_of old) ≡ Err (fault.place, fault.kind))
+    → row_reading (length reference) (inside page line_begin) old.place (rest_of old) ≡ Err (fault.place, fault.kind))
 
 -- what is found where a row may begin, after so many rows
 abbrev pub SeesStart : List Bool → ℕ → Start → Type 0
@@ -101,11 +118,3 @@ SeesStart x count Row = (begins eofb x ≡ false) × (all_zero x ≡ false) × (
 SeesStart x count End = (begins eofb x ≡ true) × (0 < count)
 SeesStart x count (Refused kind) = (width : ℕ) (page : PageSoFar) → length page.rows ≡ count
     → page_look width (between page) x ≡ refuse kind
-
--- one page was read, or it is refused, or memory is
-abbrev pub ReadsPageOn : ℕ → Bool → Reading → Reading → Result PagePixels CodeFault → Type 0
-ReadsPageOn width fine old new (Ok page) =
-    (page.width ≡ width) × (page.fine ≡ fine) × (new.bits ≡ old.bits) × (new.place ≤ length new.bits)
-    × (reading width (page_begin width) old.place (rest_of old) ≡ Ok (page.rows, new.place))
-ReadsPageOn width fine old new (Err fault) = (fault.kind ≡ NoMemory) ⊎ (reading width (page_begin width) old.place (rest_of old) ≡ Err
-    (fault.place, fault.kind))

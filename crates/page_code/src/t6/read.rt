@@ -1,21 +1,24 @@
 //! Reading of a page in the two-dimensional code (ITU-T T.6, 2.2).
 
+ghost use Rattle.page_code.specs.RowsSoFar.{IsReadTo, ReadsOn};
 ghost use Rattle.page_code.specs.TwoDimensions.Fronts.{mode_word, mode_codes};
-ghost use Rattle.page_code.specs.TwoDimensions.Positions.{white_line};
-ghost use Rattle.page_code.specs.TwoDimensions.Reading.{LeadsOn, MovesTo, ReadsHorizontal, ReadsMode, ReadsPageOn, ReadsRow, SeesStart, StepsOn, missing_mode};
+ghost use Rattle.page_code.specs.TwoDimensions.Reading.{LeadsOn, MovesTo, ReadsHorizontal, ReadsMode, ReadsRow, SeesStart, StepsOn, missing_mode};
 ghost use Rattle.page_code.specs.TwoDimensions.Writing.{reference_at};
+ghost use Rattle.raster.specs.Packed.{bits_of};
 ghost use Rattle.raster.specs.Pixels.{IsWidth};
 ghost use Rattle.run_tables.specs.Reading.{rest_of};
 ghost use Rattle.run_tables.specs.Texts.{all_zero, is_cut};
 ghost use Rattle.std.specs.Prelude.{◌≡◌, ◌≤◌, ◌<◌, ◌+◌, [], OnOk, length};
 
-use crate::page::{push_row, row_of};
+use crate::coding::Coding;
+use crate::page::{Progress, push_row, row_of};
 use crate::t6::a0::b2;
 use crate::t6::changes::Changes;
 use crate::t6::line::Line;
 use crate::t6::mode::{EOFB, ModeCode, Shift};
 use crate::t6::mode_table::mode_of;
-use raster::{MAX_ROWS, Page, Row};
+use raster::packed::Order;
+use raster::{MAX_ROWS, Row};
 use run_tables::{BitReader, CodeFault, CodeFaultKind};
 use std::alloc::{AllocError, Global};
 
@@ -227,45 +230,28 @@ fn next_row(
     read_row(alloc, reader, &rows[rows.len() - 1])
 }
 
-/// The rows of a page that has none yet, after a white row.
-fn read_rows(
+/// Reads on from the rows read so far to the page's end, and answers how many bits the page uses. After
+/// an error the rows before it were read.
+pub(crate) fn read_on(
     alloc: Global,
-    reader: &mut BitReader,
-    white: &Row,
-    empty: Page,
-) -> Result<Page, CodeFault>
-    requires white { white.now ≡ white_line empty.width }
-    requires empty { empty.rows ≡ [] }
-    ensures { ReadsPageOn empty.width empty.fine reader.old reader.new result }
+    octets: &[u8],
+    order: Order,
+    to: &mut Progress,
+) -> Result<u128, CodeFault>
+    requires width { IsWidth to.old.page.width }
+    requires read { IsReadTo Coding.T6 to.old.page.width (bits_of order octets.now) to.old.page.rows to.old.place }
+    ensures { ReadsOn Coding.T6 (bits_of order octets.now) to.old to.new result }
 {
-    let _start = reader.place(); // tells the proof that it is within the bits
-    let mut page = empty;
+    let white = row_of(alloc, &[to.page.width()])?;
     loop {
-        let place = reader.place();
-        match start_at(reader, page.rows().len()) {
+        let mut reader = BitReader::at(octets, order, to.place);
+        match start_at(&reader, to.page.rows().len()) {
             Start::Row => {}
-            Start::End => {
-                reader.skip(EOFB.len());
-                return Ok(page);
-            }
-            Start::Refused(kind) => return Err(CodeFault::new(place, kind)),
+            Start::End => return Ok(to.place + EOFB.len() as u128),
+            Start::Refused(kind) => return Err(CodeFault::new(to.place, kind)),
         }
-        let row = next_row(alloc, reader, white, page.rows())?;
-        push_row(&mut page, row)?;
+        let row = next_row(alloc, &mut reader, &white, to.page.rows())?;
+        push_row(&mut to.page, row)?;
+        to.place = reader.place();
     }
-}
-
-/// A page of this width (ITU-T T.6, 2.2). After an error the reader is somewhere in the page.
-pub(crate) fn read_page(
-    alloc: Global,
-    reader: &mut BitReader,
-    width: u32,
-    fine: bool,
-) -> Result<Page, CodeFault>
-    requires { IsWidth width }
-    ensures { ReadsPageOn width fine reader.old reader.new result }
-{
-    let page = Page::new(alloc, width, fine).unwrap();
-    let white = row_of(alloc, &[width])?;
-    read_rows(alloc, reader, &white, page)
 }

@@ -1,4 +1,4 @@
-use Rattle.page_code.proofs.OneDimension.ReadsRowOfPage.{reads_its_code}
+use Rattle.page_code.proofs.OneDimension.ReadsItsCode.{reads_its_code}
 use Rattle.page_code.proofs.one_dim.OneDimPageCode.reads_its_code.Goals as goal
 
 pub returns : goal.returns

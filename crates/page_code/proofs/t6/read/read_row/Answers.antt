@@ -1,7 +1,7 @@
-use Rattle.std.proofs.Common.{arith, ap, inl, refl, ◌<◌, length}
+use Rattle.std.proofs.Common.{arith, ap, inl, refl, ◌≡◌, ◌<◌, ◌∙◌, length}
 use Rattle.std.proofs.lemmas.Result.{err_from_is_err_and}
 use Rattle.page_code.specs.declared.t6.a0.A0.{A0}
-use Rattle.page_code.proofs.TwoDimensions.StepsOn.{row_stays}
+use Rattle.page_code.proofs.TwoDimensions.StepsOn.{row_ends, row_stays}
 use Rattle.page_code.proofs.t6.read.read_row.Goals as goal
 
 pub returns-in_err-changes : goal.returns-in_err-changes
@@ -26,3 +26,20 @@ pub returns-in_err-into_row : goal.returns-in_err-into_row
 returns-in_err-into_row c =
     let p = err_from_is_err_and c.from_residual-in_err-into_row.result c.from_residual-in_err-into_row.ensures.1 in
     rw (p.1, p.2) (inl refl)
+
+pub returns : goal.returns
+returns c =
+    let place = ap (λ (a : A0). a.place) c.a0.ensures.is in
+    let full : length c.loop-reader.line.pixels ≡ length c.args.reference.now = omega (
+      arith,
+      place,
+      c.loop-reader-test.false,
+      c.width-width.ensures.width,
+      c.loop-reader.invariant.short,
+    ) in (
+      ap length c.in_ok-into_row.ensures ∙ full,
+      c.loop-reader.invariant.bits,
+      c.loop-reader.invariant.within,
+      row_ends c.args.reference.now c.args.reader.now c.loop-reader.reader c.loop-reader.line c.in_ok-into_row.field-0
+          c.in_ok-into_row.ensures full c.loop-reader.invariant.reads,
+    )

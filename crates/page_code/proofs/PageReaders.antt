@@ -1,0 +1,198 @@
+-- A reader of a page that comes in pieces: what it keeps holds when octets follow, and what it answers at the end.
+use Rattle.std.proofs.Common.{ℕ, ◌≡◌, ◌≢◌, ◌≤◌, Bool, List, [], ◌++◌, length, inl, inr, refl, ap, sym, ◌∙◌, subst, arith, append_assoc}
+use Rattle.std.specs.Prelude.{Result, Ok, Err, IfOk, IfErr}
+use Rattle.std.proofs.lemmas.Bool.{cases_eq}
+use Rattle.raster.specs.declared.packed.Order.{Order}
+use Rattle.raster.specs.declared.row.Color.{Color}
+use Rattle.raster.specs.Packed.{bits_of}
+use Rattle.raster.specs.Pages.{PagePixels}
+use Rattle.raster.specs.Pixels.{IsWidth}
+use Rattle.raster.proofs.OctetBits.{bits_of-join}
+use Rattle.raster.proofs.PackedLemmas.{bits_in-none}
+use Rattle.run_tables.specs.declared.fault.CodeFault.{CodeFault}
+use Rattle.run_tables.specs.declared.fault.CodeFaultKind.TheVariants.{NoMemory}
+use Rattle.page_code.specs.declared.coding.Coding.{Coding}
+use Rattle.page_code.specs.declared.page.Progress.{Progress}
+use Rattle.page_code.specs.Codings.{IsLongestIn, ReadsIn, read_rows}
+use Rattle.page_code.specs.PageCodes.{GivesPage, GivesRows, IsOnlyAnswer, ReadsPage, RefusesPage}
+use Rattle.page_code.specs.declared.coding.Coding.TheVariants.{OneDim, T6}
+use Rattle.page_code.specs.RowsSoFar.{AreRowsSoFar, BeginWith, IsFurther, IsReadTo, ReadsOn, RowsStay, after_rows, between_rows}
+use Rattle.page_code.specs.PageReaders.{PageReading, StandsFor, GoesOnTo, IsLike, StandsAsBefore}
+use Rattle.page_code.specs.OneDimension.Fronts.{item_word, Step}
+use Rattle.page_code.specs.OneDimension.Fronts.PageState.{first}
+use Rattle.page_code.specs.TwoDimensions.Fronts.{page_item_word, PageStep, page_begin}
+use Rattle.page_code.proofs.CodingLaws.{reads_exactly, refuses_no_page, refuses_at_longest}
+use Rattle.page_code.proofs.FrontEnds.{leads_more}
+use Rattle.page_code.proofs.GivesPage.{gives_only, gives_reads, gives_refuses, gives_rows}
+use Rattle.page_code.proofs.OneDimension.RowsOn as one_dim
+use Rattle.page_code.proofs.TwoDimensions.RowsOn as t6
+
+-- rows that begin bits begin them with more after them
+begin_more : (coding : Coding) (width : ℕ) (bits more : List Bool) (rows : List (List Color)) → BeginWith coding width bits rows
+    → BeginWith coding width (bits ++ more) rows
+unfolding BeginWith
+begin_more OneDim width bits more rows begins = (
+  begins.0,
+  begins.1,
+  begins.2 ++ more,
+  begins.3,
+  begins.4,
+  ap (λ l. l ++ more) begins.5 ∙ (append_assoc begins.0 (begins.1 ++ begins.2) more ∙
+      ap (λ l. begins.0 ++ l) (append_assoc begins.1 begins.2 more)),
+)
+begin_more T6 width bits more rows begins = (
+  begins.0,
+  begins.1 ++ more,
+  begins.2,
+  ap (λ l. l ++ more) begins.3 ∙ append_assoc begins.0 begins.1 more,
+)
+
+pub rows_stay : RowsStay
+rows_stay coding width bits more count later now after = elim (cases_eq count 0) [
+  | inl none ↦ omega arith
+  | inr some ↦
+      let there = now.there (omega arith) in
+      let fits : length there.0 ≤ 20000 = omega (arith, there.1, now.few) in
+      omega (arith, there.1, after.no_more there.0 fits (begin_more coding width bits more there.0 there.2))
+]
+
+-- rows that were read are read of more bits
+read_more : (coding : Coding) (width : ℕ) (bits more : List Bool) (rows : List (List Color)) (place : ℕ)
+    → IsReadTo coding width bits rows place → IsReadTo coding width (bits ++ more) rows place
+unfolding IsReadTo
+read_more OneDim width bits more rows place read = leads_more item_word (Step width) first (after_rows rows) bits more place read
+read_more T6 width bits more rows place read = leads_more page_item_word (PageStep width) (page_begin width) (between_rows width rows) bits
+    more place read
+
+pub read_none : (coding : Coding) (width : ℕ) (bits : List Bool) → IsReadTo coding width bits [] 0
+read_none OneDim width bits = one_dim.read_none width bits
+read_none T6 width bits = t6.read_none width bits
+
+rows_none : (coding : Coding) (width : ℕ) → IsWidth width → AreRowsSoFar coding width [] 0
+rows_none OneDim width wide = one_dim.rows_none width wide
+rows_none T6 width wide = t6.rows_none width wide
+
+-- what is kept of the octets so far is kept of all
+pub goes_on_to : (reader : PageReading) (all : List ℕ) → GoesOnTo reader all
+    → IsReadTo reader.coding reader.page.width (bits_of reader.order all) reader.page.rows reader.place
+goes_on_to reader all on =
+    let bits = bits_of reader.order on.octets in
+    let more = bits_of reader.order on.more in
+    let joined : bits_of reader.order all ≡ bits ++ more = ap (bits_of reader.order) on.begins ∙ bits_of-join reader.order on.octets on.more
+    in
+    subst (λ b. IsReadTo reader.coding reader.page.width b reader.page.rows reader.place) (sym joined) (read_more reader.coding
+    reader.page.width bits more reader.page.rows reader.place on.stands.kept)
+
+-- a reader of no rows stands for no octets
+pub stands_for_none : (reader : PageReading) → IsWidth reader.page.width → reader.page.rows ≡ [] → reader.place ≡ 0 → reader.count ≡ 0
+    → StandsFor reader []
+stands_for_none reader wide rows place count =
+    let none : bits_of reader.order [] ≡ [] = bits_in-none reader.order [] in
+    record {
+      kept = rw (rows, place) (read_none reader.coding reader.page.width (bits_of reader.order []));
+      counted = rw (count, none) (rows_none reader.coding reader.page.width wide);
+    }
+
+-- a reader that forgot its rows, and not how many there are, stands for what it stood for
+pub stands_again : (old new : PageReading) → IsLike old new → new.page.rows ≡ [] → new.place ≡ 0 → new.count ≡ old.count
+    → StandsAsBefore old new
+stands_again old new like rows place count = (
+  like,
+  λ octets stands. record {
+    kept = rw (rows, place) (read_none new.coding new.page.width (bits_of new.order octets));
+    counted = rw (like.coding, like.order, like.width, count) stands.counted;
+  },
+)
+
+-- The reader's calls
+
+-- a reader as clauses see it
+abbrev pub reading_of : Coding → Order → Progress → ℕ → PageReading
+reading_of coding order progress count = record {
+  coding = coding;
+  order = order;
+  page = progress.page;
+  place = progress.place;
+  count = count;
+}
+
+-- a new reader
+pub begins : (coding : Coding) (order : Order) (width : ℕ) (fine : Bool) (progress : Progress) → IsWidth width
+    → progress ≡ record { page = record { width = width; fine = fine; rows = [] }; place = 0 }
+    → StandsFor (reading_of coding order progress 0) []
+begins coding order width fine progress wide is = subst (λ (p : Progress). StandsFor (reading_of coding order p 0) []) (sym is)
+    (stands_for_none (reading_of coding order (record { page = record { width = width; fine = fine; rows = [] }; place = 0 }) 0) wide refl
+    refl refl)
+
+module _ (coding : Coding) (order : Order) (old : Progress) (count : ℕ) (now : PageReading)
+    (view : reading_of coding order old count ≡ now) where
+  pub reads_from : (all : List ℕ) → GoesOnTo now all → IsReadTo coding old.page.width (bits_of order all) old.page.rows old.place
+  reads_from all on = goes_on_to (reading_of coding order old count) all (subst (λ (r : PageReading). GoesOnTo r all) (sym view) on)
+
+  pub is_like : (new : Progress) (n : ℕ) → new.page.width ≡ old.page.width → new.page.fine ≡ old.page.fine
+      → IsLike now (reading_of coding order new n)
+  is_like new n width fine = record {
+    coding = ap (λ (r : PageReading). r.coding) view;
+    order = ap (λ (r : PageReading). r.order) view;
+    width = width ∙ ap (λ (r : PageReading). r.page.width) view;
+    fine = fine ∙ ap (λ (r : PageReading). r.page.fine) view;
+  }
+
+  pub read_further : (all : List ℕ) (new : Progress) (n : ℕ) → IsFurther coding (bits_of order all) old new
+      → AreRowsSoFar coding new.page.width (bits_of order all) (length new.page.rows) → n ≡ length new.page.rows
+      → StandsFor (reading_of coding order new n) all
+  read_further all new n further counted is = record { kept = further.read; counted = rw is counted }
+
+  -- a reader that has no rows again
+  module _ (fresh : Progress) (width : ℕ) (fine : Bool)
+      (is : fresh ≡ record { page = record { width = width; fine = fine; rows = [] }; place = 0 })
+      (width_is : width ≡ old.page.width) (fine_is : fine ≡ old.page.fine) where
+    pub fresh_like : (n : ℕ) → IsLike now (reading_of coding order fresh n)
+    fresh_like n = is_like fresh n (ap (λ (p : Progress). p.page.width) is ∙ width_is) (ap (λ (p : Progress). p.page.fine) is ∙ fine_is)
+
+    pub stands_still : StandsAsBefore now (reading_of coding order fresh count)
+    stands_still = stands_again now (reading_of coding order fresh count) (fresh_like count) (ap (λ (p : Progress). p.page.rows) is) (ap (λ
+        (p : Progress). p.place) is) (ap (λ (r : PageReading). r.count) view)
+
+    pub stands_empty : IsWidth old.page.width → StandsFor (reading_of coding order fresh 0) []
+    stands_empty wide = begins coding order width fine fresh (rw width_is wide) is
+
+  -- what is answered at the end
+  pub gives_now : (all : List ℕ) (result : Result (PagePixels × ℕ) CodeFault)
+      → GivesPage (read_rows coding old.page.width (bits_of order all)) old.page.width old.page.fine result
+      → GivesPage (read_rows now.coding now.page.width (bits_of now.order all)) now.page.width now.page.fine result
+  gives_now all result gives = subst (λ (r : PageReading). GivesPage (read_rows r.coding r.page.width (bits_of r.order all)) r.page.width
+      r.page.fine result) view gives
+
+  pub wide_now : IsWidth old.page.width → IsWidth now.page.width
+  wide_now wide = subst (λ (r : PageReading). IsWidth r.page.width) view wide
+
+-- what a page that is read on gives
+pub gives_ok : (coding : Coding) (bits : List Bool) (old new : Progress) (used : ℕ) → ReadsOn coding bits old new (Ok used)
+    → (new.page.width ≡ old.page.width) × (new.page.fine ≡ old.page.fine) × (read_rows coding old.page.width bits ≡ Ok (
+      new.page.rows,
+      used,
+    ))
+gives_ok coding bits old new used on = (on.0.width, on.0.fine, ap (λ w. read_rows coding w bits) (sym on.0.width) ∙ on.1)
+
+pub gives_err : (coding : Coding) (bits : List Bool) (old new : Progress) (fault : CodeFault) → ReadsOn coding bits old new (Err fault)
+    → GivesPage (read_rows coding old.page.width bits) old.page.width old.page.fine (Err fault)
+gives_err coding bits old new fault (inl memory) = inl memory
+gives_err coding bits old new fault (inr on) = inr (ap (λ w. read_rows coding w bits) (sym on.0.width) ∙ on.1)
+
+module _ (coding : Coding) (width : ℕ) (fine : Bool) (bits : List Bool) (result : Result (PagePixels × ℕ) CodeFault) (wide : IsWidth width)
+    (gives : GivesPage (read_rows coding width bits) width fine result) where
+  pub finish_reads : IfOk result (λ read. ReadsPage (ReadsIn coding) width fine bits read.0 read.1)
+  finish_reads = gives_reads (ReadsIn coding) (IsLongestIn coding) (read_rows coding) (reads_exactly coding) (refuses_no_page coding)
+      (refuses_at_longest coding) width fine bits result wide gives
+
+  pub finish_only : IsOnlyAnswer (ReadsIn coding) width bits result
+  finish_only = gives_only (ReadsIn coding) (IsLongestIn coding) (read_rows coding) (reads_exactly coding) (refuses_no_page coding)
+      (refuses_at_longest coding) width fine bits result wide gives
+
+  pub finish_refuses : IfErr result (λ fault. fault.kind ≢ NoMemory → RefusesPage (ReadsIn coding) (IsLongestIn coding) width bits fault)
+  finish_refuses = gives_refuses (ReadsIn coding) (IsLongestIn coding) (read_rows coding) (reads_exactly coding) (refuses_no_page coding)
+      (refuses_at_longest coding) width fine bits result wide gives
+
+  pub finish_gives : GivesRows (read_rows coding width bits) result
+  finish_gives = gives_rows (read_rows coding width bits) width fine result gives

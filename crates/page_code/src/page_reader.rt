@@ -1,0 +1,186 @@
+//! Reading of a page whose code comes in pieces.
+
+ghost use Rattle.page_code.specs.Codings.{read_rows};
+ghost use Rattle.page_code.specs.PageCodes.{GivesPage, GivesRows, IsOnlyAnswer, ReadsPage, RefusesPage};
+ghost use Rattle.page_code.specs.PageReaders.{GoesOnTo, IsLike, StandsAsBefore, StandsFor};
+ghost use Rattle.page_code.specs.RowsSoFar.{AreRowsSoFar, IsFurther, IsReadTo, ReadsOn};
+ghost use Rattle.raster.specs.Packed.{bits_of};
+ghost use Rattle.raster.specs.Pixels.{IsWidth};
+ghost use Rattle.run_tables.specs.declared.fault.CodeFaultKind.TheVariants.{NoMemory};
+ghost use Rattle.std.specs.Prelude.{◌≡◌, ◌≢◌, ◌↔◌, [], List, ℕ, IfErr, IfOk, IsTrue, OnErr, OnOk, length};
+
+use crate::coding::Coding;
+use crate::page::Progress;
+use crate::{one_dim, t6};
+use raster::Page;
+use raster::packed::Order;
+use run_tables::{CodeFault, CodeFaultKind};
+use std::alloc::{AllocError, Global};
+use std::marker::Model;
+use std::mem;
+
+/// Reads on from the rows read so far to the page's end, and answers how many bits the page uses.
+fn read_rows_on(
+    alloc: Global,
+    coding: Coding,
+    octets: &[u8],
+    order: Order,
+    to: &mut Progress,
+) -> Result<u128, CodeFault>
+    requires width { IsWidth to.old.page.width }
+    requires read { IsReadTo coding to.old.page.width (bits_of order octets.now) to.old.page.rows to.old.place }
+    ensures { ReadsOn coding (bits_of order octets.now) to.old to.new result }
+{
+    match coding {
+        Coding::OneDim => one_dim::read_on(alloc, octets, order, to),
+        Coding::T6 => t6::read::read_on(alloc, octets, order, to),
+    }
+}
+
+/// Reads a page whose octets come in pieces: each call is given all octets so far, and reads on after
+/// the whole rows that were read before. It keeps the rows, and not the octets.
+#[derive(Drop)]
+pub struct PageReader {
+    alloc: Global,
+    coding: Coding,
+    order: Order,
+    progress: Progress,
+    count: u32,
+}
+
+impl Model for PageReader {
+    ghost use Rattle.page_code.specs.PageReaders.{PageReading};
+    ghost use Rattle.raster.specs.Pixels.{IsWidth};
+
+    ghost Value = { PageReading };
+
+    ghost view = { λ reader. record { coding = reader.coding; order = reader.order; page = reader.progress.page; place = reader.progress.place; count = reader.count } };
+
+    ghost invariant = { λ reader. IsWidth reader.progress.page.width };
+}
+
+/// Whether memory was refused.
+fn is_memory(kind: CodeFaultKind) -> bool
+    ensures { IsTrue result ↔ (kind ≡ NoMemory) }
+{
+    kind == CodeFaultKind::NoMemory
+}
+
+/// Reads on, up to the page's end or a refusal. Errs where memory is refused.
+fn read_further(
+    alloc: Global,
+    coding: Coding,
+    octets: &[u8],
+    order: Order,
+    to: &mut Progress,
+) -> Result<(), AllocError>
+    requires width { IsWidth to.old.page.width }
+    requires read { IsReadTo coding to.old.page.width (bits_of order octets.now) to.old.page.rows to.old.place }
+    ensures { OnOk result (IsFurther coding (bits_of order octets.now) to.old to.new × AreRowsSoFar coding to.new.page.width (bits_of order octets.now) (length to.new.page.rows)) }
+{
+    match read_rows_on(alloc, coding, octets, order, to) {
+        Ok(_) => Ok(()),
+        Err(fault) => {
+            if is_memory(fault.kind) {
+                Err(AllocError)
+            } else {
+                Ok(())
+            }
+        }
+    }
+}
+
+/// Reads on to the page's end: the page, and the bits used.
+fn read_to_end(
+    alloc: Global,
+    coding: Coding,
+    octets: &[u8],
+    order: Order,
+    progress: Progress,
+) -> Result<(Page, u128), CodeFault>
+    requires width { IsWidth progress.page.width }
+    requires read { IsReadTo coding progress.page.width (bits_of order octets.now) progress.page.rows progress.place }
+    ensures { GivesPage (read_rows coding progress.page.width (bits_of order octets.now)) progress.page.width progress.page.fine result }
+{
+    let mut to = progress;
+    let used = read_rows_on(alloc, coding, octets, order, &mut to)?;
+    Ok((to.page, used))
+}
+
+impl PageReader {
+    ghost use Rattle.page_code.specs.Codings.{IsLongestIn, ReadsIn};
+
+    /// A reader of pages of this code, order of bits and width in pixels, 1 to 2,432, that stands for no
+    /// octets. Takes no memory.
+    pub fn new(alloc: Global, coding: Coding, order: Order, width: u32, fine: bool) -> PageReader
+        requires { IsWidth width }
+        ensures coding { result.coding ≡ coding }
+        ensures order { result.order ≡ order }
+        ensures width { result.page.width ≡ width }
+        ensures fine { result.page.fine ≡ fine }
+        ensures stands { StandsFor result [] }
+    {
+        PageReader {
+            alloc,
+            coding,
+            order,
+            progress: Progress::new(alloc, width, fine),
+            count: 0,
+        }
+    }
+
+    /// Reads the whole rows of octets that begin with those that the reader stands for; it stands for
+    /// all of them then. Tells no fault of the code. Errs where memory is refused; the reader stands
+    /// for what it stood for then.
+    pub fn read_on(&mut self, all: &[u8]) -> Result<(), AllocError>
+        requires { GoesOnTo self.old all.now }
+        ensures like { IsLike self.old self.new }
+        ensures ok { OnOk result (StandsFor self.new all.now) }
+        ensures err { OnErr result (StandsAsBefore self.old self.new) }
+    {
+        let width = self.progress.page.width();
+        let fine = self.progress.page.fine();
+        let read = read_further(self.alloc, self.coding, all, self.order, &mut self.progress);
+        if read.is_err() {
+            self.progress = Progress::new(self.alloc, width, fine);
+            return Err(AllocError);
+        }
+        self.count = self.progress.page.rows().len() as u32;
+        Ok(())
+    }
+
+    /// The page of octets that begin with those that the reader stands for, and how many bits it uses:
+    /// what `Coding::decode` answers for them. The reader stands for no octets then, and after an error
+    /// for what it stood for.
+    pub fn finish(&mut self, all: &[u8]) -> Result<(Page, u128), CodeFault>
+        requires { GoesOnTo self.old all.now }
+        ensures like { IsLike self.old self.new }
+        ensures ok { OnOk result (StandsFor self.new []) }
+        ensures err { OnErr result (StandsAsBefore self.old self.new) }
+        ensures reads { IfOk result (λ read. ReadsPage (ReadsIn self.old.coding) self.old.page.width self.old.page.fine (bits_of self.old.order all.now) read.0 read.1) }
+        ensures only { IsOnlyAnswer (ReadsIn self.old.coding) self.old.page.width (bits_of self.old.order all.now) result }
+        ensures refuses { IfErr result (λ fault. fault.kind ≢ NoMemory → RefusesPage (ReadsIn self.old.coding) (IsLongestIn self.old.coding) self.old.page.width (bits_of self.old.order all.now) fault) }
+        ensures gives { GivesRows (read_rows self.old.coding self.old.page.width (bits_of self.old.order all.now)) result }
+        ensures memory { IfErr result (λ fault. fault.kind ≡ NoMemory → fault.place ≡ 0) }
+    {
+        let width = self.progress.page.width();
+        let fine = self.progress.page.fine();
+        let begun = Progress::new(self.alloc, width, fine);
+        let progress = mem::replace(&mut self.progress, begun);
+        match read_to_end(self.alloc, self.coding, all, self.order, progress) {
+            Ok(answer) => {
+                self.count = 0;
+                Ok(answer)
+            }
+            Err(fault) => Err(fault.begun_at(0)),
+        }
+    }
+
+    /// How many whole rows the bits of the octets spell that the reader stands for, one after the other
+    /// from the beginning: 0 to 20,000. Takes no memory.
+    pub fn rows(&self) -> u32
+        ensures { (octets : List ℕ) → StandsFor self.now octets → AreRowsSoFar self.now.coding self.now.page.width (bits_of self.now.order octets) result }
+    {
+        self.count
+    }
+}
