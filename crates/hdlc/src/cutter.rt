@@ -155,6 +155,22 @@ impl Cutter {
         self.window = octet;
     }
 
+    /// Takes an octet that ends no flag, where none or all of the last eight bits came after the last
+    /// flag, and answers whether it did; else nothing is changed.
+    fn take_unless_flag(&mut self, octet: u8) -> bool
+        requires { self.old.held % 8 ≡ 0 }
+        ensures taken { result ≡ true → (counts : AnyCounts) (queue : List (List ℕ)) (bits : List Bool) (handed : ℕ)
+            → PartsAfter self.old counts queue bits handed
+            → PartsAfter self.new counts queue (bits ++ bits_of LsbFirst (octet ∷ [])) handed }
+        ensures left { result ≡ false → self.new ≡ self.old }
+    {
+        if !ends_no_flag(self.window, octet) {
+            return false;
+        }
+        self.take_quiet(octet);
+        true
+    }
+
     /// Takes an octet that ends no flag or repeats flags, which changes no count and brings no
     /// content, and answers whether it did; else nothing is changed.
     pub fn take_at_once(&mut self, octet: u8) -> bool
@@ -163,17 +179,16 @@ impl Cutter {
             → PartsAfter self.new counts queue (bits ++ bits_of LsbFirst (octet ∷ [])) handed }
         ensures left { result ≡ false → self.new ≡ self.old }
     {
+        if self.held == 8 {
+            return self.take_unless_flag(octet);
+        }
         if self.repeats_flags(octet) {
             return true;
         }
-        if self.held % 8 != 0 {
+        if self.held != 0 {
             return false;
         }
-        if !ends_no_flag(self.window, octet) {
-            return false;
-        }
-        self.take_quiet(octet);
-        true
+        self.take_unless_flag(octet)
     }
 }
 

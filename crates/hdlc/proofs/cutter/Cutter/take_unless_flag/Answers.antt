@@ -3,7 +3,7 @@ use Rattle.raster.specs.Packed.{bits_of}
 use Rattle.raster.specs.declared.packed.Order.TheVariants.{LsbFirst}
 use Rattle.hdlc.specs.EightBits.{ends_no_flag}
 use Rattle.hdlc.proofs.QuietOctets.{parts_quiet}
-use Rattle.hdlc.proofs.cutter.Cutter.take_at_once.Goals as goal
+use Rattle.hdlc.proofs.cutter.Cutter.take_unless_flag.Goals as goal
 
 pub returns-clause-taken : goal.returns-clause-taken
 returns-clause-taken c e counts queue bits handed old =
