@@ -18,14 +18,17 @@ use Rattle.run_tables.proofs.NumberLemmas.{begins_filled, begins_unfilled, begin
 use Rattle.run_tables.proofs.RunReads.{low_listed, low_run}
 
 -- code words have 1 to 13 bits
-length_test : (color : Color) → list_all (λ run. ltb 0 (length (code_word color run)) && ltb (length (code_word color run)) 14) (first_runs 104) ≡ true
+length_test : (color : Color) → list_all (λ run. ltb 0 (length (code_word color run)) && ltb (length (code_word color run)) 14)
+    (first_runs 104) ≡ true
 unfolding code_word first_runs
 length_test White = refl
 length_test Black = refl
 
-pub word_lengths : (color : Color) (run : ℕ) → Contains (runs_among AllCodes) run → (0 < length (code_word color run)) × (length (code_word color run) ≤ 13)
+pub word_lengths : (color : Color) (run : ℕ) → Contains (runs_among AllCodes) run → (0 < length (code_word color run)) × (length
+    (code_word color run) ≤ 13)
 word_lengths color run listed =
-    let parts = and_parts _ _ (all_test (λ n. ltb 0 (length (code_word color n)) && ltb (length (code_word color n)) 14) (first_runs 104) run (length_test color) listed) in
+    let parts = and_parts _ _ (all_test (λ n. ltb 0 (length (code_word color n)) && ltb (length (code_word color n)) 14) (first_runs
+    104) run (length_test color) listed) in
     let above = ltb-true 0 (length (code_word color run)) parts.0 in
     let below = ltb-true (length (code_word color run)) 14 parts.1 in
     (above, omega (arith, below))
@@ -55,11 +58,13 @@ none_picked color among x none = at (pick (code_word color) (runs_among among) x
     at (Some run) e = absurd (none run (stands_pick color among x run e))
 
 -- a code that the table holds and that the bits are long enough for is the one that is picked
-pub entry_found : (color : Color) (x : List Bool) (run bits : ℕ) → (run, bits) ≡ entry_for color (first_bits 13 x) → 0 < bits → bits ≤ length x
+pub entry_found : (color : Color) (x : List Bool) (run bits : ℕ) → (run, bits) ≡ entry_for color (first_bits 13 x) → 0 < bits → bits ≤
+    length x
     → (pick (code_word color) (runs_among AllCodes) x ≡ Some run) × (bits ≡ length (code_word color run))
 entry_found color x run bits is some fits = at (pick (code_word color) (first_runs 104) (first_bits 13 x)) refl is
   where
-    at : (picked : Option ℕ) → pick (code_word color) (first_runs 104) (first_bits 13 x) ≡ picked → (run, bits) ≡ entry_picked color picked
+    at : (picked : Option ℕ) → pick (code_word color) (first_runs 104) (first_bits 13 x) ≡ picked → (run, bits) ≡ entry_picked color
+        picked
         → (pick (code_word color) (runs_among AllCodes) x ≡ Some run) × (bits ≡ length (code_word color run))
     at None e same = absurd (omega (arith, ap (λ (p : ℕ × ℕ). p.1) same))
     at (Some r) e same =
@@ -76,7 +81,8 @@ entry_low color x run e low =
     pick_stands color TerminatingCodes x run (low_listed TerminatingCodes run low, (stands_pick color AllCodes x run e).1)
 
 -- where the table holds none, none is
-pub entry_none : (color : Color) (among : Among) (x : List Bool) (run bits : ℕ) → (run, bits) ≡ entry_for color (first_bits 13 x) → bits ≡ 0
+pub entry_none : (color : Color) (among : Among) (x : List Bool) (run bits : ℕ) → (run, bits) ≡ entry_for color (first_bits 13 x) → bits
+    ≡ 0
     → pick (code_word color) (runs_among among) x ≡ None
 entry_none color among x run bits is none = none_picked color among x (λ r next.
     let same = is ∙ next_entry color among x r next in

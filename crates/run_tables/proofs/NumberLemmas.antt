@@ -35,7 +35,8 @@ number_zero n = refl
 -- the highest bit, and then the others
 pub number_more : (count n : ℕ) → number_text (suc count) n ≡ nat_eq (bit_at n count) 1 ∷ number_text count n
 number_more count n =
-    same_lists (number_text (suc count) n) (nat_eq (bit_at n count) 1 ∷ number_text count n) (length-number_text (suc count) n ∙ ap suc (sym
+    same_lists (number_text (suc count) n) (nat_eq (bit_at n count) 1 ∷ number_text count n) (length-number_text (suc count) n ∙ ap suc
+    (sym
     (length-number_text count n))) (λ k d h. at k d (omega (arith, length-number_text (suc count) n)))
   where
     at : (k : ℕ) (d : Bool) → k < suc count
@@ -88,7 +89,8 @@ first_number a b n x e =
     (first_bits a x) (first_bits b (drop a x)) a (length-first_bits a x))
 
 -- what begins the bits begins them filled with 0 bits, if it is no longer
-pub begins_filled : (word x : List Bool) (count : ℕ) → length word ≤ count → begins word x ≡ true → begins word (first_bits count x) ≡ true
+pub begins_filled : (word x : List Bool) (count : ℕ) → length word ≤ count → begins word x ≡ true → begins word (first_bits count x) ≡
+    true
 unfolding first_bits
 begins_filled [] x count h e = refl
 begins_filled (w ∷ word) x zero h e = absurd (omega arith)
@@ -119,7 +121,8 @@ begins_within (w ∷ word) (y ∷ x) e =
 -- the bits of one number and then those of another are the bits of one number
 pub number_append : (a b high low : ℕ) → low < 2 ^ b → number_text (a + b) (high * 2 ^ b + low) ≡ number_text a high ++ number_text b low
 number_append a b high low h =
-    number_split a b (high * 2 ^ b + low) ∙ (ap (λ n. number_text a n ++ number_text b (high * 2 ^ b + low)) (div-mul-add high (2 ^ b) low h)
+    number_split a b (high * 2 ^ b + low) ∙ (ap (λ n. number_text a n ++ number_text b (high * 2 ^ b + low)) (div-mul-add high (2 ^ b)
+    low h)
     ∙ ap (λ l. number_text a high ++ l) (lower b b (high) low (omega arith)))
   where
     lower : (count b high low : ℕ) → count ≤ b → number_text count (high * 2 ^ b + low) ≡ number_text count low
@@ -138,7 +141,8 @@ pub number_same : (count a b : ℕ) → a < 2 ^ count → b < 2 ^ count → numb
 number_same count a b ha hb e = same_from_bits_below count a b ha hb (λ i h.
     let back : count - 1 - (count - 1 - i) ≡ i = omega arith in
     let within : count - 1 - i < count = omega arith in
-    let equal : nat_eq (bit_at a i) 1 ≡ nat_eq (bit_at b i) 1 = rw back at (sym (number_at count a (count - 1 - i) false within) ∙ (ap (λ l.
+    let equal : nat_eq (bit_at a i) 1 ≡ nat_eq (bit_at b i) 1 = rw back at (sym (number_at count a (count - 1 - i) false within) ∙ (ap
+    (λ l.
     get_or l (count - 1 - i) false) e ∙ number_at count b (count - 1 - i) false within)) in
     same_bit (bit_at a i) (bit_at b i) (bit_at-lt a i) (bit_at-lt b i) equal)
   where
@@ -162,7 +166,8 @@ first_at (suc count) (b ∷ x) (suc k) d h = first_at count x k d (omega arith)
 -- the first bits of a number that is the first 64 bits are those bits
 pub word_first : (a b : ℕ) (x : List Bool) (word : ℕ) → a + b ≡ 64 → IsFirst64 x word → number_text a (word / 2 ^ b) ≡ first_bits a x
 word_first a b x word sum is =
-    let whole : number_text 64 word ≡ first_bits 64 x = same_lists (number_text 64 word) (first_bits 64 x) (length-number_text 64 word ∙ sym
+    let whole : number_text 64 word ≡ first_bits 64 x = same_lists (number_text 64 word) (first_bits 64 x) (length-number_text 64 word ∙
+    sym
     (length-first_bits 64 x)) (λ k d h.
     let within : k < 64 = omega (arith, length-number_text 64 word) in
     number_at 64 word k d within ∙ (is k within ∙ sym (first_at 64 x k d within))) in
@@ -177,7 +182,8 @@ word_rest order octets place word is k h = is k h ∙ sym (get_or-drop place (bi
   where
     at : (place + k < 8 * length octets) ⊎ (8 * length octets ≤ place + k)
         → get_or (bits_of order octets) (place + k) false ≡ bit_in order octets (place + k)
-    at (inl lt) = get_or-map-range_with_len (λ i. bit_in order octets i) 0 (8 * length octets) (place + k) (place + k) false lt (omega arith)
+    at (inl lt) = get_or-map-range_with_len (λ i. bit_in order octets i) 0 (8 * length octets) (place + k) (place + k) false lt (omega
+        arith)
     at (inr le) =
         let past : length (bits_of order octets) ≤ place + k = rw length-bits_in le in
         get_or_past (bits_of order octets) (place + k) false past ∙ sym (bit_in-past order octets (place + k) le)

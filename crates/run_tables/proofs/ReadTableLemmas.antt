@@ -36,7 +36,8 @@ entry_places color (place ∷ places) bits =
 
 pub entry_is : (color : Color) (bits : List Bool) → entry_of (codes_of color) bits ≡ entry_for color bits
 unfolding first_runs
-entry_is color bits = ap (λ (codes : List (ℕ × List Bool)). entry_of codes bits) (table_is color) ∙ entry_places color (range_with_len 0 104) bits
+entry_is color bits = ap (λ (codes : List (ℕ × List Bool)). entry_of codes bits) (table_is color) ∙ entry_places color (range_with_len 0
+    104) bits
 
 begins_more_bits : (word bits more : List Bool) → begins word bits ≡ true → begins word (bits ++ more) ≡ true
 begins_more_bits [] bits more e = refl
@@ -46,7 +47,8 @@ begins_more_bits (w ∷ word) (b ∷ bits) more e =
     and_from (beq b w) (begins word (bits ++ more)) parts.0 (begins_more_bits word bits more parts.1)
 
 -- what is found stays found where bits follow
-pub entry_more : (color : Color) (bits more : List Bool) → 0 < (entry_for color bits).1 → entry_for color (bits ++ more) ≡ entry_for color bits
+pub entry_more : (color : Color) (bits more : List Bool) → 0 < (entry_for color bits).1 → entry_for color (bits ++ more) ≡ entry_for
+    color bits
 entry_more color bits more h = at (pick (code_word color) (first_runs 104) bits) refl h
   where
     at : (picked : Option ℕ) → pick (code_word color) (first_runs 104) bits ≡ picked → 0 < (entry_picked color picked).1
@@ -54,48 +56,69 @@ entry_more color bits more h = at (pick (code_word color) (first_runs 104) bits)
     at None e h = absurd (omega arith)
     at (Some run) e h =
         let found = pick_begins (code_word color) (first_runs 104) run bits e in
-        ap (entry_picked color) (pick_stands color AllCodes (bits ++ more) run (found.0, begins_more_bits (code_word color run) bits more found.1))
+        ap (entry_picked color) (pick_stands color AllCodes (bits ++ more) run (
+          found.0,
+          begins_more_bits (code_word color run) bits
+              more found.1,
+        ))
 
 -- each short text but those of 0 bits begins with a code word
-short_test : (color : Color) → list_all (λ key. ltb 0 (entry_of (codes_of color) (number_text (short_bits color) key)).1) (range_with_len 4 (2
+short_test : (color : Color) → list_all (λ key. ltb 0 (entry_of (codes_of color) (number_text (short_bits color) key)).1)
+    (range_with_len 4 (2
     ^ short_bits color - 4)) ≡ true
 unfolding entry_of number_text
 short_test White = refl
 short_test Black = refl
 
-short_found : (color : Color) (key : ℕ) → 4 ≤ key → key < 2 ^ short_bits color → 0 < (entry_for color (number_text (short_bits color) key)).1
+short_found : (color : Color) (key : ℕ) → 4 ≤ key → key < 2 ^ short_bits color → 0 < (entry_for color (number_text (short_bits color)
+    key)).1
 short_found color key l h =
     let within : key - 4 < length (range_with_len 4 (2 ^ short_bits color - 4)) = rw length-range_with_len (omega arith) in
-    let is : get_or (range_with_len 4 (2 ^ short_bits color - 4)) (key - 4) 0 ≡ key = get_or-range_with_len 4 (2 ^ short_bits color - 4) (key -
+    let is : get_or (range_with_len 4 (2 ^ short_bits color - 4)) (key - 4) 0 ≡ key = get_or-range_with_len 4 (2 ^ short_bits color - 4)
+    (key -
     4) 0 (omega arith) ∙ omega arith in
-    let test = list_all_at (λ key. ltb 0 (entry_of (codes_of color) (number_text (short_bits color) key)).1) (range_with_len 4 (2 ^ short_bits
+    let test = list_all_at (λ key. ltb 0 (entry_of (codes_of color) (number_text (short_bits color) key)).1) (range_with_len 4 (2 ^
+    short_bits
     color - 4)) (key - 4) 0 (short_test color) within in
     rw (← entry_is color (number_text (short_bits color) key)) (ltb-true 0 _ (rw is at test))
 
 -- the short table's entry of the first bits is that of all of them
-pub short_entry : (color : Color) (held : List (ℕ × ℕ)) (rest next key : ℕ) (d : ℕ × ℕ) → held ≡ entries (codes_of color) 0 (short_bits color)
+pub short_entry : (color : Color) (held : List (ℕ × ℕ)) (rest next key : ℕ) (d : ℕ × ℕ) → held ≡ entries (codes_of color) 0 (short_bits
+    color)
     → short_bits color + rest ≡ 13 → next / 2 ^ rest ≡ key → 4 ≤ key → key < 2 ^ short_bits color
     → get_or held key d ≡ entry_for color (number_text 13 next)
 unfolding entries
 short_entry color held rest next key d e sum is l h =
     let f : ℕ → ℕ × ℕ = λ key. entry_of (codes_of color) (number_text (short_bits color) key) in
-    let split : number_text 13 next ≡ number_text (short_bits color) key ++ number_text rest next = ap (λ n. number_text n next) (sym sum) ∙
+    let split : number_text 13 next ≡ number_text (short_bits color) key ++ number_text rest next = ap (λ n. number_text n next) (sym
+    sum) ∙
     (number_split (short_bits color) rest next ∙ ap (λ k. number_text (short_bits color) k ++ number_text rest next) is) in
-    ap (λ (es : List (ℕ × ℕ)). get_or es key d) e ∙ (get_or-map-range_with_len f 0 (2 ^ short_bits color) key key d h (omega arith) ∙ (entry_is color (number_text (short_bits color) key) ∙ (sym (entry_more color (number_text (short_bits color) key) (number_text rest next) (short_found color key l h)) ∙ ap (entry_for color) (sym split))))
+    ap (λ (es : List (ℕ × ℕ)). get_or es key d) e ∙ (get_or-map-range_with_len f 0 (2 ^ short_bits color) key key d h (omega arith) ∙
+    (entry_is color (number_text (short_bits color) key) ∙ (sym (entry_more color (number_text (short_bits color) key) (number_text
+    rest next) (short_found color key l h)) ∙ ap (entry_for color) (sym split))))
 
 -- the long table's entry, where the first bits are 0
-pub long_entry : (color : Color) (held : List (ℕ × ℕ)) (next : ℕ) (d : ℕ × ℕ) → held ≡ entries (codes_of color) (long_zeros color) (13 - long_zeros color)
-    → next < 2 ^ (13 - long_zeros color) → long_zeros color + (13 - long_zeros color) ≡ 13 → get_or held next d ≡ entry_for color (number_text 13 next)
+pub long_entry : (color : Color) (held : List (ℕ × ℕ)) (next : ℕ) (d : ℕ × ℕ) → held ≡ entries (codes_of color) (long_zeros color) (13 -
+    long_zeros color)
+    → next < 2 ^ (13 - long_zeros color) → long_zeros color + (13 - long_zeros color) ≡ 13 → get_or held next d ≡ entry_for color
+    (number_text 13 next)
 unfolding entries
 long_entry color held next d e h sum =
-    let f : ℕ → ℕ × ℕ = λ key. entry_of (codes_of color) (replicate (long_zeros color) false ++ number_text (13 - long_zeros color) key) in
-    let split : number_text 13 next ≡ replicate (long_zeros color) false ++ number_text (13 - long_zeros color) next = ap (λ n. number_text n next) (sym sum) ∙ number_zeros (long_zeros color) (13 - long_zeros color) next h in
-    ap (λ (es : List (ℕ × ℕ)). get_or es next d) e ∙ (get_or-map-range_with_len f 0 (2 ^ (13 - long_zeros color)) next next d h (omega arith) ∙ (entry_is color _ ∙ ap (entry_for color) (sym split)))
+    let f : ℕ → ℕ × ℕ = λ key. entry_of (codes_of color) (replicate (long_zeros color) false ++ number_text (13 - long_zeros color) key)
+    in
+    let split : number_text 13 next ≡ replicate (long_zeros color) false ++ number_text (13 - long_zeros color) next = ap (λ n.
+    number_text n next) (sym sum) ∙ number_zeros (long_zeros color) (13 - long_zeros color) next h in
+    ap (λ (es : List (ℕ × ℕ)). get_or es next d) e ∙ (get_or-map-range_with_len f 0 (2 ^ (13 - long_zeros color)) next next d h (omega
+    arith) ∙ (entry_is color _ ∙ ap (entry_for color) (sym split)))
 
-pub held_short : (color : Color) (held : List (ℕ × ℕ)) → held ≡ entries (codes_of color) 0 (short_bits color) → length held ≡ 2 ^ short_bits color
+pub held_short : (color : Color) (held : List (ℕ × ℕ)) → held ≡ entries (codes_of color) 0 (short_bits color) → length held ≡ 2 ^
+    short_bits color
 unfolding entries
-held_short color held e = ap length e ∙ length-map-range_with_len (λ key. entry_of (codes_of color) (number_text (short_bits color) key)) 0 (2 ^ short_bits color)
+held_short color held e = ap length e ∙ length-map-range_with_len (λ key. entry_of (codes_of color) (number_text (short_bits color)
+    key)) 0 (2 ^ short_bits color)
 
-pub held_long : (color : Color) (held : List (ℕ × ℕ)) → held ≡ entries (codes_of color) (long_zeros color) (13 - long_zeros color) → length held ≡ 2 ^ (13 - long_zeros color)
+pub held_long : (color : Color) (held : List (ℕ × ℕ)) → held ≡ entries (codes_of color) (long_zeros color) (13 - long_zeros color) →
+    length held ≡ 2 ^ (13 - long_zeros color)
 unfolding entries
-held_long color held e = ap length e ∙ length-map-range_with_len (λ key. entry_of (codes_of color) (replicate (long_zeros color) false ++ number_text (13 - long_zeros color) key)) 0 (2 ^ (13 - long_zeros color))
+held_long color held e = ap length e ∙ length-map-range_with_len (λ key. entry_of (codes_of color) (replicate (long_zeros color) false
+    ++ number_text (13 - long_zeros color) key)) 0 (2 ^ (13 - long_zeros color))

@@ -50,5 +50,7 @@ words_at color held k d e h =
     let within : k < length held = rw (words_length color held e) h in
     let there : k < length (codes_of color) = rw (table_length color) h in
     let x : ℕ × List Bool = (0, []) in
-    sym (get_or-map (λ (word : ℕ × ℕ). number_text word.1 word.0) held k d [] within) ∙ (ap (λ (ws : List (List Bool)). get_or ws k []) e ∙
-    (get_or-map (λ (code : ℕ × List Bool). code.1) (codes_of color) k x [] there ∙ ap (λ (code : ℕ × List Bool). code.1) (table_at color k x h)))
+    sym (get_or-map (λ (word : ℕ × ℕ). number_text word.1 word.0) held k d [] within) ∙ (ap (λ (ws : List (List Bool)). get_or ws k [])
+    e ∙
+    (get_or-map (λ (code : ℕ × List Bool). code.1) (codes_of color) k x [] there ∙ ap (λ (code : ℕ × List Bool). code.1) (table_at color
+    k x h)))

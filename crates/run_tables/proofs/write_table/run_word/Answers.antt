@@ -25,5 +25,6 @@ returns-clause-words c =
 pub returns-then-run-lt64-clause-words : goal.returns-then-run-lt64-clause-words
 unfolding number_text
 returns-then-run-lt64-clause-words c =
-    c.word.ensures.word ∙ (ap (code_word c.args.color) (run_at_low c.args.run c.if-run-lt64.true) ∙ sym (run_words_low c.args.color c.args.run
+    c.word.ensures.word ∙ (ap (code_word c.args.color) (run_at_low c.args.run c.if-run-lt64.true) ∙ sym (run_words_low c.args.color
+    c.args.run
     c.if-run-lt64.true))

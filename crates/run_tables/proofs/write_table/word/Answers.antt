@@ -16,9 +16,16 @@ pub returns-clause-short : goal.returns-clause-short
 returns-clause-short c =
     let e = words_at c.args.color c.words.result.now c.args.place (0, 0) c.words.ensures.words c.requires in
     let few = word_lengths c.args.color (run_at c.args.place) (listed_at 104 c.args.place c.requires) in
-    omega (arith, few.1, ap length e, length-number_text (slice_index_or c.words.result.now c.args.place (0, 0)).1 (slice_index_or c.words.result.now c.args.place (0, 0)).0)
+    omega (
+      arith,
+      few.1,
+      ap length e,
+      length-number_text (slice_index_or c.words.result.now c.args.place (0, 0)).1 (slice_index_or
+          c.words.result.now c.args.place (0, 0)).0,
+    )
 
 pub returns-clause-below : goal.returns-clause-below
 returns-clause-below c =
-    let within : c.args.place < length c.words.result.now = rw (words_length c.args.color c.words.result.now c.words.ensures.words) c.requires in
+    let within : c.args.place < length c.words.result.now = rw (words_length c.args.color c.words.result.now c.words.ensures.words)
+    c.requires in
     ltb-true _ _ (list_all_at is_small c.words.result.now c.args.place (0, 0) c.words.ensures.small within)

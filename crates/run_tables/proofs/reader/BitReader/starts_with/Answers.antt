@@ -8,5 +8,6 @@ returns-then-count-left c = starts_past c.args.count c.args.value (rest_of c.arg
 
 pub returns : goal.returns
 returns c =
-    starts_same c.args.count (64 - c.args.count) (rest_of c.args.self.now) c.peek.result c.args.value (omega arith) (omega arith) c.requires.small
+    starts_same c.args.count (64 - c.args.count) (rest_of c.args.self.now) c.peek.result c.args.value (omega arith) (omega arith)
+    c.requires.small
     c.peek.ensures (omega arith)
