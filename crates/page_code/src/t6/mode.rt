@@ -2,6 +2,7 @@
 
 ghost use Rattle.page_code.specs.TwoDimensions.Fronts.{mode_word};
 ghost use Rattle.page_code.specs.TwoDimensions.Modes.{to_left, to_right, vertical_word};
+ghost use Rattle.raster.specs.Words.{number_bits};
 ghost use Rattle.run_tables.specs.Codes.{text};
 ghost use Rattle.std.specs.Prelude.{◌≡◌, ◌≤◌};
 
@@ -69,6 +70,22 @@ impl Shift {
             Shift::VL3 => b"0000010",
         }
     }
+
+    /// The number that the mode's code is, and how many bits it has (ITU-T T.6, table 1).
+    fn number(self) -> (u32, u32)
+        ensures word { number_bits result.1 result.0 ≡ vertical_word self }
+        ensures count { result.1 ≤ 32 }
+    {
+        match self {
+            Shift::V0 => (0b1, 1),
+            Shift::VR1 => (0b011, 3),
+            Shift::VR2 => (0b000011, 6),
+            Shift::VR3 => (0b0000011, 7),
+            Shift::VL1 => (0b010, 3),
+            Shift::VL2 => (0b000010, 6),
+            Shift::VL3 => (0b0000010, 7),
+        }
+    }
 }
 
 /// A mode code; that of horizontal mode is its flag alone (ITU-T T.6, 2.2.2).
@@ -88,6 +105,18 @@ impl ModeCode {
             ModeCode::Pass => b"0001",
             ModeCode::Horizontal => b"001",
             ModeCode::Vertical(shift) => shift.digits(),
+        }
+    }
+
+    /// The number that the code is, and how many bits it has (ITU-T T.6, table 1).
+    pub(crate) fn number(self) -> (u32, u32)
+        ensures word { number_bits result.1 result.0 ≡ mode_word self }
+        ensures count { result.1 ≤ 32 }
+    {
+        match self {
+            ModeCode::Pass => (0b0001, 4),
+            ModeCode::Horizontal => (0b001, 3),
+            ModeCode::Vertical(shift) => shift.number(),
         }
     }
 }

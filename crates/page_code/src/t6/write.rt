@@ -1,6 +1,7 @@
 //! Writing of a page in the two-dimensional code (ITU-T T.6, 2.2).
 
 ghost use Rattle.page_code.specs.TwoDimensions.Code.{page_code, row_code, rows_code, verticals, vertical_to};
+ghost use Rattle.page_code.specs.TwoDimensions.Fronts.{mode_word};
 ghost use Rattle.page_code.specs.TwoDimensions.Writing.{IsCodedTo, WritesMode, reference_at, row_at};
 ghost use Rattle.run_tables.specs.Written.{Appends};
 ghost use Rattle.std.specs.Prelude.{◌≡◌, ◌≤◌, ◌<◌, ◌+◌, All, length, OnOk};
@@ -43,6 +44,14 @@ fn shift_to(b1: u32, a1: u32) -> Option<Shift>
     None
 }
 
+/// Appends a mode code (ITU-T T.6, 2.2.2, table 1).
+fn push_mode(writer: &mut BitWriter, code: ModeCode) -> Result<(), AllocError>
+    ensures { OnOk result (Appends (mode_word code) writer.old writer.new) }
+{
+    let (value, count) = code.number();
+    writer.push_bits(value, count)
+}
+
 /// Appends the prescribed mode, and moves a0.
 fn write_mode(
     writer: &mut BitWriter,
@@ -63,17 +72,17 @@ fn write_mode(
     let b1 = a0.b1(reference);
     let b2 = b2(reference, b1);
     if b2 < a1 {
-        writer.push_digits(ModeCode::Pass.digits())?;
+        push_mode(writer, ModeCode::Pass)?;
         *a0 = A0::on_line(b2, color);
         return Ok(());
     }
     if let Some(shift) = shift_to(b1, a1) {
-        writer.push_digits(shift.digits())?;
+        push_mode(writer, ModeCode::Vertical(shift))?;
         *a0 = A0::on_line(a1, color.other());
         return Ok(());
     }
     let a2 = row.next_change(a1 + 1);
-    writer.push_digits(ModeCode::Horizontal.digits())?;
+    push_mode(writer, ModeCode::Horizontal)?;
     writer.write_run(color, a1 - a0.place)?;
     writer.write_run(color.other(), a2 - a1)?;
     *a0 = A0::on_line(a2, color);

@@ -1,4 +1,4 @@
-use Rattle.std.proofs.Common.{◌∙◌, sym}
+use Rattle.std.proofs.Common.{◌∙◌, refl, sym}
 use Rattle.page_code.proofs.TwoDimensions.WritesMode.{wrote_pass, wrote_vertical, wrote_horizontal}
 use Rattle.page_code.proofs.t6.write.write_mode.Goals as goal
 
@@ -6,19 +6,19 @@ pub returns-then-b2-a1-clause-writes : goal.returns-then-b2-a1-clause-writes
 returns-then-b2-a1-clause-writes c =
     rw c.on_line.ensures (wrote_pass c.args.reference.now c.args.row.now c.requires.even c.args.a0.now c.requires.coded c.right.result
     c.next_change-a1.result c.b1-b1.result c.b2-b2.result c.right.ensures c.next_change-a1.ensures.next c.b1-b1.ensures.first
-    (rw c.b1-b1.ensures.same at c.b2-b2.ensures.next) _ c.args.writer.now c.push_digits.new.self c.digits.ensures c.in_ok-push_digits.ensures.ok c.if-b2-a1.true)
+    (rw c.b1-b1.ensures.same at c.b2-b2.ensures.next) _ c.args.writer.now c.push_mode.new.writer refl c.in_ok-push_mode.ensures c.if-b2-a1.true)
 
 pub returns-in-Some-clause-writes : goal.returns-in-Some-clause-writes
 returns-in-Some-clause-writes c =
     rw c.on_line-in-Some.ensures (wrote_vertical c.args.reference.now c.args.row.now c.requires.even c.args.a0.now c.requires.coded
     c.right.result c.next_change-a1.result c.b1-b1.result c.b2-b2.result c.right.ensures c.next_change-a1.ensures.next c.b1-b1.ensures.first
-    (rw c.b1-b1.ensures.same at c.b2-b2.ensures.next) c.in-Some.shift _ c.other.result c.args.writer.now c.push_digits-in-Some.new.self c.digits-in-Some.ensures
-    c.other.ensures c.in_ok-push_digits-2.ensures.ok c.if-b2-a1.false (sym c.shift_to.ensures ∙ c.in-Some.is))
+    (rw c.b1-b1.ensures.same at c.b2-b2.ensures.next) c.in-Some.shift _ c.other.result c.args.writer.now c.push_mode-in-Some.new.writer refl
+    c.other.ensures c.in_ok-push_mode-2.ensures c.if-b2-a1.false (sym c.shift_to.ensures ∙ c.in-Some.is))
 
 pub returns-clause-writes : goal.returns-clause-writes
 returns-clause-writes c =
     rw c.on_line-2.ensures (wrote_horizontal c.args.reference.now c.args.row.now c.requires.even c.args.a0.now c.requires.coded
     c.right.result c.next_change-a1.result c.b1-b1.result c.b2-b2.result c.right.ensures c.next_change-a1.ensures.next c.b1-b1.ensures.first
-    (rw c.b1-b1.ensures.same at c.b2-b2.ensures.next) c.next_change-a2.result _ c.other-2.result c.args.writer.now c.push_digits-2.new.self c.write_run.new.self
-    c.write_run-2.new.self (rw c.next_change-a1.ensures.same at c.next_change-a2.ensures.next) c.digits-2.ensures c.other-2.ensures c.in_ok-push_digits-3.ensures.ok
+    (rw c.b1-b1.ensures.same at c.b2-b2.ensures.next) c.next_change-a2.result _ c.other-2.result c.args.writer.now c.push_mode-2.new.writer c.write_run.new.self
+    c.write_run-2.new.self (rw c.next_change-a1.ensures.same at c.next_change-a2.ensures.next) refl c.other-2.ensures c.in_ok-push_mode-3.ensures
     c.in_ok-write_run.ensures.ok c.in_ok-write_run-2.ensures.ok c.if-b2-a1.false (sym c.shift_to.ensures ∙ c.in_default.is))
