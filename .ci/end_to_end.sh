@@ -68,13 +68,15 @@ octets() {
     echo "$name"
 }
 
-# codes CODE ORDER IMAGE OCTETS WIDTH: the image, in hex, has that code, and is shown again.
+# codes CODE ORDER IMAGE OCTETS WIDTH: the image, in hex, has that code, and is shown and decoded again.
 codes() {
     from=$(octets "$3") into=$(octets "$4")
     works code --code "$1" --order "$2" "$from" "$work/made"
     is_same "$work/made" "$into" "code --code $1 --order $2 of $3"
     works show --code "$1" --order "$2" --width "$5" "$into"
     cp "$work/output" "$work/shown_$1_$2"
+    works decode --code "$1" --order "$2" --width "$5" "$into" "$work/decoded"
+    is_same "$work/decoded" "$from" "decode --code $1 --order $2 of $4"
 }
 
 # Small images and their codes, as the standards' tables give them.
@@ -109,6 +111,8 @@ try_page() {
             is_same "$work/made" "$data/page.$code.$order" "code --code $code --order $order of a page"
             works show --code $code --order $order --width 315 "$data/page.$code.$order"
             is_same "$work/output" "$data/page.txt" "show --code $code --order $order of a page"
+            works decode --code $code --order $order --width 315 --fine "$data/page.$code.$order" "$work/decoded"
+            is_same "$work/decoded" "$data/page.pbm" "decode --code $code --order $order of a page"
         done
     done
 }
@@ -167,10 +171,25 @@ try_images() {
     done
 }
 
-# Refused pages: the fault and the bit.
+# What is told of a page that is decoded: rows, and bits, of which EOL has 12, its row 10 and the six EOLs 72.
+try_told() {
+    code=$(octets "00 17 EC 00 40 04 00 40 04 00 40 04")
+    gives 0 decode --code mh --width 8 --verbose "$code" "$work/decoded"
+    [ "$(cat "$work/error")" = "rows 1 bits 94" ] || fails "decode --verbose didn't tell 1 row of 94 bits"
+    [ ! -s "$work/output" ] || fails "decode --verbose printed something"
+    faults "fault 8" decode --code mh --width 8 "$work/missing" "$work/decoded"
+    faults "fault 8" decode --code mh --width 8 "$code" "$work/missing/decoded"
+    [ ! -c /dev/full ] || faults "fault 8" decode --code mh --width 8 "$code" /dev/full
+}
+
+# Refused pages: the fault and the bit, and OUT is left as it was.
 try_codes() {
+    echo "as it was" > "$work/kept"
+    cp "$work/kept" "$work/decoded"
     while read -r code fault bit hex; do
         faults "fault $fault at bit $bit" show --code "$code" --width 8 "$(octets "$hex")"
+        faults "fault $fault at bit $bit" decode --code "$code" --width 8 "$(octets "$hex")" "$work/decoded"
+        is_same "$work/decoded" "$work/kept" "OUT after a refused page"
     done << CASES
 mmr 16 0 02
 mmr 17 1 80
@@ -201,6 +220,8 @@ try_large_pages() {
         [ "$(cksum < "$work/$page.$code")" = "$sums" ] || fails "code --code $code --order $order of the $page page: other octets"
         works show --code "$code" --order "$order" --width 2432 "$work/$page.$code"
         is_same "$work/output" "$work/$page.txt" "show --code $code --order $order of the $page page"
+        works decode --code "$code" --order "$order" --width 2432 "$work/$page.$code" "$work/decoded"
+        is_same "$work/decoded" "$work/$page.pbm" "decode --code $code --order $order of the $page page"
     done < "$data/large.sums"
 }
 
@@ -260,7 +281,8 @@ try_words() {
         "help show" "call --help" paint "code --code mr a b" "code --code mh --order MSB a b" "show --code mh --width 8" \
         "show --code mh --width 8.0 a" "show --code mh --width 4294967304 a" "show --code mh --width 18446744073709551624 a" \
         "call a" "call --script a" "call --script a --frame 128 b" "call --script a --modems v34 b" \
-        "call --script a --fine --fine b"; do
+        "call --script a --fine --fine b" "decode --code mh --width 8 a" "decode --code mh a b" "decode --width 8 a b" \
+        "decode --code mh --width 8 --verbose --verbose a b" "decode --code mh --width 8 a b c" "decode --help"; do
         refuses $words
     done
     refuses show --code mh --width "" a
@@ -390,6 +412,7 @@ for program in "$@"; do
     try_frames
     try_gaps
     try_images
+    try_told
     try_codes
     try_large_pages
     try_cut_pages

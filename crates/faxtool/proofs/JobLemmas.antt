@@ -12,7 +12,7 @@ use Rattle.clap.specs.declared.error.Error.{Error}
 use Rattle.clap.specs.declared.builder.value_parser.ValueParser.{ValueParser}
 use Rattle.clap.proofs.OnLiterals.{clap_on_literals}
 use Rattle.clap.proofs.WalkLemmas.{one_text-rows}
-use Rattle.faxtool.specs.declared.words.Job.TheVariants.{Call, Code, Frames, Show}
+use Rattle.faxtool.specs.declared.words.Job.TheVariants.{Call, Code, Decode, Frames, Show}
 use Rattle.faxtool.specs.declared.words.Outcome.{Outcome}
 use Rattle.faxtool.specs.declared.words.Outcome.TheVariants.{Done, Fault, Words}
 use Rattle.faxtool.specs.Jobs.{AreOptionsIn, HasNoJob, HasNoOptions, IsFaxtool, IsOutcomeOf, IsRefusalOf, IsWidthIn, ReadsWidth}
@@ -138,6 +138,26 @@ show_is_call e =
     let bad : 115 ≡ 99 = ap (λ (t : Text). slice_index t 0) e in
     absurd (omega (arith, bad))
 
+show_is_decode : codes "show" ≡ codes "decode" → ⊥
+show_is_decode e =
+    let bad : 115 ≡ 100 = ap (λ (t : Text). slice_index t 0) e in
+    absurd (omega (arith, bad))
+
+decode_is_code : codes "decode" ≡ codes "code" → ⊥
+decode_is_code e =
+    let bad : 100 ≡ 99 = ap (λ (t : Text). slice_index t 0) e in
+    absurd (omega (arith, bad))
+
+decode_is_frames : codes "decode" ≡ codes "frames" → ⊥
+decode_is_frames e =
+    let bad : 100 ≡ 102 = ap (λ (t : Text). slice_index t 0) e in
+    absurd (omega (arith, bad))
+
+decode_is_call : codes "decode" ≡ codes "call" → ⊥
+decode_is_call e =
+    let bad : 100 ≡ 99 = ap (λ (t : Text). slice_index t 0) e in
+    absurd (omega (arith, bad))
+
 call_is_code : codes "call" ≡ codes "code" → ⊥
 call_is_code e =
     let bad : 97 ≡ 111 = ap (λ (t : Text). slice_index t 1) e in
@@ -153,9 +173,25 @@ pub no_width : (rows : List Row) → ((n : ℕ) → IsWidthIn rows n → ⊥) �
 no_width rows none (Code coding order input output) (others, e, is) = show_is_code (some_name (codes "show") (codes "code") rows others e)
 no_width rows none (Show coding order width input) (others, e, is) =
     none width (subst (λ (xs : List Row). IsWidthIn xs width) (sym (some_rows (codes "show") (codes "show") rows others e)) is.width_is)
+no_width rows none (Decode coding order width fine verbose input output) (others, e, is) =
+    show_is_decode (some_name (codes "show") (codes "decode") rows others e)
 no_width rows none (Frames input) (others, e, is) = show_is_frames (some_name (codes "show") (codes "frames") rows others e)
 no_width rows none (Call script options out input) (others, e, is) =
     show_is_call (some_name (codes "show") (codes "call") rows others e)
+
+-- nor is there one for `decode`
+pub no_width_to_decode : (rows : List Row) → ((n : ℕ) → IsWidthIn rows n → ⊥) → HasNoJob (Some (codes "decode", rows))
+no_width_to_decode rows none (Code coding order input output) (others, e, is) =
+    decode_is_code (some_name (codes "decode") (codes "code") rows others e)
+no_width_to_decode rows none (Show coding order width input) (others, e, is) =
+    show_is_decode (sym (some_name (codes "decode") (codes "show") rows others e))
+no_width_to_decode rows none (Decode coding order width fine verbose input output) (others, e, is) =
+    none width (subst (λ (xs : List Row). IsWidthIn xs width) (sym (some_rows (codes "decode") (codes "decode") rows others e))
+    is.shown.width_is)
+no_width_to_decode rows none (Frames input) (others, e, is) =
+    decode_is_frames (some_name (codes "decode") (codes "frames") rows others e)
+no_width_to_decode rows none (Call script options out input) (others, e, is) =
+    decode_is_call (some_name (codes "decode") (codes "call") rows others e)
 
 -- without options there is no job for `call`
 pub no_options : (rows : List Row) → HasNoOptions rows → HasNoJob (Some (codes "call", rows))
@@ -163,6 +199,8 @@ no_options rows none (Code coding order input output) (others, e, is) =
     call_is_code (some_name (codes "call") (codes "code") rows others e)
 no_options rows none (Show coding order width input) (others, e, is) =
     show_is_call (sym (some_name (codes "call") (codes "show") rows others e))
+no_options rows none (Decode coding order width fine verbose input output) (others, e, is) =
+    decode_is_call (sym (some_name (codes "call") (codes "decode") rows others e))
 no_options rows none (Frames input) (others, e, is) =
     call_is_frames (some_name (codes "call") (codes "frames") rows others e)
 no_options rows none (Call script options out input) (others, e, is) =

@@ -1,5 +1,4 @@
--- The commands of the program, what each job is of the values that clap reads, and why words are
--- refused.
+-- The commands of the program, what each job is of the values that clap reads, and why words are refused.
 use Rattle.std.specs.Prelude.{◌≡◌, ◌≢◌, ◌≤◌, ◌<◌, ◌^◌, ◌⊎◌, ℕ, Bool, true, false, List, [], ◌∷◌, Option, Some, None}
 use Rattle.std.specs.Prelude.{codes, map, pos, if◌then◌else◌, option_map, string_bytes}
 use Rattle.std.specs.Str.{bytes_eq}
@@ -21,7 +20,7 @@ use Rattle.signals.specs.declared.params.Modems.{Modems}
 use Rattle.signals.specs.declared.params.Modems.TheVariants.{Fallback, V27, V29, V27V29, V17}
 use Rattle.engines.specs.declared.options.CallOptions.{CallOptions}
 use Rattle.faxtool.specs.declared.words.Job.{Job}
-use Rattle.faxtool.specs.declared.words.Job.TheVariants.{Call, Code, Frames, Show}
+use Rattle.faxtool.specs.declared.words.Job.TheVariants.{Call, Code, Decode, Frames, Show}
 use Rattle.faxtool.specs.declared.words.Outcome.{Outcome}
 use Rattle.faxtool.specs.declared.words.Outcome.TheVariants.{Done, Fault, Words}
 
@@ -65,10 +64,10 @@ choice_rule id names default = record (option_rule id) {
 abbrev pub file_option_rule : Text → Rule
 file_option_rule id = option_rule id
 
--- `--fine`, which has no value
-abbrev pub fine_rule : Rule
-fine_rule = record (new_rule (codes "fine")) {
-  long = Some (codes "fine");
+-- an option whose name is its id and that has no value, as `--fine`
+abbrev pub flag_rule : Text → Rule
+flag_rule id = record (new_rule id) {
+  long = Some id;
   action = Some SetTrue;
 }
 
@@ -85,10 +84,18 @@ abbrev pub code_app : ValueParser → ValueParser → App
 code_app codings orders = with_rule (with_rule (with_rule (with_rule (new_app (codes "code"))
     (coding_rule codings)) (order_rule orders)) (file_rule (codes "in"))) (file_rule (codes "out"))
 
+-- the command with the code, the width and the order
+abbrev pub with_page_options : App → ValueParser → ValueParser → App
+with_page_options app codings orders = with_rule (with_rule (with_rule app (coding_rule codings)) width_rule) (order_rule orders)
+
 -- `show`: the code, the width, the order, and the file of the page
 abbrev pub show_app : ValueParser → ValueParser → App
-show_app codings orders = with_rule (with_rule (with_rule (with_rule (new_app (codes "show"))
-    (coding_rule codings)) width_rule) (order_rule orders)) (file_rule (codes "file"))
+show_app codings orders = with_rule (with_page_options (new_app (codes "show")) codings orders) (file_rule (codes "file"))
+
+-- `decode`: the code, the width, the order, fine or not, verbose or not, and the files of the page and of its image
+abbrev pub decode_app : ValueParser → ValueParser → App
+decode_app codings orders = with_rule (with_rule (with_rule (with_rule (with_page_options (new_app (codes "decode")) codings orders)
+    (flag_rule (codes "fine"))) (flag_rule (codes "verbose"))) (file_rule (codes "file"))) (file_rule (codes "out"))
 
 -- `frames`: the file of the bits
 abbrev pub frames_app : App
@@ -104,7 +111,7 @@ with_choices app codings sizes modems = with_rule (with_rule (with_rule app
 -- stored pages, and the file of the document
 abbrev pub call_app : ValueParser → ValueParser → ValueParser → App
 call_app codings sizes modems = with_rule (with_rule (with_rule (with_choices (with_rule (new_app (codes "call"))
-    (record (file_option_rule (codes "script")) { required = true })) codings sizes modems) fine_rule)
+    (record (file_option_rule (codes "script")) { required = true })) codings sizes modems) (flag_rule (codes "fine")))
     (file_option_rule (codes "out"))) (file_rule (codes "in"))
 
 -- the program, which wants one of its commands
@@ -113,10 +120,10 @@ empty_app = let app = new_app (codes "faxtool") in record app {
   top = record app.top { arg_required_else_help = true; subcommand_required = true };
 }
 
--- the program with the commands that code and show pages and list frames
+-- the program with the commands that code, show and decode pages and list frames
 abbrev pub page_app : ValueParser → ValueParser → App
-page_app codings orders = with_subcommand (with_subcommand (with_subcommand empty_app (code_app codings orders).top)
-    (show_app codings orders).top) frames_app.top
+page_app codings orders = with_subcommand (with_subcommand (with_subcommand (with_subcommand empty_app (code_app codings orders).top)
+    (show_app codings orders).top) (decode_app codings orders).top) frames_app.top
 
 -- the program with all its commands
 abbrev pub faxtool_app : ValueParser → ValueParser → ValueParser → ValueParser → App
@@ -199,6 +206,14 @@ pub record IsShowOf (rows : List Row) (coding : Coding) (order : Order) (width :
   pub width_is : IsWidthIn rows width
   pub input_is : first_of (codes "file") rows ≡ Some input
 
+-- the values of the command `decode` are those of the job
+pub record IsDecodeOf (rows : List Row) (coding : Coding) (order : Order) (width : ℕ) (fine verbose : Bool) (input output : Text)
+    : Type 0 where
+  pub shown : IsShowOf rows coding order width input
+  pub fine_is : fine ≡ is_named (codes "true") (first_of (codes "fine") rows)
+  pub verbose_is : verbose ≡ is_named (codes "true") (first_of (codes "verbose") rows)
+  pub output_is : first_of (codes "out") rows ≡ Some output
+
 -- the options are those that the values give
 pub record AreOptionsIn (rows : List Row) (options : CallOptions) : Type 0 where
   pub coding_is : coding_named (first_of (codes "code") rows) ≡ Some options.coding
@@ -226,6 +241,9 @@ IsJobOf met (Code coding order input output) = (rows : List Row)
 IsJobOf met (Show coding order width input) = (rows : List Row)
     × (met ≡ Some (codes "show", rows))
     × IsShowOf rows coding order width (string_bytes input)
+IsJobOf met (Decode coding order width fine verbose input output) = (rows : List Row)
+    × (met ≡ Some (codes "decode", rows))
+    × IsDecodeOf rows coding order width fine verbose (string_bytes input) (string_bytes output)
 IsJobOf met (Frames input) = (rows : List Row)
     × (met ≡ Some (codes "frames", rows))
     × (first_of (codes "file") rows ≡ Some (string_bytes input))
@@ -265,9 +283,10 @@ status_of Done = 0
 status_of (Fault fault) = 1
 status_of (Words error) = 2
 
--- the width of a job that shows a page is one that a page may have
+-- the width of a job that shows or decodes a page is one that a page may have
 abbrev pub HasWidth : Job → Type 0
 HasWidth (Code coding order input output) = Unit {0}
 HasWidth (Show coding order width input) = IsWidth width
+HasWidth (Decode coding order width fine verbose input output) = IsWidth width
 HasWidth (Frames input) = Unit {0}
 HasWidth (Call script options out input) = Unit {0}

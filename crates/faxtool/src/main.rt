@@ -1,5 +1,5 @@
-//! A tool on fax pages and frames: it codes images, shows coded pages, lists the frames in bits and runs
-//! calls from scripts.
+//! A tool on fax pages and frames: it codes images, shows and decodes coded pages, lists the frames in bits and
+//! runs calls from scripts.
 #![tactic(auto)]
 
 ghost use Rattle.engines.specs.Calls.{HaveRows};
@@ -9,7 +9,8 @@ ghost use Rattle.raster.specs.Pixels.{IsWidth};
 mod words;
 
 use engines::{
-    CallOptions, NO_MEMORY, ToolFault, call_engine, code_engine, frames_engine, show_engine,
+    CallOptions, NO_MEMORY, ToolFault, call_engine, code_engine, decode_engine, frames_engine,
+    show_engine,
 };
 use page_code::Coding;
 use raster::{Page, write_pbm};
@@ -68,6 +69,18 @@ fn run_job(rt: &HostRuntime, job: Job) -> Outcome
             width,
             input,
         } => show_file(rt, *coding, *order, *width, input),
+        Job::Decode {
+            coding,
+            order,
+            width,
+            fine,
+            verbose,
+            input,
+            output,
+        } => {
+            let decoded = decode_file(rt, *coding, *order, *width, *fine, input, output);
+            tell(rt, *verbose, decoded)
+        }
         Job::Frames { input } => list_file(rt, input),
         Job::Call {
             script,
@@ -111,6 +124,48 @@ fn show_file(
     let mut writer = BufWriter::new(rt.alloc(), io::writer(rt))?;
     show_engine(rt.alloc(), &mut reader, &mut writer, coding, order, width)?;
     writer.flush()?;
+    Ok(())
+}
+
+/// Decodes the page in a file into an image's file, and answers its rows and the bits of its code. The
+/// output's file is opened only once its whole content is made.
+fn decode_file(
+    rt: &HostRuntime,
+    coding: Coding,
+    order: Order,
+    width: u32,
+    fine: bool,
+    input: &str,
+    output: &str,
+) -> Result<(usize, u128), ToolFault>
+    requires { IsWidth width }
+{
+    let mut reader = fs::open(rt, input)?;
+    let mut octets = Vec::new(rt.alloc());
+    let told = decode_engine(
+        rt.alloc(),
+        &mut reader,
+        &mut octets,
+        coding,
+        order,
+        width,
+        fine,
+    )?;
+    fs::write(rt, output, octets.as_slice())?;
+    Ok(told)
+}
+
+/// Tells the rows of a page that was decoded and the bits of its code on standard error, where that is
+/// asked for.
+fn tell(
+    rt: &HostRuntime,
+    asked: bool,
+    decoded: Result<(usize, u128), ToolFault>,
+) -> Result<(), ToolFault> {
+    let (rows, bits) = decoded?;
+    if asked {
+        eprintln!(rt; "rows {rows} bits {bits}")?;
+    }
     Ok(())
 }
 

@@ -2,13 +2,14 @@
 ghost use Rattle.std.specs.Prelude.{◌≡◌, ◌≢◌, IfOk, MatchOption, MatchResult, Some, codes, false, true};
 ghost use Rattle.std.specs.Prelude.{ℕ, map, option_map, string_bytes};
 ghost use Rattle.clap.specs.Words.{app_of, first_of, found_of, kind_of, rows_of, rule_of};
-ghost use Rattle.clap.specs.Words.{new_app, subcommand_rows_of, with_rule};
+ghost use Rattle.clap.specs.Words.{new_app, subcommand_rows_of, with_rule, with_subcommand};
 ghost use Rattle.clap.specs.declared.builder.command.Command.TheViews.{out-Command as fields_of};
 ghost use Rattle.clap.specs.declared.error.kind.ErrorKind.TheVariants.{OutOfMemory};
 ghost use Rattle.faxtool.specs.Jobs.{AreOptionsIn, HasNoJob, HasNoOptions, IsFaxtool, IsJobOf, IsOutcomeOf, IsRefusalOf};
 ghost use Rattle.faxtool.specs.Jobs.{IsWidthIn, ReadsAs, ReadsWidth, call_app, choice_rule, code_app, coding_named, coding_rule};
-ghost use Rattle.faxtool.specs.Jobs.{empty_app, file_option_rule, file_rule, fine_rule, is_named, modems_named, order_named, order_rule};
-ghost use Rattle.faxtool.specs.Jobs.{page_app, show_app, frames_app, status_of, width_rule, with_choices};
+ghost use Rattle.faxtool.specs.Jobs.{decode_app, empty_app, file_option_rule, file_rule, flag_rule, frames_app, is_named, modems_named};
+ghost use Rattle.faxtool.specs.Jobs.{option_rule, order_named, order_rule, page_app, show_app, status_of, width_rule, with_choices};
+ghost use Rattle.faxtool.specs.Jobs.{with_page_options};
 
 use clap::builder::ValueParser;
 use clap::error::ErrorKind;
@@ -43,6 +44,23 @@ pub enum Job {
         width: u32,
         /// The name of the page's file.
         input: String,
+    },
+    /// Writes the first page in a file as an image.
+    Decode {
+        /// The code of the page.
+        coding: Coding,
+        /// Which bit of an octet of the file comes first.
+        order: Order,
+        /// The page's width in pixels, 1 to 2,432.
+        width: u32,
+        /// 7.7 lines a millimetre in place of 3.85.
+        fine: bool,
+        /// Whether its rows and the bits of its code are told on standard error.
+        verbose: bool,
+        /// The name of the page's file.
+        input: String,
+        /// The name of the file that the image goes to.
+        output: String,
     },
     /// Lists the frames in a file of bits.
     Frames {
@@ -147,6 +165,9 @@ fn job_in(alloc: Global, matches: &ArgMatches<'_>) -> Result<Option<Job>, AllocE
     if let Some(inner) = matches.subcommand_matches("show") {
         return show_job(alloc, inner);
     }
+    if let Some(inner) = matches.subcommand_matches("decode") {
+        return decode_job(alloc, inner);
+    }
     if let Some(inner) = matches.subcommand_matches("frames") {
         return frames_job(alloc, inner);
     }
@@ -195,6 +216,33 @@ fn show_job(alloc: Global, matches: &ArgMatches<'_>) -> Result<Option<Job>, Allo
         order: order_in(matches),
         width,
         input: String::from_str(alloc, input)?,
+    }))
+}
+
+fn decode_job(alloc: Global, matches: &ArgMatches<'_>) -> Result<Option<Job>, AllocError>
+    ensures { let met = Some (codes "decode", rows_of (found_of matches.now)) in
+        IfOk result (λ job. MatchOption job (HasNoJob met) (IsJobOf met)) }
+{
+    let Some(coding) = coding_in(matches) else {
+        return Ok(None);
+    };
+    let Some(width) = width_in(matches) else {
+        return Ok(None);
+    };
+    let Some(input) = text_in(matches, "file") else {
+        return Ok(None);
+    };
+    let Some(output) = text_in(matches, "out") else {
+        return Ok(None);
+    };
+    Ok(Some(Job::Decode {
+        coding,
+        order: order_in(matches),
+        width,
+        fine: is_named(text_in(matches, "fine"), "true"),
+        verbose: is_named(text_in(matches, "verbose"), "true"),
+        input: String::from_str(alloc, input)?,
+        output: String::from_str(alloc, output)?,
     }))
 }
 
@@ -354,7 +402,7 @@ fn faxtool_command<'a>(alloc: Global) -> Result<Command<'a>, AllocError>
     pages.subcommand(call)
 }
 
-// The program with the commands that code and show pages and list frames.
+// The program with the commands that code, show and decode pages and list frames.
 fn page_commands<'a>(
     alloc: Global,
     codings: ValueParser<'a>,
@@ -362,20 +410,33 @@ fn page_commands<'a>(
 ) -> Result<Command<'a>, AllocError>
     ensures { IfOk result (λ command. app_of command ≡ page_app codings.entry orders.entry) }
 {
+    let decode = decode_command(alloc, codings, orders)?;
+    let frames = frames_command(alloc)?;
+    coding_commands(alloc, codings, orders)?
+        .subcommand(decode)?
+        .subcommand(frames)
+}
+
+// The program with the commands that code and show pages.
+fn coding_commands<'a>(
+    alloc: Global,
+    codings: ValueParser<'a>,
+    orders: ValueParser<'a>,
+) -> Result<Command<'a>, AllocError>
+    ensures { IfOk result (λ command. app_of command
+        ≡ with_subcommand (with_subcommand empty_app (code_app codings.entry orders.entry).top)
+        (show_app codings.entry orders.entry).top) }
+{
     let code = code_command(alloc, codings, orders)?;
     let show = show_command(alloc, codings, orders)?;
-    let frames = frames_command(alloc)?;
-    empty_command(alloc)
-        .subcommand(code)?
-        .subcommand(show)?
-        .subcommand(frames)
+    empty_command(alloc).subcommand(code)?.subcommand(show)
 }
 
 fn empty_command<'a>(alloc: Global) -> Command<'a>
     ensures { app_of result ≡ empty_app }
 {
     Command::new(alloc, "faxtool")
-        .about("Codes images as fax pages, shows coded pages, lists frames and runs calls")
+        .about("Codes images as fax pages, shows and decodes pages, lists frames and runs calls")
         .subcommand_required(true)
         .arg_required_else_help(true)
 }
@@ -404,12 +465,61 @@ fn show_command<'a>(
     ensures app { IfOk result (λ command. app_of command ≡ show_app codings.entry orders.entry) }
     ensures local { IfOk result (λ command. (fields_of command).has_globals ≡ false) }
 {
-    Command::new(alloc, "show")
-        .about("Prints the first page in a file as text")
+    page_command(
+        alloc,
+        "show",
+        "Prints the first page in a file as text",
+        codings,
+        orders,
+    )?
+    .arg(file_name(alloc, "file", "FILE", "The file of the coded page"))
+}
+
+fn decode_command<'a>(
+    alloc: Global,
+    codings: ValueParser<'a>,
+    orders: ValueParser<'a>,
+) -> Result<Command<'a>, AllocError>
+    ensures app { IfOk result (λ command. app_of command ≡ decode_app codings.entry orders.entry) }
+    ensures local { IfOk result (λ command. (fields_of command).has_globals ≡ false) }
+{
+    page_command(
+        alloc,
+        "decode",
+        "Writes the first page in a file as a PBM",
+        codings,
+        orders,
+    )?
+    .arg(flag_option(
+        alloc,
+        "fine",
+        "The page has 7.7 lines a millimetre in place of 3.85",
+    ))?
+    .arg(flag_option(
+        alloc,
+        "verbose",
+        "Tells the page's rows and the bits of its code",
+    ))?
+    .arg(file_name(alloc, "file", "FILE", "The file of the coded page"))?
+    .arg(file_name(alloc, "out", "OUT", "The file that the image is written to"))
+}
+
+// The command of this name with the options of coded pages.
+fn page_command<'a>(
+    alloc: Global,
+    name: &'a str,
+    about: &'a str,
+    codings: ValueParser<'a>,
+    orders: ValueParser<'a>,
+) -> Result<Command<'a>, AllocError>
+    ensures app { IfOk result (λ command. app_of command ≡ with_page_options (new_app name.entry.now) codings.entry orders.entry) }
+    ensures local { IfOk result (λ command. (fields_of command).has_globals ≡ false) }
+{
+    Command::new(alloc, name)
+        .about(about)
         .arg(coding_option(alloc, codings))?
         .arg(width_option(alloc))?
-        .arg(order_option(alloc, orders))?
-        .arg(file_name(alloc, "file", "FILE", "The file of the coded page"))
+        .arg(order_option(alloc, orders))
 }
 
 fn frames_command<'a>(alloc: Global) -> Result<Command<'a>, AllocError>
@@ -437,7 +547,11 @@ fn call_command<'a>(
         "The file that the stored pages are written to, as PBM",
     );
     script_command(alloc, codings, sizes, modems)?
-        .arg(fine_option(alloc))?
+        .arg(flag_option(
+            alloc,
+            "fine",
+            "Sends 7.7 lines a millimetre in place of 3.85",
+        ))?
         .arg(out)?
         .arg(file_name(alloc, "in", "IN", "The file of the document, a PBM"))
 }
@@ -480,6 +594,17 @@ fn script_command<'a>(
         ))
 }
 
+// An option whose name is its id, with one value.
+fn named_option<'a>(alloc: Global, id: &'a str, shown: &'a str) -> Arg<'a>
+    ensures rule { rule_of result ≡ option_rule id.entry.now }
+    ensures local { result.global ≡ false }
+{
+    Arg::new(alloc, id)
+        .long(id)
+        .value_name(shown)
+        .action(ArgAction::Set)
+}
+
 // An option that is one of several names.
 fn choice_option<'a>(
     alloc: Global,
@@ -491,10 +616,7 @@ fn choice_option<'a>(
     ensures rule { rule_of result ≡ choice_rule id.entry.now names.entry default.entry.now }
     ensures local { result.global ≡ false }
 {
-    Arg::new(alloc, id)
-        .long(id)
-        .value_name("NAME")
-        .action(ArgAction::Set)
+    named_option(alloc, id, "NAME")
         .value_parser(names)
         .default_value(default)
         .help(help)
@@ -504,33 +626,28 @@ fn file_option<'a>(alloc: Global, id: &'a str, required: bool, help: &'a str) ->
     ensures rule { rule_of result ≡ record (file_option_rule id.entry.now) { required = required } }
     ensures local { result.global ≡ false }
 {
-    Arg::new(alloc, id)
-        .long(id)
-        .value_name("FILE")
+    named_option(alloc, id, "FILE")
         .required(required)
-        .action(ArgAction::Set)
         .help(help)
 }
 
-fn fine_option<'a>(alloc: Global) -> Arg<'a>
-    ensures rule { rule_of result ≡ fine_rule }
+// An option that has no value.
+fn flag_option<'a>(alloc: Global, id: &'a str, help: &'a str) -> Arg<'a>
+    ensures rule { rule_of result ≡ flag_rule id.entry.now }
     ensures local { result.global ≡ false }
 {
-    Arg::new(alloc, "fine")
-        .long("fine")
+    Arg::new(alloc, id)
+        .long(id)
         .action(ArgAction::SetTrue)
-        .help("Sends 7.7 lines a millimetre in place of 3.85")
+        .help(help)
 }
 
 fn coding_option<'a>(alloc: Global, codings: ValueParser<'a>) -> Arg<'a>
     ensures rule { rule_of result ≡ coding_rule codings.entry }
     ensures local { result.global ≡ false }
 {
-    Arg::new(alloc, "code")
-        .long("code")
-        .value_name("CODE")
+    named_option(alloc, "code", "CODE")
         .required(true)
-        .action(ArgAction::Set)
         .value_parser(codings)
         .help("The code of the page: mh codes each row by its runs alone, mmr after the row above")
 }
@@ -539,10 +656,7 @@ fn order_option<'a>(alloc: Global, orders: ValueParser<'a>) -> Arg<'a>
     ensures rule { rule_of result ≡ order_rule orders.entry }
     ensures local { result.global ≡ false }
 {
-    Arg::new(alloc, "order")
-        .long("order")
-        .value_name("ORDER")
-        .action(ArgAction::Set)
+    named_option(alloc, "order", "ORDER")
         .value_parser(orders)
         .default_value("msb")
         .help("Which bit of an octet of the code comes first, the most or the least significant")
@@ -552,11 +666,8 @@ fn width_option<'a>(alloc: Global) -> Arg<'a>
     ensures rule { rule_of result ≡ width_rule }
     ensures local { result.global ≡ false }
 {
-    Arg::new(alloc, "width")
-        .long("width")
-        .value_name("N")
+    named_option(alloc, "width", "N")
         .required(true)
-        .action(ArgAction::Set)
         .value_parser(clap::value_parser!(u32).range(1..=2432))
         .help("The width of the page in pixels, 1 to 2432")
 }
