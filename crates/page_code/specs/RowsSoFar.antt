@@ -21,8 +21,8 @@ use Rattle.page_code.specs.TwoDimensions.Fronts.{PageState as T6State, page_begi
 use Rattle.page_code.specs.TwoDimensions.Fronts.PageState.{between}
 use Rattle.page_code.specs.TwoDimensions.Writing.{reference_at}
 
--- the bits begin with the code words of these rows of the width: in one dimension after no EOL or one, with one EOL between two; in T.6 each
--- after the one before, the first after an imaginary white line
+-- the bits begin with the code words of these rows of the width: in one dimension after no EOL or one, with one EOL between two; in T.6
+-- each after the one before, the first after an imaginary white line
 unfoldable pub BeginWith : Coding → ℕ → List Bool → List (List Color) → Type 0
 BeginWith OneDim width bits rows = (lead : List Bool) × (front : List Bool) × (rest : List Bool) × IsLead lead
     × SpellsOneDim width rows front × (bits ≡ lead ++ (front ++ rest))

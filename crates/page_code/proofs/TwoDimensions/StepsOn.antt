@@ -636,9 +636,3 @@ pub last_added : (white row : List Color) (rows : List (List Color))
     → reference_at white (rows ++ row ∷ []) (length (rows ++ row ∷ [])) ≡ row
 last_added white row [] = refl
 last_added white row (r ∷ rows) = last_added r row rows
-
--- EOFB fits into the bits that it begins
-pub eofb_fits : (reader : Reading) → begins eofb (rest_of reader) ≡ true → reader.place + 24 ≤ length reader.bits
-eofb_fits reader is =
-    let split = begins_split eofb (rest_of reader) is in
-    omega (arith, ap length split, length-append eofb (drop 24 (rest_of reader)), length-drop reader.place reader.bits)
