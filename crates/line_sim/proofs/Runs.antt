@@ -1,12 +1,14 @@
 -- A run that gives a world its events one after the other.
-use Rattle.std.proofs.Common.{◌≡◌, ℕ, zero, suc, ◌+◌, ◌<◌, List, [], ◌∷◌, ◌++◌, map, take, length, get_or, Result, Ok, Err, OnOk, OnErr, refl, ap, sym, subst, ◌∙◌, arith}
+use Rattle.std.proofs.Common.{◌≡◌, ℕ, zero, suc, ◌+◌, ◌<◌, ◌≤◌, List, [], ◌∷◌, ◌++◌, map, take, length, get_or, Option, Some, None, Result, Ok, Err, OnOk, OnErr, refl, ap, sym, subst, ◌∙◌, arith}
+use Rattle.std.proofs.lemmas.List.{length-map}
 use Rattle.signals.specs.declared.params.Caps.{Caps}
 use Rattle.signals.specs.declared.params.Wish.{Wish}
 use Rattle.stations.specs.Layers.{Document}
-use Rattle.line_sim.specs.Entries.{entries, entry_of, and_entries}
-use Rattle.line_sim.specs.Line.{World, Outcome, Done, new_world, run}
-use Rattle.line_sim.specs.Report.{Tells, TellsRun}
+use Rattle.line_sim.specs.Entries.{entries, entry_of, and_entries, marks}
+use Rattle.line_sim.specs.Line.{World, Outcome, Done, Nothing, InputLost, Cut, happens, new_world, run}
+use Rattle.line_sim.specs.Report.{Tells, TellsRun, TellsWhole, all_done}
 use Rattle.line_sim.specs.Standing.{Shows, WorldFields, Becomes, BecomesSome}
+use Rattle.line_sim.specs.declared.event.Entry.{Entry}
 use Rattle.line_sim.specs.declared.event.Event.{Event}
 use Rattle.line_sim.specs.declared.report.Report.{Report}
 use Rattle.line_sim.proofs.Transcripts.{run_one_more, entries_one_more}
@@ -59,6 +61,48 @@ tells_run document wish caps events v report g tells =
       tells = subst (Tells report (run g.steps (new_world document wish caps))) g.noted
           (tells (run g.steps (new_world document wish caps)) g.shows);
     }
+
+-- a run has at most an entry for each step
+one_entry_more : (entry : Option Entry) (rest : List Entry) → length (and_entries entry rest) ≤ suc (length rest)
+one_entry_more None rest = omega arith
+one_entry_more (Some entry) rest = omega arith
+
+entries_few : (steps : List (Event × Outcome)) (w : World) → length (entries steps w) ≤ length steps
+entries_few [] w = omega arith
+entries_few (step ∷ steps) w =
+    let one = one_entry_more (entry_of w step.0 step.1) (entries steps (happens w step.0 step.1)) in
+    let few = entries_few steps (happens w step.0 step.1) in
+    omega arith
+
+-- a step has its entry, which isn't marked, and so have those after it: it has done all that it is
+first_done : (event : Event) (outcome : Outcome) (steps : List (Event × Outcome)) (w : World) →
+    length (and_entries (entry_of w event outcome) (entries steps (happens w event outcome))) ≡ suc (length steps) →
+    marks (and_entries (entry_of w event outcome) (entries steps (happens w event outcome))) ≡ 0 →
+    (outcome ≡ Done) × (length (entries steps (happens w event outcome)) ≡ length steps) ×
+    (marks (entries steps (happens w event outcome)) ≡ 0)
+first_done event Done steps w same none = (refl, omega arith, none)
+first_done event Nothing steps w same none = let few = entries_few steps w in absurd (omega arith)
+first_done event InputLost steps w same none = absurd (omega arith)
+first_done event (Cut made) steps w same none = absurd (omega arith)
+
+each_done : (steps : List (Event × Outcome)) (w : World) → length (entries steps w) ≡ length steps → marks (entries steps w) ≡ 0 →
+    steps ≡ all_done (map (λ step. step.0) steps)
+each_done [] w same none = refl
+each_done (step ∷ steps) w same none =
+    let first = first_done step.0 step.1 steps w same none in
+    ap (λ outcome. (step.0, outcome) ∷ steps) first.0 ∙
+    ap (λ l. (step.0, Done) ∷ l) (each_done steps (happens w step.0 step.1) first.1 first.2)
+
+-- where each event has its entry, and none is marked, the report tells what the whole events lead to
+pub tells_whole : (document : Document) (wish : Wish) (caps : Caps) (events : List Event) (report : Report) →
+    TellsRun document wish caps events report → TellsWhole document wish caps events report
+tells_whole document wish caps events report told same none =
+    let start : World = new_world document wish caps in
+    let each : length (entries told.steps start) ≡ length told.steps =
+    ap length (sym told.tells.transcript) ∙ (same ∙ (ap length (sym told.given) ∙ length-map told.steps (λ step. step.0))) in
+    let is : told.steps ≡ all_done events =
+    each_done told.steps start each (sym told.tells.refused ∙ none) ∙ ap all_done told.given in
+    subst (λ steps. Tells report (run steps start) (entries steps start)) is told.tells
 
 pub take_next : (xs : List Event) (i : ℕ) (d : Event) → i < length xs → take (i + 1) xs ≡ take i xs ++ get_or xs i d ∷ []
 take_next [] i d within = absurd (omega arith)

@@ -9,7 +9,7 @@ use Rattle.line_sim.specs.Counted.{IsCounted, groups_begun}
 use Rattle.line_sim.specs.Entries.{entries, marks}
 use Rattle.line_sim.specs.Headline.{IsSafe}
 use Rattle.line_sim.specs.InStep.{InStep}
-use Rattle.line_sim.specs.Line.{World, Outcome, new_world, run}
+use Rattle.line_sim.specs.Line.{World, Outcome, Done, new_world, run}
 use Rattle.line_sim.specs.LineFacts.{LineFacts}
 use Rattle.line_sim.specs.PageMachine.{Moves, first_state, page_state}
 use Rattle.line_sim.specs.Standing.{IsWorldFault}
@@ -43,6 +43,17 @@ pub record TellsRun (document : Document) (wish : Wish) (caps : Caps) (events : 
 abbrev pub RunsTo : Document → Wish → Caps → List Event → Result Report WorldFault → Type 0
 RunsTo document wish caps events (Ok report) = AreCallable document × TellsRun document wish caps events report
 RunsTo document wish caps events (Err fault) = IsWorldFault document fault
+
+-- events, each of which has done all that it is
+abbrev pub all_done : List Event → List (Event × Outcome)
+all_done events = map (λ event. (event, Done)) events
+
+-- a report of a run that has an entry for each event and counts no refused one tells what the events lead to where each has done all that
+-- it is: none was left out, and nothing of any was lost
+abbrev pub TellsWhole : Document → Wish → Caps → List Event → Report → Type 0
+TellsWhole document wish caps events report =
+    length report.transcript.items ≡ length events → report.refused ≡ 0 →
+    Tells report (run (all_done events) (new_world document wish caps)) (entries (all_done events) (new_world document wish caps))
 
 -- what holds of a report of steps of a call: it tells them; in the world that they lead to the facts of the line hold, and both stations
 -- are in step; the sender and the owner of the store can rely on it; moves of the page machine lead to what it shows; and the turns of

@@ -49,7 +49,7 @@ pub(crate) fn fcd_count(mut items: Items<'_>) -> u16
 pub(crate) struct Channel {
     alloc: Global,
     sender: Side,
-    items: VecDeque<UnderWay>,
+    pub(crate) items: VecDeque<UnderWay>,
     deframer: Deframer,
 }
 

@@ -5,10 +5,10 @@ ghost use Rattle.line_sim.specs.Entries.{kind_of, signal_kind};
 ghost use Rattle.line_sim.specs.Headline.{CanBeWritten};
 ghost use Rattle.line_sim.specs.Hearing.{AnswererHears, CallerHears};
 ghost use Rattle.line_sim.specs.Line.{spoiled};
-ghost use Rattle.line_sim.specs.Octets.{Carries};
+ghost use Rattle.line_sim.specs.Octets.{Carries, IsFrameOf};
 ghost use Rattle.signals.specs.Reading.{read_content};
 ghost use Rattle.signals.specs.Signals.{PlainSignal, plain};
-ghost use Rattle.signals.specs.Writing.{IsWritable};
+ghost use Rattle.signals.specs.Writing.{IsWritable, content_of};
 ghost use Rattle.stations.specs.AnswererStep.{StepsOrRefuses, answerer_step};
 ghost use Rattle.stations.specs.CallerStep.{caller_step};
 ghost use Rattle.stations.specs.Inputs.{hears, listens};
@@ -61,7 +61,8 @@ fn frame_octets(
     last: bool,
 ) -> Result<Vec<u8>, AllocError>
     requires { IsWritable (plain signal.now) }
-    ensures { IfOk result (λ octets. Carries octets.items (plain signal.now)) }
+    ensures carries { IfOk result (λ octets. Carries octets.items (plain signal.now)) }
+    ensures sent { IfOk result (λ octets. IsFrameOf octets.items (content_of (plain signal.now) side last)) }
 {
     let content = signals::write(signal, side, last);
     let mut writer = BitWriter::new(alloc, Order::LsbFirst);
@@ -110,7 +111,7 @@ fn answerer_hears(deframer: &mut Deframer, answerer: &mut Answerer) -> Result<Tu
 #[derive(Drop)]
 pub(crate) struct UnderWay {
     kind: Kind,
-    octets: Vec<u8>,
+    pub(crate) octets: Vec<u8>,
 }
 
 impl Model for UnderWay {

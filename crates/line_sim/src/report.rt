@@ -5,7 +5,7 @@ use raster::Page;
 use stations::End;
 
 /// What has become of a call.
-#[derive(Drop)]
+#[derive(Debug, Drop)]
 pub struct Report {
     /// The pages that the answerer has stored, in order.
     pub pages: Vec<Page>,

@@ -32,7 +32,7 @@ pub enum Feed<'a> {
 }
 
 /// What an answerer has made of a line.
-#[derive(Drop)]
+#[derive(Debug, Drop)]
 pub struct Answered {
     /// The first DIS, and then a turn for each signal heard and for each feed that isn't octets of the
     /// line, in order.

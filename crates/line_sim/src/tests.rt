@@ -1,12 +1,29 @@
-//! A whole run, by `run`. Worked calls by `World` are run as scripts of the program, in .ci/calls.
+//! What a run and the octets on the line show beyond the contracts. Worked calls of a world are scripts of the program, in .ci/calls.
 
 use super::*;
+use crate::channel::Channel;
+use hdlc::Deframer;
 use page_code::Coding;
 use raster::{Document, Page, Row};
 use signals::{Caps, Modems, PageWidth, Wish};
 use stations::End;
 use std::alloc::Global;
 use std::test::Fail;
+
+const WISH: Wish = Wish {
+    modems: Modems::V17,
+    coding: Coding::T6,
+    small: false,
+};
+
+const CAPS: Caps = Caps {
+    receiver: true,
+    modems: Modems::V17,
+    fine: true,
+    widest: PageWidth::W2432,
+    t6: true,
+    ecm: true,
+};
 
 /// One white row of 1,728 pixels.
 fn white_page(alloc: Global) -> Result<Document, Fail> {
@@ -15,22 +32,44 @@ fn white_page(alloc: Global) -> Result<Document, Fail> {
     Ok(Document::new(alloc, page)?)
 }
 
+/// Whether the item at a place is the frame of a content: these octets, and then 00 alone.
+fn is_frame(alloc: Global, channel: &Channel, place: usize, head: &[u8]) -> Result<bool, Fail> {
+    let Some(item) = channel.items.get(place) else {
+        return Ok(false);
+    };
+    let mut deframer = Deframer::new(alloc);
+    deframer.feed(&item.octets)?;
+    let Some(content) = deframer.next() else {
+        return Ok(false);
+    };
+    if content.len() < head.len() {
+        return Ok(false);
+    }
+    let (front, rest) = content.split_at(head.len());
+    Ok(front == head && rest.iter().all(|octet| *octet == 0))
+}
+
+#[test]
+fn frames_as_each_station_sends_them(rt: HostRuntime) -> Result<(), Fail> {
+    let alloc = rt.alloc();
+    let mut world = World::new(alloc, white_page(alloc)?, WISH, CAPS)?;
+    let dis = b"\xFF\x13\x80\x00\x6E\xFA\x44";
+    assert!(rt; is_frame(alloc, &world.call.to_caller, 0, dis)?);
+    assert_eq!(rt; world.polite(1)?, 1);
+    let dcs = b"\xFF\x13\x83\x00\x22\xF8\x44";
+    assert!(rt; is_frame(alloc, &world.call.to_answerer, 0, dcs)?);
+    assert_eq!(rt; world.polite(3)?, 3);
+    let fcd = b"\xFF\x03\x06\x00\x01\x10\x00\x01";
+    assert!(rt; is_frame(alloc, &world.call.to_answerer, 0, fcd)?);
+    assert!(rt; is_frame(alloc, &world.call.to_answerer, 3, b"\xFF\x03\x86")?);
+    let pps = b"\xFF\x13\xBF\x2F\x00\x00\x00";
+    assert!(rt; is_frame(alloc, &world.call.to_answerer, 4, pps)?);
+    Ok(())
+}
+
 #[test]
 fn a_run_of_eleven_deliveries(rt: HostRuntime) -> Result<(), Fail> {
     let alloc = rt.alloc();
-    let wish = Wish {
-        modems: Modems::V17,
-        coding: Coding::T6,
-        small: false,
-    };
-    let caps = Caps {
-        receiver: true,
-        modems: Modems::V17,
-        fine: true,
-        widest: PageWidth::W2432,
-        t6: true,
-        ecm: true,
-    };
     let events = [
         Event::DeliverToCaller,
         Event::DeliverToAnswerer,
@@ -44,7 +83,7 @@ fn a_run_of_eleven_deliveries(rt: HostRuntime) -> Result<(), Fail> {
         Event::DeliverToCaller,
         Event::DeliverToAnswerer,
     ];
-    let report = run(alloc, white_page(alloc)?, wish, caps, &events)?;
+    let report = run(alloc, white_page(alloc)?, WISH, CAPS, &events)?;
     assert_eq!(rt; report.transcript.len(), 11);
     assert_eq!(rt; report.refused, 0);
     assert_eq!(rt; report.confirmed, 1);

@@ -3,7 +3,7 @@
 ghost use Rattle.line_sim.specs.Holding.{Begins, Holds, TakesWholeBlock};
 ghost use Rattle.line_sim.specs.Line.{World as WorldValue, Outcome, new_world};
 ghost use Rattle.line_sim.specs.PageMachine.{AtMostTwo};
-ghost use Rattle.line_sim.specs.Report.{Keeps, KeepsRun, RunsTo, Tells};
+ghost use Rattle.line_sim.specs.Report.{Keeps, KeepsRun, RunsTo, Tells, TellsWhole};
 ghost use Rattle.line_sim.specs.Standing.{Becomes, BecomesSome, NewWorld, Shows, fields_state};
 ghost use Rattle.stations.specs.Laws.{Each};
 ghost use Rattle.stations.specs.Layers.{IsFullPage};
@@ -178,7 +178,8 @@ fn note(transcript: &mut Vec<Entry>, entry: Entry)
 }
 
 /// Runs a call: a new world is given each event, in order, and goes on after a refused one. Errs only
-/// where there is no new world.
+/// where there is no new world. Where the transcript has an entry for each event, and none was refused,
+/// each has done all that it is.
 pub fn run(
     alloc: Global,
     document: Document,
@@ -190,6 +191,7 @@ pub fn run(
     requires ecm { caps.ecm ≡ true }
     ensures runs { RunsTo document wish caps events.now result }
     ensures keeps { IfOk result (λ report. KeepsRun document wish caps events.now report) }
+    ensures whole { IfOk result (λ report. TellsWhole document wish caps events.now report) }
 {
     headline();
     counted();

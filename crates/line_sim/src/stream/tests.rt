@@ -14,6 +14,8 @@ use std::test::Fail;
 enum Sent {
     /// The frame of a content: these octets, and then so many octets 00.
     Frame(&'static [u8], usize),
+    /// FCDs 1 to 255, each of 256 octets 00.
+    PaddingFcds,
     /// These octets themselves.
     Raw(&'static [u8]),
 }
@@ -37,6 +39,8 @@ const DCS_OF_NO_SPEED: &[u8] = b"\xFF\x13\x83\x00\x12\xF8\x44";
 /// FCDs of a white row's code and EOFB, whole and in parts, and of no code.
 const FCD_ROW: Sent = Sent::Frame(b"\xFF\x03\x06\x00\x01\x10\x00\x01", 0);
 
+const FCD_ROW_FULL: Sent = Sent::Frame(b"\xFF\x03\x06\x00\x01\x10\x00\x01", 252);
+
 const FCD_FRONT: Sent = Sent::Frame(b"\xFF\x03\x06\x00\x01", 0);
 
 const FCD_REST: Sent = Sent::Frame(b"\xFF\x03\x06\x01\x10\x00\x01", 0);
@@ -49,6 +53,8 @@ const FCD_TOO_LONG: Sent = Sent::Frame(b"\xFF\x03\x06\x00", 257);
 const PPS_EOP_0: Sent = Sent::Frame(b"\xFF\x13\xBF\x2F\x00\x00\x00", 0);
 
 const PPS_EOP_1: Sent = Sent::Frame(b"\xFF\x13\xBF\x2F\x00\x00\x01", 0);
+
+const PPS_EOP_255: Sent = Sent::Frame(b"\xFF\x13\xBF\x2F\x00\x00\xFF", 0);
 
 const PPS_NULL_0: Sent = Sent::Frame(b"\xFF\x13\xBF\x00\x00\x00\x00", 0);
 
@@ -151,21 +157,30 @@ const STREAMS: [Stream; 8] = [
     },
 ];
 
+/// Appends the frame of a content: these octets, and then so many octets 00.
+fn send_frame(alloc: Global, octets: &mut Vec<u8>, head: &[u8], zeros: usize) -> Result<(), Fail> {
+    let mut content = Vec::new(alloc);
+    content.extend_from_slice(head)?;
+    for _ in 0..zeros {
+        content.push(0)?;
+    }
+    if content.len() < 3 || content.len() > 300 {
+        return Ok(());
+    }
+    let mut writer = BitWriter::new(alloc, Order::LsbFirst);
+    write_frame(&content, &mut writer)?;
+    octets.extend_from_slice(&writer.into_octets())?;
+    Ok(())
+}
+
 /// Appends what a peer sends.
 fn send(alloc: Global, octets: &mut Vec<u8>, sent: &Sent) -> Result<(), Fail> {
     match sent {
-        Sent::Frame(head, zeros) => {
-            let mut content = Vec::new(alloc);
-            content.extend_from_slice(head)?;
-            for _ in 0..*zeros {
-                content.push(0)?;
+        Sent::Frame(head, zeros) => send_frame(alloc, octets, head, *zeros)?,
+        Sent::PaddingFcds => {
+            for number in 1..=255 {
+                send_frame(alloc, octets, &[0xFF, 0x03, 0x06, number], 256)?;
             }
-            if content.len() < 3 || content.len() > 300 {
-                return Ok(());
-            }
-            let mut writer = BitWriter::new(alloc, Order::LsbFirst);
-            write_frame(&content, &mut writer)?;
-            octets.extend_from_slice(&writer.into_octets())?;
         }
         Sent::Raw(raw) => octets.extend_from_slice(raw)?,
     }
@@ -204,6 +219,16 @@ fn answered(alloc: Global, stream: &Stream, size: usize) -> Result<Answered, Fai
     Ok(answer_stream(alloc, caps, &feeds)?)
 }
 
+/// Whether each page is one white row of 1,728 pixels.
+fn has_white_rows(answered: &Answered) -> bool {
+    for page in answered.pages.as_slice() {
+        if page.width() != 1728 || page.rows().len() != 1 || page.rows()[0].next_change(0) != 1728 {
+            return false;
+        }
+    }
+    true
+}
+
 /// Whether these are the turns, the end, and so many pages of one white row of 1,728 pixels.
 fn is_wanted(stream: &Stream, answered: &Answered) -> bool {
     if answered.turns.len() != stream.turns.len() || answered.ending != stream.ending {
@@ -214,12 +239,7 @@ fn is_wanted(stream: &Stream, answered: &Answered) -> bool {
             return false;
         }
     }
-    for page in answered.pages.as_slice() {
-        if page.width() != 1728 || page.rows().len() != 1 || page.rows()[0].next_change(0) != 1728 {
-            return false;
-        }
-    }
-    answered.pages.len() == stream.pages
+    has_white_rows(answered) && answered.pages.len() == stream.pages
 }
 
 #[test]
@@ -230,5 +250,23 @@ fn foreign_peers_are_answered(rt: HostRuntime) -> Result<(), Fail> {
             assert!(rt; is_wanted(stream, &answered), "stream {number}");
         }
     }
+    Ok(())
+}
+
+#[test]
+fn a_whole_block_comes_in_one_feed(rt: HostRuntime) -> Result<(), Fail> {
+    let stream = Stream {
+        dcs: DCS,
+        sent: &[FCD_ROW_FULL, Sent::PaddingFcds, PPS_EOP_255],
+        gives_up: false,
+        turns: &[],
+        pages: 1,
+        ending: None,
+    };
+    let answered = answered(rt.alloc(), &stream, 100_000)?;
+    assert_eq!(rt; answered.turns.len(), 260);
+    assert_eq!(rt; answered.turns.last().copied(), Some(Turn::Mcf));
+    assert!(rt; has_white_rows(&answered));
+    assert_eq!(rt; answered.pages.len(), 1);
     Ok(())
 }
