@@ -1,17 +1,17 @@
 -- Eight bits at once into the register of the check sequence, by a table.
-use Rattle.std.proofs.Common.{◌≡◌, ℕ, zero, suc, ◌+◌, ◌*◌, ◌/◌, ◌%◌, ◌^◌, ◌<◌, Bool, true, false, List, [], ◌∷◌, ◌++◌, length, take, cond, get_or, refl, ap, sym, ◌∙◌, arith, nat_eq, bit_xor, pow-suc, replicate}
+use Rattle.std.proofs.Common.{◌≡◌, ℕ, zero, suc, ◌+◌, ◌*◌, ◌/◌, ◌%◌, ◌^◌, ◌<◌, Bool, true, false, List, [], ◌∷◌, length, take, cond, get_or, refl, ap, sym, ◌∙◌, arith, nat_eq, bit_xor, pow-suc, replicate}
 use Rattle.std.specs.List.{fold}
-use Rattle.std.proofs.lemmas.List.{take_more, append-nil}
+use Rattle.std.proofs.lemmas.List.{take_more}
 use Rattle.std.proofs.lemmas.List.Sums.{fold-append}
 use Rattle.std.proofs.lemmas.List.FromFn.{get_or-map-range_with_len}
 use lib.Bits.{xor_mod, xor_shr, xor_zero_r, xor_assoc, xor_comm, xor_shifted}
 use Rattle.raster.specs.Packed.{bits_of}
 use Rattle.raster.specs.declared.packed.Order.TheVariants.{LsbFirst}
 use Rattle.raster.specs.Octets.{number}
-use Rattle.raster.proofs.OctetBits.{octet_bits, bits_of-cons}
+use Rattle.raster.proofs.OctetBits.{octet_bits}
 use Rattle.raster.proofs.OctetLemmas.{bits_of-append, number-octet_bits}
-use Rattle.raster.proofs.PackedLemmas.{bits_in-none}
 use Rattle.hdlc.specs.Fcs.{xor}
+use Rattle.hdlc.proofs.BitPlaces.{bits_of-one}
 use Rattle.hdlc.specs.Register.{crc_bit, crc_octet, remainder_of, remainders}
 
 halves : (x m c : ℕ) → c < 2 → bit_xor x (c + 2 * m) / 2 ≡ bit_xor (x / 2) m
@@ -66,11 +66,14 @@ entry_is x d h = get_or-map-range_with_len remainder_of 0 256 x x d h (omega ari
 pub by_table : (register octet : ℕ) → octet < 256
     → bit_xor (register / 256) (remainder_of (bit_xor (register % 256) octet)) ≡ crc_octet register octet
 by_table register octet small =
-    let split : bit_xor (register / 256 * 2 ^ 8) (register % 256) ≡ register = xor_shifted (register / 256) 8 (register % 256) (omega arith) ∙ omega arith in
-    let bits : bits_of LsbFirst (octet ∷ []) ≡ octet_bits octet = bits_of-cons octet [] ∙ (ap (λ xs. octet_bits octet ++ xs) (bits_in-none LsbFirst []) ∙ append-nil (octet_bits octet)) in
+    let split : bit_xor (register / 256 * 2 ^ 8) (register % 256) ≡ register =
+    xor_shifted (register / 256) 8 (register % 256) (omega arith) ∙ omega arith in
+    let bits : bits_of LsbFirst (octet ∷ []) ≡ octet_bits octet = bits_of-one octet in
     let order : bit_xor register octet ≡ bit_xor (bit_xor (register % 256) octet) (register / 256 * 2 ^ 8) =
     ap (λ r. bit_xor r octet) (sym split ∙ xor_comm (register / 256 * 2 ^ 8) (register % 256)) ∙
-    (xor_assoc (register % 256) (register / 256 * 2 ^ 8) octet ∙ (ap (bit_xor (register % 256)) (xor_comm (register / 256 * 2 ^ 8) octet) ∙ sym (xor_assoc (register % 256) octet (register / 256 * 2 ^ 8)))) in
+    (xor_assoc (register % 256) (register / 256 * 2 ^ 8) octet ∙
+    (ap (bit_xor (register % 256)) (xor_comm (register / 256 * 2 ^ 8) octet) ∙
+    sym (xor_assoc (register % 256) octet (register / 256 * 2 ^ 8)))) in
     sym (ap (fold crc_bit register) bits ∙ (bits_first (octet_bits octet) register
     ∙ (ap (λ n. fold crc_bit (bit_xor register n) (replicate 8 false)) (number-octet_bits octet small)
     ∙ (ap (λ r. fold crc_bit r (replicate 8 false)) order

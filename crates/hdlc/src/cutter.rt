@@ -118,9 +118,7 @@ impl Cutter {
         }
         self.gap.push(oldest);
     }
-}
 
-impl Cutter {
     /// Whether an octet repeats flags, which changes nothing: flags alone came, and go on.
     fn repeats_flags(&self, octet: u8) -> bool
         ensures { result ≡ true → (counts : AnyCounts) (queue : List (List ℕ)) (bits : List Bool) (handed : ℕ)

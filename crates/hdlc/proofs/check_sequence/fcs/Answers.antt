@@ -19,5 +19,6 @@ loop-octet-preserved c = c.crc_octet-register.ensures
 pub returns : goal.returns
 returns c =
     let past : length c.args.octets.now ≤ c.loop-octet.octet-index = omega arith in
-    ap (λ n. 65535 - n) (c.loop-octet.invariant ∙ ap (λ xs. fold crc_bit 65535 (bits_of LsbFirst xs)) (take_all c.loop-octet.octet-index c.args.octets.now past))
+    ap (λ n. 65535 - n) (c.loop-octet.invariant
+    ∙ ap (λ xs. fold crc_bit 65535 (bits_of LsbFirst xs)) (take_all c.loop-octet.octet-index c.args.octets.now past))
     ∙ sym (fcs_is c.args.octets.now)
