@@ -6,6 +6,7 @@ pub mod BlockLemmas
 pub mod OctetBits
 pub mod OctetLemmas
 pub mod RowLemmas
+pub mod ChangeLemmas
 pub mod TextLemmas
 pub mod PbmParts
 pub mod PbmImages

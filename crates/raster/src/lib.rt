@@ -3,6 +3,7 @@
 #![tactic(auto)]
 
 mod blocks;
+mod changes;
 mod fault;
 pub mod laws;
 pub mod packed;

@@ -1,9 +1,12 @@
 //! Bits that are kept eight an octet, in either order. Rows and bit writers stand on it.
 
+ghost use Rattle.raster.specs.Changes.{AreChanges};
+ghost use Rattle.raster.specs.Pixels.{colors};
 ghost use Rattle.raster.specs.Packed.{bit_in, bits_in, bits_of, place_in, IsPacked, Bits, FillsOctets};
 ghost use Rattle.raster.specs.Words.{IsWordAt, IsFirstOtherBit, number_bits};
 ghost use Rattle.std.specs.Prelude.{false, ◌≢◌, ℕ, ◌≡◌, ◌≤◌, ◌<◌, ◌+◌, ◌-◌, ◌*◌, ◌^◌, ◌||◌, ◌/◌, ◌++◌, ◌∷◌, [], nat_eq, length, replicate, take, slice_get, IfOk, OnOk, OnErr};
 
+use crate::changes::changes;
 use crate::words::{first_other, number_word, or_octets, set_run, shifted_word, word_octets};
 use std::alloc::{AllocError, Global};
 use std::marker::Model;
@@ -239,6 +242,16 @@ impl PackedBits {
         ensures { IsFirstOtherBit self.now.bits from bit result }
     {
         first_other(&self.octets, from, self.count as u32, bit)
+    }
+
+    /// All changing positions of the bits as a row.
+    #[tactic(auto, using(crate::proofs::PackedLemmas::views))]
+    pub(crate) fn changes(&self, alloc: Global) -> Result<Vec<u32>, AllocError>
+        requires order { self.now.order ≡ Order.MsbFirst }
+        requires small { length self.now.bits ≤ 2432 }
+        ensures { IfOk result (λ places. AreChanges (colors self.now.bits) places.items) }
+    {
+        changes(alloc, &self.octets, self.count as u32)
     }
 
     /// Appends a bit.

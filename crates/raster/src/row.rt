@@ -1,6 +1,6 @@
 //! Rows of pixels.
 
-ghost use Rattle.raster.specs.Changes.{IsNextChange};
+ghost use Rattle.raster.specs.Changes.{AppendsChanges, IsNextChange};
 ghost use Rattle.raster.specs.Pbm.{row_pixels};
 ghost use Rattle.raster.specs.PbmText.{HoldsRow};
 ghost use Rattle.raster.specs.Pixels.{other, color_of, colors, IsWidth};
@@ -172,6 +172,19 @@ impl Row {
         }
         let before = from > 0 && self.pixels.bit(from as u128 - 1);
         self.pixels.first_other(from, before)
+    }
+
+    /// Appends all changing positions of the row, in rising order (ITU-T T.6, 2.2.1). Errs where memory
+    /// is refused, which changes nothing.
+    #[tactic(auto, using(crate::proofs::RowLemmas::lengths))]
+    pub fn changes(&self, alloc: Global, out: &mut Vec<u32>) -> Result<(), AllocError>
+        ensures ok { OnOk result (AppendsChanges self.now out.old.items out.new.items) }
+        ensures err { OnErr result (out.new.items ≡ out.old.items) }
+    {
+        let _width = self.width();
+        let places = self.pixels.changes(alloc)?;
+        out.extend_from_slice(&places)?;
+        Ok(())
     }
 
     /// The end of the run of a color that goes on at a place: the first place from there on with the

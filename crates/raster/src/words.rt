@@ -167,7 +167,7 @@ pub(crate) fn set_run(order: Order, octets: &mut Vec<u8>, from: u128, end: u128)
 }
 
 /// The first place of a word from a place on whose bit is another, or 64.
-fn first_in_word(word: u64, from: u32, bit: bool) -> u32
+pub(crate) fn first_in_word(word: u64, from: u32, bit: bool) -> u32
     requires { from < 64 }
     ensures { IsFirstInWord word from bit result }
 {
