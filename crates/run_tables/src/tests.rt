@@ -263,3 +263,18 @@ fn refused_rows_have_place_and_kind(rt: HostRuntime) -> Result<(), Fail> {
     }
     Ok(())
 }
+
+#[test]
+fn numbers_and_runs_of_bits(rt: HostRuntime) -> Result<(), Fail> {
+    let mut bits = BitWriter::new(rt.alloc(), Order::MsbFirst);
+    bits.push_bits(0b101, 3)?;
+    bits.push_run(true, 5)?;
+    bits.push_bits(0x001001, 24)?;
+    let octets = bits.into_octets();
+    assert_eq!(rt; octets.as_slice(), [0xBF, 0x00, 0x10, 0x01].as_slice());
+    let reader = BitReader::at(&octets, Order::MsbFirst, 8);
+    assert_eq!(rt; reader.peek(), 0x0010_0100_0000_0000);
+    assert!(rt; reader.starts_with(0x001001, 24));
+    assert!(rt; !reader.starts_with(0x002002, 25));
+    Ok(())
+}
