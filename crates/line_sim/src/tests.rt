@@ -58,7 +58,9 @@ fn frames_as_each_station_sends_them(rt: HostRuntime) -> Result<(), Fail> {
     assert_eq!(rt; world.polite(1)?, 1);
     let dcs = b"\xFF\x13\x83\x00\x22\xF8\x44";
     assert!(rt; is_frame(alloc, &world.call.to_answerer, 0, dcs)?);
-    assert_eq!(rt; world.polite(3)?, 3);
+    assert_eq!(rt; world.polite(2)?, 2);
+    assert!(rt; is_frame(alloc, &world.call.to_caller, 0, b"\xFF\x13\x84")?);
+    assert_eq!(rt; world.polite(1)?, 1);
     let fcd = b"\xFF\x03\x06\x00\x01\x10\x00\x01";
     assert!(rt; is_frame(alloc, &world.call.to_answerer, 0, fcd)?);
     assert!(rt; is_frame(alloc, &world.call.to_answerer, 3, b"\xFF\x03\x86")?);
