@@ -1,5 +1,6 @@
 -- The bits of octets, least significant first, place by place.
-use Rattle.std.proofs.Common.{◌≡◌, ℕ, ◌+◌, ◌/◌, ◌%◌, ◌^◌, ◌<◌, ◌≤◌, Bool, List, [], ◌∷◌, ◌++◌, refl, ap, sym, ◌∙◌, arith, length, take, get_or, nat_eq, append_assoc}
+use Rattle.std.proofs.Common.{◌≡◌, ℕ, ◌+◌, ◌/◌, ◌%◌, ◌^◌, ◌<◌, ◌≤◌, Bool, List, [], ◌∷◌, ◌++◌, refl, ap, sym, ◌∙◌, arith, length, take}
+use Rattle.std.proofs.Common.{get_or, nat_eq, append_assoc}
 use Rattle.std.proofs.lemmas.List.{append-nil, take_more, take_all}
 use Rattle.raster.specs.Packed.{bits_in, bit_in, bits_of}
 use Rattle.raster.specs.declared.packed.Order.TheVariants.{LsbFirst}
@@ -27,7 +28,8 @@ bit_of-one octet place h =
 
 -- the bits after others, up to one octet more
 pub octets-next : (bits : List Bool) (octets : List ℕ) (i d : ℕ) → i < length octets
-    → bits ++ bits_of LsbFirst (take (i + 1) octets) ≡ (bits ++ bits_of LsbFirst (take i octets)) ++ bits_of LsbFirst (get_or octets i d ∷ [])
+    → bits ++ bits_of LsbFirst (take (i + 1) octets) ≡ (bits ++ bits_of LsbFirst (take i octets)) ++ bits_of LsbFirst (get_or octets i d ∷
+    [])
 octets-next bits octets i d h =
     ap (λ xs. bits ++ bits_of LsbFirst xs) (take_more octets i d h)
     ∙ (ap (λ xs. bits ++ xs) (bits_of-append LsbFirst (take i octets) (get_or octets i d ∷ []))

@@ -1,5 +1,6 @@
 -- Eight bits at once into the register of the check sequence, by a table.
-use Rattle.std.proofs.Common.{◌≡◌, ℕ, zero, suc, ◌+◌, ◌*◌, ◌/◌, ◌%◌, ◌^◌, ◌<◌, Bool, true, false, List, [], ◌∷◌, length, take, cond, get_or, refl, ap, sym, ◌∙◌, arith, nat_eq, bit_xor, pow-suc, replicate}
+use Rattle.std.proofs.Common.{◌≡◌, ℕ, zero, suc, ◌+◌, ◌*◌, ◌/◌, ◌%◌, ◌^◌, ◌<◌, Bool, true, false, List, [], ◌∷◌, length, take, cond, get_or}
+use Rattle.std.proofs.Common.{refl, ap, sym, ◌∙◌, arith, nat_eq, bit_xor, pow-suc, replicate}
 use Rattle.std.specs.List.{fold}
 use Rattle.std.proofs.lemmas.List.{take_more}
 use Rattle.std.proofs.lemmas.List.Sums.{fold-append}
@@ -40,7 +41,8 @@ first_bit x m b = go b
 
     go : (b : Bool) → crc_bit (bit_xor x (cond b 1 0 + 2 * m)) false ≡ bit_xor (crc_bit x b) m
     go true =
-        rw (halves x m 1 (omega arith), lasts x m 1 (omega arith), test (x % 2) (omega arith)) (step_apart (xor true (nat_eq (x % 2) 1)) (x / 2) m)
+        rw (halves x m 1 (omega arith), lasts x m 1 (omega arith), test (x % 2) (omega arith)) (step_apart (xor true (nat_eq (x % 2) 1)) (x
+        / 2) m)
     go false =
         rw (halves x m 0 (omega arith), lasts x m 0 (omega arith), xor_zero_r (x % 2)) (step_apart (nat_eq (x % 2) 1) (x / 2) m)
 
@@ -81,10 +83,12 @@ by_table register octet small =
     ∙ xor_comm (remainder_of (bit_xor (register % 256) octet)) (register / 256))))))
 
 -- one octet on
-pub register_on : (octets : List ℕ) (i d register : ℕ) → i < length octets → register ≡ fold crc_bit 65535 (bits_of LsbFirst (take i octets))
+pub register_on : (octets : List ℕ) (i d register : ℕ) → i < length octets → register ≡ fold crc_bit 65535 (bits_of LsbFirst (take i
+    octets))
     → crc_octet register (get_or octets i d) ≡ fold crc_bit 65535 (bits_of LsbFirst (take (i + 1) octets))
 register_on octets i d register h is =
     let octet : ℕ = get_or octets i d in
     ap (λ r. crc_octet r octet) is
     ∙ (sym (fold-append crc_bit 65535 (bits_of LsbFirst (take i octets)) (bits_of LsbFirst (octet ∷ [])))
-    ∙ (ap (fold crc_bit 65535) (sym (bits_of-append LsbFirst (take i octets) (octet ∷ [])) ∙ ap (bits_of LsbFirst) (sym (take_more octets i d h)))))
+    ∙ (ap (fold crc_bit 65535) (sym (bits_of-append LsbFirst (take i octets) (octet ∷ [])) ∙ ap (bits_of LsbFirst) (sym (take_more octets i
+    d h)))))

@@ -1,5 +1,6 @@
 -- One bit more in a collector, and the class of what it collected.
-use Rattle.std.proofs.Common.{◌≡◌, ℕ, suc, ◌+◌, ◌-◌, ◌%◌, ◌<◌, ◌≤◌, Bool, true, false, ◌||◌, not, List, [], ◌∷◌, ◌++◌, length, take, cond, min, refl, ap, sym, ◌∙◌, arith, nat_eq, nat_lt, inl, inr}
+use Rattle.std.proofs.Common.{◌≡◌, ℕ, suc, ◌+◌, ◌-◌, ◌%◌, ◌<◌, ◌≤◌, Bool, true, false, ◌||◌, not, List, [], ◌∷◌, ◌++◌, length, take, cond}
+use Rattle.std.proofs.Common.{min, refl, ap, sym, ◌∙◌, arith, nat_eq, nat_lt, inl, inr}
 use Rattle.std.proofs.lemmas.List.{take_all, append-nil}
 use Rattle.std.proofs.lemmas.Bool.{ne_eqb, eq-eqb, lt-ltb, le-ltb, cases_lt, ltb-false}
 use Rattle.hdlc.specs.declared.collector.Collector.{Collector}

@@ -1,5 +1,6 @@
 -- Eight bits more in a collector, none of them stuffed.
-use Rattle.std.proofs.Common.{◌≡◌, ℕ, suc, zero, ◌+◌, ◌-◌, ◌*◌, ◌/◌, ◌%◌, ◌^◌, ◌<◌, ◌≤◌, Bool, true, false, ◌||◌, ◌&&◌, List, [], ◌∷◌, ◌++◌, length, cond, min, refl, ap, sym, ◌∙◌, arith, nat_eq, nat_lt, append_assoc, bit_and, w8}
+use Rattle.std.proofs.Common.{◌≡◌, ℕ, suc, zero, ◌+◌, ◌-◌, ◌*◌, ◌/◌, ◌%◌, ◌^◌, ◌<◌, ◌≤◌, Bool, true, false, ◌||◌, ◌&&◌, List, [], ◌∷◌, ◌++◌}
+use Rattle.std.proofs.Common.{length, cond, min, refl, ap, sym, ◌∙◌, arith, nat_eq, nat_lt, append_assoc, bit_and, w8}
 use Rattle.std.specs.Int.{leading_ones}
 use lib.Count.{count_leading_zeros}
 use Rattle.std.proofs.lemmas.List.{append-nil, length-append}

@@ -1,5 +1,6 @@
 -- The register of 16 bits leaves what the long division leaves.
-use Rattle.std.proofs.Common.{◌≡◌, ℕ, zero, suc, ◌+◌, ◌-◌, ◌*◌, ◌/◌, ◌%◌, ◌^◌, ◌<◌, ◌≤◌, Bool, true, false, not, ◌&&◌, List, [], ◌∷◌, ◌++◌, length, drop, map, cond, get_or, refl, ap, sym, ◌∙◌, arith, inl, inr, nat_eq, bit_xor, pow-suc, replicate}
+use Rattle.std.proofs.Common.{◌≡◌, ℕ, zero, suc, ◌+◌, ◌-◌, ◌*◌, ◌/◌, ◌%◌, ◌^◌, ◌<◌, ◌≤◌, Bool, true, false, not, ◌&&◌, List, [], ◌∷◌, ◌++◌}
+use Rattle.std.proofs.Common.{length, drop, map, cond, get_or, refl, ap, sym, ◌∙◌, arith, inl, inr, nat_eq, bit_xor, pow-suc, replicate}
 use Rattle.std.specs.List.{fold}
 use Rattle.std.specs.Cmp.Lexicographic.{pointwise}
 use Rattle.std.proofs.lemmas.List.{length-drop, length-append, length-map}

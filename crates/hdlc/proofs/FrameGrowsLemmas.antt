@@ -1,5 +1,6 @@
 -- After a flag all else is forgotten; frames after idle bits.
-use Rattle.std.proofs.Common.{◌≡◌, ℕ, zero, suc, ◌+◌, ◌-◌, ◌≤◌, Bool, true, false, ◌&&◌, ◌||◌, List, [], ◌∷◌, ◌++◌, length, drop, map, cond, min, get_or, refl, ap, sym, ◌∙◌, arith, inl, inr, nat_eq, nat_lt, append_assoc, replicate}
+use Rattle.std.proofs.Common.{◌≡◌, ℕ, zero, suc, ◌+◌, ◌-◌, ◌≤◌, Bool, true, false, ◌&&◌, ◌||◌, List, [], ◌∷◌, ◌++◌, length, drop, map, cond}
+use Rattle.std.proofs.Common.{min, get_or, refl, ap, sym, ◌∙◌, arith, inl, inr, nat_eq, nat_lt, append_assoc, replicate}
 use Rattle.std.specs.List.{filter}
 use Rattle.std.proofs.lemmas.List.{append-nil, length-append, map-append, drop_at}
 use Rattle.std.proofs.lemmas.List.Elements.{filter-append}

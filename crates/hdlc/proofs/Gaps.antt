@@ -1,8 +1,10 @@
 -- The gaps, their contents and counts, one bit more.
-use Rattle.std.proofs.Common.{◌≡◌, ℕ, ◌+◌, ◌-◌, ◌<◌, ◌≤◌, Bool, true, false, ◌&&◌, ◌||◌, List, [], ◌∷◌, ◌++◌, length, take, drop, map, cond, get_or, min, refl, ap, sym, ◌∙◌, arith, inl, inr, Option, Some, None, nat_eq, nat_lt}
+use Rattle.std.proofs.Common.{◌≡◌, ℕ, ◌+◌, ◌-◌, ◌<◌, ◌≤◌, Bool, true, false, ◌&&◌, ◌||◌, List, [], ◌∷◌, ◌++◌, length, take, drop, map, cond}
+use Rattle.std.proofs.Common.{get_or, min, refl, ap, sym, ◌∙◌, arith, inl, inr, Option, Some, None, nat_eq, nat_lt}
 use Rattle.std.specs.Prelude.{is_some}
 use Rattle.std.specs.List.{filter, count_by}
-use Rattle.std.proofs.lemmas.List.{drop-append-le, take-append-le, length-append, append-nil, append_assoc, drop_all, length-take-le, take_more, get_or-drop, map-append}
+use Rattle.std.proofs.lemmas.List.{drop-append-le, take-append-le, length-append, append-nil, append_assoc, drop_all, length-take-le}
+use Rattle.std.proofs.lemmas.List.{take_more, get_or-drop, map-append}
 use Rattle.std.proofs.lemmas.List.Elements.{filter-append}
 use Rattle.std.proofs.lemmas.List.Sums.{sum_by-append}
 use Rattle.std.proofs.lemmas.Bool.{cases_lt, ne_eqb, eq-eqb, false≢true}
@@ -11,7 +13,8 @@ use Rattle.hdlc.specs.Laws.{GoodContentsStay}
 use Rattle.hdlc.specs.Gaps.{good, count_of, class_of, is_class, content}
 use Rattle.hdlc.specs.declared.counts.Class.{Class}
 use Rattle.hdlc.specs.declared.counts.Class.TheVariants.{Good}
-use Rattle.hdlc.specs.OpenGap.{recent, last_of, last_flag, unclosed, unclosed_after, settled, settled_after, held, held_after, begun, at_flag}
+use Rattle.hdlc.specs.OpenGap.{recent, last_of, last_flag, unclosed, unclosed_after, settled, settled_after, held, held_after, begun}
+use Rattle.hdlc.specs.OpenGap.{at_flag}
 use Rattle.hdlc.proofs.Flags.{flags-more, recent_long, recent_short, last_flag_within, neighbours-push, last_of-push, between-same, closing}
 
 pub last_flag-more : (bits : List Bool) (b : Bool) → last_flag (bits ++ b ∷ []) ≡ cond (at_flag (bits ++ b ∷ [])) (Some (length bits - 7))

@@ -1,5 +1,7 @@
 -- Eight bits more in a cutter: those that end no flag, and those that repeat flags.
-use Rattle.std.proofs.Common.{◌≡◌, ℕ, zero, suc, ◌+◌, ◌-◌, ◌*◌, ◌/◌, ◌%◌, ◌^◌, ◌<◌, ◌≤◌, Bool, true, false, not, ◌&&◌, List, [], ◌∷◌, ◌++◌, length, take, drop, cond, min, refl, ap, sym, ◌∙◌, arith, nat_eq, bit_and, inl, inr, append_assoc, Option, Some, None}
+use Rattle.std.proofs.Common.{◌≡◌, ℕ, zero, suc, ◌+◌, ◌-◌, ◌*◌, ◌/◌, ◌%◌, ◌^◌, ◌<◌, ◌≤◌, Bool, true, false, not, ◌&&◌, List, [], ◌∷◌, ◌++◌}
+use Rattle.std.proofs.Common.{length, take, drop, cond, min, refl, ap, sym, ◌∙◌, arith, nat_eq, bit_and, inl, inr, append_assoc, Option}
+use Rattle.std.proofs.Common.{Some, None}
 use Rattle.std.specs.Prelude.{is_some}
 use Rattle.std.proofs.lemmas.List.{append-nil, drop-append-le, length-append, take_at, take-append-drop, drop_all, length-take-le}
 use Rattle.std.specs.Int.{bit_at}
@@ -160,7 +162,8 @@ held_at_most bits = go (last_flag bits)
     go (Some p) = omega arith
 
 -- of none or eight bits, those that aren't eight are none
-pub none_if_not_full : (cutter : Cutter) (bits : List Bool) → Cuts cutter bits → cutter.held % 8 ≡ 0 → (cutter.held ≡ 8 → ⊥) → cutter.held ≡ 0
+pub none_if_not_full : (cutter : Cutter) (bits : List Bool) → Cuts cutter bits → cutter.held % 8 ≡ 0 → (cutter.held ≡ 8 → ⊥)
+    → cutter.held ≡ 0
 none_if_not_full cutter bits cuts e ne =
     let most : held bits ≤ 8 = held_at_most bits in
     let is : cutter.held ≡ held bits = cuts.held in
@@ -228,8 +231,14 @@ six_at : (x k : ℕ) → x / 2 ^ k % 2 ≡ 1 → x / 2 / 2 ^ k % 2 ≡ 1 → x /
 six_at x k a b c d e f =
     let pairs : ℕ = bit_and x (x / 2) in
     let p0 : bit_at pairs k ≡ 1 = bit_at_and x (x / 2) k ∙ (rw (a, b) refl) in
-    let p2 : bit_at (pairs / 4) k ≡ 1 = ap (λ n. bit_at n k) (and_shr x (x / 2) 2) ∙ (bit_at_and (x / 4) (x / 2 / 4) k ∙ (rw (c, d) refl)) in
-    let p4 : bit_at (pairs / 16) k ≡ 1 = ap (λ n. bit_at n k) (and_shr x (x / 2) 4) ∙ (bit_at_and (x / 16) (x / 2 / 16) k ∙ (rw (e, f) refl)) in
+    let p2 : bit_at (pairs / 4) k ≡ 1 = ap (λ n. bit_at n k) (and_shr x (x / 2) 2) ∙ (bit_at_and (x / 4) (x / 2 / 4) k ∙ (rw (
+      c,
+      d,
+    ) refl)) in
+    let p4 : bit_at (pairs / 16) k ≡ 1 = ap (λ n. bit_at n k) (and_shr x (x / 2) 4) ∙ (bit_at_and (x / 16) (x / 2 / 16) k ∙ (rw (
+      e,
+      f,
+    ) refl)) in
     let four : bit_at (bit_and pairs (pairs / 4)) k ≡ 1 = bit_at_and pairs (pairs / 4) k ∙ (rw (p0, p2) refl) in
     bit_at_and (bit_and pairs (pairs / 4)) (pairs / 16) k ∙ (rw (four, p4) refl)
 

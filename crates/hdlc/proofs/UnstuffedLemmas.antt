@@ -1,7 +1,9 @@
 -- The unstuffed bits, six 1 bits in a row and octets, one bit more; registers of eight bits as numbers.
-use Rattle.std.proofs.Common.{◌≡◌, ℕ, zero, suc, ◌+◌, ◌-◌, ◌*◌, ◌/◌, ◌%◌, ◌^◌, ◌<◌, ◌≤◌, Bool, true, false, ◌||◌, List, [], ◌∷◌, ◌++◌, length, take, drop, map, cond, get_or, refl, ap, sym, ◌∙◌, arith, inl, inr, nat_eq, nat_lt, pow-suc}
+use Rattle.std.proofs.Common.{◌≡◌, ℕ, zero, suc, ◌+◌, ◌-◌, ◌*◌, ◌/◌, ◌%◌, ◌^◌, ◌<◌, ◌≤◌, Bool, true, false, ◌||◌, List, [], ◌∷◌, ◌++◌}
+use Rattle.std.proofs.Common.{length, take, drop, map, cond, get_or, refl, ap, sym, ◌∙◌, arith, inl, inr, nat_eq, nat_lt, pow-suc}
 use Rattle.std.specs.List.{range_with_len, filter, list_any, suffix_len, prefix_len}
-use Rattle.std.proofs.lemmas.List.{drop-append-le, take-append-le, take_all, length-drop, length-append, append-nil, length-take-le, map-append, get_or_append_left, get_or_push, reverse-append, take-append-drop}
+use Rattle.std.proofs.lemmas.List.{drop-append-le, take-append-le, take_all, length-drop, length-append, append-nil, length-take-le}
+use Rattle.std.proofs.lemmas.List.{map-append, get_or_append_left, get_or_push, reverse-append, take-append-drop}
 use Rattle.std.proofs.lemmas.List.Folds.{list_any-append}
 use Rattle.std.proofs.lemmas.List.FromFn.{length-map-range_with_len}
 use Rattle.std.proofs.lemmas.Bool.{cases_eq, cases_Bool, ne_eqb, eq-eqb, and_parts, false≢true}
@@ -11,7 +13,8 @@ use Rattle.run_tables.specs.Texts.{begins}
 use Rattle.hdlc.specs.Flags.{flag}
 use Rattle.hdlc.specs.Gaps.{ones_before, unstuffed, has_six}
 use Rattle.hdlc.specs.OpenGap.{recent, at_flag}
-use Rattle.hdlc.proofs.Flags.{range_more, filter_range_more, filter_range_agree, Below, Below-filter, recent-more, length-recent, recent_long}
+use Rattle.hdlc.proofs.Flags.{range_more, filter_range_more, filter_range_agree, Below, Below-filter, recent-more, length-recent}
+use Rattle.hdlc.proofs.Flags.{recent_long}
 
 -- how many 1 bits in a row end the bits
 abbrev pub ones : List Bool → ℕ

@@ -1,8 +1,10 @@
 -- What an event makes of the fields is what it makes of the worlds that they represent.
-use Rattle.std.proofs.Common.{◌≡◌, ℕ, Bool, true, false, List, [], ◌∷◌, take, Option, Some, None, Result, Ok, Err, refl, ap, sym, subst, ◌∙◌}
+use Rattle.std.proofs.Common.{◌≡◌, ℕ, Bool, true, false, List, [], ◌∷◌, take, Option, Some, None, Result, Ok, Err, refl, ap, sym, subst}
+use Rattle.std.proofs.Common.{◌∙◌}
 use Rattle.stations.specs.AnswererStep.{Answerer, AnswererAnswer, answerer_silent, answerer_step, answerer_items, StepsOrRefuses}
 use Rattle.stations.specs.CallerStep.{Caller, CallerAnswer, caller_silent, caller_step, caller_items}
-use Rattle.stations.specs.Inputs.{PlainItem, framed, checked, CallerInput, hears, timeout, t5, AnswererInput, listens, trains, t1, t2, is_busy}
+use Rattle.stations.specs.Inputs.{PlainItem, framed, checked, CallerInput, hears, timeout, t5, AnswererInput, listens, trains, t1, t2}
+use Rattle.stations.specs.Inputs.{is_busy}
 use Rattle.stations.specs.Laws.{Each}
 use Rattle.stations.specs.CallerFields.{CallerFields, Represents, AnswersOrRefuses}
 use Rattle.stations.specs.declared.turn.Turn.{Turn}
@@ -11,11 +13,13 @@ use Rattle.line_sim.specs.Entries.{Said, says, caller_said, head_kind, item_of, 
 use Rattle.line_sim.specs.Headline.{CanBeWritten}
 use Rattle.line_sim.specs.Hearing.{CallerHears, AnswererHears, HearsFirst}
 use Rattle.line_sim.specs.Line.{World, Outcome, Done, Nothing, InputLost, Cut, sent, caller_sends, answerer_sends, after_first, happens}
-use Rattle.line_sim.specs.Standing.{Shows, IsSent, CallerMayAnswer, AnswererMayAnswer, entry_with, CallerAnswers, AnswererAnswers, CallerTimer, AnswererTimer, EventWrites, Acts}
+use Rattle.line_sim.specs.Standing.{Shows, IsSent, CallerMayAnswer, AnswererMayAnswer, entry_with, CallerAnswers, AnswererAnswers}
+use Rattle.line_sim.specs.Standing.{CallerTimer, AnswererTimer, EventWrites, Acts}
 use Rattle.line_sim.specs.declared.call.Call.{Call}
 use Rattle.line_sim.specs.declared.event.Entry.{Entry}
 use Rattle.line_sim.specs.declared.event.Event.{Event}
-use Rattle.line_sim.specs.declared.event.Event.TheVariants.{DeliverToAnswerer, DeliverToCaller, LoseToAnswerer, LoseToCaller, Spoil, CallerTimeout, CallerT5, AnswererT1, AnswererT2, Busy}
+use Rattle.line_sim.specs.declared.event.Event.TheVariants.{DeliverToAnswerer, DeliverToCaller, LoseToAnswerer, LoseToCaller, Spoil}
+use Rattle.line_sim.specs.declared.event.Event.TheVariants.{CallerTimeout, CallerT5, AnswererT1, AnswererT2, Busy}
 use Rattle.line_sim.specs.declared.event.Kind.{Kind}
 use Rattle.line_sim.proofs.Sent.{caller_replaced, answerer_replaced, caller_wrote, answerer_wrote}
 

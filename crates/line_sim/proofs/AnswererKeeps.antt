@@ -1,5 +1,6 @@
 -- Each step of the answerer keeps the facts of the line.
-use Rattle.std.proofs.Common.{◌≡◌, ◌≢◌, ℕ, suc, ◌+◌, ◌⊎◌, inl, inr, Bool, true, false, List, [], ◌∷◌, ◌++◌, length, take, Option, Some, None, refl, sym, ap, subst, ◌∙◌, arith}
+use Rattle.std.proofs.Common.{◌≡◌, ◌≢◌, ℕ, suc, ◌+◌, ◌⊎◌, inl, inr, Bool, true, false, List, [], ◌∷◌, ◌++◌, length, take, Option, Some}
+use Rattle.std.proofs.Common.{None, refl, sym, ap, subst, ◌∙◌, arith}
 use Rattle.std.specs.Prelude.{slice_get, slice_set, max}
 use Rattle.line_sim.specs.PageMachine.Move.{answerer_ends as page_answerer_ends}
 use Rattle.raster.specs.Pages.{PagePixels}
@@ -15,7 +16,10 @@ use Rattle.stations.specs.Inputs.{AnswererInput, listens, trains, t2, t1, is_bus
 use Rattle.stations.specs.Laws.{Each}
 use Rattle.stations.specs.CallerFields.{IsSending}
 use Rattle.stations.specs.CallerStep.{Caller, blocks_of}
-use Rattle.stations.specs.AnswererStep.{all_there, Answerer, AnswererAnswer, answerer_silent, same_mark, is_repeated, last_counted, confirms, first_dcs, later_dcs, judges_training, keeps_frame, state_after, accepts, stores, takes_block, judges_block, answers_pps, answers_repeated, answers_rr, leaves, answerer_table, unless_answerer_ended, answerer_step, answerer_items}
+use Rattle.stations.specs.AnswererStep.{all_there, Answerer, AnswererAnswer, answerer_silent, same_mark, is_repeated, last_counted}
+use Rattle.stations.specs.AnswererStep.{confirms, first_dcs, later_dcs, judges_training, keeps_frame, state_after, accepts, stores}
+use Rattle.stations.specs.AnswererStep.{takes_block, judges_block, answers_pps, answers_repeated, answers_rr, leaves, answerer_table}
+use Rattle.stations.specs.AnswererStep.{unless_answerer_ended, answerer_step, answerer_items}
 use Rattle.stations.specs.declared.mark.Mark.{Mark}
 use Rattle.stations.specs.declared.mark.Asked.{Asked}
 use Rattle.stations.specs.declared.turn.CallerState.{CallerState}
@@ -25,7 +29,8 @@ use Rattle.stations.specs.declared.turn.CallerState.TheVariants.{WaitDis, WaitCf
 use Rattle.stations.specs.declared.turn.AnswererState.TheVariants.{PhaseB, WaitTraining, Message}
 use Rattle.stations.specs.declared.turn.End.TheVariants.{NoAnswer}
 use Rattle.stations.specs.declared.turn.Turn.TheVariants.{Silent, Dis as SendDis, Mcf as SendMcf, Rnr as SendRnr}
-use Rattle.line_sim.specs.LineFacts.{accepted_of, asked_of, frame_at, state_past, IsOneGroup, finished_of, BeforeGroup, InGroup, Phase, Alike, AskedFits, StationFacts, SaysBlock, MayReachAnswerer, MayReachCaller, IsDis}
+use Rattle.line_sim.specs.LineFacts.{accepted_of, asked_of, frame_at, state_past, IsOneGroup, finished_of, BeforeGroup, InGroup, Phase}
+use Rattle.line_sim.specs.LineFacts.{Alike, AskedFits, StationFacts, SaysBlock, MayReachAnswerer, MayReachCaller, IsDis}
 use Rattle.line_sim.specs.PageMachine.{state_of}
 use Rattle.line_sim.proofs.Lists.{take_one_more, either}
 use Rattle.stations.proofs.Progress.{BlockFits, block_fits, place_before}

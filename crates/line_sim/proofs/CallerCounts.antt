@@ -1,5 +1,6 @@
 -- What each step of a caller adds to the turns that are counted.
-use Rattle.std.proofs.Common.{◌≡◌, ℕ, suc, ◌+◌, ◌*◌, ◌≤◌, ◌<◌, ◌⊎◌, inl, inr, Bool, true, false, cond, List, [], length, Option, Some, None, refl, sym, ap, subst, ◌∙◌, arith}
+use Rattle.std.proofs.Common.{◌≡◌, ℕ, suc, ◌+◌, ◌*◌, ◌≤◌, ◌<◌, ◌⊎◌, inl, inr, Bool, true, false, cond, List, [], length, Option, Some, None}
+use Rattle.std.proofs.Common.{refl, sym, ap, subst, ◌∙◌, arith}
 use Rattle.std.proofs.Common.{length-append}
 use Rattle.std.specs.Prelude.{slice_get, nat_lt, ◌&&◌, IsSome}
 use Rattle.signals.specs.Signals.{dis, cfr, ftt, ppr, mcf, rnr, dcn}
@@ -10,12 +11,15 @@ use Rattle.signals.specs.declared.signal.PageEnd.TheVariants.{Null, Mps, Eom, Eo
 use Rattle.stations.specs.Layers.{agreed_for, lowered}
 use Rattle.stations.specs.Blocks.{Block}
 use Rattle.stations.specs.Inputs.{CallerInput, hears, timeout, t5}
-use Rattle.stations.specs.CallerStep.{Caller, CallerAnswer, blocks_of, confirmed, caller_table, caller_silent, caller_gives_up, tries_again, goes_on, goes_on_or_waits, ends_group, answers_dis, answers_ftt, answers_mcf, answers_ppr, answers_rnr, unless_caller_ended, caller_step}
+use Rattle.stations.specs.CallerStep.{Caller, CallerAnswer, blocks_of, confirmed, caller_table, caller_silent, caller_gives_up, tries_again}
+use Rattle.stations.specs.CallerStep.{goes_on, goes_on_or_waits, ends_group, answers_dis, answers_ftt, answers_mcf, answers_ppr}
+use Rattle.stations.specs.CallerStep.{answers_rnr, unless_caller_ended, caller_step}
 use Rattle.stations.specs.Left.{dcs_left, pps_left, rr_left, rr_in, is_block_turn, StartsBlock, IsRnr, EndsGroup, StepsSpend}
 use Rattle.stations.specs.declared.turn.CallerState.{CallerState}
 use Rattle.stations.specs.declared.turn.CallerState.TheVariants.{WaitDis, WaitCfr, WaitBlock, WaitReady}
 use Rattle.stations.specs.declared.turn.End.{End}
-use Rattle.stations.specs.declared.turn.End.TheVariants.{Normal, NoAnswer, NotCompatible, Training as BadTraining, NoReply, Unreadable, StillBusy, PeerLeft, PageTooLong}
+use Rattle.stations.specs.declared.turn.End.TheVariants.{Normal, NoAnswer, NotCompatible, Training as BadTraining, NoReply, Unreadable}
+use Rattle.stations.specs.declared.turn.End.TheVariants.{StillBusy, PeerLeft, PageTooLong}
 use Rattle.stations.specs.declared.turn.Turn.{Turn}
 use Rattle.stations.specs.declared.turn.Turn.TheVariants.{Silent, Training as SendTraining, Pps as SendPps, Rr as SendRr, Dcn as SendDcn}
 use Rattle.line_sim.specs.declared.event.Kind.{Kind}

@@ -1,5 +1,6 @@
 -- Each step of the caller keeps the facts of the line.
-use Rattle.std.proofs.Common.{◌≡◌, ◌≢◌, ℕ, zero, suc, ◌+◌, ◌≤◌, inl, inr, List, [], ◌∷◌, ◌++◌, length, take, drop, Option, Some, None, refl, sym, ap, subst, ◌∙◌, arith}
+use Rattle.std.proofs.Common.{◌≡◌, ◌≢◌, ℕ, zero, suc, ◌+◌, ◌≤◌, inl, inr, List, [], ◌∷◌, ◌++◌, length, take, drop, Option, Some, None, refl}
+use Rattle.std.proofs.Common.{sym, ap, subst, ◌∙◌, arith}
 use Rattle.std.specs.Prelude.{slice_get, nat_lt}
 use Rattle.raster.specs.Pages.{PagePixels}
 use Rattle.signals.specs.Signals.{PlainSignal, dis, dcs, cfr, ftt, fcd, rcp, pps, ppr, mcf, rnr, rr, dcn}
@@ -13,7 +14,10 @@ use Rattle.stations.specs.Blocks.{Block, call_blocks, pages_before, open_before}
 use Rattle.stations.specs.Inputs.{CallerInput, hears, timeout, t5, PlainItem, framed, checked}
 use Rattle.stations.specs.Laws.{Each, AreReadable}
 use Rattle.stations.specs.CallerFields.{IsSending}
-use Rattle.stations.specs.CallerStep.{Caller, CallerAnswer, blocks_of, confirmed, all_frames, caller_silent, caller_gives_up, tries_again, answers_dis, answers_ftt, goes_on, ends_group, goes_on_or_waits, answers_mcf, answers_ppr, caller_table, unless_caller_ended, caller_step, fcds, burst_of, pps_items, present_in, training_items, caller_items}
+use Rattle.stations.specs.CallerStep.{Caller, CallerAnswer, blocks_of, confirmed, all_frames, caller_silent, caller_gives_up, tries_again}
+use Rattle.stations.specs.CallerStep.{answers_dis, answers_ftt, goes_on, ends_group, goes_on_or_waits, answers_mcf, answers_ppr}
+use Rattle.stations.specs.CallerStep.{caller_table, unless_caller_ended, caller_step, fcds, burst_of, pps_items, present_in, training_items}
+use Rattle.stations.specs.CallerStep.{caller_items}
 use Rattle.stations.specs.AnswererStep.{Answerer, state_after}
 use Rattle.stations.specs.declared.mark.Asked.{Asked}
 use Rattle.stations.specs.declared.turn.CallerState.{CallerState}
@@ -21,9 +25,11 @@ use Rattle.stations.specs.declared.turn.End.{End}
 use Rattle.stations.specs.declared.turn.Turn.{Turn}
 use Rattle.stations.specs.declared.turn.CallerState.TheVariants.{WaitDis, WaitCfr, WaitBlock, WaitReady}
 use Rattle.stations.specs.declared.turn.AnswererState.TheVariants.{PhaseB, Message}
-use Rattle.stations.specs.declared.turn.End.TheVariants.{Normal, NoAnswer, NotCompatible, NoReply, Unreadable, StillBusy, PageTooLong, Training as BadTraining}
+use Rattle.stations.specs.declared.turn.End.TheVariants.{Normal, NoAnswer, NotCompatible, NoReply, Unreadable, StillBusy, PageTooLong}
+use Rattle.stations.specs.declared.turn.End.TheVariants.{Training as BadTraining}
 use Rattle.stations.specs.declared.turn.Turn.TheVariants.{Silent, Training as SendTraining, Pps as SendPps, Rr as SendRr}
-use Rattle.line_sim.specs.LineFacts.{accepted_at, state_past, IsOneGroup, finished_of, due, GroupsThrough, CallFacts, GroupBegun, BeforeGroup, InGroup, Phase, Alike, AskedFits, StationFacts, MayReachAnswerer, MayReachCaller}
+use Rattle.line_sim.specs.LineFacts.{accepted_at, state_past, IsOneGroup, finished_of, due, GroupsThrough, CallFacts, GroupBegun}
+use Rattle.line_sim.specs.LineFacts.{BeforeGroup, InGroup, Phase, Alike, AskedFits, StationFacts, MayReachAnswerer, MayReachCaller}
 use Rattle.line_sim.specs.PageMachine.{AtMostTwo, state_of}
 use Rattle.line_sim.specs.PageMachine.Move.{caller_ends}
 use Rattle.line_sim.specs.PageMachine.AtMostTwo.{no_move, one_move}

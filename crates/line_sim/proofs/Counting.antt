@@ -1,7 +1,9 @@
 -- What the caller transmits in a run, counted over its entries.
-use Rattle.std.proofs.Common.{◌≡◌, ◌≢◌, ℕ, suc, ◌+◌, ◌*◌, ◌≤◌, Bool, true, false, cond, List, [], ◌∷◌, length, Option, Some, None, refl, sym, ap, subst, ◌∙◌, arith}
+use Rattle.std.proofs.Common.{◌≡◌, ◌≢◌, ℕ, suc, ◌+◌, ◌*◌, ◌≤◌, Bool, true, false, cond, List, [], ◌∷◌, length, Option, Some, None, refl}
+use Rattle.std.proofs.Common.{sym, ap, subst, ◌∙◌, arith}
 use Rattle.std.specs.Prelude.{◌&&◌}
-use Rattle.stations.specs.Inputs.{CallerInput, hears, timeout, t5, AnswererInput, listens, trains, t2, t1, is_busy, PlainItem, framed, checked}
+use Rattle.stations.specs.Inputs.{CallerInput, hears, timeout, t5, AnswererInput, listens, trains, t2, t1, is_busy, PlainItem, framed}
+use Rattle.stations.specs.Inputs.{checked}
 use Rattle.stations.specs.Left.{dcs_left, pps_left, rr_left, is_block_turn, StepsSpend}
 use Rattle.stations.specs.CallerStep.{Caller, caller_step, caller_items}
 use Rattle.stations.specs.AnswererStep.{Answerer, answerer_step, answerer_items}
@@ -11,14 +13,19 @@ use Rattle.stations.specs.declared.turn.Turn.{Turn}
 use Rattle.stations.specs.declared.turn.Turn.TheVariants.{Silent}
 use Rattle.line_sim.specs.declared.event.Entry.{Entry}
 use Rattle.line_sim.specs.declared.event.Event.{Event}
-use Rattle.line_sim.specs.declared.event.Event.TheVariants.{DeliverToAnswerer, DeliverToCaller, LoseToAnswerer, LoseToCaller, Spoil, CallerTimeout, CallerT5, AnswererT1, AnswererT2, Busy}
+use Rattle.line_sim.specs.declared.event.Event.TheVariants.{DeliverToAnswerer, DeliverToCaller, LoseToAnswerer, LoseToCaller, Spoil}
+use Rattle.line_sim.specs.declared.event.Event.TheVariants.{CallerTimeout, CallerT5, AnswererT1, AnswererT2, Busy}
 use Rattle.line_sim.specs.declared.event.Kind.{Kind}
 use Rattle.line_sim.specs.declared.event.Kind.TheVariants.{Training as TrainingCheck}
-use Rattle.line_sim.specs.Line.{World, Outcome, sent, caller_sends, answerer_sends, caller_acts, answerer_acts, comes_to_answerer, delivers_to_answerer, delivers_to_caller, answerer_timer, happens, new_world, run}
+use Rattle.line_sim.specs.Line.{World, Outcome, sent, caller_sends, answerer_sends, caller_acts, answerer_acts, comes_to_answerer}
+use Rattle.line_sim.specs.Line.{delivers_to_answerer, delivers_to_caller, answerer_timer, happens, new_world, run}
 use Rattle.line_sim.specs.Line.Outcome.{Done, Nothing, InputLost, Cut}
-use Rattle.line_sim.specs.Entries.{signal_kind, item_of, head_kind, heard, unless_lost, station_says, event_says, is_refused, entry_of, and_entries, entries}
-use Rattle.line_sim.specs.Counted.{count, is_callers, is_delivery_to_caller, is_training, is_dcn, is_rr, shows_dcs, RunsAreCounted, DcsBetweenGroups}
-use Rattle.line_sim.proofs.CallerCounts.{IsBegunIn, step_adds, refilled, Fee, no_refill, dcs_credit, dcs_fee, few_left, group_refill, told_fee, calls_left, no_credit, dcn_fee, rr_refill, rr_fee, block_refill, block_fee}
+use Rattle.line_sim.specs.Entries.{signal_kind, item_of, head_kind, heard, unless_lost, station_says, event_says, is_refused, entry_of}
+use Rattle.line_sim.specs.Entries.{and_entries, entries}
+use Rattle.line_sim.specs.Counted.{count, is_callers, is_delivery_to_caller, is_training, is_dcn, is_rr, shows_dcs, RunsAreCounted}
+use Rattle.line_sim.specs.Counted.{DcsBetweenGroups}
+use Rattle.line_sim.proofs.CallerCounts.{IsBegunIn, step_adds, refilled, Fee, no_refill, dcs_credit, dcs_fee, few_left, group_refill}
+use Rattle.line_sim.proofs.CallerCounts.{told_fee, calls_left, no_credit, dcn_fee, rr_refill, rr_fee, block_refill, block_fee}
 
 -- a station's answer leaves the other one
 caller_after : (turn : Turn) (w : World) (next : Caller) (items : List PlainItem) → (caller_sends turn w next items).caller ≡ next

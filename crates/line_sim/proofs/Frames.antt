@@ -20,7 +20,8 @@ only_content : (octets content : List ℕ) → FrameOctetsGrow → IsFrameOf oct
 only_content octets content grows f = (grows [] content f.frame octets (inl refl) f.is f.filled).1 ∙ ap (λ l. l ++ content ∷ []) good_none
 
 -- the signal that is read is the one that was sent
-pub said : (octets : List ℕ) (signal : PlainSignal) → FrameOctetsGrow → ReadsWhatIsWritten → Carries octets signal → signal_said octets ≡ signal
+pub said : (octets : List ℕ) (signal : PlainSignal) → FrameOctetsGrow → ReadsWhatIsWritten → Carries octets signal
+    → signal_said octets ≡ signal
 unfolding signal_said
 said octets signal grows reads carries =
     ap (λ l. signal_in (read_content (slice_index_or l 0 [])))

@@ -1,5 +1,6 @@
 -- The blocks of the groups that are through stay as another group is begun, and a group ends where its blocks do.
-use Rattle.std.proofs.Common.{◌≡◌, ◌≢◌, ℕ, zero, suc, ◌+◌, ◌≤◌, ◌<◌, Bool, true, false, cond, List, [], ◌∷◌, ◌++◌, length, drop, Some, None, Option, refl, sym, ap, subst, ◌∙◌, arith}
+use Rattle.std.proofs.Common.{◌≡◌, ◌≢◌, ℕ, zero, suc, ◌+◌, ◌≤◌, ◌<◌, Bool, true, false, cond, List, [], ◌∷◌, ◌++◌, length, drop, Some, None}
+use Rattle.std.proofs.Common.{Option, refl, sym, ap, subst, ◌∙◌, arith}
 use Rattle.std.specs.Prelude.{slice_get}
 use Rattle.std.proofs.Common.{inl, inr, length-append}
 use Rattle.std.proofs.lemmas.Bool.{cases_Bool}
@@ -8,7 +9,8 @@ use Rattle.signals.specs.declared.params.Params.{Params}
 use Rattle.signals.specs.declared.signal.PageEnd.{PageEnd}
 use Rattle.signals.specs.declared.signal.PageEnd.TheVariants.{Null, Mps, Eom, Eop}
 use Rattle.stations.specs.Layers.{Document, in_one_group, code_blocks, code_within_limit}
-use Rattle.stations.specs.Blocks.{Block, page_blocks, end_before, groups_after, call_blocks, is_page_end, pages_after, pages_past, open_past, pages_before, open_before}
+use Rattle.stations.specs.Blocks.{Block, page_blocks, end_before, groups_after, call_blocks, is_page_end, pages_after, pages_past}
+use Rattle.stations.specs.Blocks.{open_past, pages_before, open_before}
 use Rattle.stations.specs.Laws.{AreReadable}
 use Rattle.line_sim.specs.LineFacts.{accepted_at, IsOneGroup, due, GroupsThrough}
 use Rattle.line_sim.proofs.Lists.{append_nil, append_assoc_lem, either, drop_nil}

@@ -12,7 +12,8 @@ use Rattle.stations.specs.Layers.{Document, IsFullPage}
 use Rattle.stations.specs.declared.turn.AnswererState.TheVariants.{Message}
 use Rattle.line_sim.specs.Delivering.{Made, DeliversAll}
 use Rattle.line_sim.specs.Entries.{entries}
-use Rattle.line_sim.specs.Headline.{Promised, LineHolds, StationsInStep, RunsMove, IsSafe, RunsAreSafe, WholeBlockAccepted, WholeBlocksAccepted}
+use Rattle.line_sim.specs.Headline.{Promised, LineHolds, StationsInStep, RunsMove, IsSafe, RunsAreSafe, WholeBlockAccepted}
+use Rattle.line_sim.specs.Headline.{WholeBlocksAccepted}
 use Rattle.line_sim.specs.Holding.{LedTo, Holds, Begins, TakesWholeBlock}
 use Rattle.line_sim.specs.InStep.{InStep}
 use Rattle.line_sim.specs.Line.{World, Outcome, happens, new_world, run}
@@ -22,7 +23,8 @@ use Rattle.line_sim.specs.PageMachine.{Moves, first_state, shown, IsBeginning}
 use Rattle.line_sim.specs.Polite.{polite_steps}
 use Rattle.line_sim.specs.Standing.{Shows, WorldFields, IsReached, Becomes, BecomesSome, fields_state}
 use Rattle.line_sim.specs.declared.event.Event.{Event}
-use Rattle.line_sim.specs.declared.event.Event.TheVariants.{DeliverToAnswerer, DeliverToCaller, LoseToAnswerer, LoseToCaller, Spoil, CallerTimeout, CallerT5, AnswererT1, AnswererT2, Busy}
+use Rattle.line_sim.specs.declared.event.Event.TheVariants.{DeliverToAnswerer, DeliverToCaller, LoseToAnswerer, LoseToCaller, Spoil}
+use Rattle.line_sim.specs.declared.event.Event.TheVariants.{CallerTimeout, CallerT5, AnswererT1, AnswererT2, Busy}
 use Rattle.line_sim.proofs.Clauses.{document_kept, state_shown}
 use Rattle.line_sim.proofs.LineKeeps.{happens_keeps, new_world_facts, run_keeps}
 use Rattle.line_sim.proofs.Reaching.{reached_more}

@@ -1,11 +1,13 @@
 -- Every event keeps the facts of the line.
-use Rattle.std.proofs.Common.{◌≡◌, ℕ, zero, suc, ◌⊎◌, inl, inr, List, [], ◌∷◌, ◌++◌, length, take, map, Option, Some, None, refl, sym, ap, subst, ◌∙◌}
+use Rattle.std.proofs.Common.{◌≡◌, ℕ, zero, suc, ◌⊎◌, inl, inr, List, [], ◌∷◌, ◌++◌, length, take, map, Option, Some, None, refl, sym, ap}
+use Rattle.std.proofs.Common.{subst, ◌∙◌}
 use Rattle.raster.specs.Pages.{PagePixels}
 use Rattle.signals.specs.Signals.{PlainSignal, dis}
 use Rattle.signals.specs.declared.params.Caps.{Caps}
 use Rattle.signals.specs.declared.params.Wish.{Wish}
 use Rattle.stations.specs.Layers.{Document, IsFullPage}
-use Rattle.stations.specs.Inputs.{CallerInput, hears, timeout, t5, AnswererInput, listens, trains, t2, t1, is_busy, PlainItem, framed, checked}
+use Rattle.stations.specs.Inputs.{CallerInput, hears, timeout, t5, AnswererInput, listens, trains, t2, t1, is_busy, PlainItem, framed}
+use Rattle.stations.specs.Inputs.{checked}
 use Rattle.stations.specs.Laws.{Each, AreReadable}
 use Rattle.stations.specs.CallerStep.{Caller, unless_caller_ended, caller_step, new_caller, caller_items, no_caps, no_params}
 use Rattle.stations.specs.AnswererStep.{Answerer, unless_answerer_ended, answerer_step, new_answerer, answerer_items}
@@ -13,12 +15,17 @@ use Rattle.stations.specs.declared.turn.AnswererState.{AnswererState}
 use Rattle.stations.specs.declared.turn.End.{End}
 use Rattle.stations.specs.declared.turn.Turn.{Turn}
 use Rattle.stations.specs.declared.turn.CallerState.TheVariants.{WaitCfr}
-use Rattle.stations.specs.declared.turn.Turn.TheVariants.{Silent, Dis as SendDis, Cfr as SendCfr, Ftt as SendFtt, Mcf as SendMcf, Ppr as SendPpr, Rnr as SendRnr, Dcn as SendDcn}
+use Rattle.stations.specs.declared.turn.Turn.TheVariants.{Silent, Dis as SendDis, Cfr as SendCfr, Ftt as SendFtt, Mcf as SendMcf}
+use Rattle.stations.specs.declared.turn.Turn.TheVariants.{Ppr as SendPpr, Rnr as SendRnr, Dcn as SendDcn}
 use Rattle.line_sim.specs.declared.event.Event.{Event}
-use Rattle.line_sim.specs.Line.{World, Outcome, sent, caller_sends, answerer_sends, caller_acts, answerer_acts, comes_to_answerer, comes_to_caller, delivers_to_answerer, delivers_to_caller, after_first, spoiled, caller_timer, answerer_timer, acts, happens, new_world, run}
-use Rattle.line_sim.specs.declared.event.Event.TheVariants.{DeliverToAnswerer, DeliverToCaller, LoseToAnswerer, LoseToCaller, Spoil, CallerTimeout, CallerT5, AnswererT1, AnswererT2, Busy}
+use Rattle.line_sim.specs.Line.{World, Outcome, sent, caller_sends, answerer_sends, caller_acts, answerer_acts, comes_to_answerer}
+use Rattle.line_sim.specs.Line.{comes_to_caller, delivers_to_answerer, delivers_to_caller, after_first, spoiled, caller_timer}
+use Rattle.line_sim.specs.Line.{answerer_timer, acts, happens, new_world, run}
+use Rattle.line_sim.specs.declared.event.Event.TheVariants.{DeliverToAnswerer, DeliverToCaller, LoseToAnswerer, LoseToCaller, Spoil}
+use Rattle.line_sim.specs.declared.event.Event.TheVariants.{CallerTimeout, CallerT5, AnswererT1, AnswererT2, Busy}
 use Rattle.line_sim.specs.Line.Outcome.{Done, Nothing, InputLost, Cut}
-use Rattle.line_sim.specs.LineFacts.{finished_of, BeforeGroup, StationFacts, MayReachAnswerer, MayReachCaller, IsDis, OnlyDisAfterFirst, LineFacts}
+use Rattle.line_sim.specs.LineFacts.{finished_of, BeforeGroup, StationFacts, MayReachAnswerer, MayReachCaller, IsDis, OnlyDisAfterFirst}
+use Rattle.line_sim.specs.LineFacts.{LineFacts}
 use Rattle.line_sim.specs.PageMachine.{AtMostTwo, state_of, shown}
 use Rattle.line_sim.specs.PageMachine.AtMostTwo.{no_move}
 use Rattle.line_sim.specs.Headline.{Promised}

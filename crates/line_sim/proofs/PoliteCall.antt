@@ -1,5 +1,6 @@
 -- An undisturbed call, delivery after delivery.
-use Rattle.std.proofs.Common.{◌≡◌, ◌≢◌, ℕ, zero, suc, ◌+◌, ◌≤◌, Bool, true, false, cond, List, [], ◌∷◌, ◌++◌, length, take, drop, Option, Some, None, refl, sym, ap, subst, ◌∙◌, arith}
+use Rattle.std.proofs.Common.{◌≡◌, ◌≢◌, ℕ, zero, suc, ◌+◌, ◌≤◌, Bool, true, false, cond, List, [], ◌∷◌, ◌++◌, length, take, drop, Option}
+use Rattle.std.proofs.Common.{Some, None, refl, sym, ap, subst, ◌∙◌, arith}
 use Rattle.std.specs.Prelude.{slice_get, slice_set, min}
 use Rattle.raster.specs.Pages.{PagePixels}
 use Rattle.signals.specs.Agreement.{allowed}
@@ -15,7 +16,8 @@ use Rattle.stations.specs.Blocks.{Block, mark_of, last_frame_of, joined, call_bl
 use Rattle.stations.specs.Inputs.{PlainItem, framed, checked}
 use Rattle.stations.specs.Laws.{Each, AreReadable, IsSendableFrame}
 use Rattle.stations.specs.CallerStep.{Caller, all_frames, fcds, pps_of, burst_of}
-use Rattle.stations.specs.AnswererStep.{Frames, all_there, Answerer, AnswererAnswer, is_repeated, state_after, accepts, stores, takes_block, answers_pps, answerer_items}
+use Rattle.stations.specs.AnswererStep.{Frames, all_there, Answerer, AnswererAnswer, is_repeated, state_after, accepts, stores, takes_block}
+use Rattle.stations.specs.AnswererStep.{answers_pps, answerer_items}
 use Rattle.stations.specs.declared.turn.AnswererState.{AnswererState}
 use Rattle.stations.specs.declared.turn.CallerState.TheVariants.{WaitDis, WaitCfr, WaitBlock}
 use Rattle.stations.specs.declared.turn.AnswererState.TheVariants.{PhaseB, WaitTraining, Message}
@@ -27,7 +29,8 @@ use Rattle.line_sim.specs.declared.event.Event.{Event}
 use Rattle.line_sim.specs.declared.event.Event.TheVariants.{DeliverToAnswerer, DeliverToCaller, AnswererT2}
 use Rattle.line_sim.specs.Line.Outcome.{Done}
 use Rattle.line_sim.specs.LineFacts.{accepted_at, HoldsAll, IsOneGroup}
-use Rattle.line_sim.specs.Polite.{is_between_groups, next_steps, and_on, polite_steps, polite, count_deliveries, deliveries, blocks_length, IsThrough}
+use Rattle.line_sim.specs.Polite.{is_between_groups, next_steps, and_on, polite_steps, polite, count_deliveries, deliveries, blocks_length}
+use Rattle.line_sim.specs.Polite.{IsThrough}
 use Rattle.line_sim.proofs.Bursts.{put_all, all_put, every_frame}
 use Rattle.line_sim.proofs.Groups.{EndsIn, last_ends}
 use Rattle.line_sim.proofs.Lists.{take_one_more}

@@ -1,5 +1,6 @@
 -- A whole undisturbed call, group after group.
-use Rattle.std.proofs.Common.{◌≡◌, ◌≢◌, ℕ, zero, suc, ◌+◌, ◌*◌, ◌≤◌, ◌<◌, ◌⊎◌, inl, inr, Bool, true, false, List, [], ◌∷◌, ◌++◌, length, take, drop, Option, Some, refl, sym, ap, subst, ◌∙◌, arith}
+use Rattle.std.proofs.Common.{◌≡◌, ◌≢◌, ℕ, zero, suc, ◌+◌, ◌*◌, ◌≤◌, ◌<◌, ◌⊎◌, inl, inr, Bool, true, false, List, [], ◌∷◌, ◌++◌, length}
+use Rattle.std.proofs.Common.{take, drop, Option, Some, refl, sym, ap, subst, ◌∙◌, arith}
 use Rattle.std.specs.Prelude.{slice_get, nat_lt, ◌&&◌, cond}
 use Rattle.std.proofs.lemmas.Bool.{lt-ltb}
 use Rattle.std.proofs.Common.{length-append}
@@ -27,8 +28,10 @@ use Rattle.line_sim.specs.Polite.{AreAgreed, blocks_length, call_length, IsThrou
 use Rattle.line_sim.specs.Headline.{Promised}
 use Rattle.line_sim.proofs.CallerKeeps.{each_drop}
 use Rattle.line_sim.proofs.Lists.{append_nil}
-use Rattle.line_sim.proofs.Groups.{EndsIn, one_group, drop_front, drop_drop, pages_front, open_front, accepted_front, pages_in, pages_both, one_page, no_groups, none_through, group_ends, group_through}
-use Rattle.line_sim.proofs.PoliteCall.{Leads, leads_then, polite_is, world_after, next_world, waiting, CallLeads, Begins, last_group_leads, group_passes}
+use Rattle.line_sim.proofs.Groups.{EndsIn, one_group, drop_front, drop_drop, pages_front, open_front, accepted_front, pages_in, pages_both}
+use Rattle.line_sim.proofs.Groups.{one_page, no_groups, none_through, group_ends, group_through}
+use Rattle.line_sim.proofs.PoliteCall.{Leads, leads_then, polite_is, world_after, next_world, waiting, CallLeads, Begins, last_group_leads}
+use Rattle.line_sim.proofs.PoliteCall.{group_passes}
 
 -- blocks of a page that has some, and how they end
 page_some :

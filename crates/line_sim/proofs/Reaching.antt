@@ -1,5 +1,6 @@
 -- Events lead on: one more event with its outcome leads from what events led to.
-use Rattle.std.proofs.Common.{◌≡◌, ◌≢◌, ℕ, suc, ◌≤◌, Bool, true, false, List, [], ◌∷◌, ◌++◌, length, Option, Some, None, refl, ap, sym, subst, ◌∙◌, arith}
+use Rattle.std.proofs.Common.{◌≡◌, ◌≢◌, ℕ, suc, ◌≤◌, Bool, true, false, List, [], ◌∷◌, ◌++◌, length, Option, Some, None, refl, ap, sym}
+use Rattle.std.proofs.Common.{subst, ◌∙◌, arith}
 use Rattle.stations.specs.Laws.{Each}
 use Rattle.line_sim.specs.Entries.{entry_of, and_entries, is_refused, marks, one_mark}
 use Rattle.line_sim.specs.Headline.{CanBeWritten, LinesCanBeWritten}

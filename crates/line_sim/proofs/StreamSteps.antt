@@ -1,5 +1,6 @@
 -- The loops that go over contents and feeds.
-use Rattle.std.proofs.Common.{◌≡◌, ◌+◌, ◌<◌, ℕ, zero, suc, Bool, List, [], ◌∷◌, ◌++◌, Some, None, length, drop, take, map, get_or, slice_get, refl, ap, sym, ◌∙◌, subst, arith, append_assoc}
+use Rattle.std.proofs.Common.{◌≡◌, ◌+◌, ◌<◌, ℕ, zero, suc, Bool, List, [], ◌∷◌, ◌++◌, Some, None, length, drop, take, map, get_or}
+use Rattle.std.proofs.Common.{slice_get, refl, ap, sym, ◌∙◌, subst, arith, append_assoc}
 use Rattle.std.proofs.lemmas.List.{append-nil, drop_all}
 use Rattle.std.proofs.Math.Nat.{le_refl}
 use Rattle.std.specs.Prelude.{Result, Ok, Err, OnOk}
@@ -17,7 +18,8 @@ use Rattle.stations.specs.Runs.{answerer_after, answerer_turns}
 use Rattle.stations.specs.declared.turn.Turn.{Turn}
 use Rattle.stations.specs.declared.turn.Turn.TheVariants.{Dis}
 use Rattle.line_sim.specs.declared.stream.Feed.{Feed}
-use Rattle.line_sim.specs.Streams.{PlainFeed, line, plain_feed, octets_in, line_octets, contents, new_contents, heard_if, heard, feed_inputs, inputs_of, starts, Hears, HasHeard, TakesFeed}
+use Rattle.line_sim.specs.Streams.{PlainFeed, line, plain_feed, octets_in, line_octets, contents, new_contents, heard_if, heard}
+use Rattle.line_sim.specs.Streams.{feed_inputs, inputs_of, starts, Hears, HasHeard, TakesFeed}
 use Rattle.line_sim.proofs.Streams.{line_octets-append, inputs-append}
 
 -- ---- inputs, and then others
@@ -144,7 +146,8 @@ none_taken caps framing s turns fresh is first = record {
 }
 
 one_taken :
-    (caps : Caps) (feeds : List PlainFeed) (feed : PlainFeed) (framing after : DeframerState) (now next : Answerer) (turns more : List Turn) →
+    (caps : Caps) (feeds : List PlainFeed) (feed : PlainFeed) (framing after : DeframerState) (now next : Answerer) (turns more : List Turn)
+    →
     TakesAll caps feeds framing now turns →
     ((octets : List ℕ) → HasHeard framing octets → TakesFeed octets feed after now next turns more) →
     TakesAll caps (feeds ++ feed ∷ []) after next more

@@ -1,5 +1,6 @@
 -- What feeds are heard as, wherever the octets of the line are cut, and where the pages stored come from.
-use Rattle.std.proofs.Common.{◌≡◌, ◌⊎◌, ℕ, zero, suc, List, [], ◌∷◌, ◌++◌, length, drop, inl, inr, refl, ap, sym, ◌∙◌, subst, arith, append_assoc}
+use Rattle.std.proofs.Common.{◌≡◌, ◌⊎◌, ℕ, zero, suc, List, [], ◌∷◌, ◌++◌, length, drop, inl, inr, refl, ap, sym, ◌∙◌, subst, arith}
+use Rattle.std.proofs.Common.{append_assoc}
 use Rattle.std.specs.Prelude.{Ok, Err, Result}
 use Rattle.std.specs.List.{Contains}
 use Rattle.std.proofs.lemmas.List.{append-nil}
@@ -20,7 +21,9 @@ use Rattle.stations.specs.CallerStep.{no_params}
 use Rattle.stations.specs.Laws.{Each}
 use Rattle.stations.specs.Runs.{answerer_after, answerer_turns, StoredIsRead, IsReadOf, IsHeard}
 use Rattle.stations.specs.declared.turn.Turn.{Turn}
-use Rattle.line_sim.specs.Streams.{PlainFeed, line, check, first_timer, second_timer, busy, octets_in, line_octets, contents, new_contents, heard_if, heard, feed_inputs, inputs_after, inputs_of, PlainAnswered, starts, answers, CutsChangeNothing, IsSaid, IsDataField, IsStored, StoredIsSaid}
+use Rattle.line_sim.specs.Streams.{PlainFeed, line, check, first_timer, second_timer, busy, octets_in, line_octets, contents, new_contents}
+use Rattle.line_sim.specs.Streams.{heard_if, heard, feed_inputs, inputs_after, inputs_of, PlainAnswered, starts, answers, CutsChangeNothing}
+use Rattle.line_sim.specs.Streams.{IsSaid, IsDataField, IsStored, StoredIsSaid}
 
 -- ---- lists of inputs
 

@@ -1,5 +1,6 @@
 -- A block is accepted exactly if each of its frames is open.
-use Rattle.std.proofs.Common.{◌≡◌, ◌≢◌, ℕ, suc, ◌+◌, ◌⊎◌, inl, inr, option_map, true, false, List, ◌∷◌, ◌++◌, drop, Option, Some, None, refl, sym, ap, subst, ◌∙◌}
+use Rattle.std.proofs.Common.{◌≡◌, ◌≢◌, ℕ, suc, ◌+◌, ◌⊎◌, inl, inr, option_map, true, false, List, ◌∷◌, ◌++◌, drop, Option, Some, None}
+use Rattle.std.proofs.Common.{refl, sym, ap, subst, ◌∙◌}
 use Rattle.std.specs.Prelude.{slice_get, ◌↔◌}
 use Rattle.raster.specs.Pages.{PagePixels}
 use Rattle.signals.specs.Signals.{pps}
@@ -11,7 +12,8 @@ use Rattle.stations.specs.Blocks.{Block, mark_of, last_frame_of, joined, open_be
 use Rattle.stations.specs.Inputs.{listens, PlainItem}
 use Rattle.stations.specs.Laws.{Each}
 use Rattle.stations.specs.CallerStep.{Caller, blocks_of, pps_of}
-use Rattle.stations.specs.AnswererStep.{all_there, Answerer, AnswererAnswer, is_repeated, stores, takes_block, judges_block, answers_pps, answerer_table, unless_answerer_ended, answerer_step, answerer_items}
+use Rattle.stations.specs.AnswererStep.{all_there, Answerer, AnswererAnswer, is_repeated, stores, takes_block, judges_block, answers_pps}
+use Rattle.stations.specs.AnswererStep.{answerer_table, unless_answerer_ended, answerer_step, answerer_items}
 use Rattle.stations.specs.declared.turn.AnswererState.{AnswererState}
 use Rattle.stations.specs.declared.turn.Turn.{Turn}
 use Rattle.stations.specs.declared.turn.AnswererState.TheVariants.{Message}

@@ -4,13 +4,15 @@ use Rattle.signals.specs.Signals.{dis}
 use Rattle.signals.specs.declared.params.Caps.{Caps}
 use Rattle.signals.specs.declared.params.Wish.{Wish}
 use Rattle.stations.specs.Layers.{Document}
-use Rattle.stations.specs.Inputs.{CallerInput, hears, timeout, t5, AnswererInput, listens, trains, t2, t1, is_busy, PlainItem, framed, checked}
+use Rattle.stations.specs.Inputs.{CallerInput, hears, timeout, t5, AnswererInput, listens, trains, t2, t1, is_busy, PlainItem, framed}
+use Rattle.stations.specs.Inputs.{checked}
 use Rattle.stations.specs.CallerStep.{Caller, caller_step, new_caller, caller_items, no_caps, no_params}
 use Rattle.stations.specs.AnswererStep.{Answerer, answerer_step, new_answerer, answerer_items}
 use Rattle.stations.specs.declared.turn.Turn.{Turn}
 use Rattle.stations.specs.declared.turn.Turn.TheVariants.{Silent}
 use Rattle.line_sim.specs.declared.event.Event.{Event}
-use Rattle.line_sim.specs.declared.event.Event.TheVariants.{DeliverToAnswerer, DeliverToCaller, LoseToAnswerer, LoseToCaller, Spoil, CallerTimeout, CallerT5, AnswererT1, AnswererT2, Busy}
+use Rattle.line_sim.specs.declared.event.Event.TheVariants.{DeliverToAnswerer, DeliverToCaller, LoseToAnswerer, LoseToCaller, Spoil}
+use Rattle.line_sim.specs.declared.event.Event.TheVariants.{CallerTimeout, CallerT5, AnswererT1, AnswererT2, Busy}
 
 -- both stations, and what is under way to each
 pub record World : Type 0 where

@@ -1,5 +1,6 @@
 -- A polite run: whatever is under way is delivered, in order; where a group is through, the answerer's T2 begins the next one.
-use Rattle.std.specs.Prelude.{◌≡◌, ℕ, zero, suc, ◌+◌, ◌*◌, ◌≤◌, ◌<◌, ◌≢◌, min, Bool, true, false, cond, ◌&&◌, not, is_some, nat_lt, List, [], ◌∷◌, ◌++◌, length, Some}
+use Rattle.std.specs.Prelude.{◌≡◌, ℕ, zero, suc, ◌+◌, ◌*◌, ◌≤◌, ◌<◌, ◌≢◌, min, Bool, true, false, cond, ◌&&◌, not, is_some, nat_lt, List}
+use Rattle.std.specs.Prelude.{[], ◌∷◌, ◌++◌, length, Some}
 use Rattle.raster.specs.Pages.{PagePixels}
 use Rattle.signals.specs.declared.params.Caps.{Caps}
 use Rattle.signals.specs.declared.params.Params.{Params}

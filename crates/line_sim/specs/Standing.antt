@@ -17,7 +17,8 @@ use Rattle.line_sim.specs.PageMachine.{PageState, page_state}
 use Rattle.line_sim.specs.declared.call.Call.{Call}
 use Rattle.line_sim.specs.declared.event.Entry.{Entry}
 use Rattle.line_sim.specs.declared.event.Event.{Event}
-use Rattle.line_sim.specs.declared.event.Event.TheVariants.{LoseToAnswerer, LoseToCaller, Spoil, CallerTimeout, CallerT5, AnswererT1, AnswererT2, Busy}
+use Rattle.line_sim.specs.declared.event.Event.TheVariants.{LoseToAnswerer, LoseToCaller, Spoil, CallerTimeout, CallerT5, AnswererT1}
+use Rattle.line_sim.specs.declared.event.Event.TheVariants.{AnswererT2, Busy}
 use Rattle.line_sim.specs.declared.event.Kind.{Kind}
 use Rattle.line_sim.specs.declared.fault.WorldFault.{WorldFault}
 use Rattle.line_sim.specs.declared.fault.WorldFault.TheVariants.{NoMemory, WidthNotCallable}

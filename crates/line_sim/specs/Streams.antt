@@ -153,6 +153,7 @@ pub record Hears (inputs : List AnswererInput) (old new : Answerer) (before turn
   pub turns_are : turns ≡ before ++ answerer_turns inputs old
 
 -- a feed was taken
-pub record TakesFeed (octets : List ℕ) (feed : PlainFeed) (framing : DeframerState) (old new : Answerer) (before turns : List Turn) : Type 0 where
-  pub taken : HasHeard framing (octets ++ octets_in feed)
-  pub heard : Hears (feed_inputs octets feed) old new before turns
+pub record TakesFeed (octets : List ℕ) (feed : PlainFeed) (framing : DeframerState) (old new : Answerer) (before turns : List Turn) : Type 0
+  where
+    pub taken : HasHeard framing (octets ++ octets_in feed)
+    pub heard : Hears (feed_inputs octets feed) old new before turns

@@ -1,6 +1,7 @@
 -- The laws of pages in either code, from those of each.
 use Rattle.page_code.specs.declared.coding.Coding.TheVariants.{OneDim, T6}
-use Rattle.page_code.specs.Codings.{GivesCodedRows, IsLongestIn, ReadsCode, ReadsExactly, ReadsIn, RefusesAtLongest, RefusesNoPage, code_of, read_rows}
+use Rattle.page_code.specs.Codings.{GivesCodedRows, IsLongestIn, ReadsCode, ReadsExactly, ReadsIn, RefusesAtLongest, RefusesNoPage, code_of}
+use Rattle.page_code.specs.Codings.{read_rows}
 use Rattle.page_code.proofs.OneDimension.ReadsItsCode.{reads_its_code as reads_its_code_one_dim}
 use Rattle.page_code.proofs.OneDimension.Laws as one_dim
 use Rattle.page_code.proofs.TwoDimensions.ReadsItsCode.{reads_its_code as reads_its_code_t6}

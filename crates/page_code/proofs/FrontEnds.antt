@@ -1,5 +1,6 @@
 -- Where fronts of bits end, from one premise: looking finds exactly the items that may come.
-use Rattle.std.proofs.Common.{ℕ, ◌≡◌, ◌+◌, ◌≤◌, List, [], ◌∷◌, ◌++◌, Bool, length, drop, inl, inr, refl, ap, sym, ◌∙◌, subst, arith, length-append, append_assoc}
+use Rattle.std.proofs.Common.{ℕ, ◌≡◌, ◌+◌, ◌≤◌, List, [], ◌∷◌, ◌++◌, Bool, length, drop, inl, inr, refl, ap, sym, ◌∙◌, subst, arith}
+use Rattle.std.proofs.Common.{length-append, append_assoc}
 use Rattle.std.proofs.lemmas.List.{append_cancel_left, drop_at, drop-drop}
 use Rattle.run_tables.specs.Fronts.{Look, spell, Walk, Finds}
 use Rattle.run_tables.specs.Fronts.Look.{go}
@@ -26,7 +27,8 @@ module _ {State Item Answer Kind : Type 0} (word : Item → List Bool) (Step : S
   pub goes_on : (items others : List Item) (s t u : State) (rest more : List Bool) → Walk Step s items t
       → ((i : Item) (v : State) → look t rest ≡ go i v → ⊥) → Walk Step s others u
       → spell word items ++ rest ≡ spell word others ++ more → (c : List Item) × Walk Step u c t
-  goes_on items others s t u rest more walk stuck walk' e = elim (nested word Step look spent finds others items s u t more rest walk' walk (sym
+  goes_on items others s t u rest more walk stuck walk' e = elim (nested word Step look spent finds others items s u t more rest walk' walk
+      (sym
       e)) [
         | inl c ↦ (c.0, walk_rest others c.0 s u t (rw (← c.1) walk) walk')
         | inr c ↦ beyond c.0 c.1

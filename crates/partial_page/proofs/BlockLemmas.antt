@@ -1,9 +1,11 @@
 -- A coded page cut into pieces: frames, and blocks of frames.
-use Rattle.std.proofs.Common.{◌≡◌, ℕ, ◌+◌, ◌-◌, ◌*◌, ◌<◌, ◌≤◌, ◌++◌, Bool, true, false, List, [], ◌∷◌, length, take, drop, replicate, get_or, suc, zero, refl, sym, ap, ◌∙◌, arith, length-append}
+use Rattle.std.proofs.Common.{◌≡◌, ℕ, ◌+◌, ◌-◌, ◌*◌, ◌<◌, ◌≤◌, ◌++◌, Bool, true, false, List, [], ◌∷◌, length, take, drop, replicate}
+use Rattle.std.proofs.Common.{get_or, suc, zero, refl, sym, ap, ◌∙◌, arith, length-append}
 use Rattle.std.specs.Prelude.{All, min}
 use Rattle.std.specs.Int.{div_ceil}
 use Rattle.std.specs.List.{flat_map}
-use Rattle.std.proofs.lemmas.List.{length-take, length-drop, length-replicate, length-take-le, take_all, drop-drop, get_or-take, get_or-drop}
+use Rattle.std.proofs.lemmas.List.{length-take, length-drop, length-replicate, length-take-le, take_all, drop-drop, get_or-take}
+use Rattle.std.proofs.lemmas.List.{get_or-drop}
 use Rattle.std.proofs.lemmas.List.Elements.{All-nil, All-cons, All-take, All-drop}
 use Rattle.partial_page.specs.Frames.{frame_size, frames_for, pieces, blocks_of, filled, cut, joined_block, joined, IsCut}
 use Rattle.std.proofs.lemmas.List.Concat.{flat_map-append}

@@ -1,10 +1,14 @@
 -- The frames of a block in one buffer: what setting a bit and writing a frame's data change.
 use Rattle.std.specs.Prelude.{Option}
-use Rattle.std.proofs.Common.{◌≡◌, ◌≢◌, ℕ, zero, suc, ◌+◌, ◌*◌, ◌/◌, ◌%◌, ◌^◌, ◌<◌, ◌≤◌, ◌||◌, Bool, true, false, cond, List, length, map, replicate, set, take, drop, get_or, nat_eq, nat_lt, bit_or, refl, sym, ap, ◌∙◌, arith, w8, inl, inr, eq-eqb, Some, None, ◌++◌, ◌∷◌, append-nil}
+use Rattle.std.proofs.Common.{◌≡◌, ◌≢◌, ℕ, zero, suc, ◌+◌, ◌*◌, ◌/◌, ◌%◌, ◌^◌, ◌<◌, ◌≤◌, ◌||◌, Bool, true, false, cond, List, length, map}
+use Rattle.std.proofs.Common.{replicate, set, take, drop, get_or, nat_eq, nat_lt, bit_or, refl, sym, ap, ◌∙◌, arith, w8, inl, inr, eq-eqb}
+use Rattle.std.proofs.Common.{Some, None, ◌++◌, ◌∷◌, append-nil}
 use Rattle.std.specs.List.{flat_map, range_with_len}
 use Rattle.std.specs.Option.{unwrap_or}
 use Rattle.std.specs.Prelude.{[], is_some, slice_index, ◌↔◌, ◌⊎◌}
-use Rattle.std.proofs.lemmas.List.{get_or-set_same, get_or-set_other, get_or-replicate, get_or_past, take_more, take_all, take_at, take-take, drop-take, length-take-le, length-append, length-drop, length-take, length-replicate, length-set, ext_get_or}
+use Rattle.std.proofs.lemmas.List.{get_or-set_same, get_or-set_other, get_or-replicate, get_or_past, take_more, take_all, take_at}
+use Rattle.std.proofs.lemmas.List.{take-take, drop-take, length-take-le, length-append, length-drop, length-take, length-replicate}
+use Rattle.std.proofs.lemmas.List.{length-set, ext_get_or}
 use Rattle.std.proofs.lemmas.Slice.{take-put_mid_below, drop-put_mid}
 use borrow.Rule.Slice.PartMut.{put_mid}
 use Rattle.std.proofs.lemmas.List.FromFn.{length-map-range_with_len, get_or-map-range_with_len, map-range_with_len_more}
@@ -14,7 +18,8 @@ use Rattle.std.proofs.lemmas.Nat.Bits.{bit_at_set_same, bit_at_set_other, bit_at
 use Rattle.std.proofs.lemmas.Bool.{cases_eq, cases_lt, cases_order, ltb-true, ltb-false, ne_eqb}
 use Rattle.std.proofs.lemmas.Option.{cond_some, none-some}
 use Rattle.partial_page.specs.Frames.{frame_size, joined_block}
-use Rattle.partial_page.specs.Store.{StoredFrames, IsStore, IsLaidOut, IsKept, data_at, frames_in, frame_of, has_frame, no_frames, bit_of, joined_frames}
+use Rattle.partial_page.specs.Store.{StoredFrames, IsStore, IsLaidOut, IsKept, data_at, frames_in, frame_of, has_frame, no_frames, bit_of}
+use Rattle.partial_page.specs.Store.{joined_frames}
 
 -- one bit is set, and no other changes
 pub bit_of-set_bit :

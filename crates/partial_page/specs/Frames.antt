@@ -1,5 +1,6 @@
 -- A coded page as blocks of frames (ITU-T T.30, Annex A).
-use Rattle.std.specs.Prelude.{ℕ, ◌≡◌, ◌≤◌, ◌<◌, ◌+◌, ◌-◌, ◌*◌, ◌++◌, ◌∷◌, [], suc, zero, Bool, true, false, List, length, take, drop, replicate, All, slice_index_or, Result, Ok, Err}
+use Rattle.std.specs.Prelude.{ℕ, ◌≡◌, ◌≤◌, ◌<◌, ◌+◌, ◌-◌, ◌*◌, ◌++◌, ◌∷◌, [], suc, zero, Bool, true, false, List, length, take, drop}
+use Rattle.std.specs.Prelude.{replicate, All, slice_index_or, Result, Ok, Err}
 use Rattle.std.specs.Int.{div_ceil}
 use Rattle.std.specs.List.{flat_map}
 use Rattle.partial_page.specs.declared.fault.BlockFault.{BlockFault}

@@ -1,5 +1,6 @@
 -- The first pixel of a block of 32 octets that differs from the one before it.
-use Rattle.std.proofs.Common.{◌≡◌, ◌≢◌, ℕ, ◌+◌, ◌-◌, ◌*◌, ◌/◌, ◌%◌, ◌^◌, ◌<◌, ◌≤◌, Bool, true, false, List, refl, sym, ap, [], ◌∷◌, ◌∙◌, get_or, length, map, nat_eq, arith, bit_xor, zero, suc, inl, inr}
+use Rattle.std.proofs.Common.{◌≡◌, ◌≢◌, ℕ, ◌+◌, ◌-◌, ◌*◌, ◌/◌, ◌%◌, ◌^◌, ◌<◌, ◌≤◌, Bool, true, false, List, refl, sym, ap, [], ◌∷◌, ◌∙◌}
+use Rattle.std.proofs.Common.{get_or, length, map, nat_eq, arith, bit_xor, zero, suc, inl, inr}
 use Rattle.std.specs.Prelude.{not, cond}
 use Rattle.std.specs.Int.{bit_at}
 use Rattle.std.specs.Simd.Lanes.{mask_l}
@@ -30,14 +31,17 @@ fill_white = record { small = omega arith; bits = λ i h. ap (λ b. nat_eq b 1) 
 abbrev pub others : List ℕ → ℕ → ℕ
 others octets same = mask_l (map {A = ℕ} {B = Bool} (λ octet. not (nat_eq octet same)) octets)
 
-get_or-others : (octets : List ℕ) (same i : ℕ) → i < length octets → get_or (map {A = ℕ} {B = Bool} (λ octet. not (nat_eq octet same)) octets) i false ≡ not (nat_eq (get_or octets i 0) same)
+get_or-others : (octets : List ℕ) (same i : ℕ) → i < length octets → get_or (map {A = ℕ} {B = Bool} (λ octet. not (nat_eq octet same))
+    octets) i false ≡ not (nat_eq (get_or octets i 0) same)
 get_or-others [] same i h = absurd (omega arith)
 get_or-others (x ∷ xs) same zero h = refl
 get_or-others (x ∷ xs) same (suc i) h = get_or-others xs same i (omega arith)
 
-others_bit : (octets : List ℕ) (same i : ℕ) → i < length octets → bit_at (others octets same) i ≡ cond (not (nat_eq (get_or octets i 0) same)) 1 0
+others_bit : (octets : List ℕ) (same i : ℕ) → i < length octets → bit_at (others octets same) i ≡ cond (not (nat_eq (get_or octets i 0)
+    same)) 1 0
 others_bit octets same i h =
-    bit_mask_l (map {A = ℕ} {B = Bool} (λ octet. not (nat_eq octet same)) octets) i ∙ ap (λ (b : Bool). cond b 1 0) (get_or-others octets same i h)
+    bit_mask_l (map {A = ℕ} {B = Bool} (λ octet. not (nat_eq octet same)) octets) i ∙ ap (λ (b : Bool). cond b 1 0) (get_or-others octets
+    same i h)
 
 -- an octet whose bit is 0 is the same, and one whose bit is 1 is another
 pub no_other : (octets : List ℕ) (same i : ℕ) → i < length octets → bit_at (others octets same) i ≡ 0 → get_or octets i 0 ≡ same
@@ -45,13 +49,15 @@ no_other octets same i h e =
     elim (cases_eq (get_or octets i 0) same) [
       | inl is ↦ is
       | inr ne ↦
-          let one : bit_at (others octets same) i ≡ 1 = others_bit octets same i h ∙ ap (λ (b : Bool). cond (not b) 1 0) (ne_eqb (get_or octets i 0) same ne) in
+          let one : bit_at (others octets same) i ≡ 1 = others_bit octets same i h ∙ ap (λ (b : Bool). cond (not b) 1 0) (ne_eqb (get_or
+          octets i 0) same ne) in
           absurd (omega (arith, one, e))
     ]
 
 pub is_other : (octets : List ℕ) (same i : ℕ) → i < length octets → bit_at (others octets same) i ≡ 1 → get_or octets i 0 ≢ same
 is_other octets same i h e is =
-    let none : bit_at (others octets same) i ≡ 0 = others_bit octets same i h ∙ ap (λ (b : Bool). cond (not b) 1 0) (eq-eqb (get_or octets i 0) same is) in
+    let none : bit_at (others octets same) i ≡ 0 = others_bit octets same i h ∙ ap (λ (b : Bool). cond (not b) 1 0) (eq-eqb (get_or octets i
+    0) same is) in
     absurd (omega (arith, none, e))
 
 pub others_within : (octets : List ℕ) (same t : ℕ) → length octets ≡ 32 → bit_at (others octets same) t ≡ 1 → t < 32
@@ -99,7 +105,13 @@ xor_below x y p q =
           | inl h ↦ sym (bit_at_rest (bit_xor x y) 8 i h)
           | inr h ↦
               let small : bit_xor x y % 2 ^ 8 < 2 ^ 8 = omega arith in
-              omega (arith, bit_at_xor x y i, bit_at_above x 8 i p h, bit_at_above y 8 i q h, bit_at_above (bit_xor x y % 2 ^ 8) 8 i small h)
+              omega (
+                arith,
+                bit_at_xor x y i,
+                bit_at_above x 8 i p h,
+                bit_at_above y 8 i q h,
+                bit_at_above (bit_xor x y % 2 ^ 8) 8 i small h,
+              )
         ]
 
 first_within : (x same c : ℕ) (bit : Bool) → IsFill bit same → x < 256 → x ≢ same → FirstOne 8 (bit_xor x same) c → c < 8
@@ -113,22 +125,33 @@ first_within x same c bit fill small ne first =
     each all i h =
         let back : 8 - 1 - (7 - i) ≡ i = omega arith in
         let few : 7 - i < c = omega arith in
-        omega (arith, ap (bit_at (bit_xor x same)) (sym back) ∙ first.zeros (7 - i) few, bit_at_xor x same i, bit_at-lt x i, bit_at-lt same i)
+        omega (
+          arith,
+          ap (bit_at (bit_xor x same)) (sym back) ∙ first.zeros (7 - i) few,
+          bit_at_xor x same i,
+          bit_at-lt x i,
+          bit_at-lt same i,
+        )
 
-all_alike_in : (octets : List ℕ) (same k : ℕ) (bit : Bool) → IsFill bit same → get_or octets (k / 8) 0 ≡ same → bit_in MsbFirst octets k ≡ bit
+all_alike_in : (octets : List ℕ) (same k : ℕ) (bit : Bool) → IsFill bit same → get_or octets (k / 8) 0 ≡ same
+    → bit_in MsbFirst octets k ≡ bit
 all_alike_in octets same k bit fill is = ap (λ x. nat_eq (bit_at x (7 - k % 8)) 1) is ∙ fill.bits (7 - k % 8) (omega arith)
 
 -- no octet is another
-pub first_none : (octets : List ℕ) (same : ℕ) (bit : Bool) → IsFill bit same → length octets ≡ 32 → others octets same ≡ 0 → IsFirstOther octets 0 256 bit 256
+pub first_none : (octets : List ℕ) (same : ℕ) (bit : Bool) → IsFill bit same → length octets ≡ 32 → others octets same ≡ 0
+    → IsFirstOther octets 0 256 bit 256
 first_none octets same bit fill long none = record {
   low = omega arith;
   high = omega arith;
-  before = λ k low h. all_alike_in octets same k bit fill (no_other octets same (k / 8) (omega arith) (ap (λ n. bit_at n (k / 8)) none ∙ bit_at-zero (k / 8)));
+  before = λ k low h. all_alike_in octets same k bit fill (no_other octets same (k / 8) (omega arith) (ap (λ n. bit_at n (k / 8)) none
+      ∙ bit_at-zero (k / 8)));
   hit = λ h. absurd (omega arith);
 }
 
 -- the first octet that is another, and its first bit that is
-pub first_some : (octets : List ℕ) (same t c : ℕ) (bit : Bool) → IsFill bit same → length octets ≡ 32 → get_or octets t 0 < 256 → bit_at (others octets same) t ≡ 1 → ((i : ℕ) → i < t → bit_at (others octets same) i ≡ 0) → FirstOne 8 (bit_xor (get_or octets t 0) same) c → IsFirstOther octets 0 256 bit (8 * t + c)
+pub first_some : (octets : List ℕ) (same t c : ℕ) (bit : Bool) → IsFill bit same → length octets ≡ 32 → get_or octets t 0 < 256
+    → bit_at (others octets same) t ≡ 1 → ((i : ℕ) → i < t → bit_at (others octets same) i ≡ 0)
+    → FirstOne 8 (bit_xor (get_or octets t 0) same) c → IsFirstOther octets 0 256 bit (8 * t + c)
 first_some octets same t c bit fill long small one zeros first =
     let within : t < 32 = others_within octets same t long one in
     let few : c < 8 = first_within (get_or octets t 0) same c bit fill small (is_other octets same t (omega arith) one) first in
@@ -157,11 +180,13 @@ turned : (bit : Bool) → color_of (not bit) ≢ color_of bit
 turned true e = cc
 turned false e = cc
 
-before_is : (octets : List ℕ) (before : Color) (bit : Bool) (place k : ℕ) → color_of bit ≡ before → IsFirstOther octets 0 256 bit place → k ≤ place → pixel_before before octets k ≡ color_of bit
+before_is : (octets : List ℕ) (before : Color) (bit : Bool) (place k : ℕ) → color_of bit ≡ before → IsFirstOther octets 0 256 bit place
+    → k ≤ place → pixel_before before octets k ≡ color_of bit
 before_is octets before bit place zero is first h = sym is
 before_is octets before bit place (suc k) is first h = ap color_of (first.before k (omega arith) (omega arith))
 
-pub block_change : (octets : List ℕ) (before : Color) (bit : Bool) (place : ℕ) → color_of bit ≡ before → IsFirstOther octets 0 256 bit place → IsBlockChange octets before place
+pub block_change : (octets : List ℕ) (before : Color) (bit : Bool) (place : ℕ) → color_of bit ≡ before → IsFirstOther octets 0 256 bit place
+    → IsBlockChange octets before place
 block_change octets before bit place is first = record {
   bound = first.high;
   changing = λ h e. turned bit (sym (ap color_of (first.hit h)) ∙ (e ∙ before_is octets before bit place place is first (omega arith)));
@@ -181,7 +206,8 @@ other_bit false true ne = refl
 other_bit false false ne = absurd (ne refl)
 
 -- and back
-pub block_first : (octets : List ℕ) (before : Color) (bit : Bool) (place : ℕ) → color_of bit ≡ before → IsBlockChange octets before place → IsFirstOther octets 0 256 bit place
+pub block_first : (octets : List ℕ) (before : Color) (bit : Bool) (place : ℕ) → color_of bit ≡ before → IsBlockChange octets before place
+    → IsFirstOther octets 0 256 bit place
 block_first octets before bit place is change = record {
   low = omega arith;
   high = change.bound;

@@ -1,9 +1,12 @@
 -- Lists of places, and the changing positions of a row.
-use Rattle.std.proofs.Common.{◌≡◌, ◌≢◌, ℕ, ◌+◌, ◌-◌, ◌*◌, ◌/◌, ◌%◌, ◌^◌, ◌<◌, ◌≤◌, ◌&&◌, Bool, true, false, List, [], ◌∷◌, ◌++◌, refl, sym, ap, ◌∙◌, get_or, length, nat_eq, nat_lt, arith, bit_and, bit_or, bit_xor, zero, suc, inl, inr, w64, append_assoc, length-append}
+use Rattle.std.proofs.Common.{◌≡◌, ◌≢◌, ℕ, ◌+◌, ◌-◌, ◌*◌, ◌/◌, ◌%◌, ◌^◌, ◌<◌, ◌≤◌, ◌&&◌, Bool, true, false, List, [], ◌∷◌, ◌++◌, refl, sym}
+use Rattle.std.proofs.Common.{ap, ◌∙◌, get_or, length, nat_eq, nat_lt, arith, bit_and, bit_or, bit_xor, zero, suc, inl, inr, w64}
+use Rattle.std.proofs.Common.{append_assoc, length-append}
 use Rattle.std.specs.Int.{bit_at, bit_not}
 use Rattle.std.proofs.lemmas.List.{append-nil, get_or_append_left, get_or-append_right}
 use Rattle.std.proofs.lemmas.List.Elements.{Contains-append_left, Contains-append_right}
-use Rattle.std.proofs.lemmas.Nat.Bits.{bit_at-lt, bit_at_above, bit_at_and, bit_at_or, bit_at_xor, bit_at_not, bit_at_ones, bit_at_ones_above, ones_shr}
+use Rattle.std.proofs.lemmas.Nat.Bits.{bit_at-lt, bit_at_above, bit_at_and, bit_at_or, bit_at_xor, bit_at_not, bit_at_ones}
+use Rattle.std.proofs.lemmas.Nat.Bits.{bit_at_ones_above, ones_shr}
 use Rattle.std.proofs.lemmas.Bool.{cases_lt, and_parts, lt-ltb, ltb-true, le-ltb}
 use Rattle.raster.specs.Packed.{bit_in, bits_in}
 use Rattle.raster.specs.Pixels.{color_of, colors}
@@ -16,7 +19,8 @@ use Rattle.raster.proofs.WordLemmas.{bit_at_rest, bit_at_shl_low, bit_at_shl_hig
 
 -- ---- lists of places
 
-pub lists_none : (test : ℕ → Bool) (xs : List ℕ) (from end : ℕ) → ((k : ℕ) → from ≤ k → k < end → test k ≡ false) → Lists test xs xs from end
+pub lists_none : (test : ℕ → Bool) (xs : List ℕ) (from end : ℕ) → ((k : ℕ) → from ≤ k → k < end → test k ≡ false)
+    → Lists test xs xs from end
 lists_none test xs from end none = record {
   places = [];
   appended = sym (append-nil xs);
@@ -38,11 +42,13 @@ lists_one test xs place is = record {
   all = λ k low h e. let same : place ≡ k = omega arith in (0, omega arith, same);
 }
   where
-    the_one : (i : ℕ) → i < length (place ∷ []) → (place ≤ get_or (place ∷ []) i 0) × (get_or (place ∷ []) i 0 < place + 1) × (test (get_or (place ∷ []) i 0) ≡ true)
+    the_one : (i : ℕ) → i < length (place ∷ []) → (place ≤ get_or (place ∷ []) i 0) × (get_or (place ∷ []) i 0 < place + 1)
+        × (test (get_or (place ∷ []) i 0) ≡ true)
     the_one zero h = (omega arith, omega arith, is)
     the_one (suc i) h = absurd (omega arith)
 
-pub lists_join : (test : ℕ → Bool) (a b c : List ℕ) (from mid end : ℕ) → from ≤ mid → mid ≤ end → Lists test a b from mid → Lists test b c mid end → Lists test a c from end
+pub lists_join : (test : ℕ → Bool) (a b c : List ℕ) (from mid end : ℕ) → from ≤ mid → mid ≤ end → Lists test a b from mid
+    → Lists test b c mid end → Lists test a c from end
 lists_join test a b c from mid end p q one two = record {
   places = one.places ++ two.places;
   appended = two.appended ∙ (ap (λ (xs : List ℕ). xs ++ two.places) one.appended ∙ append_assoc a one.places two.places);
@@ -64,14 +70,20 @@ lists_join test a b c from mid end p q one two = record {
     right : (i : ℕ) → length one.places ≤ i → get_or (one.places ++ two.places) i 0 ≡ get_or two.places (i - length one.places) 0
     right i h = get_or-append_right one.places two.places (length one.places) i 0 refl h
 
-    only : (i : ℕ) → i < length (one.places ++ two.places) → (from ≤ get_or (one.places ++ two.places) i 0) × (get_or (one.places ++ two.places) i 0 < end) × (test (get_or (one.places ++ two.places) i 0) ≡ true)
+    only : (i : ℕ) → i < length (one.places ++ two.places) → (from ≤ get_or (one.places ++ two.places) i 0)
+        × (get_or (one.places ++ two.places) i 0 < end) × (test (get_or (one.places ++ two.places) i 0) ≡ true)
     only i h =
         elim (cases_lt i (length one.places)) [
           | inl early ↦ let is = one.only i early in rw (left i early) (is.0, omega (arith, is.1), is.2)
-          | inr late ↦ let is = two.only (i - length one.places) (omega (arith, size)) in rw (right i late) (omega (arith, is.0), is.1, is.2)
+          | inr late ↦ let is = two.only (i - length one.places) (omega (arith, size)) in rw (right i late) (
+            omega (arith, is.0),
+            is.1,
+            is.2,
+          )
         ]
 
-    rising : (i j : ℕ) → i < j → j < length (one.places ++ two.places) → get_or (one.places ++ two.places) i 0 < get_or (one.places ++ two.places) j 0
+    rising : (i j : ℕ) → i < j → j < length (one.places ++ two.places) → get_or (one.places ++ two.places) i 0 < get_or (one.places ++
+        two.places) j 0
     rising i j lt h =
         elim (cases_lt j (length one.places)) [
           | inl early ↦ rw (left i (omega arith), left j early) (one.rising i j lt early)
@@ -81,11 +93,13 @@ lists_join test a b c from mid end p q one two = record {
                     let x = one.only i first in
                     let y = two.only (j - length one.places) (omega (arith, size)) in
                     rw (left i first, right j late) (omega (arith, x.1, y.0))
-                | inr second ↦ rw (right i second, right j late) (two.rising (i - length one.places) (j - length one.places) (omega arith) (omega (arith, size)))
+                | inr second ↦ rw (right i second, right j late) (two.rising (i - length one.places) (j - length one.places) (omega arith)
+                    (omega (arith, size)))
               ]
         ]
 
-pub lists_same : (s t : ℕ → Bool) (old new : List ℕ) (from end : ℕ) → ((k : ℕ) → from ≤ k → k < end → t k ≡ s k) → Lists s old new from end → Lists t old new from end
+pub lists_same : (s t : ℕ → Bool) (old new : List ℕ) (from end : ℕ) → ((k : ℕ) → from ≤ k → k < end → t k ≡ s k) → Lists s old new from end
+    → Lists t old new from end
 lists_same s t old new from end same lists = record {
   places = lists.places;
   appended = lists.appended;
@@ -97,19 +111,27 @@ lists_same s t old new from end same lists = record {
 -- ---- one word
 
 -- no place up to the first 1 bit
-pub lists_gap : (word base at place : ℕ) (xs : List ℕ) → IsFirstInWord word at false place → Lists (λ k. bit_of_word word (k - base)) xs xs (base + at) (base + place)
+pub lists_gap : (word base at place : ℕ) (xs : List ℕ) → IsFirstInWord word at false place → Lists (λ k. bit_of_word word (k - base)) xs xs
+    (base + at) (base + place)
 lists_gap word base at place xs first =
-    lists_none (λ k. bit_of_word word (k - base)) xs (base + at) (base + place) (λ k low h. first.before (k - base) (omega arith) (omega arith))
+    lists_none (λ k. bit_of_word word (k - base)) xs (base + at) (base + place) (λ k low h. first.before (k - base) (omega arith) (omega
+    arith))
 
 -- one place more
-pub lists_more : (word base at place : ℕ) (old xs : List ℕ) → at ≤ 64 → place < 64 → IsFirstInWord word at false place → Lists (λ k. bit_of_word word (k - base)) old xs base (base + at) → Lists (λ k. bit_of_word word (k - base)) old (xs ++ (base + place) ∷ []) base (base + (place + 1))
+pub lists_more : (word base at place : ℕ) (old xs : List ℕ) → at ≤ 64 → place < 64 → IsFirstInWord word at false place
+    → Lists (λ k. bit_of_word word (k - base)) old xs base (base + at) → Lists (λ k. bit_of_word word (k - base)) old (xs ++ (base + place)
+    ∷ []) base (base + (place + 1))
 lists_more word base at place old xs few inside first lists =
     let back : base + place - base ≡ place = omega arith in
     let next : base + place + 1 ≡ base + (place + 1) = omega arith in
     let found : bit_of_word word (base + place - base) ≡ true = ap (bit_of_word word) back ∙ first.hit inside in
     rw (← next)
-    (lists_join (λ k. bit_of_word word (k - base)) old xs (xs ++ (base + place) ∷ []) base (base + place) (base + place + 1) (omega arith) (omega arith)
-    (lists_join (λ k. bit_of_word word (k - base)) old xs xs base (base + at) (base + place) (omega arith) (omega (arith, first.low)) lists (lists_gap word base at place xs first))
+    (lists_join (λ k. bit_of_word word (k - base)) old xs (xs ++ (base + place) ∷ []) base (base + place) (base + place + 1) (omega arith)
+    (omega arith)
+    (lists_join (λ k. bit_of_word word (k - base)) old xs xs base (base + at) (base + place) (omega arith) (omega (
+      arith,
+      first.low,
+    )) lists (lists_gap word base at place xs first))
     (lists_one (λ k. bit_of_word word (k - base)) xs (base + place) found))
 
 -- ---- bits that differ from the one before
@@ -127,22 +149,37 @@ differ_is (suc (suc a)) b p q = absurd (omega arith)
 abbrev pub moved : ℕ → ℕ → ℕ
 moved word last = bit_or (word / 2 ^ 1) (last * 2 ^ 63 % 2 ^ 64)
 
-moved_bit : (octets : List ℕ) (at word last k : ℕ) → word < 2 ^ 64 → IsWordAt MsbFirst octets (8 * at) word → nat_eq (bit_at last 0) 1 ≡ bit_before octets (8 * at) → k < 64 → bit_of_word (moved word last) k ≡ bit_before octets (8 * at + k)
+moved_bit : (octets : List ℕ) (at word last k : ℕ) → word < 2 ^ 64 → IsWordAt MsbFirst octets (8 * at) word
+    → nat_eq (bit_at last 0) 1 ≡ bit_before octets (8 * at) → k < 64 → bit_of_word (moved word last) k ≡ bit_before octets (8 * at + k)
 moved_bit octets at word last zero small is before h =
     let none : 8 * at + 0 ≡ 8 * at = omega arith in
     let high : bit_at (word / 2 ^ 1) 63 ≡ 0 = bit_at_shr word 1 63 ∙ bit_at_above word 64 64 small (omega arith) in
-    let low : bit_at (last * 2 ^ 63 % 2 ^ 64) 63 ≡ bit_at last 0 = bit_at_rest (last * 2 ^ 63) 64 63 (omega arith) ∙ bit_at_shl_high last 63 63 (omega arith) in
-    let both : bit_at (moved word last) 63 ≡ bit_at last 0 = omega (arith, bit_at_or (word / 2 ^ 1) (last * 2 ^ 63 % 2 ^ 64) 63, high, low) in
+    let low : bit_at (last * 2 ^ 63 % 2 ^ 64) 63 ≡ bit_at last 0 = bit_at_rest (last * 2 ^ 63) 64 63 (omega arith)
+    ∙ bit_at_shl_high last 63 63 (omega arith) in
+    let both : bit_at (moved word last) 63 ≡ bit_at last 0 = omega (
+      arith,
+      bit_at_or (word / 2 ^ 1) (last * 2 ^ 63 % 2 ^ 64) 63,
+      high,
+      low,
+    ) in
     ap (λ b. nat_eq b 1) both ∙ (before ∙ ap (bit_before octets) (sym none))
 moved_bit octets at word last (suc k) small is before h =
     let next : suc (8 * at + k) ≡ 8 * at + suc k = omega arith in
     let place : 1 + (63 - suc k) ≡ 63 - k = omega arith in
     let high : bit_at (word / 2 ^ 1) (63 - suc k) ≡ bit_at word (63 - k) = bit_at_shr word 1 (63 - suc k) ∙ ap (bit_at word) place in
-    let low : bit_at (last * 2 ^ 63 % 2 ^ 64) (63 - suc k) ≡ 0 = bit_at_rest (last * 2 ^ 63) 64 (63 - suc k) (omega arith) ∙ bit_at_shl_low last 63 (63 - suc k) (omega arith) in
-    let both : bit_at (moved word last) (63 - suc k) ≡ bit_at word (63 - k) = omega (arith, bit_at_or (word / 2 ^ 1) (last * 2 ^ 63 % 2 ^ 64) (63 - suc k), high, low) in
+    let low : bit_at (last * 2 ^ 63 % 2 ^ 64) (63 - suc k) ≡ 0 = bit_at_rest (last * 2 ^ 63) 64 (63 - suc k) (omega arith)
+    ∙ bit_at_shl_low last 63 (63 - suc k) (omega arith) in
+    let both : bit_at (moved word last) (63 - suc k) ≡ bit_at word (63 - k) = omega (
+      arith,
+      bit_at_or (word / 2 ^ 1) (last * 2 ^ 63 % 2 ^ 64) (63 - suc k),
+      high,
+      low,
+    ) in
     ap (λ b. nat_eq b 1) both ∙ (is k (omega arith) ∙ ap (bit_before octets) next)
 
-pub turns_word : (octets : List ℕ) (at word last k : ℕ) → word < 2 ^ 64 → IsWordAt MsbFirst octets (8 * at) word → nat_eq (bit_at last 0) 1 ≡ bit_before octets (8 * at) → k < 64 → bit_of_word (bit_xor word (moved word last)) k ≡ turns_at octets (8 * at + k)
+pub turns_word : (octets : List ℕ) (at word last k : ℕ) → word < 2 ^ 64 → IsWordAt MsbFirst octets (8 * at) word
+    → nat_eq (bit_at last 0) 1 ≡ bit_before octets (8 * at) → k < 64 → bit_of_word (bit_xor word (moved word last)) k ≡ turns_at octets (8 *
+    at + k)
 turns_word octets at word last k small is before h =
     ap (λ b. nat_eq b 1) (bit_at_xor word (moved word last) (63 - k)) ∙
     (differ_is (bit_at word (63 - k)) (bit_at (moved word last) (63 - k)) (bit_at-lt word (63 - k)) (bit_at-lt (moved word last) (63 - k)) ∙
@@ -156,23 +193,41 @@ last_bit octets at some =
     let place : 0 ≡ 7 - (8 * (at - 1) + 7) % 8 = omega arith in
     let low : bit_at (bit_and (get_or octets (at - 1) 0) 1) 0 ≡ bit_at (get_or octets (at - 1) 0) 0 =
     omega (arith, bit_at_and (get_or octets (at - 1) 0) 1 0, bit_at-lt (get_or octets (at - 1) 0) 0) in
-    ap (λ b. nat_eq b 1) (low ∙ (ap (λ (i : ℕ). bit_at (get_or octets i 0) 0) which ∙ ap (bit_at (get_or octets ((8 * (at - 1) + 7) / 8) 0)) place)) ∙
+    ap (λ b. nat_eq b 1) (low ∙ (ap (λ (i : ℕ). bit_at (get_or octets i 0) 0) which ∙ ap (bit_at (get_or octets ((8 * (at - 1) + 7) / 8) 0))
+    place)) ∙
     ap (bit_before octets) next
 
-pub kept_inside : (word count k : ℕ) → count < 64 → k < count → bit_of_word (bit_and word (bit_not w64 ((2 ^ 64 - 1) / 2 ^ count))) k ≡ bit_of_word word k
+pub kept_inside : (word count k : ℕ) → count < 64 → k < count → bit_of_word (bit_and word (bit_not w64 ((2 ^ 64 - 1) / 2 ^ count))) k ≡
+    bit_of_word word k
 kept_inside word count k few h =
     let fits : (2 ^ 64 - 1) / 2 ^ count < 2 ^ 64 = omega arith in
-    let none : bit_at ((2 ^ 64 - 1) / 2 ^ count) (63 - k) ≡ 0 = ap (λ m. bit_at m (63 - k)) (ones_shr 64 count (omega arith)) ∙ bit_at_ones_above (64 - count) (63 - k) (omega arith) in
+    let none : bit_at ((2 ^ 64 - 1) / 2 ^ count) (63 - k) ≡ 0 = ap (λ m. bit_at m (63 - k)) (ones_shr 64 count (omega arith))
+    ∙ bit_at_ones_above (64 - count) (63 - k) (omega arith) in
     let kept : bit_at (bit_and word (bit_not w64 ((2 ^ 64 - 1) / 2 ^ count))) (63 - k) ≡ bit_at word (63 - k) =
-    omega (arith, bit_at_and word (bit_not w64 ((2 ^ 64 - 1) / 2 ^ count)) (63 - k), bit_at_not w64 ((2 ^ 64 - 1) / 2 ^ count) (63 - k) fits (omega arith), none, bit_at-lt word (63 - k)) in
+    omega (
+      arith,
+      bit_at_and word (bit_not w64 ((2 ^ 64 - 1) / 2 ^ count)) (63 - k),
+      bit_at_not w64 ((2 ^ 64 - 1) / 2 ^ count) (63 - k) fits
+          (omega arith),
+      none,
+      bit_at-lt word (63 - k),
+    ) in
     ap (λ b. nat_eq b 1) kept
 
-pub kept_after : (word count k : ℕ) → count < 64 → count ≤ k → k < 64 → bit_of_word (bit_and word (bit_not w64 ((2 ^ 64 - 1) / 2 ^ count))) k ≡ false
+pub kept_after : (word count k : ℕ) → count < 64 → count ≤ k → k < 64 → bit_of_word (bit_and word (bit_not w64 ((2 ^ 64 - 1) / 2 ^ count)))
+    k ≡ false
 kept_after word count k few low h =
     let fits : (2 ^ 64 - 1) / 2 ^ count < 2 ^ 64 = omega arith in
-    let one : bit_at ((2 ^ 64 - 1) / 2 ^ count) (63 - k) ≡ 1 = ap (λ m. bit_at m (63 - k)) (ones_shr 64 count (omega arith)) ∙ bit_at_ones (64 - count) (63 - k) (omega arith) in
+    let one : bit_at ((2 ^ 64 - 1) / 2 ^ count) (63 - k) ≡ 1 = ap (λ m. bit_at m (63 - k)) (ones_shr 64 count (omega arith))
+    ∙ bit_at_ones (64 - count) (63 - k) (omega arith) in
     let none : bit_at (bit_and word (bit_not w64 ((2 ^ 64 - 1) / 2 ^ count))) (63 - k) ≡ 0 =
-    omega (arith, bit_at_and word (bit_not w64 ((2 ^ 64 - 1) / 2 ^ count)) (63 - k), bit_at_not w64 ((2 ^ 64 - 1) / 2 ^ count) (63 - k) fits (omega arith), one) in
+    omega (
+      arith,
+      bit_at_and word (bit_not w64 ((2 ^ 64 - 1) / 2 ^ count)) (63 - k),
+      bit_at_not w64 ((2 ^ 64 - 1) / 2 ^ count) (63 - k) fits
+          (omega arith),
+      one,
+    ) in
     ap (λ b. nat_eq b 1) none
 
 -- ---- a row
@@ -181,12 +236,14 @@ kept_after word count k few low h =
 abbrev pub turns_below : List ℕ → ℕ → ℕ → Bool
 turns_below octets end place = nat_lt place end && turns_at octets place
 
-color_at_bits : (octets : List ℕ) (width k : ℕ) → k < width → color_at (colors (bits_in MsbFirst octets width)) k ≡ color_of (bit_in MsbFirst octets k)
+color_at_bits : (octets : List ℕ) (width k : ℕ) → k < width → color_at (colors (bits_in MsbFirst octets width)) k ≡ color_of
+    (bit_in MsbFirst octets k)
 color_at_bits octets width k h =
     sym (color_at_get (colors (bits_in MsbFirst octets width)) k (color_of (bit_in MsbFirst octets k))
     (slice_get-colors (bits_in MsbFirst octets width) k (bit_in MsbFirst octets k) (slice_get-bits_in MsbFirst octets width k h)))
 
-color_before_bits : (octets : List ℕ) (width k : ℕ) → k < width → color_before (colors (bits_in MsbFirst octets width)) k ≡ color_of (bit_before octets k)
+color_before_bits : (octets : List ℕ) (width k : ℕ) → k < width → color_before (colors (bits_in MsbFirst octets width)) k ≡ color_of
+    (bit_before octets k)
 color_before_bits octets width zero h = refl
 color_before_bits octets width (suc k) h = color_at_bits octets width k (omega arith)
 
@@ -202,7 +259,8 @@ differs_back true false ne = refl
 differs_back false true ne = refl
 differs_back false false ne = absurd (ne refl)
 
-pub are_changes : (octets : List ℕ) (width : ℕ) (places : List ℕ) → Lists (turns_below octets width) [] places 0 width → AreChanges (colors (bits_in MsbFirst octets width)) places
+pub are_changes : (octets : List ℕ) (width : ℕ) (places : List ℕ) → Lists (turns_below octets width) [] places 0 width
+    → AreChanges (colors (bits_in MsbFirst octets width)) places
 are_changes octets width places lists = rw lists.appended (record {
   rising = lists.rising;
   changing = λ i h.
@@ -210,18 +268,23 @@ are_changes octets width places lists = rw lists.appended (record {
         rw (length-colors, length-bits_in) is.1,
         λ e. differs (bit_in MsbFirst octets (get_or lists.places i 0)) (bit_before octets (get_or lists.places i 0))
             ((and_parts (nat_lt (get_or lists.places i 0) width) (turns_at octets (get_or lists.places i 0)) is.2).1)
-            (sym (color_at_bits octets width (get_or lists.places i 0) is.1) ∙ (e ∙ color_before_bits octets width (get_or lists.places i 0) is.1)),
+            (sym (color_at_bits octets width (get_or lists.places i 0) is.1) ∙ (e ∙ color_before_bits octets width (get_or lists.places i 0)
+            is.1)),
       );
   all = λ k changing.
       let within : k < width = rw (length-colors, length-bits_in) at changing.0 in
-      lists.all k (omega arith) within (test_is k within (λ e. changing.1 (color_at_bits octets width k within ∙ (e ∙ sym (color_before_bits octets width k within)))));
+      lists.all k (omega arith) within (test_is k within (λ e. changing.1 (color_at_bits octets width k within ∙ (e
+      ∙ sym (color_before_bits octets width k within)))));
 })
   where
     test_is : (k : ℕ) → k < width → color_of (bit_in MsbFirst octets k) ≢ color_of (bit_before octets k) → turns_below octets width k ≡ true
     test_is k h ne = rw (lt-ltb k width h) (differs_back (bit_in MsbFirst octets k) (bit_before octets k) ne)
 
 -- one word more
-pub lists_word : (octets : List ℕ) (end at turned word : ℕ) (old xs new : List ℕ) → ((k : ℕ) → k < 64 → bit_of_word turned k ≡ turns_at octets (8 * at + k)) → ((k : ℕ) → k < end - 8 * at → bit_of_word word k ≡ bit_of_word turned k) → ((k : ℕ) → end - 8 * at ≤ k → k < 64 → bit_of_word word k ≡ false) → Lists (turns_below octets end) old xs 0 (8 * at) → Lists (λ k. bit_of_word word (k - 8 * at)) xs new (8 * at) (8 * at + 64) → Lists (turns_below octets end) old new 0 (8 * (at + 8))
+pub lists_word : (octets : List ℕ) (end at turned word : ℕ) (old xs new : List ℕ) → ((k : ℕ) → k < 64
+    → bit_of_word turned k ≡ turns_at octets (8 * at + k)) → ((k : ℕ) → k < end - 8 * at → bit_of_word word k ≡ bit_of_word turned k)
+    → ((k : ℕ) → end - 8 * at ≤ k → k < 64 → bit_of_word word k ≡ false) → Lists (turns_below octets end) old xs 0 (8 * at)
+    → Lists (λ k. bit_of_word word (k - 8 * at)) xs new (8 * at) (8 * at + 64) → Lists (turns_below octets end) old new 0 (8 * (at + 8))
 lists_word octets end at turned word old xs new turn inside after before lists =
     let next : 8 * at + 64 ≡ 8 * (at + 8) = omega arith in
     rw (← next)
@@ -239,13 +302,18 @@ lists_word octets end at turned word old xs new turn inside after before lists =
         ]
 
 -- no place is at the end or after it
-pub lists_end : (octets : List ℕ) (end most : ℕ) (old new : List ℕ) → end ≤ most → Lists (turns_below octets end) old new 0 most → Lists (turns_below octets end) old new 0 end
+pub lists_end : (octets : List ℕ) (end most : ℕ) (old new : List ℕ) → end ≤ most → Lists (turns_below octets end) old new 0 most
+    → Lists (turns_below octets end) old new 0 end
 lists_end octets end most old new short lists = record {
   places = lists.places;
   appended = lists.appended;
   rising = lists.rising;
   only = λ i h.
-      let is = lists.only i h in
-      (is.0, ltb-true (get_or lists.places i 0) end ((and_parts (nat_lt (get_or lists.places i 0) end) (turns_at octets (get_or lists.places i 0)) is.2).0), is.2);
+      let is = lists.only i h in (
+        is.0,
+        ltb-true (get_or lists.places i 0) end ((and_parts (nat_lt (get_or lists.places i 0) end) (turns_at octets (get_or lists.places
+            i 0)) is.2).0),
+        is.2,
+      );
   all = λ k low h e. lists.all k low (omega arith) e;
 }

@@ -1,9 +1,11 @@
 -- The first bit of octets that is another.
-use Rattle.std.proofs.Common.{◌≡◌, ℕ, ◌+◌, ◌-◌, ◌*◌, ◌/◌, ◌%◌, ◌^◌, ◌<◌, ◌≤◌, Bool, true, false, List, sym, ap, ◌∙◌, nat_eq, arith, bit_and, zero, suc, w8, w64, inl, inr}
+use Rattle.std.proofs.Common.{◌≡◌, ℕ, ◌+◌, ◌-◌, ◌*◌, ◌/◌, ◌%◌, ◌^◌, ◌<◌, ◌≤◌, Bool, true, false, List, sym, ap, ◌∙◌, nat_eq, arith, bit_and}
+use Rattle.std.proofs.Common.{zero, suc, w8, w64, inl, inr}
 use Rattle.std.specs.Prelude.{not}
 use Rattle.std.specs.Int.{bit_at, bit_not, leading_zeros}
 use Rattle.std.proofs.lemmas.Nat.{leading_length}
-use Rattle.std.proofs.lemmas.Nat.Bits.{bit_at_cat_high, bit_at_above, bit_at_and, bit_at_ones, bit_at_ones_above, bit_at_not, bit_at-lt, ones_shr}
+use Rattle.std.proofs.lemmas.Nat.Bits.{bit_at_cat_high, bit_at_above, bit_at_and, bit_at_ones, bit_at_ones_above, bit_at_not, bit_at-lt}
+use Rattle.std.proofs.lemmas.Nat.Bits.{ones_shr}
 use Rattle.std.proofs.lemmas.Bool.{cases_lt}
 use Rattle.raster.specs.Packed.{bit_in}
 use Rattle.std.proofs.Common.{get_or, take, drop, min}
@@ -61,8 +63,18 @@ pub record Turns (bit : Bool) (word turned : ℕ) : Type 0 where
 pub turns_not : (word : ℕ) → word < 2 ^ 64 → Turns true word (bit_not w64 word)
 turns_not word fits = record {
   fits = omega arith;
-  same = λ i h e. let one : bit_at word i ≡ 1 = omega (arith, bit_at_not w64 word i fits h, e, bit_at-lt word i) in ap (λ b. nat_eq b 1) one;
-  differs = λ i h e. let none : bit_at word i ≡ 0 = omega (arith, bit_at_not w64 word i fits h, e, bit_at-lt word i) in ap (λ b. nat_eq b 1) none;
+  same = λ i h e. let one : bit_at word i ≡ 1 = omega (
+    arith,
+    bit_at_not w64 word i fits h,
+    e,
+    bit_at-lt word i,
+  ) in ap (λ b. nat_eq b 1) one;
+  differs = λ i h e. let none : bit_at word i ≡ 0 = omega (
+    arith,
+    bit_at_not w64 word i fits h,
+    e,
+    bit_at-lt word i,
+  ) in ap (λ b. nat_eq b 1) none;
 }
 
 pub turns_as_is : (word : ℕ) → word < 2 ^ 64 → Turns false word word
@@ -74,12 +86,14 @@ turns_as_is word fits = record {
 
 masked_low : (turned from i : ℕ) → from < 64 → i < 64 - from → bit_at (bit_and turned ((2 ^ 64 - 1) / 2 ^ from)) i ≡ bit_at turned i
 masked_low turned from i few h =
-    let one : bit_at ((2 ^ 64 - 1) / 2 ^ from) i ≡ 1 = ap (λ m. bit_at m i) (ones_shr 64 from (omega arith)) ∙ bit_at_ones (64 - from) i h in
+    let one : bit_at ((2 ^ 64 - 1) / 2 ^ from) i ≡ 1 = ap (λ m. bit_at m i) (ones_shr 64 from (omega arith))
+    ∙ bit_at_ones (64 - from) i h in
     omega (arith, bit_at_and turned ((2 ^ 64 - 1) / 2 ^ from) i, one, bit_at-lt turned i)
 
 masked_high : (turned from i : ℕ) → from < 64 → 64 - from ≤ i → bit_at (bit_and turned ((2 ^ 64 - 1) / 2 ^ from)) i ≡ 0
 masked_high turned from i few h =
-    let none : bit_at ((2 ^ 64 - 1) / 2 ^ from) i ≡ 0 = ap (λ m. bit_at m i) (ones_shr 64 from (omega arith)) ∙ bit_at_ones_above (64 - from) i h in
+    let none : bit_at ((2 ^ 64 - 1) / 2 ^ from) i ≡ 0 = ap (λ m. bit_at m i) (ones_shr 64 from (omega arith))
+    ∙ bit_at_ones_above (64 - from) i h in
     omega (arith, bit_at_and turned ((2 ^ 64 - 1) / 2 ^ from) i, none)
 
 not_before : (turned from c : ℕ) → from < 64 → FirstOne 64 (bit_and turned ((2 ^ 64 - 1) / 2 ^ from)) c → from ≤ c
@@ -89,7 +103,8 @@ not_before turned from c few first =
       | inr h ↦ h
     ]
 
-pub first_in : (word from turned c : ℕ) (bit : Bool) → from < 64 → Turns bit word turned → FirstOne 64 (bit_and turned ((2 ^ 64 - 1) / 2 ^ from)) c → IsFirstInWord word from bit c
+pub first_in : (word from turned c : ℕ) (bit : Bool) → from < 64 → Turns bit word turned → FirstOne 64 (bit_and turned ((2 ^ 64 - 1) / 2 ^
+    from)) c → IsFirstInWord word from bit c
 first_in word from turned c bit few turns first = record {
   low = not_before turned from c few first;
   high = first.high;
@@ -103,24 +118,28 @@ first_in word from turned c bit few turns first = record {
 
 -- ---- over octets
 
-pub word_of_place : (octets : List ℕ) (at word k : ℕ) → IsWordAt MsbFirst octets (8 * (at / 8)) word → at - at % 8 ≤ k → k < at - at % 8 + 64 → bit_in MsbFirst octets k ≡ bit_of_word word (k - (at - at % 8))
+pub word_of_place : (octets : List ℕ) (at word k : ℕ) → IsWordAt MsbFirst octets (8 * (at / 8)) word → at - at % 8 ≤ k
+    → k < at - at % 8 + 64 → bit_in MsbFirst octets k ≡ bit_of_word word (k - (at - at % 8))
 word_of_place octets at word k is low high =
     let back : k ≡ 8 * (at / 8) + (k - (at - at % 8)) = omega arith in
     ap (bit_in MsbFirst octets) back ∙ sym (is (k - (at - at % 8)) (omega arith))
 
 -- the first place in the word that holds a place
-pub word_first : (octets : List ℕ) (from word place : ℕ) (bit : Bool) → IsWordAt MsbFirst octets (8 * (from / 8)) word → IsFirstInWord word (from % 8) bit place → IsFirstOther octets from (from - from % 8 + 64) bit (from - from % 8 + place)
+pub word_first : (octets : List ℕ) (from word place : ℕ) (bit : Bool) → IsWordAt MsbFirst octets (8 * (from / 8)) word
+    → IsFirstInWord word (from % 8) bit place → IsFirstOther octets from (from - from % 8 + 64) bit (from - from % 8 + place)
 word_first octets from word place bit is first = record {
   low = omega (arith, first.low);
   high = omega (arith, first.high);
-  before = λ k low h. word_of_place octets from word k is (omega arith) (omega (arith, first.high)) ∙ first.before (k - (from - from % 8)) (omega arith) (omega arith);
+  before = λ k low h. word_of_place octets from word k is (omega arith) (omega (arith, first.high))
+      ∙ first.before (k - (from - from % 8)) (omega arith) (omega arith);
   hit = λ h.
       let back : from - from % 8 + place - (from - from % 8) ≡ place = omega arith in
       word_of_place octets from word (from - from % 8 + place) is (omega arith) h ∙ (ap (bit_of_word word) back ∙ first.hit (omega arith));
 }
 
 -- a place that was found, or a nearer end
-pub first_or_end : (octets : List ℕ) (from whole end place found : ℕ) (bit : Bool) → IsFirstOther octets from whole bit place → place < whole → from ≤ end → found ≡ min place end → IsFirstOther octets from end bit found
+pub first_or_end : (octets : List ℕ) (from whole end place found : ℕ) (bit : Bool) → IsFirstOther octets from whole bit place
+    → place < whole → from ≤ end → found ≡ min place end → IsFirstOther octets from end bit found
 first_or_end octets from whole end place found bit first some order e = record {
   low = omega (arith, first.low);
   high = omega arith;
@@ -129,7 +148,8 @@ first_or_end octets from whole end place found bit first some order e = record {
 }
 
 -- none up to a place, and then from there on
-pub first_after : (octets : List ℕ) (from mid end place : ℕ) (bit : Bool) → from ≤ mid → ((k : ℕ) → from ≤ k → k < mid → bit_in MsbFirst octets k ≡ bit) → IsFirstOther octets mid end bit place → IsFirstOther octets from end bit place
+pub first_after : (octets : List ℕ) (from mid end place : ℕ) (bit : Bool) → from ≤ mid → ((k : ℕ) → from ≤ k → k < mid
+    → bit_in MsbFirst octets k ≡ bit) → IsFirstOther octets mid end bit place → IsFirstOther octets from end bit place
 first_after octets from mid end place bit order none first = record {
   low = omega (arith, first.low);
   high = first.high;
@@ -142,7 +162,8 @@ first_after octets from mid end place bit order none first = record {
 }
 
 -- none up to the end
-pub first_end : (octets : List ℕ) (from whole end : ℕ) (bit : Bool) → ((k : ℕ) → from ≤ k → k < whole → bit_in MsbFirst octets k ≡ bit) → from ≤ end → end ≤ whole → IsFirstOther octets from end bit end
+pub first_end : (octets : List ℕ) (from whole end : ℕ) (bit : Bool) → ((k : ℕ) → from ≤ k → k < whole → bit_in MsbFirst octets k ≡ bit)
+    → from ≤ end → end ≤ whole → IsFirstOther octets from end bit end
 first_end octets from whole end bit none order short = record {
   low = order;
   high = omega arith;
@@ -154,10 +175,12 @@ first_end octets from whole end bit none order short = record {
 bit_in-piece : (octets : List ℕ) (at k : ℕ) → k < 256 → bit_in MsbFirst (take 32 (drop at octets)) k ≡ bit_in MsbFirst octets (8 * at + k)
 bit_in-piece octets at k h =
     let which : at + k / 8 ≡ (8 * at + k) / 8 = omega arith in
-    ap (λ (octet : ℕ). nat_eq (bit_at octet (7 - k % 8)) 1) (get_or-take 32 (drop at octets) (k / 8) 0 (omega arith) ∙ (get_or-drop at octets (k / 8) 0 ∙ ap (λ (i : ℕ). get_or octets i 0) which)) ∙
+    ap (λ (octet : ℕ). nat_eq (bit_at octet (7 - k % 8)) 1) (get_or-take 32 (drop at octets) (k / 8) 0 (omega arith)
+    ∙ (get_or-drop at octets (k / 8) 0 ∙ ap (λ (i : ℕ). get_or octets i 0) which)) ∙
     ap (λ (p : ℕ). nat_eq (bit_at (get_or octets ((8 * at + k) / 8) 0) p) 1) (place_in-same MsbFirst k (8 * at + k) (omega arith))
 
-pub piece_first : (octets block : List ℕ) (at place : ℕ) (bit : Bool) → block ≡ take 32 (drop at octets) → IsFirstOther block 0 256 bit place → IsFirstOther octets (8 * at) (8 * at + 8 * 32) bit (8 * at + place)
+pub piece_first : (octets block : List ℕ) (at place : ℕ) (bit : Bool) → block ≡ take 32 (drop at octets)
+    → IsFirstOther block 0 256 bit place → IsFirstOther octets (8 * at) (8 * at + 8 * 32) bit (8 * at + place)
 piece_first octets block at place bit is first = record {
   low = omega arith;
   high = omega (arith, first.high);
@@ -172,12 +195,14 @@ piece_first octets block at place bit is first = record {
 }
 
 -- the first place in a word that begins with an octet
-pub word_piece : (octets : List ℕ) (at word place : ℕ) (bit : Bool) → IsWordAt MsbFirst octets (8 * at) word → IsFirstInWord word 0 bit place → IsFirstOther octets (8 * at) (8 * at + 8 * 8) bit (8 * at + place)
+pub word_piece : (octets : List ℕ) (at word place : ℕ) (bit : Bool) → IsWordAt MsbFirst octets (8 * at) word
+    → IsFirstInWord word 0 bit place → IsFirstOther octets (8 * at) (8 * at + 8 * 8) bit (8 * at + place)
 word_piece octets at word place bit is first = record {
   low = omega arith;
   high = omega (arith, first.high);
   before = λ k low h.
       let back : 8 * at + (k - 8 * at) ≡ k = omega arith in
-      ap (bit_in MsbFirst octets) (sym back) ∙ (sym (is (k - 8 * at) (omega (arith, first.high))) ∙ first.before (k - 8 * at) (omega arith) (omega arith));
+      ap (bit_in MsbFirst octets) (sym back) ∙ (sym (is (k - 8 * at) (omega (arith, first.high)))
+      ∙ first.before (k - 8 * at) (omega arith) (omega arith));
   hit = λ h. sym (is place (omega arith)) ∙ first.hit (omega arith);
 }

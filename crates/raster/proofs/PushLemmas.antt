@@ -1,5 +1,6 @@
 -- Several bits appended at once.
-use Rattle.std.proofs.Common.{◌≡◌, ℕ, ◌+◌, ◌-◌, ◌*◌, ◌/◌, ◌%◌, ◌<◌, ◌≤◌, ◌||◌, Bool, true, false, List, [], ◌∷◌, ◌++◌, refl, sym, ap, ◌∙◌, get_or, nat_eq, arith, zero, suc, inl, inr, length, map, replicate, append_assoc}
+use Rattle.std.proofs.Common.{◌≡◌, ℕ, ◌+◌, ◌-◌, ◌*◌, ◌/◌, ◌%◌, ◌<◌, ◌≤◌, ◌||◌, Bool, true, false, List, [], ◌∷◌, ◌++◌, refl, sym, ap, ◌∙◌}
+use Rattle.std.proofs.Common.{get_or, nat_eq, arith, zero, suc, inl, inr, length, map, replicate, append_assoc}
 use Rattle.std.specs.Int.{bit_at}
 use Rattle.std.specs.List.{range_with_len}
 use Rattle.std.proofs.lemmas.List.{append-nil, get_or_past}
@@ -26,7 +27,8 @@ bit_in-push_zeros order octets m k = ap (λ octet. nat_eq (bit_at octet (place_i
     same (x ∷ xs) (suc i) = same xs i
 
 -- the bits so far, and then others
-pub bits_in_grow : (order : Order) (xs ys : List ℕ) (n m : ℕ) (f : ℕ → Bool) → ((k : ℕ) → k < n → bit_in order ys k ≡ bit_in order xs k) → ((j : ℕ) → j < m → bit_in order ys (n + j) ≡ f j) → bits_in order ys (n + m) ≡ bits_in order xs n ++ map f (range_with_len 0 m)
+pub bits_in_grow : (order : Order) (xs ys : List ℕ) (n m : ℕ) (f : ℕ → Bool) → ((k : ℕ) → k < n → bit_in order ys k ≡ bit_in order xs k)
+    → ((j : ℕ) → j < m → bit_in order ys (n + j) ≡ f j) → bits_in order ys (n + m) ≡ bits_in order xs n ++ map f (range_with_len 0 m)
 bits_in_grow order xs ys n zero f same new =
     let none : n + 0 ≡ n = omega arith in
     rw (none, append-nil) (bits_in-same order ys xs n same)
@@ -37,20 +39,23 @@ bits_in_grow order xs ys n (suc m) f same new =
     (bits_in_more order ys ys (n + m) (f m) (λ j h. refl) (new m (omega arith)) ∙
     (ap (λ (front : List Bool). front ++ f m ∷ []) (bits_in_grow order xs ys n m f same (λ j h. new j (omega arith))) ∙
     (append_assoc (bits_in order xs n) (map f (range_with_len 0 m)) (f m ∷ []) ∙
-    ap (λ (bits : List Bool). bits_in order xs n ++ bits) (sym (map-range_with_len_more f 0 m m (omega arith)) ∙ ap (λ q. map f (range_with_len 0 q)) next))))
+    ap (λ (bits : List Bool). bits_in order xs n ++ bits) (sym (map-range_with_len_more f 0 m m (omega arith))
+    ∙ ap (λ q. map f (range_with_len 0 q)) next))))
 
 all_alike : (bit : Bool) (a m : ℕ) → map (λ (place : ℕ). bit) (range_with_len a m) ≡ replicate m bit
 all_alike bit a zero = refl
 all_alike bit a (suc m) = ap (λ (bits : List Bool). bit ∷ bits) (all_alike bit (a + 1) m)
 
 -- the bits so far, and then a run
-pub bits_in_run : (order : Order) (xs ys : List ℕ) (n m : ℕ) (bit : Bool) → ((k : ℕ) → k < n → bit_in order ys k ≡ bit_in order xs k) → ((k : ℕ) → n ≤ k → k < n + m → bit_in order ys k ≡ bit) → bits_in order ys (n + m) ≡ bits_in order xs n ++ replicate m bit
+pub bits_in_run : (order : Order) (xs ys : List ℕ) (n m : ℕ) (bit : Bool) → ((k : ℕ) → k < n → bit_in order ys k ≡ bit_in order xs k)
+    → ((k : ℕ) → n ≤ k → k < n + m → bit_in order ys k ≡ bit) → bits_in order ys (n + m) ≡ bits_in order xs n ++ replicate m bit
 bits_in_run order xs ys n m bit same new =
     bits_in_grow order xs ys n m (λ (place : ℕ). bit) same (λ j h. new (n + j) (omega arith) (omega arith)) ∙
     ap (λ (bits : List Bool). bits_in order xs n ++ bits) (all_alike bit 0 m)
 
 -- a bit of octets that others were or'ed to
-ored_bit : (order : Order) (old added new : List ℕ) (at k : ℕ) → AreOred old added new at → 8 * at ≤ k → k < 8 * length old → bit_in order new k ≡ (bit_in order old k || bit_in order added (k - 8 * at))
+ored_bit : (order : Order) (old added new : List ℕ) (at k : ℕ) → AreOred old added new at → 8 * at ≤ k → k < 8 * length old
+    → bit_in order new k ≡ (bit_in order old k || bit_in order added (k - 8 * at))
 ored_bit order old added new at k ors low h =
     let which : k / 8 - at ≡ (k - 8 * at) / 8 = omega arith in
     ap (λ (octet : ℕ). nat_eq (bit_at octet (place_in order k)) 1) (ors.inside (k / 8) (omega arith) (omega arith)) ∙
@@ -86,12 +91,14 @@ false_or true b e = absurd (cc)
 false_or false b e = refl
 
 -- the bit that is added at a place
-added_bit : (order : Order) (old mid new added : List ℕ) (count more value word k : ℕ) → Adds order old mid new added count more value word → 8 * (count / 8) ≤ k → k - 8 * (count / 8) < 64 → bit_in order added (k - 8 * (count / 8)) ≡ bit_of_word word (k - 8 * (count / 8))
+added_bit : (order : Order) (old mid new added : List ℕ) (count more value word k : ℕ) → Adds order old mid new added count more value word
+    → 8 * (count / 8) ≤ k → k - 8 * (count / 8) < 64 → bit_in order added (k - 8 * (count / 8)) ≡ bit_of_word word (k - 8 * (count / 8))
 added_bit order old mid new added count more value word k adds low h =
     let e : 0 + (k - 8 * (count / 8)) ≡ k - 8 * (count / 8) = omega arith in
     sym (adds.holds (k - 8 * (count / 8)) h ∙ ap (bit_in order added) e)
 
-is_added : (order : Order) (old mid new added : List ℕ) (count more value word : ℕ) → Adds order old mid new added count more value word → IsAdded order old new count more value
+is_added : (order : Order) (old mid new added : List ℕ) (count more value word : ℕ) → Adds order old mid new added count more value word
+    → IsAdded order old new count more value
 is_added order old mid new added count more value word adds = record { before = before; inside = inside; after = after }
   where
     at : ℕ
@@ -106,7 +113,8 @@ is_added order old mid new added count more value word adds = record { before = 
               let here : k < 8 * length mid = omega (arith, adds.room) in
               ored_bit order mid added new (count / 8) k adds.ors low here ∙
               (or_false (bit_in order mid k) (bit_in order added (k - 8 * (count / 8)))
-              (added_bit order old mid new added count more value word k adds low (omega arith) ∙ adds.front (k - 8 * (count / 8)) (omega arith)) ∙
+              (added_bit order old mid new added count more value word k adds low (omega arith)
+              ∙ adds.front (k - 8 * (count / 8)) (omega arith)) ∙
               adds.same k)
         ]
 
@@ -117,7 +125,8 @@ is_added order old mid new added count more value word adds = record { before = 
         let here : count + j < 8 * length mid = omega (arith, adds.room) in
         let place : count % 8 + more - 1 - (count + j - 8 * (count / 8)) ≡ more - 1 - j = omega arith in
         ored_bit order mid added new (count / 8) (count + j) adds.ors low here ∙
-        (false_or (bit_in order mid (count + j)) (bit_in order added (count + j - 8 * (count / 8))) (adds.same (count + j) ∙ adds.packed.clear (count + j) (omega arith)) ∙
+        (false_or (bit_in order mid (count + j)) (bit_in order added (count + j - 8 * (count / 8))) (adds.same (count + j)
+        ∙ adds.packed.clear (count + j) (omega arith)) ∙
         (added_bit order old mid new added count more value word (count + j) adds low (omega (arith, adds.few)) ∙
         (adds.number (count + j - 8 * (count / 8)) (omega arith) (omega arith) ∙ ap (λ (p : ℕ). nat_eq (bit_at value p) 1) place)))
 
@@ -134,12 +143,15 @@ is_added order old mid new added count more value word adds = record { before = 
         ]
 
 -- the bits after it
-pub number_added : (order : Order) (old mid new added : List ℕ) (count more value word : ℕ) → Adds order old mid new added count more value word → bits_in order new (count + more) ≡ bits_in order old count ++ number_bits more value
+pub number_added : (order : Order) (old mid new added : List ℕ) (count more value word : ℕ)
+    → Adds order old mid new added count more value word → bits_in order new (count + more) ≡ bits_in order old count ++ number_bits more
+    value
 number_added order old mid new added count more value word adds =
     let is : IsAdded order old new count more value = is_added order old mid new added count more value word adds in
     bits_in_grow order old new count more (λ (place : ℕ). nat_eq (bit_at value (more - 1 - place)) 1) is.before is.inside
 
-pub number_packed : (order : Order) (old mid new added : List ℕ) (count more value word : ℕ) → Adds order old mid new added count more value word → IsPacked order new (count + more)
+pub number_packed : (order : Order) (old mid new added : List ℕ) (count more value word : ℕ)
+    → Adds order old mid new added count more value word → IsPacked order new (count + more)
 number_packed order old mid new added count more value word adds = record {
   room = omega (arith, adds.room, adds.ors.same_length);
   tight = omega (arith, adds.room, adds.ors.same_length);

@@ -1,5 +1,6 @@
 -- Rows of runs, and their changing positions.
-use Rattle.std.proofs.Common.{map, Bool, true, false, ◌≡◌, ℕ, ◌+◌, ◌<◌, List, [], ◌∷◌, ◌++◌, length, replicate, sum, refl, sym, ap, ◌∙◌, arith, length-append, append_assoc, take, slice_get, Some, ◌≢◌, drop, add-one}
+use Rattle.std.proofs.Common.{map, Bool, true, false, ◌≡◌, ℕ, ◌+◌, ◌<◌, List, [], ◌∷◌, ◌++◌, length, replicate, sum, refl, sym, ap, ◌∙◌}
+use Rattle.std.proofs.Common.{arith, length-append, append_assoc, take, slice_get, Some, ◌≢◌, drop, add-one}
 use Rattle.std.specs.Prelude.{All, not}
 use Rattle.std.proofs.Common.{◌-◌, ◌≤◌, inl, inr, zero, suc}
 use Rattle.std.proofs.lemmas.Bool.{cases_lt}
@@ -37,12 +38,14 @@ pub colors-push : (a : List Bool) (bit : Bool) → colors (a ++ bit ∷ []) ≡ 
 unfolding colors
 colors-push a bit = map-append color_of a (bit ∷ [])
 
-pub slice_get-colors : (bits : List Bool) (k : ℕ) (bit : Bool) → slice_get bits k ≡ Some bit → slice_get (colors bits) k ≡ Some (color_of bit)
+pub slice_get-colors : (bits : List Bool) (k : ℕ) (bit : Bool) → slice_get bits k ≡ Some bit
+    → slice_get (colors bits) k ≡ Some (color_of bit)
 unfolding colors
 slice_get-colors bits k bit e = slice_get-map color_of bits k ∙ ap (option_map color_of) e
 
 -- bits that are all alike are pixels that are
-pub colors_run : (bits : List Bool) (n : ℕ) (bit : Bool) (color : Color) → color_of bit ≡ color → colors (bits ++ replicate n bit) ≡ colors bits ++ replicate n color
+pub colors_run : (bits : List Bool) (n : ℕ) (bit : Bool) (color : Color) → color_of bit ≡ color
+    → colors (bits ++ replicate n bit) ≡ colors bits ++ replicate n color
 unfolding colors
 colors_run bits n bit color same = map-append color_of bits (replicate n bit) ∙ ap (λ (xs : List Color). map color_of bits ++ xs) (alike n)
   where
@@ -64,19 +67,23 @@ other_from_ne White Black h = refl
 other_from_ne Black White h = refl
 other_from_ne Black Black h = absurd (h refl)
 
-pub take_next : (row : List Color) (at : ℕ) (color : Color) → at < length row → slice_get row at ≡ Some color → take (at + 1) row ≡ take at row ++ color ∷ []
+pub take_next : (row : List Color) (at : ℕ) (color : Color) → at < length row → slice_get row at ≡ Some color
+    → take (at + 1) row ≡ take at row ++ color ∷ []
 take_next row at color h e = take_more row at color h ∙ ap (λ c. take at row ++ c ∷ []) (get_or_from_slice_get row at color color e)
 
 -- the run goes on
-pub spelled_same : (row : List Color) (at run : ℕ) (color : Color) (front : List Color) → at < length row → slice_get row at ≡ Some color → front ++ replicate run color ≡ take at row → front ++ replicate (run + 1) color ≡ take (at + 1) row
+pub spelled_same : (row : List Color) (at run : ℕ) (color : Color) (front : List Color) → at < length row → slice_get row at ≡ Some color
+    → front ++ replicate run color ≡ take at row → front ++ replicate (run + 1) color ≡ take (at + 1) row
 spelled_same row at run color front h e s =
-    ap (λ xs. front ++ xs) (sym (replicate_more run color)) ∙ (sym (append_assoc front (replicate run color) (color ∷ [])) ∙ (ap (λ xs. xs ++ color ∷ []) s ∙ sym (take_next row at color h e)))
+    ap (λ xs. front ++ xs) (sym (replicate_more run color)) ∙ (sym (append_assoc front (replicate run color) (color ∷ []))
+    ∙ (ap (λ xs. xs ++ color ∷ []) s ∙ sym (take_next row at color h e)))
 
 -- the colors of what follows
 abbrev pub Follows : List ℕ → Color → Type 0
 Follows runs color = (tail : List ℕ) → colored White (runs ++ tail) ≡ colored White runs ++ colored color tail
 
-pub colored_push : (runs : List ℕ) (run : ℕ) (color : Color) → Follows runs color → colored White (runs ++ run ∷ []) ≡ colored White runs ++ replicate run color
+pub colored_push : (runs : List ℕ) (run : ℕ) (color : Color) → Follows runs color → colored White (runs ++ run ∷ []) ≡ colored White runs ++
+    replicate run color
 colored_push runs run color follows = follows (run ∷ []) ∙ ap (λ xs. colored White runs ++ xs) (append-nil (replicate run color))
 
 pub follows_push : (runs : List ℕ) (run : ℕ) (color : Color) → Follows runs color → Follows (runs ++ run ∷ []) (other color)
@@ -87,12 +94,15 @@ follows_push runs run color follows tail =
     ap (λ xs. xs ++ colored (other color) tail) (sym (colored_push runs run color follows))))
 
 -- the next run begins, with the other color
-pub spelled_other : (row : List Color) (at run : ℕ) (runs : List ℕ) (color pixel : Color) → at < length row → slice_get row at ≡ Some pixel → (pixel ≡ color → ⊥) → Follows runs color → colored White runs ++ replicate run color ≡ take at row → colored White (runs ++ run ∷ []) ++ replicate 1 (other color) ≡ take (at + 1) row
+pub spelled_other : (row : List Color) (at run : ℕ) (runs : List ℕ) (color pixel : Color) → at < length row → slice_get row at ≡ Some pixel
+    → (pixel ≡ color → ⊥) → Follows runs color → colored White runs ++ replicate run color ≡ take at row
+    → colored White (runs ++ run ∷ []) ++ replicate 1 (other color) ≡ take (at + 1) row
 spelled_other row at run runs color pixel h e ne follows s =
     ap (λ xs. xs ++ other color ∷ []) (colored_push runs run color follows ∙ s) ∙
     (ap (λ c. take at row ++ c ∷ []) (sym (other_from_ne pixel color ne)) ∙ sym (take_next row at pixel h e))
 
-pub later_push : (runs : List ℕ) (run : ℕ) → (runs ≢ [] → 0 < run) → All (λ n. 0 < n) (drop 1 runs) → All (λ n. 0 < n) (drop 1 (runs ++ run ∷ []))
+pub later_push : (runs : List ℕ) (run : ℕ) → (runs ≢ [] → 0 < run) → All (λ n. 0 < n) (drop 1 runs)
+    → All (λ n. 0 < n) (drop 1 (runs ++ run ∷ []))
 later_push [] run positive all = λ k d h. absurd (omega arith)
 later_push (x ∷ runs) run positive all = All-push (λ n. 0 < n) runs run all (positive (λ e. cc))
 
@@ -102,17 +112,20 @@ color_at_get row at color e = sym (get_or_from_slice_get row at color White e)
 pub before_next : (row : List Color) (at : ℕ) (color : Color) → slice_get row at ≡ Some color → color ≡ color_before row (at + 1)
 before_next row at color e = rw add-one (color_at_get row at color e)
 
-pub not_changing : (row : List Color) (at : ℕ) (color : Color) → slice_get row at ≡ Some color → color ≡ color_before row at → IsChanging row at → ⊥
+pub not_changing : (row : List Color) (at : ℕ) (color : Color) → slice_get row at ≡ Some color → color ≡ color_before row at
+    → IsChanging row at → ⊥
 not_changing row at color e same changing = changing.1 (sym (color_at_get row at color e) ∙ same)
 
 -- ---- the next change
 
-before_at : (bits : List Bool) (from place k : ℕ) (bit : Bool) → color_before (colors bits) from ≡ color_of bit → IsFirstOtherBit bits from bit place → from ≤ k → k ≤ place → color_of bit ≡ color_before (colors bits) k
+before_at : (bits : List Bool) (from place k : ℕ) (bit : Bool) → color_before (colors bits) from ≡ color_of bit
+    → IsFirstOtherBit bits from bit place → from ≤ k → k ≤ place → color_of bit ≡ color_before (colors bits) k
 before_at bits from place k bit begins first low high =
     elim (cases_lt from k) [
       | inl later ↦
           let back : k - 1 + 1 ≡ k = omega arith in
-          before_next (colors bits) (k - 1) (color_of bit) (slice_get-colors bits (k - 1) bit (first.before (k - 1) (omega arith) (omega arith))) ∙ ap (color_before (colors bits)) back
+          before_next (colors bits) (k - 1) (color_of bit) (slice_get-colors bits (k - 1) bit (first.before (k - 1) (omega arith) (omega
+          arith))) ∙ ap (color_before (colors bits)) back
       | inr here ↦
           let same : from ≡ k = omega arith in
           sym begins ∙ ap (color_before (colors bits)) same
@@ -122,17 +135,23 @@ differs : (bit : Bool) → color_of (not bit) ≡ color_of bit → ⊥
 differs true e = cc
 differs false e = cc
 
-changes : (bits : List Bool) (from place : ℕ) (bit : Bool) → color_before (colors bits) from ≡ color_of bit → IsFirstOtherBit bits from bit place → place < length bits → place < length (colors bits) → IsChanging (colors bits) place
-changes bits from place bit begins first within inside =
-    (inside, λ e. differs bit (color_at_get (colors bits) place (color_of (not bit)) (slice_get-colors bits place (not bit) (first.hit within)) ∙ (e ∙ sym (before_at bits from place place bit begins first first.low (omega arith)))))
+changes : (bits : List Bool) (from place : ℕ) (bit : Bool) → color_before (colors bits) from ≡ color_of bit
+    → IsFirstOtherBit bits from bit place → place < length bits → place < length (colors bits) → IsChanging (colors bits) place
+changes bits from place bit begins first within inside = (
+  inside,
+  λ e. differs bit (color_at_get (colors bits) place (color_of (not bit)) (slice_get-colors bits place (not bit) (first.hit
+      within)) ∙ (e ∙ sym (before_at bits from place place bit begins first first.low (omega arith)))),
+)
 
-pub next_from : (bits : List Bool) (from place : ℕ) (bit : Bool) → color_before (colors bits) from ≡ color_of bit → IsFirstOtherBit bits from bit place → IsNextChange (colors bits) from place
+pub next_from : (bits : List Bool) (from place : ℕ) (bit : Bool) → color_before (colors bits) from ≡ color_of bit
+    → IsFirstOtherBit bits from bit place → IsNextChange (colors bits) from place
 next_from bits from place bit begins first = record {
   bound = rw length-colors first.high;
   changing = λ h.
       let within : place < length bits = omega (arith, h, length-colors bits) in
       (first.low, changes bits from place bit begins first within h);
-  least = λ k low h changing. not_changing (colors bits) k (color_of bit) (slice_get-colors bits k bit (first.before k low h)) (before_at bits from place k bit begins first low (omega arith)) changing;
+  least = λ k low h changing. not_changing (colors bits) k (color_of bit) (slice_get-colors bits k bit (first.before k low h)) (before_at
+      bits from place k bit begins first low (omega arith)) changing;
 }
 
 -- ---- the end of a run
@@ -141,18 +160,22 @@ other_of : (bit : Bool) → color_of (not bit) ≡ other (color_of bit)
 other_of true = refl
 other_of false = refl
 
-ends_run_of : (bits : List Bool) (from place : ℕ) (bit : Bool) → IsFirstOtherBit bits from bit place → EndsRun (colors bits) from (color_of bit) place
+ends_run_of : (bits : List Bool) (from place : ℕ) (bit : Bool) → IsFirstOtherBit bits from bit place
+    → EndsRun (colors bits) from (color_of bit) place
 ends_run_of bits from place bit first = record {
   low = first.low;
   high = rw length-colors first.high;
   before = λ k low h. slice_get-colors bits k bit (first.before k low h);
-  hit = λ h. let within : place < length bits = omega (arith, h, length-colors bits) in slice_get-colors bits place (not bit) (first.hit within) ∙ ap (λ (c : Color). Some c) (other_of bit);
+  hit = λ h. let within : place < length bits = omega (arith, h, length-colors bits) in slice_get-colors bits place (not bit) (first.hit
+      within) ∙ ap (λ (c : Color). Some c) (other_of bit);
 }
 
-pub ends_run : (bits : List Bool) (row : List Color) (from place : ℕ) (bit : Bool) (color : Color) → colors bits ≡ row → color_of bit ≡ color → IsFirstOtherBit bits from bit place → EndsRun row from color place
+pub ends_run : (bits : List Bool) (row : List Color) (from place : ℕ) (bit : Bool) (color : Color) → colors bits ≡ row
+    → color_of bit ≡ color → IsFirstOtherBit bits from bit place → EndsRun row from color place
 ends_run bits row from place bit color is same first = rw (← is, ← same) (ends_run_of bits from place bit first)
 
-pub take_run : (row : List Color) (at n : ℕ) (color : Color) → at + n ≤ length row → ((k : ℕ) → at ≤ k → k < at + n → slice_get row k ≡ Some color) → take (at + n) row ≡ take at row ++ replicate n color
+pub take_run : (row : List Color) (at n : ℕ) (color : Color) → at + n ≤ length row → ((k : ℕ) → at ≤ k → k < at + n
+    → slice_get row k ≡ Some color) → take (at + n) row ≡ take at row ++ replicate n color
 take_run row at zero color h all =
     let e : at + 0 ≡ at = omega arith in
     rw (e, append-nil) refl
@@ -161,22 +184,26 @@ take_run row at (suc n) color h all =
     let f : n + 1 ≡ suc n = omega arith in
     rw e (take_next row (at + n) color (omega arith) (all (at + n) (omega arith) (omega arith)) ∙
     (ap (λ (xs : List Color). xs ++ color ∷ []) (take_run row at n color (omega arith) (λ k low lt. all k low (omega arith))) ∙
-    (append_assoc (take at row) (replicate n color) (color ∷ []) ∙ (ap (λ (xs : List Color). take at row ++ xs) (replicate_more n color) ∙ ap (λ m. take at row ++ replicate m color) f))))
+    (append_assoc (take at row) (replicate n color) (color ∷ []) ∙ (ap (λ (xs : List Color). take at row ++ xs) (replicate_more n color)
+    ∙ ap (λ m. take at row ++ replicate m color) f))))
 
 -- one run more, up to its end
-pub spelled_run : (row : List Color) (at end : ℕ) (runs : List ℕ) (color : Color) → EndsRun row at color end → Follows runs color → colored White runs ≡ take at row → colored White (runs ++ (end - at) ∷ []) ≡ take end row
+pub spelled_run : (row : List Color) (at end : ℕ) (runs : List ℕ) (color : Color) → EndsRun row at color end → Follows runs color
+    → colored White runs ≡ take at row → colored White (runs ++ (end - at) ∷ []) ≡ take end row
 spelled_run row at end runs color ends follows spelled =
     let e : at + (end - at) ≡ end = omega (arith, ends.low) in
     colored_push runs (end - at) color follows ∙
     (ap (λ (xs : List Color). xs ++ replicate (end - at) color) spelled ∙
-    (sym (take_run row at (end - at) color (omega (arith, ends.low, ends.high)) (λ k low h. ends.before k low (omega (arith, ends.low)))) ∙ ap (λ m. take m row) e))
+    (sym (take_run row at (end - at) color (omega (arith, ends.low, ends.high)) (λ k low h. ends.before k low (omega (arith, ends.low))))
+    ∙ ap (λ m. take m row) e))
 
 other-other : (color : Color) → other color ≡ color → ⊥
 other-other White e = cc
 other-other Black e = cc
 
 -- a run that begins with its color is not empty
-pub run_goes_on : (row : List Color) (at end : ℕ) (color : Color) → at < length row → slice_get row at ≡ Some color → EndsRun row at color end → at < end
+pub run_goes_on : (row : List Color) (at end : ℕ) (color : Color) → at < length row → slice_get row at ≡ Some color
+    → EndsRun row at color end → at < end
 run_goes_on row at end color h begins ends =
     elim (cases_lt at end) [
       | inl lt ↦ lt
@@ -213,7 +240,8 @@ runs_first row end ends =
       within = ends.high;
     }
 
-pub runs_more : (row : List Color) (runs : List ℕ) (at end : ℕ) (color : Color) → RunsTo row runs at color → at < length row → EndsRun row at color end → RunsTo row (runs ++ (end - at) ∷ []) end (other color)
+pub runs_more : (row : List Color) (runs : List ℕ) (at end : ℕ) (color : Color) → RunsTo row runs at color → at < length row
+    → EndsRun row at color end → RunsTo row (runs ++ (end - at) ∷ []) end (other color)
 runs_more row runs at end color to h ends =
     let positive : 0 < end - at = omega (arith, run_goes_on row at end color h (to.turned h) ends) in
     record {

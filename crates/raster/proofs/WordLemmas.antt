@@ -1,10 +1,12 @@
 -- Bits of octets as numbers of 64 bits.
-use Rattle.std.proofs.Common.{set, ◌≡◌, ℕ, ◌+◌, ◌-◌, ◌*◌, ◌/◌, ◌%◌, ◌^◌, ◌<◌, ◌≤◌, ◌||◌, true, false, List, [], ◌∷◌, refl, sym, ap, ◌∙◌, get_or, nat_eq, arith, bit_or, zero, suc, w8, w64, inl, inr, max, length}
+use Rattle.std.proofs.Common.{set, ◌≡◌, ℕ, ◌+◌, ◌-◌, ◌*◌, ◌/◌, ◌%◌, ◌^◌, ◌<◌, ◌≤◌, ◌||◌, true, false, List, [], ◌∷◌, refl, sym, ap, ◌∙◌}
+use Rattle.std.proofs.Common.{get_or, nat_eq, arith, bit_or, zero, suc, w8, w64, inl, inr, max, length}
 use Rattle.std.specs.Int.{bit_at, reverse_bits, reverse_bits_onto, from_le_bytes, from_be_bytes, to_le_bytes, to_be_bytes}
 use Rattle.std.proofs.lemmas.Nat.{shr-shr, or_shifted, shl_whole, one_shl, pow_pos, pow-add}
 use Rattle.std.proofs.Math.Pow.{pow_mono}
 use Rattle.std.proofs.lemmas.List.{get_or-set_same, get_or-set_other}
-use Rattle.std.proofs.lemmas.Nat.Bits.{bit_at_lowest, bit_at-suc, bit_at-zero, bit_at_or, bit_at_cat_low, bit_at_cat_high, bit_at_above, bit_at-lt}
+use Rattle.std.proofs.lemmas.Nat.Bits.{bit_at_lowest, bit_at-suc, bit_at-zero, bit_at_or, bit_at_cat_low, bit_at_cat_high, bit_at_above}
+use Rattle.std.proofs.lemmas.Nat.Bits.{bit_at-lt}
 use Rattle.std.proofs.lemmas.Bool.{cases_lt, cases_eq}
 use Rattle.raster.specs.Packed.{bit_in, place_in}
 use Rattle.raster.specs.Words.{IsWordAt, bit_of_word}
@@ -86,12 +88,15 @@ below_next word octet n small byte =
 abbrev pub IsHighest : Order → List ℕ → ℕ → ℕ → Type 0
 IsHighest order octets at octet = (k : ℕ) → k < 8 → nat_eq (bit_at octet (7 - k)) 1 ≡ bit_in order octets (8 * at + k)
 
-cat_same : (order : Order) (octets : List ℕ) (at n word octet k : ℕ) → IsHighest order octets (at + n) octet → octet < 256 → HasOctets order octets at n word → k < 8 * (n + 1) → nat_eq (bit_at (word * 2 ^ 8 + octet) (8 * (n + 1) - 1 - k)) 1 ≡ bit_in order octets (8 * at + k)
+cat_same : (order : Order) (octets : List ℕ) (at n word octet k : ℕ) → IsHighest order octets (at + n) octet → octet < 256
+    → HasOctets order octets at n word → k < 8 * (n + 1) → nat_eq (bit_at (word * 2 ^ 8 + octet) (8 * (n + 1) - 1 - k)) 1 ≡ bit_in order
+    octets (8 * at + k)
 cat_same order octets at n word octet k is byte has h =
     elim (cases_lt k (8 * n)) [
       | inl early ↦
           let e : 8 * (n + 1) - 1 - k - 8 ≡ 8 * n - 1 - k = omega arith in
-          ap (λ b. nat_eq b 1) (bit_at_cat_high word 8 octet (8 * (n + 1) - 1 - k) byte (omega arith) ∙ ap (bit_at word) e) ∙ has.same k early
+          ap (λ b. nat_eq b 1) (bit_at_cat_high word 8 octet (8 * (n + 1) - 1 - k) byte (omega arith) ∙ ap (bit_at word) e)
+          ∙ has.same k early
       | inr late ↦
           let place : 8 * (n + 1) - 1 - k ≡ 7 - (k - 8 * n) = omega arith in
           let which : 8 * (at + n) + (k - 8 * n) ≡ 8 * at + k = omega arith in
@@ -99,13 +104,16 @@ cat_same order octets at n word octet k is byte has h =
           (is (k - 8 * n) (omega arith) ∙ ap (bit_in order octets) which)
     ]
 
-pub next_octet : (order : Order) (octets : List ℕ) (at n word octet : ℕ) → IsHighest order octets (at + n) octet → octet < 256 → HasOctets order octets at n word → HasOctets order octets at (n + 1) (word * 2 ^ 8 + octet)
+pub next_octet : (order : Order) (octets : List ℕ) (at n word octet : ℕ) → IsHighest order octets (at + n) octet → octet < 256
+    → HasOctets order octets at n word → HasOctets order octets at (n + 1) (word * 2 ^ 8 + octet)
 next_octet order octets at n word octet is byte has =
     record { small = below_next word octet n has.small byte; same = λ k h. cat_same order octets at n word octet k is byte has h }
 
-pub push_octet : (order : Order) (octets : List ℕ) (at n word octet : ℕ) → n < 8 → IsHighest order octets (at + n) octet → octet < 256 → HasOctets order octets at n word → HasOctets order octets at (n + 1) (bit_or (word * 2 ^ 8 % 2 ^ 64) octet)
+pub push_octet : (order : Order) (octets : List ℕ) (at n word octet : ℕ) → n < 8 → IsHighest order octets (at + n) octet → octet < 256
+    → HasOctets order octets at n word → HasOctets order octets at (n + 1) (bit_or (word * 2 ^ 8 % 2 ^ 64) octet)
 push_octet order octets at n word octet few is byte has =
-    let e : bit_or (word * 2 ^ 8 % 2 ^ 64) octet ≡ word * 2 ^ 8 + octet = ap (λ (x : ℕ). bit_or x octet) (shl_whole word (8 * n) 8 64 has.small (omega arith)) ∙ or_shifted word 8 octet byte in
+    let e : bit_or (word * 2 ^ 8 % 2 ^ 64) octet ≡ word * 2 ^ 8 + octet = ap (λ (x : ℕ). bit_or x octet) (shl_whole word (8 * n) 8 64
+    has.small (omega arith)) ∙ or_shifted word 8 octet byte in
     rw e (next_octet order octets at n word octet is byte has)
 
 pub has_all : (order : Order) (octets : List ℕ) (at word : ℕ) → HasOctets order octets at 8 word → IsWordAt order octets (8 * at) word
@@ -118,13 +126,17 @@ msb_highest octets at k h =
     ap (λ b. nat_eq b 1) (ap (λ m. bit_at (get_or octets m 0) (7 - k)) which ∙ ap (bit_at (get_or octets ((8 * at + k) / 8) 0)) within)
 
 -- eight octets in a row, the first the highest
-pub be_word : (octets : List ℕ) (at : ℕ) → ((i : ℕ) → get_or octets i 0 < 256) → IsWordAt MsbFirst octets (8 * at) (from_be_bytes w64 (get_or octets at 0 ∷ get_or octets (at + 1) 0 ∷ get_or octets (at + 2) 0 ∷ get_or octets (at + 3) 0 ∷ get_or octets (at + 4) 0 ∷ get_or octets (at + 5) 0 ∷ get_or octets (at + 6) 0 ∷ get_or octets (at + 7) 0 ∷ []))
+pub be_word : (octets : List ℕ) (at : ℕ) → ((i : ℕ) → get_or octets i 0 < 256) → IsWordAt MsbFirst octets (8 * at) (from_be_bytes w64
+    (get_or octets at 0 ∷ get_or octets (at + 1) 0 ∷ get_or octets (at + 2) 0 ∷ get_or octets (at + 3) 0 ∷ get_or octets (at + 4) 0 ∷ get_or
+    octets (at + 5) 0 ∷ get_or octets (at + 6) 0 ∷ get_or octets (at + 7) 0 ∷ []))
 be_word octets at small =
     let b : ℕ → ℕ = λ i. get_or octets (at + i) 0 in
-    let step : (n word : ℕ) → HasOctets MsbFirst octets at n word → HasOctets MsbFirst octets at (n + 1) (word * 2 ^ 8 + b n) = λ n word has. next_octet MsbFirst octets at n word (b n) (msb_highest octets (at + n)) (small (at + n)) has in
+    let step : (n word : ℕ) → HasOctets MsbFirst octets at n word → HasOctets MsbFirst octets at (n + 1) (word * 2 ^ 8 + b n) = λ n word
+    has. next_octet MsbFirst octets at n word (b n) (msb_highest octets (at + n)) (small (at + n)) has in
     let first : at + 0 ≡ at = omega arith in
     let all = step 7 _ (step 6 _ (step 5 _ (step 4 _ (step 3 _ (step 2 _ (step 1 _ (step 0 _ (has_none MsbFirst octets at)))))))) in
-    let e : (((((((0 * 2 ^ 8 + b 0) * 2 ^ 8 + b 1) * 2 ^ 8 + b 2) * 2 ^ 8 + b 3) * 2 ^ 8 + b 4) * 2 ^ 8 + b 5) * 2 ^ 8 + b 6) * 2 ^ 8 + b 7 ≡ from_be_bytes w64 (b 0 ∷ b 1 ∷ b 2 ∷ b 3 ∷ b 4 ∷ b 5 ∷ b 6 ∷ b 7 ∷ []) = omega arith in
+    let e : (((((((0 * 2 ^ 8 + b 0) * 2 ^ 8 + b 1) * 2 ^ 8 + b 2) * 2 ^ 8 + b 3) * 2 ^ 8 + b 4) * 2 ^ 8 + b 5) * 2 ^ 8 + b 6) * 2 ^ 8 + b 7
+    ≡ from_be_bytes w64 (b 0 ∷ b 1 ∷ b 2 ∷ b 3 ∷ b 4 ∷ b 5 ∷ b 6 ∷ b 7 ∷ []) = omega arith in
     rw (← ap (λ m. get_or octets m 0) first, ← e) (has_all MsbFirst octets at _ all)
 
 -- ---- octets as a number, the first of them the lowest
@@ -141,7 +153,8 @@ low_below word octet n small byte =
     let e : 2 ^ (8 * (n + 1)) ≡ 256 * 2 ^ (8 * n) = ap (λ k. 2 ^ k) (omega arith) ∙ pow-add 2 8 (8 * n) in
     grind (arith, e, small, byte)
 
-low_octet : (octets : List ℕ) (at n word : ℕ) → get_or octets (at + n) 0 < 256 → HasLow octets at n word → HasLow octets at (n + 1) (get_or octets (at + n) 0 * 2 ^ (8 * n) + word)
+low_octet : (octets : List ℕ) (at n word : ℕ) → get_or octets (at + n) 0 < 256 → HasLow octets at n word
+    → HasLow octets at (n + 1) (get_or octets (at + n) 0 * 2 ^ (8 * n) + word)
 low_octet octets at n word byte has = record {
   small = low_below word (get_or octets (at + n) 0) n has.small byte;
   same = λ k h.
@@ -156,13 +169,17 @@ low_octet octets at n word byte has = record {
 }
 
 -- eight octets in a row, the first the lowest, and then turned
-pub le_word : (octets : List ℕ) (at : ℕ) → ((i : ℕ) → get_or octets i 0 < 256) → IsWordAt LsbFirst octets (8 * at) (reverse_bits w64 (from_le_bytes w64 (get_or octets at 0 ∷ get_or octets (at + 1) 0 ∷ get_or octets (at + 2) 0 ∷ get_or octets (at + 3) 0 ∷ get_or octets (at + 4) 0 ∷ get_or octets (at + 5) 0 ∷ get_or octets (at + 6) 0 ∷ get_or octets (at + 7) 0 ∷ [])))
+pub le_word : (octets : List ℕ) (at : ℕ) → ((i : ℕ) → get_or octets i 0 < 256) → IsWordAt LsbFirst octets (8 * at) (reverse_bits w64
+    (from_le_bytes w64 (get_or octets at 0 ∷ get_or octets (at + 1) 0 ∷ get_or octets (at + 2) 0 ∷ get_or octets (at + 3) 0 ∷ get_or octets
+    (at + 4) 0 ∷ get_or octets (at + 5) 0 ∷ get_or octets (at + 6) 0 ∷ get_or octets (at + 7) 0 ∷ [])))
 le_word octets at small k h =
     let b : ℕ → ℕ = λ i. get_or octets (at + i) 0 in
-    let step : (n word : ℕ) → HasLow octets at n word → HasLow octets at (n + 1) (b n * 2 ^ (8 * n) + word) = λ n word has. low_octet octets at n word (small (at + n)) has in
+    let step : (n word : ℕ) → HasLow octets at n word → HasLow octets at (n + 1) (b n * 2 ^ (8 * n) + word) = λ n word has. low_octet octets
+    at n word (small (at + n)) has in
     let first : at + 0 ≡ at = omega arith in
     let all = step 7 _ (step 6 _ (step 5 _ (step 4 _ (step 3 _ (step 2 _ (step 1 _ (step 0 _ (low_none octets at)))))))) in
-    let e : b 7 * 2 ^ 56 + (b 6 * 2 ^ 48 + (b 5 * 2 ^ 40 + (b 4 * 2 ^ 32 + (b 3 * 2 ^ 24 + (b 2 * 2 ^ 16 + (b 1 * 2 ^ 8 + (b 0 * 1 + 0))))))) ≡ from_le_bytes w64 (b 0 ∷ b 1 ∷ b 2 ∷ b 3 ∷ b 4 ∷ b 5 ∷ b 6 ∷ b 7 ∷ []) = omega arith in
+    let e : b 7 * 2 ^ 56 + (b 6 * 2 ^ 48 + (b 5 * 2 ^ 40 + (b 4 * 2 ^ 32 + (b 3 * 2 ^ 24 + (b 2 * 2 ^ 16 + (b 1 * 2 ^ 8 + (b 0 * 1 +
+    0))))))) ≡ from_le_bytes w64 (b 0 ∷ b 1 ∷ b 2 ∷ b 3 ∷ b 4 ∷ b 5 ∷ b 6 ∷ b 7 ∷ []) = omega arith in
     rw (← ap (λ m. get_or octets m 0) first, ← e)
     (ap (λ x. nat_eq x 1) (bit_at_turned64 _ k h) ∙ all.same k h)
 
@@ -180,14 +197,17 @@ or_bit (suc (suc a)) b p q = absurd (omega arith)
 pub ored : (a b i : ℕ) → nat_eq (bit_at (bit_or a b) i) 1 ≡ (nat_eq (bit_at a i) 1 || nat_eq (bit_at b i) 1)
 ored a b i = ap (λ n. nat_eq n 1) (bit_at_or a b i) ∙ or_bit (bit_at a i) (bit_at b i) (bit_at-lt a i) (bit_at-lt b i)
 
-pub shifted : (order : Order) (octets : List ℕ) (at within word next : ℕ) → within < 8 → next < 256 → IsWordAt order octets (8 * at) word → IsHighest order octets (at + 8) next → IsWordAt order octets (8 * at + within) (bit_or (word * 2 ^ within % 2 ^ 64) (next / 2 ^ (8 - within)))
+pub shifted : (order : Order) (octets : List ℕ) (at within word next : ℕ) → within < 8 → next < 256 → IsWordAt order octets (8 * at) word
+    → IsHighest order octets (at + 8) next → IsWordAt order octets (8 * at + within) (bit_or (word * 2 ^ within % 2 ^ 64) (next / 2 ^ (8 -
+    within)))
 shifted order octets at within word next few byte is more k h =
     elim (cases_lt (k + within) 64) [
       | inl early ↦
           let back : 63 - k - within ≡ 63 - (k + within) = omega arith in
           let place : 8 * at + (k + within) ≡ 8 * at + within + k = omega arith in
           let one : bit_at (word * 2 ^ within % 2 ^ 64) (63 - k) ≡ bit_at word (63 - (k + within)) =
-          bit_at_rest (word * 2 ^ within) 64 (63 - k) (omega arith) ∙ (bit_at_shl_high word within (63 - k) (omega arith) ∙ ap (bit_at word) back) in
+          bit_at_rest (word * 2 ^ within) 64 (63 - k) (omega arith) ∙ (bit_at_shl_high word within (63 - k) (omega arith)
+          ∙ ap (bit_at word) back) in
           let none : bit_at (next / 2 ^ (8 - within)) (63 - k) ≡ 0 =
           bit_at_shr next (8 - within) (63 - k) ∙ bit_at_above next 8 (8 - within + (63 - k)) byte (omega arith) in
           let both : bit_at (bit_or (word * 2 ^ within % 2 ^ 64) (next / 2 ^ (8 - within))) (63 - k) ≡ bit_at word (63 - (k + within)) =
@@ -205,11 +225,13 @@ shifted order octets at within word next few byte is more k h =
           ap (λ b. nat_eq b 1) both ∙ (more (k + within - 64) (omega arith) ∙ ap (bit_in order octets) place)
     ]
 
-pub highest_from : (order : Order) (octets : List ℕ) (at octet : ℕ) → ((k : ℕ) → k < 8 → bit_at octet (7 - k) ≡ bit_at (get_or octets at 0) (place_in order k)) → IsHighest order octets at octet
+pub highest_from : (order : Order) (octets : List ℕ) (at octet : ℕ) → ((k : ℕ) → k < 8 → bit_at octet (7 - k) ≡ bit_at (get_or octets at 0)
+    (place_in order k)) → IsHighest order octets at octet
 highest_from order octets at octet turned k h =
     let which : at ≡ (8 * at + k) / 8 = omega arith in
     ap (λ b. nat_eq b 1) (turned k h ∙
-    (ap (bit_at (get_or octets at 0)) (place_in-same order k (8 * at + k) (omega arith)) ∙ ap (λ m. bit_at (get_or octets m 0) (place_in order (8 * at + k))) which))
+    (ap (bit_at (get_or octets at 0)) (place_in-same order k (8 * at + k) (omega arith)) ∙ ap (λ m. bit_at (get_or octets m 0)
+    (place_in order (8 * at + k))) which))
 
 pub highest_past : (order : Order) (octets : List ℕ) (at : ℕ) → length octets ≤ at → IsHighest order octets at 0
 highest_past order octets at past k h =
@@ -224,9 +246,11 @@ aligned value count within = value * 2 ^ (64 - count) % 2 ^ 64 / 2 ^ within
 pub aligned_before : (value count within k : ℕ) → k < within → within < 8 → bit_of_word (aligned value count within) k ≡ false
 aligned_before value count within k h few =
     let small : value * 2 ^ (64 - count) % 2 ^ 64 < 2 ^ 64 = omega arith in
-    ap (λ b. nat_eq b 1) (bit_at_shr (value * 2 ^ (64 - count) % 2 ^ 64) within (63 - k) ∙ bit_at_above (value * 2 ^ (64 - count) % 2 ^ 64) 64 (within + (63 - k)) small (omega arith))
+    ap (λ b. nat_eq b 1) (bit_at_shr (value * 2 ^ (64 - count) % 2 ^ 64) within (63 - k) ∙ bit_at_above (value * 2 ^ (64 - count) % 2 ^ 64)
+    64 (within + (63 - k)) small (omega arith))
 
-pub aligned_inside : (value count within k : ℕ) → count ≤ 32 → within < 8 → within ≤ k → k < within + count → bit_of_word (aligned value count within) k ≡ nat_eq (bit_at value (within + count - 1 - k)) 1
+pub aligned_inside : (value count within k : ℕ) → count ≤ 32 → within < 8 → within ≤ k → k < within + count
+    → bit_of_word (aligned value count within) k ≡ nat_eq (bit_at value (within + count - 1 - k)) 1
 aligned_inside value count within k few low from below =
     let e : within + (63 - k) - (64 - count) ≡ within + count - 1 - k = omega arith in
     ap (λ b. nat_eq b 1) (bit_at_shr (value * 2 ^ (64 - count) % 2 ^ 64) within (63 - k) ∙
@@ -236,7 +260,8 @@ aligned_inside value count within k few low from below =
 pub aligned_after : (value count within k : ℕ) → within + count ≤ k → k < 64 → bit_of_word (aligned value count within) k ≡ false
 aligned_after value count within k from below =
     ap (λ b. nat_eq b 1) (bit_at_shr (value * 2 ^ (64 - count) % 2 ^ 64) within (63 - k) ∙
-    (bit_at_rest (value * 2 ^ (64 - count)) 64 (within + (63 - k)) (omega arith) ∙ bit_at_shl_low value (64 - count) (within + (63 - k)) (omega arith)))
+    (bit_at_rest (value * 2 ^ (64 - count)) 64 (within + (63 - k)) (omega arith) ∙ bit_at_shl_low value (64 - count) (within + (63 - k))
+    (omega arith)))
 
 -- ---- a word's octets
 
@@ -291,7 +316,8 @@ ones_grow a b h few = rw (one_shl a 32 (omega arith), one_shl b 32 (omega arith)
 pub ones_is : (a b : ℕ) → a ≤ 8 → b ≤ 8 → 1 * 2 ^ b % 2 ^ 32 - 1 * 2 ^ a % 2 ^ 32 ≡ 2 ^ b - 2 ^ a
 ones_is a b p q = rw (one_shl a 32 (omega arith), one_shl b 32 (omega arith)) refl
 
-pub keep_bit : (order : Order) (octets : List ℕ) (at mask k : ℕ) → at < length octets → (k / 8 ≡ at → bit_at mask (place_in order k) ≡ 0) → bit_in order (set octets at (bit_or (get_or octets at 0) mask)) k ≡ bit_in order octets k
+pub keep_bit : (order : Order) (octets : List ℕ) (at mask k : ℕ) → at < length octets → (k / 8 ≡ at → bit_at mask (place_in order k) ≡ 0)
+    → bit_in order (set octets at (bit_or (get_or octets at 0) mask)) k ≡ bit_in order octets k
 keep_bit order octets at mask k h none =
     elim (cases_eq (k / 8) at) [
       | inl e ↦
@@ -301,7 +327,8 @@ keep_bit order octets at mask k h none =
       | inr e ↦ rw (get_or-set_other octets at (k / 8) (bit_or (get_or octets at 0) mask) 0 e) refl
     ]
 
-pub turn_bit : (order : Order) (octets : List ℕ) (at mask k : ℕ) → at < length octets → k / 8 ≡ at → bit_at mask (place_in order k) ≡ 1 → bit_in order (set octets at (bit_or (get_or octets at 0) mask)) k ≡ true
+pub turn_bit : (order : Order) (octets : List ℕ) (at mask k : ℕ) → at < length octets → k / 8 ≡ at → bit_at mask (place_in order k) ≡ 1
+    → bit_in order (set octets at (bit_or (get_or octets at 0) mask)) k ≡ true
 turn_bit order octets at mask k h e one =
     let set_is : bit_at (bit_or (get_or octets at 0) mask) (place_in order k) ≡ 1 =
     omega (arith, bit_at_or (get_or octets at 0) mask (place_in order k), one, bit_at-lt (get_or octets at 0) (place_in order k)) in

@@ -1,5 +1,6 @@
 -- Code words that begin bits, and the item of a list whose code word is there.
-use Rattle.std.proofs.Common.{ℕ, zero, suc, ◌≡◌, ◌+◌, ◌<◌, ◌≤◌, inl, inr, Bool, true, false, ◌&&◌, ◌||◌, not, List, [], ◌∷◌, ◌++◌, map, length, get_or, nat_eq, slice_get, drop, Some, None, refl, ap, sym, ◌∙◌, arith, cond}
+use Rattle.std.proofs.Common.{ℕ, zero, suc, ◌≡◌, ◌+◌, ◌<◌, ◌≤◌, inl, inr, Bool, true, false, ◌&&◌, ◌||◌, not, List, [], ◌∷◌, ◌++◌, map}
+use Rattle.std.proofs.Common.{length, get_or, nat_eq, slice_get, drop, Some, None, refl, ap, sym, ◌∙◌, arith, cond}
 use mathlib.Core.Bool.{beq}
 use Rattle.std.specs.Prelude.{Option, Contains, IfNone, is_some}
 use Rattle.std.specs.List.{list_all}

@@ -1,5 +1,6 @@
 -- Looking at a run code finds exactly the code that may be there, whatever automaton the code is an item of.
-use Rattle.std.proofs.Common.{ltb, ℕ, ◌≡◌, ◌+◌, ◌<◌, Bool, true, false, List, ◌++◌, map, length, drop, replicate, Some, None, refl, ap, sym, ◌∙◌, arith, cond, nat_eq}
+use Rattle.std.proofs.Common.{ltb, ℕ, ◌≡◌, ◌+◌, ◌<◌, Bool, true, false, List, ◌++◌, map, length, drop, replicate, Some, None, refl, ap, sym}
+use Rattle.std.proofs.Common.{◌∙◌, arith, cond, nat_eq}
 use Rattle.std.specs.Prelude.{Option, Contains, Result, Ok, Err}
 use Rattle.std.specs.List.{list_all}
 use Rattle.std.proofs.lemmas.Bool.{ltb-true}
@@ -12,7 +13,8 @@ use Rattle.run_tables.specs.declared.fault.CodeFaultKind.TheVariants.{BadCode, T
 use Rattle.run_tables.specs.Codes.{code_word, run_at}
 use Rattle.run_tables.specs.Texts.{apart, pick, is_cut}
 use Rattle.run_tables.specs.Fronts.Look.{go, stop, refuse}
-use Rattle.run_tables.specs.RowFronts.{RunItem, run_of, item_word, run_items, allowed, amount, after_code, CodeStep, judged, found_code, look_code, RowState}
+use Rattle.run_tables.specs.RowFronts.{RunItem, run_of, item_word, run_items, allowed, amount, after_code, CodeStep, judged, found_code}
+use Rattle.run_tables.specs.RowFronts.{look_code, RowState}
 use Rattle.run_tables.specs.RowFronts.RunItem.{run_item}
 use Rattle.run_tables.specs.RowFronts.RowState.{inside, whole}
 use Rattle.run_tables.proofs.BeginsLemmas.{all_test, pick_found, pick_sound}

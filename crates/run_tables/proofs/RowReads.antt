@@ -1,5 +1,6 @@
 -- Reading a row run by run.
-use Rattle.std.proofs.Common.{◌≢◌, subst, length-append, ltb, ℕ, ◌≡◌, ◌+◌, ◌-◌, ◌<◌, ◌≤◌, Bool, true, false, List, [], ◌∷◌, ◌++◌, map, length, drop, replicate, Some, None, refl, ap, sym, ◌∙◌, arith, cond, inl, inr}
+use Rattle.std.proofs.Common.{◌≢◌, subst, length-append, ltb, ℕ, ◌≡◌, ◌+◌, ◌-◌, ◌<◌, ◌≤◌, Bool, true, false, List, [], ◌∷◌, ◌++◌, map}
+use Rattle.std.proofs.Common.{length, drop, replicate, Some, None, refl, ap, sym, ◌∙◌, arith, cond, inl, inr}
 use Rattle.std.specs.Prelude.{Option, Result, Ok, Err, if◌then◌else◌, Vec}
 use Rattle.std.specs.List.{range_with_len}
 use Rattle.std.specs.Option.{option_map}
@@ -21,12 +22,14 @@ use Rattle.run_tables.specs.Texts.{begins, pick, is_cut}
 use Rattle.run_tables.specs.Faults.{BegunAt}
 use Rattle.run_tables.specs.Fronts.{Look}
 use Rattle.run_tables.specs.Fronts.Look.{refuse}
-use Rattle.run_tables.specs.RowFronts.{RunItem, run_of, item_word, run_items, codes_after, allowed, amount, run_ended, after_code, look_code, found_code, judged, look, reading, read_row, row_begin, moved, RowState}
+use Rattle.run_tables.specs.RowFronts.{RunItem, run_of, item_word, run_items, codes_after, allowed, amount, run_ended, after_code}
+use Rattle.run_tables.specs.RowFronts.{look_code, found_code, judged, look, reading, read_row, row_begin, moved, RowState}
 use Rattle.run_tables.specs.RowFronts.RunItem.{run_item}
 use Rattle.run_tables.specs.RowFronts.RowState.{inside, whole}
 use Rattle.run_tables.proofs.BeginsLemmas.{pick_sound}
 use Rattle.run_tables.proofs.CodeLooks.{code_positive}
-use Rattle.run_tables.proofs.RowReadings.{reading_go, reading_stop, reading_refuse, reading_moved, refuses_at_longest, refuses_no_row, reads_rows_exactly}
+use Rattle.run_tables.proofs.RowReadings.{reading_go, reading_stop, reading_refuse, reading_moved, refuses_at_longest, refuses_no_row}
+use Rattle.run_tables.proofs.RowReadings.{reads_rows_exactly}
 use Rattle.run_tables.specs.RowLaws.{ReadsAsRow}
 use Rattle.raster.specs.Pixels.{IsWidth}
 

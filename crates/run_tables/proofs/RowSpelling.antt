@@ -1,5 +1,6 @@
 -- A row's code words, from any place of the row on: what its runs are, and what completes it.
-use Rattle.std.proofs.Common.{ltb, ℕ, suc, ◌≡◌, ◌+◌, ◌-◌, ◌*◌, ◌/◌, ◌%◌, ◌<◌, ◌≤◌, inl, inr, Bool, true, false, List, [], ◌∷◌, ◌++◌, length, replicate, Some, None, refl, ap, sym, ◌∙◌, arith, cond, nat_eq, length-append, append_assoc}
+use Rattle.std.proofs.Common.{ltb, ℕ, suc, ◌≡◌, ◌+◌, ◌-◌, ◌*◌, ◌/◌, ◌%◌, ◌<◌, ◌≤◌, inl, inr, Bool, true, false, List, [], ◌∷◌, ◌++◌, length}
+use Rattle.std.proofs.Common.{replicate, Some, None, refl, ap, sym, ◌∙◌, arith, cond, nat_eq, length-append, append_assoc}
 use Rattle.std.specs.Prelude.{Option, Ok, Err, All}
 use Rattle.std.proofs.lemmas.Bool.{ltb-true, ltb-false, lt-ltb, le-ltb, eqb-true, eqb-false, cases_lt}
 use Rattle.std.proofs.lemmas.List.{append-nil, length-replicate}

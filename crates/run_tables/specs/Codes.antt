@@ -1,5 +1,6 @@
 -- The run codes (ITU-T T.4, 4.1.1, tables 2 and 3): which code word stands for which run of which color.
-use Rattle.std.specs.Prelude.{ℕ, ◌+◌, ◌-◌, ◌*◌, ◌/◌, ◌%◌, ◌++◌, Bool, List, [], ◌∷◌, map, nat_eq, nat_lt, codes, Contains, if◌then◌else◌, slice_index_or}
+use Rattle.std.specs.Prelude.{ℕ, ◌+◌, ◌-◌, ◌*◌, ◌/◌, ◌%◌, ◌++◌, Bool, List, [], ◌∷◌, map, nat_eq, nat_lt, codes, Contains, if◌then◌else◌}
+use Rattle.std.specs.Prelude.{slice_index_or}
 use Rattle.raster.specs.declared.row.Color.{Color}
 use Rattle.raster.specs.declared.row.Color.TheVariants.{White, Black}
 

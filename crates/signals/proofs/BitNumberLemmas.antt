@@ -1,5 +1,7 @@
 -- Lemmas on the numbers of bits: a DIS and a DCS are read by them.
-use Rattle.std.proofs.Common.{◌≡◌, ℕ, ◌-◌, ◌*◌, ◌/◌, ◌%◌, ◌<◌, ◌≤◌, Bool, true, false, not, cond, ◌&&◌, ◌||◌, nat_eq, nat_le, nat_lt, List, [], ◌∷◌, ◌++◌, length, map, drop, take, slice_index, slice_index_or, Contains, Option, Some, None, Ok, refl, sym, ◌∙◌, ap, subst, inl, inr, arith}
+use Rattle.std.proofs.Common.{◌≡◌, ℕ, ◌-◌, ◌*◌, ◌/◌, ◌%◌, ◌<◌, ◌≤◌, Bool, true, false, not, cond, ◌&&◌, ◌||◌, nat_eq, nat_le, nat_lt, List}
+use Rattle.std.proofs.Common.{[], ◌∷◌, ◌++◌, length, map, drop, take, slice_index, slice_index_or, Contains, Option, Some, None, Ok, refl}
+use Rattle.std.proofs.Common.{sym, ◌∙◌, ap, subst, inl, inr, arith}
 use Rattle.std.proofs.lemmas.Bool.{cases_Bool, cases_lt, and_parts, and_from, ltb-true, ltb-false}
 use Rattle.std.proofs.lemmas.List.{get_or_past}
 use Rattle.std.proofs.lemmas.Nat.Bits.{bit_at-zero}
@@ -16,8 +18,10 @@ use Rattle.signals.proofs.WritingLemmas.{same_params, head-read}
 use Rattle.signals.proofs.SayingLemmas.{with-enough}
 use Rattle.signals.proofs.SendingLemmas.{page-ends-have-texts}
 use Rattle.signals.proofs.ControlLemmas.{controls-have-texts}
-use Rattle.signals.specs.BitNumbers.{sent_bit, numbered, numbered_from, ModemsShown, widest_texts, DisShows, DcsShows, IsOctetOf, least_octets, FieldsShow, IsReadOf, ReadsByNumber, dis_numbers, dcs_numbers, ReadsNoOthers}
-use Rattle.signals.specs.Reading.{field_bit, late_bit, modems_of, speed_of, widest_of, width_of, page_end_of, caps_of, params_at, params_of, dcs_or_other, pps_or_other, with_octets, read_known, read_fields, read_content}
+use Rattle.signals.specs.BitNumbers.{sent_bit, numbered, numbered_from, ModemsShown, widest_texts, DisShows, DcsShows, IsOctetOf}
+use Rattle.signals.specs.BitNumbers.{least_octets, FieldsShow, IsReadOf, ReadsByNumber, dis_numbers, dcs_numbers, ReadsNoOthers}
+use Rattle.signals.specs.Reading.{field_bit, late_bit, modems_of, speed_of, widest_of, width_of, page_end_of, caps_of, params_at, params_of}
+use Rattle.signals.specs.Reading.{dcs_or_other, pps_or_other, with_octets, read_known, read_fields, read_content}
 use Rattle.signals.specs.Saying.{has_text}
 use Rattle.signals.specs.Sending.{is_t6, page_end_text}
 use Rattle.signals.specs.Signals.{PlainSignal, dis, fcd, ppr}

@@ -2,7 +2,8 @@
 use Rattle.std.proofs.Common.{◌≡◌, ◌+◌, ◌≤◌, Bool, true, false, cond, nat_eq, nat_le, Option, Some, None, Err, IfOk, refl, sym, ◌∙◌, ap}
 use Rattle.std.proofs.lemmas.Bool.{eqb-true, leb-true}
 use Rattle.signals.proofs.EachValue.{all_speeds, each_speed, all_modems, each_modems}
-use Rattle.signals.specs.Agreement.{tried_speeds, first_of, after_speed, lower_speed, speeds_below, takes_pages, at_first, BeginsAtMostFiveAbove, GoesDownByOne}
+use Rattle.signals.specs.Agreement.{tried_speeds, first_of, after_speed, lower_speed, speeds_below, takes_pages, at_first}
+use Rattle.signals.specs.Agreement.{BeginsAtMostFiveAbove, GoesDownByOne}
 use Rattle.signals.specs.declared.params.Modems.{Modems}
 use Rattle.signals.specs.declared.params.Speed.{Speed}
 

@@ -1,8 +1,10 @@
 -- What is read is what a content says.
-use Rattle.std.proofs.Common.{◌≡◌, ℕ, ◌≤◌, ◌⊎◌, Bool, true, false, not, cond, ◌||◌, nat_eq, nat_lt, List, length, take, drop, slice_index, Option, Some, None, Result, Ok, Err, refl, ◌∙◌, ap, subst, inl, inr, arith}
+use Rattle.std.proofs.Common.{◌≡◌, ℕ, ◌≤◌, ◌⊎◌, Bool, true, false, not, cond, ◌||◌, nat_eq, nat_lt, List, length, take, drop, slice_index}
+use Rattle.std.proofs.Common.{Option, Some, None, Result, Ok, Err, refl, ◌∙◌, ap, subst, inl, inr, arith}
 use Rattle.std.proofs.lemmas.Bool.{not-false, eqb-true, ltb-false, le-ltb}
 use Rattle.signals.specs.Controls.{control_of}
-use Rattle.signals.specs.Reading.{page_end_of, caps_of, params_of, dcs_or_other, pps_or_other, with_octets, read_known, read_fields, read_content}
+use Rattle.signals.specs.Reading.{page_end_of, caps_of, params_of, dcs_or_other, pps_or_other, with_octets, read_known, read_fields}
+use Rattle.signals.specs.Reading.{read_content}
 use Rattle.signals.specs.Saying.{IsOutside, FieldsSay, Says, ReadsWhatIsSaid}
 use Rattle.signals.specs.Signals.{PlainSignal, dis, dcs, cfr, ftt, fcd, rcp, pps, ppr, mcf, rnr, rr, dcn, other}
 use Rattle.signals.specs.declared.fault.SignalFault.{SignalFault}

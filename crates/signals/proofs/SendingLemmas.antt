@@ -1,5 +1,6 @@
 -- The bits that are sent.
-use Rattle.std.proofs.Common.{◌≡◌, ℕ, ◌<◌, Bool, true, false, ◌&&◌, List, [], ◌∷◌, ◌++◌, get_or, Option, Some, None, IfSome, codes, refl, sym, ◌∙◌, ap}
+use Rattle.std.proofs.Common.{◌≡◌, ℕ, ◌<◌, Bool, true, false, ◌&&◌, List, [], ◌∷◌, ◌++◌, get_or, Option, Some, None, IfSome, codes, refl}
+use Rattle.std.proofs.Common.{sym, ◌∙◌, ap}
 use Rattle.std.proofs.lemmas.Bool.{and_parts, agree_below_at}
 use Rattle.signals.proofs.ValueNumbers.{is_found, found, is-found}
 use Rattle.std.specs.Bool.{beq}
@@ -8,10 +9,12 @@ use Rattle.page_code.specs.declared.coding.Coding.{Coding}
 use Rattle.raster.proofs.OctetBits.{octet_bits, bits_of-flat_map}
 use Rattle.raster.specs.Packed.{bits_of}
 use Rattle.raster.specs.declared.packed.Order.TheVariants.{LsbFirst}
-use Rattle.signals.proofs.EachValue.{each_speed, all_modems, each_modems, all_widths, each_width, all_codings, each_coding, all_bits, each_bit}
+use Rattle.signals.proofs.EachValue.{each_speed, all_modems, each_modems, all_widths, each_width, all_codings, each_coding, all_bits}
+use Rattle.signals.proofs.EachValue.{each_bit}
 use Rattle.signals.specs.Reading.{page_end_of}
 use Rattle.signals.specs.Saying.{control_text, has_text}
-use Rattle.signals.specs.Sending.{text_bits, digits, is_caller, dis_table, dcs_table, table_bits, page_end_text, control_for, field_bits, sent_bits, WritesTheTables, PageEndsHaveTexts}
+use Rattle.signals.specs.Sending.{text_bits, digits, is_caller, dis_table, dcs_table, table_bits, page_end_text, control_for, field_bits}
+use Rattle.signals.specs.Sending.{sent_bits, WritesTheTables, PageEndsHaveTexts}
 use Rattle.signals.specs.Signals.{PlainSignal, dis, dcs, cfr, ftt, fcd, rcp, pps, ppr, mcf, rnr, rr, dcn, other}
 use Rattle.signals.specs.Writing.{dis_fields, dcs_fields, control_octet, fields_of, head_of, content_of}
 use Rattle.signals.specs.declared.params.Caps.{Caps}

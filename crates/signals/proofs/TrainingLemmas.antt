@@ -1,5 +1,6 @@
 -- Lemmas on runs of octets 00.
-use Rattle.std.proofs.Common.{zero, suc, replicate, add-one, ◌≡◌, ◌≢◌, ◌≤◌, ◌<◌, ℕ, ◌+◌, max, List, [], ◌∷◌, length, drop, get_or, refl, sym, ◌∙◌, ap, arith}
+use Rattle.std.proofs.Common.{zero, suc, replicate, add-one, ◌≡◌, ◌≢◌, ◌≤◌, ◌<◌, ℕ, ◌+◌, max, List, [], ◌∷◌, length, drop, get_or, refl}
+use Rattle.std.proofs.Common.{sym, ◌∙◌, ap, arith}
 use Rattle.std.proofs.lemmas.List.{drop_more}
 use Rattle.std.proofs.lemmas.Bool.{ne_eqb}
 use Rattle.signals.specs.Training.{zeros_in_front, longest_zeros, training_octets, IsGoodTraining}

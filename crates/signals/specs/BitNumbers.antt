@@ -1,6 +1,7 @@
 -- What is read of a DIS and a DCS, bit by bit, by the numbers that the standard's table gives the bits; and how many octets each
 -- signal needs.
-use Rattle.std.specs.Prelude.{ℕ, ◌≡◌, ◌≢◌, ◌≤◌, ◌<◌, ◌-◌, ◌&&◌, ◌||◌, Bool, true, false, nat_le, List, [], ◌∷◌, ◌++◌, length, map, drop, take, slice_index, slice_index_or, Contains, Result, Ok, Err, codes}
+use Rattle.std.specs.Prelude.{ℕ, ◌≡◌, ◌≢◌, ◌≤◌, ◌<◌, ◌-◌, ◌&&◌, ◌||◌, Bool, true, false, nat_le, List, [], ◌∷◌, ◌++◌, length, map, drop}
+use Rattle.std.specs.Prelude.{take, slice_index, slice_index_or, Contains, Result, Ok, Err, codes}
 use Rattle.std.specs.List.{range_with_len}
 use Rattle.raster.specs.Octets.{AreOctets}
 use Rattle.raster.specs.Packed.{bits_of}

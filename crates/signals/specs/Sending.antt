@@ -1,5 +1,6 @@
 -- What is sent of a signal, bit for bit, by the tables of the standard.
-use Rattle.std.specs.Prelude.{ℕ, ◌≡◌, ◌≢◌, ◌<◌, ◌-◌, ◌↔◌, ◌&&◌, ◌||◌, Bool, true, false, cond, nat_eq, nat_le, List, [], ◌∷◌, ◌++◌, map, slice_index_or, Option, Some, None, IfSome, codes}
+use Rattle.std.specs.Prelude.{ℕ, ◌≡◌, ◌≢◌, ◌<◌, ◌-◌, ◌↔◌, ◌&&◌, ◌||◌, Bool, true, false, cond, nat_eq, nat_le, List, [], ◌∷◌, ◌++◌, map}
+use Rattle.std.specs.Prelude.{slice_index_or, Option, Some, None, IfSome, codes}
 use Rattle.std.specs.List.{range_with_len}
 use Rattle.page_code.specs.declared.coding.Coding.{Coding}
 use Rattle.page_code.specs.declared.coding.Coding.TheVariants.{OneDim, T6}
@@ -16,7 +17,8 @@ use Rattle.signals.specs.declared.params.PageWidth.{PageWidth}
 use Rattle.signals.specs.declared.params.PageWidth.TheVariants.{W1728, W2048, W2432}
 use Rattle.signals.specs.declared.params.Params.{Params}
 use Rattle.signals.specs.declared.params.Speed.{Speed}
-use Rattle.signals.specs.declared.params.Speed.TheVariants.{V27At2400, V27At4800, V29At7200, V29At9600, V17At7200, V17At9600, V17At12000, V17At14400}
+use Rattle.signals.specs.declared.params.Speed.TheVariants.{V27At2400, V27At4800, V29At7200, V29At9600, V17At7200, V17At9600, V17At12000}
+use Rattle.signals.specs.declared.params.Speed.TheVariants.{V17At14400}
 use Rattle.signals.specs.declared.control.Control.{Control}
 use Rattle.signals.specs.declared.control.Control.TheVariants.{Dis, Dcs, Cfr, Ftt, Fcd, Rcp, Pps, Ppr, Mcf, Rnr, Rr, Dcn}
 use Rattle.signals.specs.declared.signal.PageEnd.{PageEnd}

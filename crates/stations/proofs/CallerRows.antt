@@ -1,5 +1,6 @@
 -- Each row of the caller's table, on the fields: they represent the answer's tuple.
-use Rattle.std.proofs.Common.{◌≡◌, ◌≢◌, ℕ, zero, suc, ◌+◌, ◌≤◌, ◌<◌, Bool, true, false, cond, List, [], ◌∷◌, ◌++◌, length, drop, Option, Some, None, refl, ap, sym, subst, ◌∙◌, arith, append_assoc, nat_lt, inl, inr}
+use Rattle.std.proofs.Common.{◌≡◌, ◌≢◌, ℕ, zero, suc, ◌+◌, ◌≤◌, ◌<◌, Bool, true, false, cond, List, [], ◌∷◌, ◌++◌, length, drop, Option}
+use Rattle.std.proofs.Common.{Some, None, refl, ap, sym, subst, ◌∙◌, arith, append_assoc, nat_lt, inl, inr}
 use Rattle.std.specs.Prelude.{slice_get, slice_index_or, ◌⊎◌}
 use Rattle.raster.specs.Pages.{PagePixels}
 use Rattle.signals.specs.declared.params.Caps.{Caps}
@@ -13,7 +14,8 @@ use Rattle.stations.proofs.LayerLaws.{coded_some}
 use Rattle.std.proofs.lemmas.Bool.{cases_Bool, ltb-false, ltb-true}
 use Rattle.stations.specs.Blocks.{Block, page_blocks, end_before, groups_after, call_blocks, pages_past, pages_after, pages_before}
 use Rattle.stations.specs.CallerStep.{Caller, blocks_of, confirmed, answers_dis, answers_ftt, answers_rnr, goes_on, answers_mcf, all_frames}
-use Rattle.stations.specs.CallerFields.{CallerFields, AtGroup, AtBlock, HasPlace, Represents, IsSending, next_in_page, end_of_first, end_by, end_of_fields, block_of_fields}
+use Rattle.stations.specs.CallerFields.{CallerFields, AtGroup, AtBlock, HasPlace, Represents, IsSending, next_in_page, end_of_first, end_by}
+use Rattle.stations.specs.CallerFields.{end_of_fields, block_of_fields}
 use Rattle.stations.specs.declared.turn.CallerState.{CallerState}
 use Rattle.stations.specs.declared.turn.CallerState.TheVariants.{WaitDis, WaitCfr, WaitBlock, WaitReady}
 use Rattle.stations.specs.declared.turn.Turn.TheVariants.{Silent, Training as SendTraining, Burst, Rr as SendRr, Dcn as SendDcn}

@@ -1,5 +1,6 @@
 -- What the layers below promise, by their laws.
-use Rattle.std.proofs.Common.{◌≡◌, ◌≢◌, ℕ, suc, ◌+◌, ◌*◌, ◌<◌, ◌≤◌, Bool, true, false, List, [], ◌∷◌, ◌++◌, length, replicate, get_or, nat_le, Some, Ok, refl, ap, sym, ◌∙◌, arith, append-nil, append_assoc}
+use Rattle.std.proofs.Common.{◌≡◌, ◌≢◌, ℕ, suc, ◌+◌, ◌*◌, ◌<◌, ◌≤◌, Bool, true, false, List, [], ◌∷◌, ◌++◌, length, replicate, get_or}
+use Rattle.std.proofs.Common.{nat_le, Some, Ok, refl, ap, sym, ◌∙◌, arith, append-nil, append_assoc}
 use Rattle.std.specs.Prelude.{All}
 use Rattle.std.specs.List.{flat_map}
 use Rattle.std.proofs.lemmas.List.{length-append, length-replicate}
@@ -20,8 +21,10 @@ use Rattle.page_code.specs.declared.coding.Coding.{Coding}
 use Rattle.page_code.specs.declared.coding.Coding.TheVariants.{OneDim, T6}
 use Rattle.signals.specs.Agreement.{pixels_of}
 use Rattle.signals.specs.declared.params.Params.{Params}
-use Rattle.partial_page.specs.Frames.{frame_size, cut, joined as joined_cut, IsBlock, CutIsFullFrames, JoinedPageIsWithinLimit, OctetsHaveABlock}
-use Rattle.stations.specs.Layers.{code_octets, code_blocks, within_page_limit, code_within_limit, within_frame_size, page_read, IsFullPage, Fits}
+use Rattle.partial_page.specs.Frames.{frame_size, cut, joined as joined_cut, IsBlock, CutIsFullFrames, JoinedPageIsWithinLimit}
+use Rattle.partial_page.specs.Frames.{OctetsHaveABlock}
+use Rattle.stations.specs.Layers.{code_octets, code_blocks, within_page_limit, code_within_limit, within_frame_size, page_read, IsFullPage}
+use Rattle.stations.specs.Layers.{Fits}
 use Rattle.stations.specs.Blocks.{joined}
 use Rattle.stations.specs.Laws.{Each, joined_all, IsSendableFrame, IsSendable, LayersHold}
 use Rattle.raster.specs.Octets.{fill_of, packed}

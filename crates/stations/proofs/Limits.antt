@@ -1,5 +1,6 @@
 -- What an answerer keeps open stays within the limits.
-use Rattle.std.proofs.Common.{◌≡◌, ℕ, zero, suc, ◌+◌, ◌*◌, ◌≤◌, Bool, true, false, cond, Option, Some, None, List, [], ◌∷◌, ◌++◌, length, refl, ap, ◌∙◌, arith}
+use Rattle.std.proofs.Common.{◌≡◌, ℕ, zero, suc, ◌+◌, ◌*◌, ◌≤◌, Bool, true, false, cond, Option, Some, None, List, [], ◌∷◌, ◌++◌, length}
+use Rattle.std.proofs.Common.{refl, ap, ◌∙◌, arith}
 use Rattle.std.specs.Prelude.{slice_set, is_some, ◌&&◌, Result, Ok, Err}
 use Rattle.std.proofs.lemmas.Bool.{leb-true}
 use Rattle.raster.specs.Pages.{PagePixels}
@@ -13,7 +14,10 @@ use Rattle.partial_page.specs.Frames.{frame_size}
 use Rattle.partial_page.specs.Store.{no_frames, joined_frames}
 use Rattle.stations.specs.Layers.{within_page_limit, within_frame_size, is_good_training, page_read}
 use Rattle.stations.specs.Inputs.{AnswererInput, listens, trains, t2, t1, is_busy}
-use Rattle.stations.specs.AnswererStep.{Answerer, AnswererAnswer, Frames, answerer_silent, answerer_step, answerer_table, unless_answerer_ended, first_dcs, later_dcs, judges_training, keeps_frame, accepts, stores, takes_block, judges_block, answers_pps, answers_repeated, answers_rr, all_there, is_repeated, last_counted, is_clear, confirms, StepsOrRefuses, new_answerer}
+use Rattle.stations.specs.AnswererStep.{Answerer, AnswererAnswer, Frames, answerer_silent, answerer_step, answerer_table}
+use Rattle.stations.specs.AnswererStep.{unless_answerer_ended, first_dcs, later_dcs, judges_training, keeps_frame, accepts, stores}
+use Rattle.stations.specs.AnswererStep.{takes_block, judges_block, answers_pps, answers_repeated, answers_rr, all_there, is_repeated}
+use Rattle.stations.specs.AnswererStep.{last_counted, is_clear, confirms, StepsOrRefuses, new_answerer}
 use Rattle.stations.specs.declared.turn.Turn.{Turn}
 use Rattle.stations.specs.Limits.{open_octets, AreShort, IsLimited, OpenIsLimited, StepsKeepLimits}
 use Rattle.stations.specs.Runs.{answerer_after}

@@ -1,12 +1,14 @@
 -- What holds of each call block: its place, and what the octets before it and its own read as.
-use Rattle.std.proofs.Common.{◌≡◌, ◌≢◌, ℕ, zero, suc, true, false, cond, Bool, List, [], ◌∷◌, ◌++◌, length, drop, Option, Some, None, refl, sym, ap, subst, ◌∙◌, append-nil, append_assoc}
+use Rattle.std.proofs.Common.{◌≡◌, ◌≢◌, ℕ, zero, suc, true, false, cond, Bool, List, [], ◌∷◌, ◌++◌, length, drop, Option, Some, None, refl}
+use Rattle.std.proofs.Common.{sym, ap, subst, ◌∙◌, append-nil, append_assoc}
 use Rattle.std.specs.Prelude.{slice_get}
 use Rattle.raster.specs.Pages.{PagePixels}
 use Rattle.signals.specs.declared.params.Params.{Params}
 use Rattle.signals.specs.declared.signal.PageEnd.{PageEnd}
 use Rattle.signals.specs.declared.signal.PageEnd.TheVariants.{Null, Mps, Eom, Eop}
 use Rattle.stations.specs.Layers.{Document, IsFullPage, Fits, in_one_group, code_blocks, code_within_limit, page_read, within_page_limit}
-use Rattle.stations.specs.Blocks.{Block, joined, page_blocks, end_before, groups_after, call_blocks, is_page_end, pages_after, place_after, open_after, pages_before, open_before}
+use Rattle.stations.specs.Blocks.{Block, joined, page_blocks, end_before, groups_after, call_blocks, is_page_end, pages_after, place_after}
+use Rattle.stations.specs.Blocks.{open_after, pages_before, open_before}
 use Rattle.stations.specs.Laws.{Each, joined_all, IsSendable, AreReadable, LayersHold}
 use Rattle.stations.proofs.CallerRows.{length_snoc}
 

@@ -1,5 +1,6 @@
 -- Runs of a station: an ended one stays as it is, and what an answerer stores was read of what it heard.
-use Rattle.std.proofs.Common.{◌≡◌, ◌≢◌, ℕ, zero, suc, ◌+◌, true, Option, Some, None, List, [], ◌∷◌, ◌++◌, refl, ap, sym, subst, ◌∙◌, arith, append_assoc, append-nil, inl, inr}
+use Rattle.std.proofs.Common.{◌≡◌, ◌≢◌, ℕ, zero, suc, ◌+◌, true, Option, Some, None, List, [], ◌∷◌, ◌++◌, refl, ap, sym, subst, ◌∙◌, arith}
+use Rattle.std.proofs.Common.{append_assoc, append-nil, inl, inr}
 use Rattle.std.specs.Prelude.{◌⊎◌, slice_set, unwrap_or, is_some, IsSome, ◌&&◌, replicate}
 use Rattle.std.specs.List.{Contains, flat_map, range_with_len}
 use Rattle.raster.specs.Pages.{PagePixels}
@@ -15,8 +16,12 @@ use Rattle.stations.specs.Blocks.{joined}
 use Rattle.stations.specs.Laws.{Each, ReadsByGrammar}
 use Rattle.stations.specs.Inputs.{CallerInput, AnswererInput, listens, trains, t2, t1, is_busy}
 use Rattle.stations.specs.CallerStep.{Caller, caller_step, caller_silent, unless_caller_ended}
-use Rattle.stations.specs.AnswererStep.{Answerer, AnswererAnswer, Frames, answerer_silent, answerer_step, answerer_table, unless_answerer_ended, first_dcs, later_dcs, judges_training, keeps_frame, accepts, stores, takes_block, answers_pps, answers_repeated, answers_rr, all_there, is_repeated, last_counted, is_clear, confirms, new_answerer}
-use Rattle.stations.specs.Runs.{answerer_after, EndedCallerStays, EndedAnswererStays, IsHeard, AreJoined, IsReadOf, StoredIsRead, StepsStoreOpen, IsAllowedDcs, KeptIsReady, StaysReady}
+use Rattle.stations.specs.AnswererStep.{Answerer, AnswererAnswer, Frames, answerer_silent, answerer_step, answerer_table}
+use Rattle.stations.specs.AnswererStep.{unless_answerer_ended, first_dcs, later_dcs, judges_training, keeps_frame, accepts, stores}
+use Rattle.stations.specs.AnswererStep.{takes_block, answers_pps, answers_repeated, answers_rr, all_there, is_repeated, last_counted}
+use Rattle.stations.specs.AnswererStep.{is_clear, confirms, new_answerer}
+use Rattle.stations.specs.Runs.{answerer_after, EndedCallerStays, EndedAnswererStays, IsHeard, AreJoined, IsReadOf, StoredIsRead}
+use Rattle.stations.specs.Runs.{StepsStoreOpen, IsAllowedDcs, KeptIsReady, StaysReady}
 use Rattle.stations.specs.declared.mark.Mark.{Mark}
 use Rattle.stations.specs.declared.turn.AnswererState.{AnswererState}
 use Rattle.stations.specs.declared.turn.AnswererState.TheVariants.{PhaseB, WaitTraining, Message}

@@ -1,10 +1,12 @@
 -- What is agreed, what is tried, and what is written, by the laws of signals.
-use Rattle.std.proofs.Common.{◌≡◌, suc, ◌+◌, ◌*◌, ◌≤◌, Bool, true, false, nat_eq, Option, Some, None, Ok, Err, Result, IfOk, refl, ap, sym, subst, ◌∙◌, arith}
+use Rattle.std.proofs.Common.{◌≡◌, suc, ◌+◌, ◌*◌, ◌≤◌, Bool, true, false, nat_eq, Option, Some, None, Ok, Err, Result, IfOk, refl, ap, sym}
+use Rattle.std.proofs.Common.{subst, ◌∙◌, arith}
 use Rattle.std.specs.Bool.{beq}
 use Rattle.std.specs.Option.{option_map}
 use Rattle.std.proofs.lemmas.Bool.{and_parts, le-leb, eqb-true}
 use Rattle.raster.specs.Pages.{PagePixels}
-use Rattle.signals.specs.Agreement.{pixels_of, agreed, allowed, lower_speed, speeds_below, BeginsAtMostFiveAbove, GoesDownByOne, AgreedIsAllowed, AgreedFits, WidthsHavePixels, width_of_pixels}
+use Rattle.signals.specs.Agreement.{pixels_of, agreed, allowed, lower_speed, speeds_below, BeginsAtMostFiveAbove, GoesDownByOne}
+use Rattle.signals.specs.Agreement.{AgreedIsAllowed, AgreedFits, WidthsHavePixels, width_of_pixels}
 use Rattle.signals.specs.Training.{training_octets, longest_zeros, TrainingChecksAreGood}
 use Rattle.signals.specs.declared.agreement.NotCompatible.{NotCompatible}
 use Rattle.signals.specs.declared.params.Caps.{Caps}

@@ -12,11 +12,14 @@ use Rattle.stations.specs.Layers.{agreed_for, lowered}
 use Rattle.stations.specs.Blocks.{Block}
 use Rattle.stations.specs.Laws.{SpeedsHold}
 use Rattle.stations.specs.Inputs.{CallerInput, hears, timeout, t5}
-use Rattle.stations.specs.CallerStep.{Caller, blocks_of, confirmed, caller_table, caller_silent, caller_gives_up, tries_again, goes_on, goes_on_or_waits, ends_group, answers_dis, answers_ftt, answers_mcf, answers_ppr, answers_rnr, unless_caller_ended, caller_step}
+use Rattle.stations.specs.CallerStep.{Caller, blocks_of, confirmed, caller_table, caller_silent, caller_gives_up, tries_again, goes_on}
+use Rattle.stations.specs.CallerStep.{goes_on_or_waits, ends_group, answers_dis, answers_ftt, answers_mcf, answers_ppr, answers_rnr}
+use Rattle.stations.specs.CallerStep.{unless_caller_ended, caller_step}
 use Rattle.stations.specs.declared.turn.CallerState.{CallerState}
 use Rattle.stations.specs.declared.turn.CallerState.TheVariants.{WaitDis, WaitCfr, WaitBlock, WaitReady}
 use Rattle.stations.specs.declared.turn.End.{End}
-use Rattle.stations.specs.declared.turn.End.TheVariants.{Normal, NoAnswer, NotCompatible, Training as BadTraining, NoReply, Unreadable, StillBusy, PeerLeft, PageTooLong}
+use Rattle.stations.specs.declared.turn.End.TheVariants.{Normal, NoAnswer, NotCompatible, Training as BadTraining, NoReply, Unreadable}
+use Rattle.stations.specs.declared.turn.End.TheVariants.{StillBusy, PeerLeft, PageTooLong}
 use Rattle.stations.specs.declared.turn.Turn.TheVariants.{Silent, Training as SendTraining, Pps as SendPps, Rr as SendRr}
 use Rattle.stations.specs.Left.{dcs_in, pps_in, StartsBlock, Spends, StepsSpend, SpendsOrRefuses}
 use Rattle.stations.specs.CallerFields.{CallerFields, AnswersOrRefuses}

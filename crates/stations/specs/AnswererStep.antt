@@ -1,5 +1,6 @@
 -- The answering station: a tuple and its one step.
-use Rattle.std.specs.Prelude.{◌≡◌, ◌⊎◌, Result, Ok, Err, ℕ, zero, suc, ◌+◌, Bool, true, false, cond, not, ◌&&◌, List, [], ◌∷◌, ◌++◌, map, slice_set, Option, Some, None, is_some, nat_eq, max}
+use Rattle.std.specs.Prelude.{◌≡◌, ◌⊎◌, Result, Ok, Err, ℕ, zero, suc, ◌+◌, Bool, true, false, cond, not, ◌&&◌, List, [], ◌∷◌, ◌++◌, map}
+use Rattle.std.specs.Prelude.{slice_set, Option, Some, None, is_some, nat_eq, max}
 use Rattle.std.specs.List.{range_with_len, list_all}
 use Rattle.raster.specs.Pages.{PagePixels}
 use Rattle.signals.specs.Agreement.{allowed}
@@ -20,7 +21,8 @@ use Rattle.stations.specs.declared.turn.AnswererState.TheVariants.{PhaseB, WaitT
 use Rattle.stations.specs.declared.turn.End.{End}
 use Rattle.stations.specs.declared.turn.End.TheVariants.{Normal, NoAnswer, PeerLeft, BadPage}
 use Rattle.stations.specs.declared.turn.Turn.{Turn}
-use Rattle.stations.specs.declared.turn.Turn.TheVariants.{Silent, Dis as SendDis, Cfr as SendCfr, Ftt as SendFtt, Mcf as SendMcf, Ppr as SendPpr, Rnr as SendRnr, Dcn as SendDcn}
+use Rattle.stations.specs.declared.turn.Turn.TheVariants.{Silent, Dis as SendDis, Cfr as SendCfr, Ftt as SendFtt, Mcf as SendMcf}
+use Rattle.stations.specs.declared.turn.Turn.TheVariants.{Ppr as SendPpr, Rnr as SendRnr, Dcn as SendDcn}
 
 -- the open frames: at each number 0 to 255 the data of its frame, where it is open
 abbrev pub Frames : Type 0

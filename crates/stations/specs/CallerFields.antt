@@ -1,6 +1,7 @@
 -- The caller's fields, and the tuples of the caller's table that they represent.
 use Rattle.std.specs.Borrow.{Bor}
-use Rattle.std.specs.Prelude.{ℕ, ◌≡◌, ◌≢◌, ◌⊎◌, ◌<◌, ◌≤◌, slice_index_or, All, IsSome, ◌+◌, suc, cond, nat_lt, List, [], ◌∷◌, ◌++◌, length, drop, Option, Some, None, Result, Ok, Err}
+use Rattle.std.specs.Prelude.{ℕ, ◌≡◌, ◌≢◌, ◌⊎◌, ◌<◌, ◌≤◌, slice_index_or, All, IsSome, ◌+◌, suc, cond, nat_lt, List, [], ◌∷◌, ◌++◌, length}
+use Rattle.std.specs.Prelude.{drop, Option, Some, None, Result, Ok, Err}
 use Rattle.raster.specs.Pages.{PagePixels}
 use Rattle.signals.specs.declared.params.Caps.{Caps}
 use Rattle.signals.specs.declared.params.Params.{Params}

@@ -17,9 +17,11 @@ use Rattle.stations.specs.Inputs.{CallerInput, hears, timeout, t5, PlainItem, fr
 use Rattle.stations.specs.declared.turn.CallerState.{CallerState}
 use Rattle.stations.specs.declared.turn.CallerState.TheVariants.{WaitDis, WaitCfr, WaitBlock, WaitReady}
 use Rattle.stations.specs.declared.turn.End.{End}
-use Rattle.stations.specs.declared.turn.End.TheVariants.{Normal, NoAnswer, NotCompatible, Training as BadTraining, NoReply, Unreadable, StillBusy, PeerLeft, PageTooLong}
+use Rattle.stations.specs.declared.turn.End.TheVariants.{Normal, NoAnswer, NotCompatible, Training as BadTraining, NoReply, Unreadable}
+use Rattle.stations.specs.declared.turn.End.TheVariants.{StillBusy, PeerLeft, PageTooLong}
 use Rattle.stations.specs.declared.turn.Turn.{Turn}
-use Rattle.stations.specs.declared.turn.Turn.TheVariants.{Silent, Training as SendTraining, Burst, Pps as SendPps, Rr as SendRr, Dcn as SendDcn}
+use Rattle.stations.specs.declared.turn.Turn.TheVariants.{Silent, Training as SendTraining, Burst, Pps as SendPps, Rr as SendRr}
+use Rattle.stations.specs.declared.turn.Turn.TheVariants.{Dcn as SendDcn}
 
 -- the caller's tuple: caps and params count from the first DIS that agrees; place is that of the present block in the call's list
 pub record Caller : Type 0 where

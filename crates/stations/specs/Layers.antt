@@ -1,5 +1,6 @@
 -- What a call does with pages, their codes and speeds, by the definitions of the layers below.
-use Rattle.std.specs.Prelude.{ℕ, ◌≡◌, ◌≤◌, ◌<◌, ◌*◌, Bool, cond, ◌&&◌, List, length, replicate, Option, Some, None, Result, Ok, Err, nat_eq, nat_le}
+use Rattle.std.specs.Prelude.{ℕ, ◌≡◌, ◌≤◌, ◌<◌, ◌*◌, Bool, cond, ◌&&◌, List, length, replicate, Option, Some, None, Result, Ok, Err, nat_eq}
+use Rattle.std.specs.Prelude.{nat_le}
 use Rattle.std.specs.Bool.{beq}
 use Rattle.std.specs.Option.{option_map}
 use Rattle.raster.specs.Octets.{packed}

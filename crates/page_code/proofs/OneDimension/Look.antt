@@ -1,5 +1,6 @@
 -- Looking at a page finds exactly the items that may come.
-use Rattle.std.proofs.Common.{ltb, ℕ, ◌≡◌, ◌<◌, ◌≤◌, Bool, true, false, List, [], ◌∷◌, ◌++◌, length, Some, None, refl, ap, ◌∙◌, arith, cond, subst}
+use Rattle.std.proofs.Common.{ltb, ℕ, ◌≡◌, ◌<◌, ◌≤◌, Bool, true, false, List, [], ◌∷◌, ◌++◌, length, Some, None, refl, ap, ◌∙◌, arith, cond}
+use Rattle.std.proofs.Common.{subst}
 use Rattle.std.specs.Prelude.{Option, Contains}
 use Rattle.std.specs.List.{list_all}
 use Rattle.std.proofs.lemmas.Bool.{false≢true, ltb-true, ltb-false, lt-ltb, le-ltb}
@@ -15,7 +16,8 @@ use Rattle.run_tables.specs.RowFronts.RowState.{inside, whole}
 use Rattle.run_tables.proofs.BeginsLemmas.{all_test}
 use Rattle.run_tables.proofs.CodeLooks.{code_complete, code_sound, code_positive}
 use Rattle.page_code.specs.OneDimension.Pages.{eol_word}
-use Rattle.page_code.specs.OneDimension.Fronts.{PageItem, item_word, PageState, put, CodeThere, Step, PageLook, zeros_before, by_eol, bits_of_five, ends_with, look_in_row, look, CodeBegins}
+use Rattle.page_code.specs.OneDimension.Fronts.{PageItem, item_word, PageState, put, CodeThere, Step, PageLook, zeros_before, by_eol}
+use Rattle.page_code.specs.OneDimension.Fronts.{bits_of_five, ends_with, look_in_row, look, CodeBegins}
 use Rattle.page_code.specs.OneDimension.Fronts.PageItem.{eol, coded}
 use Rattle.page_code.specs.OneDimension.Fronts.PageState.{first, row_start, in_row, row_end}
 use Rattle.page_code.proofs.OneDimension.ZerosBefore.{zeros_front, zeros_eol, zeros_split, length-eol}

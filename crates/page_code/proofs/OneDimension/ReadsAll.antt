@@ -1,5 +1,6 @@
 -- What spells a page is read as it.
-use Rattle.std.proofs.Common.{ltb, ℕ, ◌≡◌, ◌+◌, ◌<◌, ◌≤◌, inl, inr, Bool, List, [], ◌∷◌, ◌++◌, length, Some, None, refl, ap, sym, ◌∙◌, arith, cond, length-append, append_assoc}
+use Rattle.std.proofs.Common.{ltb, ℕ, ◌≡◌, ◌+◌, ◌<◌, ◌≤◌, inl, inr, Bool, List, [], ◌∷◌, ◌++◌, length, Some, None, refl, ap, sym, ◌∙◌}
+use Rattle.std.proofs.Common.{arith, cond, length-append, append_assoc}
 use Rattle.std.specs.Prelude.{Ok}
 use Rattle.std.proofs.lemmas.List.{length_push, append-nil}
 use Rattle.raster.specs.declared.row.Color.{Color}
@@ -10,7 +11,8 @@ use Rattle.run_tables.specs.Fronts.Look.{stop, refuse}
 use Rattle.run_tables.specs.RunWords.{SpellsRow}
 use Rattle.run_tables.proofs.FrontWalks.{Way, way_none, way_on, way_by, walk_on, spell-append}
 use Rattle.page_code.specs.OneDimension.Pages.{eol_word, eol_words, AreEols, IsLead, SpellsLater, IsEnd, ReadsAs}
-use Rattle.page_code.specs.OneDimension.Fronts.{PageItem, item_word, PageState, Step, zeros_before, bits_of_eols, bits_of_five, ends_with, look_in_row, look, reading, read_page}
+use Rattle.page_code.specs.OneDimension.Fronts.{PageItem, item_word, PageState, Step, zeros_before, bits_of_eols, bits_of_five, ends_with}
+use Rattle.page_code.specs.OneDimension.Fronts.{look_in_row, look, reading, read_page}
 use Rattle.page_code.specs.OneDimension.Fronts.PageItem.{eol}
 use Rattle.page_code.specs.OneDimension.Fronts.PageState.{first, row_start, row_end}
 use Rattle.page_code.proofs.OneDimension.ZerosBefore.{zeros_eol, zeros_none, eols_counted}

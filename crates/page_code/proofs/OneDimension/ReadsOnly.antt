@@ -1,5 +1,6 @@
 -- What is read as a page spells it.
-use Rattle.std.proofs.Common.{ltb, ℕ, suc, ◌≡◌, ◌+◌, ◌<◌, ◌≤◌, ◌⊎◌, inl, inr, Bool, true, false, List, [], ◌∷◌, ◌++◌, length, Some, None, refl, ap, sym, ◌∙◌, arith, cond, subst, length-append, append_assoc}
+use Rattle.std.proofs.Common.{ltb, ℕ, suc, ◌≡◌, ◌+◌, ◌<◌, ◌≤◌, ◌⊎◌, inl, inr, Bool, true, false, List, [], ◌∷◌, ◌++◌, length, Some, None}
+use Rattle.std.proofs.Common.{refl, ap, sym, ◌∙◌, arith, cond, subst, length-append, append_assoc}
 use Rattle.std.specs.Prelude.{Option, Ok}
 use Rattle.std.proofs.lemmas.Bool.{ltb-false}
 use Rattle.std.proofs.lemmas.List.{length_push, append-nil}
@@ -17,7 +18,8 @@ use Rattle.run_tables.proofs.FrontWalks.{stops}
 use Rattle.run_tables.proofs.CodeLooks.{code_goes, step_from_put}
 use Rattle.run_tables.proofs.RowSpelling.{Left, code_left, row_spelled}
 use Rattle.page_code.specs.OneDimension.Pages.{eol_word, eol_words, AreEols, AreZeros, IsLead, SpellsLater, IsEnd, ReadsAs}
-use Rattle.page_code.specs.OneDimension.Fronts.{PageItem, item_word, PageState, put, CodeThere, Step, PageLook, zeros_before, by_eol, bits_of_eols, bits_of_five, ends_with, look_in_row, look, reading, read_page}
+use Rattle.page_code.specs.OneDimension.Fronts.{PageItem, item_word, PageState, put, CodeThere, Step, PageLook, zeros_before, by_eol}
+use Rattle.page_code.specs.OneDimension.Fronts.{bits_of_eols, bits_of_five, ends_with, look_in_row, look, reading, read_page}
 use Rattle.page_code.specs.OneDimension.Fronts.PageItem.{eol, coded}
 use Rattle.page_code.specs.OneDimension.Fronts.PageState.{first, row_start, in_row, row_end}
 use Rattle.page_code.proofs.OneDimension.ZerosBefore.{zeros_split, none_zeros, eols_found, eols_counted}
@@ -112,7 +114,8 @@ Bounded width (row_start rows) = (IsWidth width) × (length rows ≤ 20000)
 Bounded width (in_row rows pixels color makeup) = (IsWidth width) × (length rows < 20000)
 Bounded width (row_end rows) = (IsWidth width) × (length rows ≤ 20000)
 
-put_bounded : (width : ℕ) (rows : List (List Color)) (state : RowState) → IsWidth width → length rows < 20000 → Bounded width (put rows state)
+put_bounded : (width : ℕ) (rows : List (List Color)) (state : RowState) → IsWidth width → length rows < 20000
+    → Bounded width (put rows state)
 put_bounded width rows (inside pixels color makeup) some room = (some, room)
 put_bounded width rows (whole row) some room = (some, omega (arith, length_push rows row))
 

@@ -16,7 +16,8 @@ use Rattle.run_tables.specs.RowLaws.{IsLongestFront as IsLongestRowFront}
 use Rattle.run_tables.proofs.FrontWalks.{Way, read_go, read_walk, read_seen, read_same}
 use Rattle.run_tables.proofs.CodeLooks.{step_put, refuse_put}
 use Rattle.run_tables.proofs.RowWays.{row_way}
-use Rattle.page_code.specs.OneDimension.Fronts.{PageItem, item_word, PageState, put, CodeThere, Step, bits_of_five, ends_with, look_in_row, look, reading, MayBegin, CodeBegins}
+use Rattle.page_code.specs.OneDimension.Fronts.{PageItem, item_word, PageState, put, CodeThere, Step, bits_of_five, ends_with, look_in_row}
+use Rattle.page_code.specs.OneDimension.Fronts.{look, reading, MayBegin, CodeBegins}
 use Rattle.page_code.specs.OneDimension.Fronts.PageItem.{eol, coded}
 use Rattle.page_code.specs.OneDimension.Fronts.PageState.{first, row_start, in_row, row_end}
 use Rattle.page_code.proofs.OneDimension.Look.{finds, by_eol_other}

@@ -1,5 +1,6 @@
 -- Reading a one-dimensional page row by row: which items lead over a row, where they end, and the whole rows before that.
-use Rattle.std.proofs.Common.{ℕ, ◌≡◌, ◌+◌, ◌*◌, ◌-◌, ◌<◌, ◌≤◌, Bool, false, List, [], ◌∷◌, ◌++◌, length, drop, map, None, Some, inl, inr, refl, ap, sym, ◌∙◌, subst, arith, cond, ltb, length-append, append_assoc}
+use Rattle.std.proofs.Common.{ℕ, ◌≡◌, ◌+◌, ◌*◌, ◌-◌, ◌<◌, ◌≤◌, Bool, false, List, [], ◌∷◌, ◌++◌, length, drop, map, None, Some, inl, inr}
+use Rattle.std.proofs.Common.{refl, ap, sym, ◌∙◌, subst, arith, cond, ltb, length-append, append_assoc}
 use Rattle.std.specs.Prelude.{Ok, Err, ◌⊎◌}
 use Rattle.std.proofs.lemmas.Bool.{le-ltb}
 use Rattle.std.proofs.lemmas.List.{length_push, append-nil, length-drop}
@@ -33,14 +34,16 @@ use Rattle.page_code.specs.declared.one_dim.Start.TheVariants.{Row, End, Refused
 use Rattle.page_code.specs.declared.one_dim.eol.Eol.TheVariants.{Present}
 use Rattle.page_code.specs.declared.page.Progress.{Progress}
 use Rattle.page_code.specs.OneDimension.Pages.{eol_word, IsLead, SpellsRows}
-use Rattle.page_code.specs.OneDimension.Fronts.{PageItem, item_word, PageState, PageLook, put, CodeThere, Step, zeros_before, bits_of_five, ends_with, look_in_row, look, reading, read_page, MayBegin, CodeBegins}
+use Rattle.page_code.specs.OneDimension.Fronts.{PageItem, item_word, PageState, PageLook, put, CodeThere, Step, zeros_before, bits_of_five}
+use Rattle.page_code.specs.OneDimension.Fronts.{ends_with, look_in_row, look, reading, read_page, MayBegin, CodeBegins}
 use Rattle.page_code.specs.OneDimension.Fronts.PageItem.{eol, coded}
 use Rattle.page_code.specs.OneDimension.Fronts.PageState.{first, row_start, in_row, row_end}
 use Rattle.page_code.specs.OneDimension.Reading.{FindsRow, Passes, ReadsRowOfPage, SeesEol, SeesStart, rows_of}
 use Rattle.page_code.proofs.FrontEnds.{drop_on, goes_on, leads_on, leads_rest, leads_within}
 use Rattle.page_code.proofs.OneDimension.ZerosBefore.{zeros_split, length-eol}
 use Rattle.page_code.proofs.OneDimension.Look.{finds, by_eol_other, by_eol_there}
-use Rattle.page_code.proofs.OneDimension.RowInPage.{begin_walk, begin_refused, put_refused, put_row, reading_walk, reading_stop, reading_refuse, spell-coded}
+use Rattle.page_code.proofs.OneDimension.RowInPage.{begin_walk, begin_refused, put_refused, put_row, reading_walk, reading_stop}
+use Rattle.page_code.proofs.OneDimension.RowInPage.{reading_refuse, spell-coded}
 use Rattle.page_code.proofs.OneDimension.ReadsAll.{PageWay, ends_some, later_way, lead_way}
 use Rattle.page_code.proofs.OneDimension.ReadsOnly.{reads_only}
 
@@ -158,7 +161,8 @@ leads_read width bits at end leads =
 
 passes_on : (width : ℕ) (bits : List Bool) (rows : List (List Color)) (place : ℕ) (state : PageState) (at : ℕ)
     → Kept width bits rows place → Passes bits width rows place state at → LeadsTo item_word (Step width) first state bits at
-passes_on width bits rows place state at kept passes = leads_on item_word (Step width) first (after_rows rows) bits place kept state passes.0
+passes_on width bits rows place state at kept passes = leads_on item_word (Step width) first (after_rows rows) bits place kept state
+    passes.0
     passes.1 at passes.2 passes.3 passes.4
 
 -- the page ends
@@ -231,9 +235,11 @@ row_off width bits rows place at within kind wide few kept found longest = from 
     from [] walk spelled is =
         let seen : row_look width row_begin longest.front.rest ≡ refuse kind = rw (← walk) at longest.kind_is in
         let same : at ≡ at + within = omega (arith, is) in
-        let here : look width found.0 (drop at bits) ≡ refuse kind = begin_refused width found.0 rows (drop at bits) kind found.1 found.2 (ap
+        let here : look width found.0 (drop at bits) ≡ refuse kind = begin_refused width found.0 rows (drop at bits) kind found.1 found.2
+        (ap
         (row_look width row_begin) spelled ∙ seen) in
-        ended found.0 (subst (λ n. LeadsTo item_word (Step width) first found.0 bits n) same leads) (begun_rows found.0 found.1) (subst (λ n.
+        ended found.0 (subst (λ n. LeadsTo item_word (Step width) first found.0 bits n) same leads) (begun_rows found.0 found.1) (subst
+        (λ n.
         look width found.0 (drop n bits) ≡ refuse kind) same here)
     from (code ∷ codes) walk spelled is =
         let words : spell item_word (map coded (code ∷ codes)) ≡ spell code_bits (code ∷ codes) = spell-coded (code ∷ codes) in

@@ -1,5 +1,6 @@
 -- Reading an EOL, bit by bit.
-use Rattle.std.proofs.Common.{◌⊎◌, inl, inr, subst, ℕ, suc, ◌≡◌, ◌+◌, ◌-◌, ◌*◌, ◌<◌, ◌≤◌, Bool, true, false, List, ◌∷◌, length, drop, Some, None, refl, ap, sym, ◌∙◌, arith, length-append, drop-drop}
+use Rattle.std.proofs.Common.{◌⊎◌, inl, inr, subst, ℕ, suc, ◌≡◌, ◌+◌, ◌-◌, ◌*◌, ◌<◌, ◌≤◌, Bool, true, false, List, ◌∷◌, length, drop, Some}
+use Rattle.std.proofs.Common.{None, refl, ap, sym, ◌∙◌, arith, length-append, drop-drop}
 use Rattle.std.specs.Prelude.{Option}
 use Rattle.std.specs.Option.{option_map}
 use Rattle.std.proofs.lemmas.List.{drop_more, drop_all, length-drop}

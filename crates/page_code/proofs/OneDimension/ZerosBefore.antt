@@ -1,5 +1,6 @@
 -- The 0 bits before an EOL's 1, and the EOLs that are one after the other.
-use Rattle.std.proofs.Common.{ltb, ℕ, zero, suc, ◌≡◌, ◌+◌, ◌<◌, Bool, true, false, List, [], ◌∷◌, ◌++◌, length, drop, replicate, Some, None, refl, ap, sym, ◌∙◌, arith, cond, length-append, append_assoc}
+use Rattle.std.proofs.Common.{ltb, ℕ, zero, suc, ◌≡◌, ◌+◌, ◌<◌, Bool, true, false, List, [], ◌∷◌, ◌++◌, length, drop, replicate, Some, None}
+use Rattle.std.proofs.Common.{refl, ap, sym, ◌∙◌, arith, cond, length-append, append_assoc}
 use Rattle.std.specs.Prelude.{Option, slice_index_or}
 use Rattle.std.specs.Option.{option_map}
 use Rattle.std.proofs.lemmas.Bool.{false≢true, ltb-true, ltb-false, le-ltb}

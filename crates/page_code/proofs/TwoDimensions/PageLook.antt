@@ -1,5 +1,6 @@
 -- Looking into the bits of a T.6 page finds exactly the items that may be there.
-use Rattle.std.proofs.Common.{ltb, ℕ, ◌≡◌, ◌<◌, Bool, true, false, ◌&&◌, not, List, [], ◌∷◌, ◌++◌, map, length, drop, Some, None, refl, ap, subst, ◌∙◌, cond}
+use Rattle.std.proofs.Common.{ltb, ℕ, ◌≡◌, ◌<◌, Bool, true, false, ◌&&◌, not, List, [], ◌∷◌, ◌++◌, map, length, drop, Some, None, refl, ap}
+use Rattle.std.proofs.Common.{subst, ◌∙◌, cond}
 use Rattle.std.specs.Prelude.{Option, Contains, Result, Ok, Err}
 use Rattle.std.specs.List.{list_all}
 use Rattle.std.proofs.lemmas.Bool.{and_parts, not-true, ltb-true, lt-ltb}
@@ -16,7 +17,9 @@ use Rattle.run_tables.proofs.CodeLooks.{allowed_apart, code_positive}
 use Rattle.page_code.specs.TwoDimensions.Positions.{CodingLine, line_begin}
 use Rattle.page_code.specs.TwoDimensions.Modes.{eofb}
 use Rattle.page_code.specs.declared.t6.mode.ModeCode.{ModeCode}
-use Rattle.page_code.specs.TwoDimensions.Fronts.{mode_word, mode_codes, PageItem, page_item_word, PageSoFar, PageState, after_mode, after_run, run_color, ModeStep, RunStep, PageStep, found_mode, look_mode, found_run, look_run, page_end, page_look}
+use Rattle.page_code.specs.TwoDimensions.Fronts.{mode_word, mode_codes, PageItem, page_item_word, PageSoFar, PageState, after_mode}
+use Rattle.page_code.specs.TwoDimensions.Fronts.{after_run, run_color, ModeStep, RunStep, PageStep, found_mode, look_mode, found_run}
+use Rattle.page_code.specs.TwoDimensions.Fronts.{look_run, page_end, page_look}
 use Rattle.page_code.specs.TwoDimensions.Fronts.PageItem.{mode_item, run_item}
 use Rattle.page_code.specs.TwoDimensions.Fronts.PageState.{between, inside, running}
 

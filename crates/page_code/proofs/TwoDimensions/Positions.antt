@@ -1,12 +1,14 @@
 -- The least places b1, b2, a1 and a2 exist, are the ones that the search finds, and are the only ones.
-use Rattle.std.proofs.Common.{ℕ, zero, suc, ◌≡◌, ◌+◌, ◌-◌, ◌<◌, ◌≤◌, inl, inr, min, Bool, true, false, not, List, length, refl, ap, sym, ◌∙◌, arith, cond}
+use Rattle.std.proofs.Common.{ℕ, zero, suc, ◌≡◌, ◌+◌, ◌-◌, ◌<◌, ◌≤◌, inl, inr, min, Bool, true, false, not, List, length, refl, ap, sym}
+use Rattle.std.proofs.Common.{◌∙◌, arith, cond}
 use Rattle.std.specs.Prelude.{◌≢◌}
 use Rattle.std.proofs.lemmas.Bool.{false≢true, cases_order, and_parts, and_from}
 use Rattle.raster.specs.declared.row.Color.{Color}
 use Rattle.raster.specs.declared.row.Color.TheVariants.{White, Black}
 use Rattle.raster.specs.Pixels.{other}
 use Rattle.raster.specs.Changes.{color_at, color_before, IsNextChange}
-use Rattle.page_code.specs.TwoDimensions.Positions.{CodingLine, right_of_a0, IsB1, IsB2, first_place, same_color, changes, changes_to, change_from, b1_of, b2_of}
+use Rattle.page_code.specs.TwoDimensions.Positions.{CodingLine, right_of_a0, IsB1, IsB2, first_place, same_color, changes, changes_to}
+use Rattle.page_code.specs.TwoDimensions.Positions.{change_from, b1_of, b2_of}
 
 -- Least places where a test holds
 

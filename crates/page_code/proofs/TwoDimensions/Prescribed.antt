@@ -1,5 +1,7 @@
 -- The prescribed modes of a row spell it, so the code of a page reads as the page (ITU-T T.6, 2.2.3).
-use Rattle.std.proofs.Common.{ltb, ℕ, zero, suc, ◌≡◌, ◌+◌, ◌-◌, ◌<◌, ◌≤◌, inl, inr, Bool, true, false, List, [], ◌∷◌, ◌++◌, length, take, replicate, get_or, Some, None, refl, ap, subst, sym, ◌∙◌, arith, cond, nat_eq, length-append, append_assoc, add-one, add-zero}
+use Rattle.std.proofs.Common.{ltb, ℕ, zero, suc, ◌≡◌, ◌+◌, ◌-◌, ◌<◌, ◌≤◌, inl, inr, Bool, true, false, List, [], ◌∷◌, ◌++◌, length, take}
+use Rattle.std.proofs.Common.{replicate, get_or, Some, None, refl, ap, subst, sym, ◌∙◌, arith, cond, nat_eq, length-append, append_assoc}
+use Rattle.std.proofs.Common.{add-one, add-zero}
 use Rattle.std.specs.Prelude.{Option}
 use Rattle.std.specs.List.{AllByRecursion}
 use Rattle.std.proofs.lemmas.Bool.{ltb-true, eqb-true, eqb-false, cases_eq, cases_lt}
@@ -10,9 +12,11 @@ use Rattle.raster.specs.Pixels.{other}
 use Rattle.raster.specs.Changes.{color_at, color_before, IsChanging, IsNextChange}
 use Rattle.page_code.specs.TwoDimensions.Positions.{CodingLine, line_begin, white_line, right_of_a0, filled_to, IsB1, IsB2, b1_of, b2_of}
 use Rattle.page_code.specs.declared.t6.mode.Shift.{Shift}
-use Rattle.page_code.specs.TwoDimensions.Modes.{to_right, to_left, eofb, Mode, mode_words, IsStep, SpellsLine, SpellsRow, SpellsRows, ReadsAsPage}
+use Rattle.page_code.specs.TwoDimensions.Modes.{to_right, to_left, eofb, Mode, mode_words, IsStep, SpellsLine, SpellsRow, SpellsRows}
+use Rattle.page_code.specs.TwoDimensions.Modes.{ReadsAsPage}
 use Rattle.page_code.specs.TwoDimensions.Modes.Mode.{pass, vertical, horizontal}
-use Rattle.page_code.specs.TwoDimensions.Code.{verticals, vertical_to, vertical_or, a1_of, a2_of, prescribed, moved, line_code, row_code, rows_code, page_code}
+use Rattle.page_code.specs.TwoDimensions.Code.{verticals, vertical_to, vertical_or, a1_of, a2_of, prescribed, moved, line_code, row_code}
+use Rattle.page_code.specs.TwoDimensions.Code.{rows_code, page_code}
 use Rattle.page_code.specs.TwoDimensions.Laws.{RoundTrip}
 use Rattle.page_code.specs.TwoDimensions.Writing.{IsUpTo}
 use Rattle.page_code.proofs.TwoDimensions.Positions.{b1_found, b2_found, change_found, other_than, same_unless}

@@ -1,11 +1,13 @@
 -- Reading a T.6 page, step by step: what reading before a step gives is what reading after it gives, or the refusal there.
-use Rattle.std.proofs.Common.{ℕ, ◌≡◌, ◌+◌, ◌-◌, ◌<◌, ◌≤◌, Bool, true, false, List, [], ◌∷◌, ◌++◌, length, Some, None, refl, ap, sym, ◌∙◌, arith, cond, nat_eq}
+use Rattle.std.proofs.Common.{ℕ, ◌≡◌, ◌+◌, ◌-◌, ◌<◌, ◌≤◌, Bool, true, false, List, [], ◌∷◌, ◌++◌, length, Some, None, refl, ap, sym, ◌∙◌}
+use Rattle.std.proofs.Common.{arith, cond, nat_eq}
 use Rattle.std.specs.Prelude.{Option, Contains, Ok, Err}
 use Rattle.std.proofs.lemmas.Bool.{lt-ltb, le-ltb, ne_eqb, eqb-false, false≢true}
 use Rattle.raster.specs.declared.row.Color.{Color}
 use Rattle.raster.specs.Pixels.{other}
 use Rattle.run_tables.specs.declared.fault.CodeFaultKind.{CodeFaultKind}
-use Rattle.run_tables.specs.declared.fault.CodeFaultKind.TheVariants.{NoRows, BadCode, Truncated, Backwards, PastEnd, EmptyHorizontal, Extension, MissingEofb, TooManyCodedRows}
+use Rattle.run_tables.specs.declared.fault.CodeFaultKind.TheVariants.{NoRows, BadCode, Truncated, Backwards, PastEnd, EmptyHorizontal}
+use Rattle.run_tables.specs.declared.fault.CodeFaultKind.TheVariants.{Extension, MissingEofb, TooManyCodedRows}
 use Rattle.run_tables.specs.Codes.{code_word, run_at}
 use Rattle.run_tables.specs.Texts.{begins, all_zero, pick, is_cut}
 use Rattle.run_tables.specs.Fronts.Look.{stop, refuse}
@@ -18,9 +20,12 @@ use Rattle.run_tables.proofs.CodeLooks.{allowed_apart, listed, listed_at}
 use Rattle.run_tables.proofs.RowSpelling.{run_at_low}
 use Rattle.page_code.specs.TwoDimensions.Positions.{CodingLine, line_begin, right_of_a0, filled_to, b1_of, b2_of}
 use Rattle.page_code.specs.declared.t6.mode.Shift.{Shift}
-use Rattle.page_code.specs.TwoDimensions.Modes.{to_right, to_left, vertical_word, pass_word, horizontal_word, extension_word, eofb, runs_added}
+use Rattle.page_code.specs.TwoDimensions.Modes.{to_right, to_left, vertical_word, pass_word, horizontal_word, extension_word, eofb}
+use Rattle.page_code.specs.TwoDimensions.Modes.{runs_added}
 use Rattle.page_code.specs.declared.t6.mode.ModeCode.{ModeCode}
-use Rattle.page_code.specs.TwoDimensions.Fronts.{mode_word, mode_codes, PageItem, page_item_word, PageSoFar, PageState, row_added, mode_ended, after_mode, run_color, after_run, PageStep, found_mode, look_mode, found_run, look_run, page_end, page_look, reading}
+use Rattle.page_code.specs.TwoDimensions.Fronts.{mode_word, mode_codes, PageItem, page_item_word, PageSoFar, PageState, row_added}
+use Rattle.page_code.specs.TwoDimensions.Fronts.{mode_ended, after_mode, run_color, after_run, PageStep, found_mode, look_mode, found_run}
+use Rattle.page_code.specs.TwoDimensions.Fronts.{look_run, page_end, page_look, reading}
 use Rattle.page_code.specs.declared.t6.mode.ModeCode.TheVariants.{Pass, Horizontal, Vertical}
 use Rattle.page_code.specs.TwoDimensions.Fronts.PageItem.{mode_item, run_item}
 use Rattle.page_code.specs.TwoDimensions.Fronts.PageState.{between, inside, running}

@@ -1,5 +1,6 @@
 -- What is spelled is read (ITU-T T.6, 2.2).
-use Rattle.std.proofs.Common.{ℕ, suc, ◌≡◌, ◌+◌, ◌-◌, ◌*◌, ◌/◌, ◌%◌, ◌<◌, ◌≤◌, inl, inr, Bool, true, false, List, [], ◌∷◌, ◌++◌, length, Some, None, refl, ap, sym, ◌∙◌, arith, cond, nat_eq, append_assoc}
+use Rattle.std.proofs.Common.{ℕ, suc, ◌≡◌, ◌+◌, ◌-◌, ◌*◌, ◌/◌, ◌%◌, ◌<◌, ◌≤◌, inl, inr, Bool, true, false, List, [], ◌∷◌, ◌++◌, length}
+use Rattle.std.proofs.Common.{Some, None, refl, ap, sym, ◌∙◌, arith, cond, nat_eq, append_assoc}
 use Rattle.std.specs.Prelude.{Option, Ok, Contains}
 use Rattle.std.proofs.lemmas.Bool.{lt-ltb, le-ltb, ne_eqb, eqb-true, eqb-false, cases_lt}
 use Rattle.std.proofs.lemmas.List.{length_push, append-nil}
@@ -17,11 +18,14 @@ use Rattle.run_tables.proofs.CodeLooks.{listed_at}
 use Rattle.run_tables.proofs.RowSpelling.{run_at_low, run_at_high}
 use Rattle.page_code.specs.TwoDimensions.Positions.{CodingLine, line_begin, right_of_a0, white_line, b1_of, b2_of}
 use Rattle.page_code.specs.declared.t6.mode.Shift.{Shift}
-use Rattle.page_code.specs.TwoDimensions.Modes.{to_right, to_left, horizontal_word, eofb, Mode, mode_words, IsStep, SpellsLine, SpellsRow, SpellsRows, ReadsAsPage}
+use Rattle.page_code.specs.TwoDimensions.Modes.{to_right, to_left, horizontal_word, eofb, Mode, mode_words, IsStep, SpellsLine, SpellsRow}
+use Rattle.page_code.specs.TwoDimensions.Modes.{SpellsRows, ReadsAsPage}
 use Rattle.page_code.specs.declared.t6.mode.Shift.TheVariants.{V0, VR1, VR2, VR3, VL1, VL2, VL3}
 use Rattle.page_code.specs.TwoDimensions.Modes.Mode.{pass, vertical, horizontal}
 use Rattle.page_code.specs.declared.t6.mode.ModeCode.{ModeCode}
-use Rattle.page_code.specs.TwoDimensions.Fronts.{mode_word, mode_codes, page_item_word, PageSoFar, PageState, page_begin, row_added, mode_ended, after_mode, run_color, run_ended, after_run, ModeStep, PageStep, page_end, page_look, reading, read_page}
+use Rattle.page_code.specs.TwoDimensions.Fronts.{mode_word, mode_codes, page_item_word, PageSoFar, PageState, page_begin, row_added}
+use Rattle.page_code.specs.TwoDimensions.Fronts.{mode_ended, after_mode, run_color, run_ended, after_run, ModeStep, PageStep, page_end}
+use Rattle.page_code.specs.TwoDimensions.Fronts.{page_look, reading, read_page}
 use Rattle.page_code.specs.declared.t6.mode.ModeCode.TheVariants.{Pass, Horizontal, Vertical}
 use Rattle.page_code.specs.TwoDimensions.Fronts.PageItem.{mode_item, run_item}
 use Rattle.page_code.specs.TwoDimensions.Fronts.PageState.{between, inside, running}

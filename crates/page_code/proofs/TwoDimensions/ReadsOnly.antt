@@ -1,11 +1,13 @@
 -- What is read is so spelled (ITU-T T.6, 2.2).
-use Rattle.std.proofs.Common.{ltb, ℕ, suc, ◌≡◌, ◌+◌, ◌-◌, ◌<◌, ◌≤◌, Bool, true, false, List, [], ◌∷◌, ◌++◌, length, drop, Some, None, refl, sym, ◌∙◌, arith, cond, nat_eq, length-append, append_assoc}
+use Rattle.std.proofs.Common.{ltb, ℕ, suc, ◌≡◌, ◌+◌, ◌-◌, ◌<◌, ◌≤◌, Bool, true, false, List, [], ◌∷◌, ◌++◌, length, drop, Some, None, refl}
+use Rattle.std.proofs.Common.{sym, ◌∙◌, arith, cond, nat_eq, length-append, append_assoc}
 use Rattle.std.specs.Prelude.{Option, Result, Ok, Err}
 use Rattle.std.proofs.lemmas.List.{length_push, append-nil}
 use Rattle.raster.specs.declared.row.Color.{Color}
 use Rattle.raster.specs.Pixels.{other}
 use Rattle.run_tables.specs.declared.fault.CodeFaultKind.{CodeFaultKind}
-use Rattle.run_tables.specs.declared.fault.CodeFaultKind.TheVariants.{BadCode, Truncated, MissingEofb, TooManyCodedRows, PastEnd, Backwards, EmptyHorizontal}
+use Rattle.run_tables.specs.declared.fault.CodeFaultKind.TheVariants.{BadCode, Truncated, MissingEofb, TooManyCodedRows, PastEnd, Backwards}
+use Rattle.run_tables.specs.declared.fault.CodeFaultKind.TheVariants.{EmptyHorizontal}
 use Rattle.run_tables.specs.Texts.{begins, all_zero}
 use Rattle.run_tables.specs.Fronts.{Walk, spell}
 use Rattle.run_tables.specs.Fronts.Look.{stop, refuse}
@@ -16,7 +18,9 @@ use Rattle.run_tables.proofs.FrontWalks.{stops}
 use Rattle.page_code.specs.TwoDimensions.Positions.{CodingLine, line_begin, right_of_a0, filled_to, white_line, b1_of, b2_of}
 use Rattle.page_code.specs.TwoDimensions.Modes.{to_right, to_left, eofb, runs_added, ReadsAsPage}
 use Rattle.page_code.specs.declared.t6.mode.ModeCode.{ModeCode}
-use Rattle.page_code.specs.TwoDimensions.Fronts.{PageItem, page_item_word, PageSoFar, PageState, page_begin, row_added, mode_ended, after_mode, run_ended, after_run, PageStep, look_mode, page_end, page_look, reading, read_page}
+use Rattle.page_code.specs.TwoDimensions.Fronts.{PageItem, page_item_word, PageSoFar, PageState, page_begin, row_added, mode_ended}
+use Rattle.page_code.specs.TwoDimensions.Fronts.{after_mode, run_ended, after_run, PageStep, look_mode, page_end, page_look, reading}
+use Rattle.page_code.specs.TwoDimensions.Fronts.{read_page}
 use Rattle.page_code.specs.declared.t6.mode.ModeCode.TheVariants.{Pass, Horizontal, Vertical}
 use Rattle.page_code.specs.TwoDimensions.Fronts.PageItem.{mode_item, run_item}
 use Rattle.page_code.specs.TwoDimensions.Fronts.PageState.{between, inside, running}

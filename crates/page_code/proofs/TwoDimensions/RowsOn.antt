@@ -1,5 +1,6 @@
 -- Reading a T.6 page row by row: which items lead over a row, where they end, and the whole rows before that.
-use Rattle.std.proofs.Common.{ltb, ℕ, suc, ◌≡◌, ◌+◌, ◌-◌, ◌*◌, ◌<◌, ◌≤◌, Bool, true, false, List, [], ◌∷◌, ◌++◌, length, drop, replicate, Some, None, inl, inr, refl, ap, sym, ◌∙◌, subst, arith, cond, nat_eq, length-append}
+use Rattle.std.proofs.Common.{ltb, ℕ, suc, ◌≡◌, ◌+◌, ◌-◌, ◌*◌, ◌<◌, ◌≤◌, Bool, true, false, List, [], ◌∷◌, ◌++◌, length, drop, replicate}
+use Rattle.std.proofs.Common.{Some, None, inl, inr, refl, ap, sym, ◌∙◌, subst, arith, cond, nat_eq, length-append}
 use Rattle.std.specs.Prelude.{Option, Result, Ok, Err, All, ◌⊎◌}
 use Rattle.std.proofs.lemmas.Bool.{lt-ltb}
 use Rattle.std.proofs.lemmas.List.{length_push, append-nil, append_cancel_left, append_cancel_right, length-replicate}
@@ -32,7 +33,9 @@ use Rattle.page_code.specs.Codings.{read_rows}
 use Rattle.page_code.specs.RowsSoFar.{AreRowsSoFar, BeginWith, IsFurther, IsReadTo, LeadsTo, ReadsOn, between_rows}
 use Rattle.page_code.specs.TwoDimensions.Positions.{CodingLine, line_begin, white_line, right_of_a0, filled_to, b1_of, b2_of}
 use Rattle.page_code.specs.TwoDimensions.Modes.{to_right, to_left, eofb, runs_added, SpellsRows}
-use Rattle.page_code.specs.TwoDimensions.Fronts.{PageItem, page_item_word, PageSoFar, PageState, page_begin, row_added, mode_ended, after_mode, run_ended, after_run, PageStep, PageLook, page_end, page_look, reading, read_page}
+use Rattle.page_code.specs.TwoDimensions.Fronts.{PageItem, page_item_word, PageSoFar, PageState, page_begin, row_added, mode_ended}
+use Rattle.page_code.specs.TwoDimensions.Fronts.{after_mode, run_ended, after_run, PageStep, PageLook, page_end, page_look, reading}
+use Rattle.page_code.specs.TwoDimensions.Fronts.{read_page}
 use Rattle.page_code.specs.TwoDimensions.Fronts.PageItem.{mode_item, run_item}
 use Rattle.page_code.specs.TwoDimensions.Fronts.PageState.{between, inside, running}
 use Rattle.page_code.specs.TwoDimensions.Reading.{ReadsRow, RowStep, SeesStart, row_look, row_reading}

@@ -1,5 +1,6 @@
 -- Reading a T.6 page by its parts: mode codes, runs, modes and rows.
-use Rattle.std.proofs.Common.{ℕ, suc, ◌≡◌, ◌+◌, ◌-◌, ◌<◌, ◌≤◌, ◌⊎◌, inl, inr, Bool, true, false, ◌&&◌, not, List, [], ◌∷◌, ◌++◌, length, drop, replicate, Some, None, refl, ap, subst, sym, ◌∙◌, arith, cond, length-append, drop-cons, add-one}
+use Rattle.std.proofs.Common.{ℕ, suc, ◌≡◌, ◌+◌, ◌-◌, ◌<◌, ◌≤◌, ◌⊎◌, inl, inr, Bool, true, false, ◌&&◌, not, List, [], ◌∷◌, ◌++◌, length}
+use Rattle.std.proofs.Common.{drop, replicate, Some, None, refl, ap, subst, sym, ◌∙◌, arith, cond, length-append, drop-cons, add-one}
 use Rattle.std.specs.Prelude.{Option, Contains, Result, Ok, Err, slice_get, slice_index_or}
 use Rattle.std.specs.Option.{option_map}
 use Rattle.std.proofs.lemmas.Bool.{lt-ltb, le-ltb, ne_eqb, cases_eq}
@@ -30,12 +31,15 @@ use Rattle.page_code.specs.declared.t6.mode.Shift.{Shift}
 use Rattle.page_code.specs.declared.t6.mode.Shift.TheVariants.{V0, VR1, VR2, VR3, VL1, VL2, VL3}
 use Rattle.page_code.specs.declared.t6.mode.ModeCode.{ModeCode}
 use Rattle.page_code.specs.declared.t6.mode.ModeCode.TheVariants.{Pass, Horizontal, Vertical}
-use Rattle.page_code.specs.TwoDimensions.Positions.{a0_of, right_of, CodingLine, line_begin, white_line, right_of_a0, filled_to, IsFirstTo, IsB1, b1_of, b2_of}
+use Rattle.page_code.specs.TwoDimensions.Positions.{a0_of, right_of, CodingLine, line_begin, white_line, right_of_a0, filled_to, IsFirstTo}
+use Rattle.page_code.specs.TwoDimensions.Positions.{IsB1, b1_of, b2_of}
 use Rattle.page_code.specs.TwoDimensions.Modes.{to_right, to_left, eofb, runs_added}
-use Rattle.page_code.specs.TwoDimensions.Fronts.{mode_word, mode_codes, PageSoFar, PageState, page_begin, row_added, mode_ended, after_mode, run_color, run_ended, after_run, found_run, look_run}
+use Rattle.page_code.specs.TwoDimensions.Fronts.{mode_word, mode_codes, PageSoFar, PageState, page_begin, row_added, mode_ended, after_mode}
+use Rattle.page_code.specs.TwoDimensions.Fronts.{run_color, run_ended, after_run, found_run, look_run}
 use Rattle.page_code.specs.TwoDimensions.Fronts.PageItem.{run_item}
 use Rattle.page_code.specs.TwoDimensions.Fronts.PageState.{between, inside, running}
-use Rattle.page_code.specs.TwoDimensions.Reading.{row_reading, ReadsMode, HasRoom, ReadsRun, LeadsOn, MovesTo, ReadsHorizontal, StepsOn, ReadsRow, missing_mode}
+use Rattle.page_code.specs.TwoDimensions.Reading.{row_reading, ReadsMode, HasRoom, ReadsRun, LeadsOn, MovesTo, ReadsHorizontal, StepsOn}
+use Rattle.page_code.specs.TwoDimensions.Reading.{ReadsRow, missing_mode}
 use Rattle.page_code.specs.TwoDimensions.Writing.{reference_at}
 use Rattle.page_code.proofs.TwoDimensions.Positions.{b1_is, b2_is}
 use Rattle.page_code.proofs.TwoDimensions.Prescribed.{other_twice}
@@ -116,14 +120,17 @@ module _ (width : ℕ) (page : PageSoFar) (line : CodingLine) (first makeup : Op
   code_read : (color : Color) → run_color line first ≡ color → (place : ℕ) (bits : List Bool) (run : ℕ) (t : PageState)
       → pick (code_word color) (first_runs (codes_after makeup)) (drop place bits) ≡ Some run
       → after_run width page line first makeup run ≡ Ok t
-      → row_reading width (running page line first makeup) place (drop place bits) ≡ row_reading width t (place + length (code_word color run))
+      → row_reading width (running page line first makeup) place (drop place bits) ≡ row_reading width t (place + length (code_word color
+      run))
       (drop (place + length (code_word color run)) bits)
   code_read color is place bits run t found leads = subst (λ (c : Color). pick (code_word c) (first_runs (codes_after makeup)) (drop place
-      bits) ≡ Some run → row_reading width (running page line first makeup) place (drop place bits) ≡ row_reading width t (place + length (code_word
+      bits) ≡ Some run → row_reading width (running page line first makeup) place (drop place bits) ≡ row_reading width t (place + length
+      (code_word
       c run)) (drop (place + length (code_word c run)) bits)) is here found
     where
       here : pick (code_word (run_color line first)) (first_runs (codes_after makeup)) (drop place bits) ≡ Some run
-          → row_reading width (running page line first makeup) place (drop place bits) ≡ row_reading width t (place + length (code_word (run_color
+          → row_reading width (running page line first makeup) place (drop place bits) ≡ row_reading width t (place + length (code_word
+          (run_color
           line first) run)) (drop (place + length (code_word (run_color line first) run)) bits)
       here found =
           let there = pick_sound run_item_word (allowed (run_color line first) makeup) (run_code (run_color line first) run) (drop place
@@ -221,13 +228,15 @@ low_run_read color room old new run picks fits low =
 high_run_read : (color : Color) (room : ℕ) (old mid : Reading) (high : ℕ) → PicksCode color AllCodes old mid (Ok high) → high ≤ room
     → 64 ≤ high → (mid.bits ≡ old.bits) × (old.place < mid.place)
     × ((width : ℕ) (page : PageSoFar) (line : CodingLine) (first : Option ℕ) → HasRoom width line first color room
-    → row_reading width (running page line first None) old.place (rest_of old) ≡ row_reading width (running page line first (Some high)) mid.place
+    → row_reading width (running page line first None) old.place (rest_of old) ≡ row_reading width (running page line first (Some high))
+    mid.place
     (rest_of mid))
 high_run_read color room old mid high picks fits up =
     let on = went_on color None old high picks.0 in
     subst (λ (m : Reading). (m.bits ≡ old.bits) × (old.place < m.place)
     × ((width : ℕ) (page : PageSoFar) (line : CodingLine) (first : Option ℕ) → HasRoom width line first color room
-    → row_reading width (running page line first None) old.place (rest_of old) ≡ row_reading width (running page line first (Some high)) m.place
+    → row_reading width (running page line first None) old.place (rest_of old) ≡ row_reading width (running page line first (Some high))
+    m.place
     (rest_of m))) (sym picks.1) (
       refl,
       omega (arith, on.0),
@@ -590,29 +599,34 @@ horizontal_steps reference old mid new line next (Err fault) within reads (inr r
 -- one mode more of a row
 pub row_steps : (reference : List Color) (start old new : Reading) (line next : CodingLine) → length line.pixels < length reference
     → ((page : PageSoFar) → page.reference ≡ reference
-    → row_reading (length reference) (inside page line_begin) start.place (rest_of start) ≡ row_reading (length reference) (mode_ended (length
+    → row_reading (length reference) (inside page line_begin) start.place (rest_of start) ≡ row_reading (length reference) (mode_ended
+    (length
     reference) page line) old.place (rest_of old)) → StepsOn reference old new line next (Ok tt) → (page : PageSoFar)
     → page.reference ≡ reference → row_reading (length reference) (inside page line_begin) start.place (rest_of start) ≡ row_reading (length
     reference) (mode_ended (length reference) page next) new.place (rest_of new)
 row_steps reference start old new line next short before step page is =
-    before page is ∙ (ap (λ (s : PageState). row_reading (length reference) s old.place (rest_of old)) (mode_ended_short (length reference) page
+    before page is ∙ (ap (λ (s : PageState). row_reading (length reference) s old.place (rest_of old)) (mode_ended_short (length reference)
+    page
     line short) ∙ step.4 page is)
 
 pub row_stays : (reference : List Color) (start old new : Reading) (line next : CodingLine) (fault : CodeFault)
     → length line.pixels < length reference → ((page : PageSoFar) → page.reference ≡ reference
-    → row_reading (length reference) (inside page line_begin) start.place (rest_of start) ≡ row_reading (length reference) (mode_ended (length
+    → row_reading (length reference) (inside page line_begin) start.place (rest_of start) ≡ row_reading (length reference) (mode_ended
+    (length
     reference) page line) old.place (rest_of old)) → StepsOn reference old new line next (Err fault)
     → (fault.kind ≡ NoMemory) ⊎ ((page : PageSoFar) → page.reference ≡ reference
     → row_reading (length reference) (inside page line_begin) start.place (rest_of start) ≡ Err (fault.place, fault.kind))
 row_stays reference start old new line next fault short before (inl memory) = inl memory
 row_stays reference start old new line next fault short before (inr step) =
-    inr (λ page is. before page is ∙ (ap (λ (s : PageState). row_reading (length reference) s old.place (rest_of old)) (mode_ended_short (length
+    inr (λ page is. before page is ∙ (ap (λ (s : PageState). row_reading (length reference) s old.place (rest_of old)) (mode_ended_short
+    (length
     reference) page line short) ∙ step page is))
 
 -- a row before its first mode
 pub row_starts : (reference : List Color) (start now : Reading) (line : CodingLine) → 0 < length reference → now ≡ start
     → line ≡ line_begin → (page : PageSoFar) → page.reference ≡ reference
-    → row_reading (length reference) (inside page line_begin) start.place (rest_of start) ≡ row_reading (length reference) (mode_ended (length
+    → row_reading (length reference) (inside page line_begin) start.place (rest_of start) ≡ row_reading (length reference) (mode_ended
+    (length
     reference) page line) now.place (rest_of now)
 row_starts reference start now line some same begins page is = rw (same, begins) (ap (λ (s : PageState). row_reading (length reference) s
     start.place (rest_of start)) (sym (mode_ended_short (length reference) page line_begin (omega arith))))

@@ -1,5 +1,6 @@
 -- What a T.6 reader has left of a page at each state: an item that may be there, before what is left after it, is what was left.
-use Rattle.std.proofs.Common.{ltb, ℕ, ◌≡◌, ◌+◌, ◌-◌, ◌*◌, ◌<◌, ◌≤◌, inl, inr, Bool, true, false, List, [], ◌∷◌, ◌++◌, length, Some, None, refl, ap, sym, ◌∙◌, arith, cond, nat_eq, length-append, append_assoc}
+use Rattle.std.proofs.Common.{ltb, ℕ, ◌≡◌, ◌+◌, ◌-◌, ◌*◌, ◌<◌, ◌≤◌, inl, inr, Bool, true, false, List, [], ◌∷◌, ◌++◌, length, Some, None}
+use Rattle.std.proofs.Common.{refl, ap, sym, ◌∙◌, arith, cond, nat_eq, length-append, append_assoc}
 use Rattle.std.specs.Prelude.{Option, Result, Ok, Err}
 use Rattle.std.proofs.lemmas.Bool.{ltb-true, ltb-false, eqb-true, eqb-false, cases_lt}
 use Rattle.raster.specs.declared.row.Color.{Color}
@@ -13,10 +14,12 @@ use Rattle.run_tables.proofs.CodeLooks.{listed}
 use Rattle.run_tables.proofs.RowSpelling.{IsRunRest, rest_low, rest_high, run_at_low, run_at_high}
 use Rattle.page_code.specs.TwoDimensions.Positions.{CodingLine, line_begin, right_of_a0, filled_to, IsB1, IsB2, b1_of, b2_of}
 use Rattle.page_code.specs.declared.t6.mode.Shift.{Shift}
-use Rattle.page_code.specs.TwoDimensions.Modes.{to_right, to_left, pass_word, horizontal_word, vertical_word, eofb, Mode, mode_words, runs_added, IsStep, SpellsLine, SpellsRows}
+use Rattle.page_code.specs.TwoDimensions.Modes.{to_right, to_left, pass_word, horizontal_word, vertical_word, eofb, Mode, mode_words}
+use Rattle.page_code.specs.TwoDimensions.Modes.{runs_added, IsStep, SpellsLine, SpellsRows}
 use Rattle.page_code.specs.TwoDimensions.Modes.Mode.{pass, vertical, horizontal}
 use Rattle.page_code.specs.declared.t6.mode.ModeCode.{ModeCode}
-use Rattle.page_code.specs.TwoDimensions.Fronts.{mode_word, PageItem, page_item_word, PageSoFar, PageState, row_added, mode_ended, after_mode, run_color, run_ended, after_run, PageStep}
+use Rattle.page_code.specs.TwoDimensions.Fronts.{mode_word, PageItem, page_item_word, PageSoFar, PageState, row_added, mode_ended}
+use Rattle.page_code.specs.TwoDimensions.Fronts.{after_mode, run_color, run_ended, after_run, PageStep}
 use Rattle.page_code.specs.declared.t6.mode.ModeCode.TheVariants.{Pass, Horizontal, Vertical}
 use Rattle.page_code.specs.TwoDimensions.Fronts.PageItem.{mode_item, run_item}
 use Rattle.page_code.specs.TwoDimensions.Fronts.PageState.{between, inside, running}

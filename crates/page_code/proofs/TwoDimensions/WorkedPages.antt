@@ -3,7 +3,8 @@ use Rattle.std.proofs.Common.{◌≡◌, List, [], ◌∷◌, ◌++◌, replicat
 use Rattle.std.specs.Prelude.{Ok, Err, codes}
 use Rattle.raster.specs.declared.row.Color.{Color}
 use Rattle.raster.specs.declared.row.Color.TheVariants.{White, Black}
-use Rattle.run_tables.specs.declared.fault.CodeFaultKind.TheVariants.{NoRows, BadCode, Truncated, Backwards, PastEnd, EmptyHorizontal, Extension, MissingEofb}
+use Rattle.run_tables.specs.declared.fault.CodeFaultKind.TheVariants.{NoRows, BadCode, Truncated, Backwards, PastEnd, EmptyHorizontal}
+use Rattle.run_tables.specs.declared.fault.CodeFaultKind.TheVariants.{Extension, MissingEofb}
 use Rattle.run_tables.specs.Codes.{text, code_word}
 use Rattle.run_tables.specs.RowFronts.{run_items}
 use Rattle.page_code.specs.TwoDimensions.Positions.{change_from, b1_of, white_line}

@@ -1,5 +1,6 @@
 -- The prescribed modes of a row, and the code of a page by them (ITU-T T.6, 2.2.3).
-use Rattle.std.specs.Prelude.{ℕ, zero, suc, ◌+◌, ◌-◌, Bool, true, List, [], ◌∷◌, ◌++◌, length, take, if◌then◌else◌, nat_eq, nat_lt, Option, Some, None}
+use Rattle.std.specs.Prelude.{ℕ, zero, suc, ◌+◌, ◌-◌, Bool, true, List, [], ◌∷◌, ◌++◌, length, take, if◌then◌else◌, nat_eq, nat_lt, Option}
+use Rattle.std.specs.Prelude.{Some, None}
 use Rattle.raster.specs.declared.row.Color.{Color}
 use Rattle.raster.specs.Pixels.{other}
 use Rattle.page_code.specs.TwoDimensions.Positions.{CodingLine, line_begin, white_line, right_of_a0, change_from, b1_of, b2_of}

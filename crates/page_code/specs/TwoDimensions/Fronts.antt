@@ -1,9 +1,11 @@
 -- Reading a T.6 page item by item: where a reader is, which items may be there, and what is seen in the bits (ITU-T T.6, 2.2 and 2.4).
-use Rattle.std.specs.Prelude.{ℕ, suc, ◌≡◌, ◌+◌, ◌-◌, ◌<◌, Bool, true, List, [], ◌∷◌, ◌++◌, length, if◌then◌else◌, nat_eq, nat_lt, Option, Some, None, Result, Ok, Err, Contains}
+use Rattle.std.specs.Prelude.{ℕ, suc, ◌≡◌, ◌+◌, ◌-◌, ◌<◌, Bool, true, List, [], ◌∷◌, ◌++◌, length, if◌then◌else◌, nat_eq, nat_lt, Option}
+use Rattle.std.specs.Prelude.{Some, None, Result, Ok, Err, Contains}
 use Rattle.raster.specs.declared.row.Color.{Color}
 use Rattle.raster.specs.Pixels.{other}
 use Rattle.run_tables.specs.declared.fault.CodeFaultKind.{CodeFaultKind}
-use Rattle.run_tables.specs.declared.fault.CodeFaultKind.TheVariants.{NoRows, BadCode, Truncated, Backwards, PastEnd, EmptyHorizontal, Extension, MissingEofb, TooManyCodedRows}
+use Rattle.run_tables.specs.declared.fault.CodeFaultKind.TheVariants.{NoRows, BadCode, Truncated, Backwards, PastEnd, EmptyHorizontal}
+use Rattle.run_tables.specs.declared.fault.CodeFaultKind.TheVariants.{Extension, MissingEofb, TooManyCodedRows}
 use Rattle.run_tables.specs.Texts.{begins, all_zero, pick, is_cut}
 use Rattle.run_tables.specs.Fronts.{Look, read_from}
 use Rattle.run_tables.specs.Fronts.Look.{stop, refuse}
@@ -12,7 +14,8 @@ use Rattle.run_tables.specs.RowFronts.{item_word as run_item_word}
 use Rattle.page_code.specs.declared.t6.mode.ModeCode.{ModeCode}
 use Rattle.page_code.specs.declared.t6.mode.ModeCode.TheVariants.{Pass, Horizontal, Vertical}
 use Rattle.page_code.specs.TwoDimensions.Positions.{CodingLine, line_begin, white_line, right_of_a0, filled_to, b1_of, b2_of}
-use Rattle.page_code.specs.TwoDimensions.Modes.{to_right, to_left, vertical_word, pass_word, horizontal_word, extension_word, eofb, runs_added}
+use Rattle.page_code.specs.TwoDimensions.Modes.{to_right, to_left, vertical_word, pass_word, horizontal_word, extension_word, eofb}
+use Rattle.page_code.specs.TwoDimensions.Modes.{runs_added}
 use Rattle.page_code.specs.declared.t6.mode.Shift.TheVariants.{V0, VR1, VR2, VR3, VL1, VL2, VL3}
 
 -- the code word of a mode code

@@ -11,7 +11,8 @@ use Rattle.page_code.specs.declared.t6.mode.ModeCode.TheVariants.{Pass}
 use Rattle.page_code.specs.TwoDimensions.Positions.{CodingLine, IsB1, IsB2, filled_to, change_from, b1_of, b2_of}
 use Rattle.page_code.specs.TwoDimensions.Modes.{ReadsAsPage}
 use Rattle.page_code.specs.TwoDimensions.Code.{page_code}
-use Rattle.page_code.specs.TwoDimensions.Fronts.{PageSoFar, PageItem, page_item_word, PageStep, page_look, page_begin, after_mode, mode_ended, read_page}
+use Rattle.page_code.specs.TwoDimensions.Fronts.{PageSoFar, PageItem, page_item_word, PageStep, page_look, page_begin, after_mode}
+use Rattle.page_code.specs.TwoDimensions.Fronts.{mode_ended, read_page}
 
 -- a beginning of the bits that is whole items of a page, each of which may come after those before it
 abbrev pub IsPageFront : ℕ → List Bool → List PageItem → Type 0

@@ -1,5 +1,6 @@
 -- What the parts of a T.6 page's reader answer (ITU-T T.6, 2.2).
-use Rattle.std.specs.Prelude.{ℕ, suc, ◌≡◌, ◌+◌, ◌<◌, ◌≤◌, ◌⊎◌, Bool, true, false, List, [], ◌∷◌, ◌++◌, length, if◌then◌else◌, Option, None, Some, Result, Ok, Err}
+use Rattle.std.specs.Prelude.{ℕ, suc, ◌≡◌, ◌+◌, ◌<◌, ◌≤◌, ◌⊎◌, Bool, true, false, List, [], ◌∷◌, ◌++◌, length, if◌then◌else◌, Option, None}
+use Rattle.std.specs.Prelude.{Some, Result, Ok, Err}
 use Rattle.raster.specs.declared.row.Color.{Color}
 use Rattle.raster.specs.declared.row.Color.TheVariants.{White}
 use Rattle.raster.specs.Pages.{PagePixels}
@@ -17,7 +18,9 @@ use Rattle.page_code.specs.declared.t6.read.Start.{Start}
 use Rattle.page_code.specs.declared.t6.read.Start.TheVariants.{Row, End, Refused}
 use Rattle.page_code.specs.TwoDimensions.Positions.{CodingLine, line_begin}
 use Rattle.page_code.specs.TwoDimensions.Modes.{eofb, extension_word}
-use Rattle.page_code.specs.TwoDimensions.Fronts.{mode_word, mode_codes, PageItem, page_item_word, PageSoFar, PageState, page_begin, mode_ended, after_mode, run_color, run_ended, PageStep, PageLook, look_mode, look_run, page_look, reading}
+use Rattle.page_code.specs.TwoDimensions.Fronts.{mode_word, mode_codes, PageItem, page_item_word, PageSoFar, PageState, page_begin}
+use Rattle.page_code.specs.TwoDimensions.Fronts.{mode_ended, after_mode, run_color, run_ended, PageStep, PageLook, look_mode, look_run}
+use Rattle.page_code.specs.TwoDimensions.Fronts.{page_look, reading}
 use Rattle.page_code.specs.TwoDimensions.Fronts.PageState.{between, inside, running}
 
 -- what is seen in the bits of a row: what is seen in those of a page, until the row is whole
@@ -85,7 +88,8 @@ MovesTo reference place line next code (Err fault) =
 abbrev pub ReadsHorizontal : ℕ → Reading → Reading → CodingLine → CodingLine → Result (Unit {0}) CodeFault → Type 0
 ReadsHorizontal width old new line next (Ok done) =
     (new.bits ≡ old.bits) × (old.place < new.place) × (new.place ≤ length new.bits) × (length next.pixels ≤ width) ×
-    ((page : PageSoFar) → row_reading width (running page line None None) old.place (rest_of old) ≡ row_reading width (mode_ended width page next)
+    ((page : PageSoFar) → row_reading width (running page line None None) old.place (rest_of old) ≡ row_reading width (mode_ended width page
+    next)
     new.place (rest_of new))
 ReadsHorizontal width old new line next (Err fault) =
     (fault.kind ≡ NoMemory) ⊎ ((page : PageSoFar)
@@ -96,7 +100,8 @@ abbrev pub StepsOn : List Color → Reading → Reading → CodingLine → Codin
 StepsOn reference old new line next (Ok done) =
     (new.bits ≡ old.bits) × (old.place < new.place) × (new.place ≤ length new.bits) × (length next.pixels ≤ length reference) ×
     ((page : PageSoFar) → page.reference ≡ reference
-    → row_reading (length reference) (inside page line) old.place (rest_of old) ≡ row_reading (length reference) (mode_ended (length reference)
+    → row_reading (length reference) (inside page line) old.place (rest_of old) ≡ row_reading (length reference) (mode_ended (length
+    reference)
     page next) new.place (rest_of new))
 StepsOn reference old new line next (Err fault) =
     (fault.kind ≡ NoMemory) ⊎ ((page : PageSoFar) → page.reference ≡ reference

@@ -17,8 +17,13 @@ pub returns-in-Some : goal.returns-in-Some
 returns-in-Some c =
     let a = app_of c.in_ok-command.command in
     let is : IsFaxtool a = c.in_ok-command.ensures in
-    let met = (c.in-Ok.ensures.ok.2 (is_faxtool_simple a is)).1 in
-    (a, is, c.in-Ok.ensures.kinds (is_faxtool_free a is), subst (λ (o : Option (Text × List Row)). IsJobOf o c.in-Some.job) met (search rules))
+    let met = (c.in-Ok.ensures.ok.2 (is_faxtool_simple a is)).1 in (
+      a,
+      is,
+      c.in-Ok.ensures.kinds (is_faxtool_free a is),
+      subst (λ (o : Option (Text × List Row)). IsJobOf o c.in-Some.job) met (search
+          rules),
+    )
 
 pub returns : goal.returns
 returns c =

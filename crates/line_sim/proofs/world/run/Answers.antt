@@ -6,7 +6,8 @@ use Rattle.line_sim.proofs.Runs.{Given as GivenEvents, none_given, one_given, ta
 use Rattle.line_sim.proofs.world.run.Goals as goal
 
 pub loop-event-init : goal.loop-event-init
-loop-event-init c = none_given c.args.document c.args.wish c.args.caps c.in_ok-world.world c.in_ok-world.ensures.new.1 c.in_ok-world.ensures.new.2
+loop-event-init c = none_given c.args.document c.args.wish c.args.caps c.in_ok-world.world c.in_ok-world.ensures.new.1
+    c.in_ok-world.ensures.new.2
 
 pub loop-event-preserved : goal.loop-event-preserved
 loop-event-preserved c =

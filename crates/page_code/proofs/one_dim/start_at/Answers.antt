@@ -4,7 +4,8 @@ use Rattle.page_code.proofs.OneDimension.RowsOn.{sees_end, sees_eols, sees_full,
 use Rattle.page_code.proofs.one_dim.start_at.Goals as goal
 
 pub returns-else-rows-lt-MAX_ROWS : goal.returns-else-rows-lt-MAX_ROWS
-returns-else-rows-lt-MAX_ROWS c = rw c.new.ensures (sees_full (bits_of c.args.order c.args.octets.now) c.args.place c.args.rows (omega arith)
+returns-else-rows-lt-MAX_ROWS c = rw c.new.ensures (sees_full (bits_of c.args.order c.args.octets.now) c.args.place c.args.rows (omega
+    arith)
     c.in-Absent.ensures)
 
 pub returns-then-rows-eq0 : goal.returns-then-rows-eq0

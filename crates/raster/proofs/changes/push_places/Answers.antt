@@ -8,5 +8,6 @@ loop-at-preserved c =
     record {
       few = omega arith;
       listed = rw c.in_ok-push.ensures.items
-          (lists_more c.args.word c.args.base c.loop-at.at c.first_in_word-place.result c.args.out.now.items c.loop-at.out.items c.loop-at.invariant.few inside c.first_in_word-place.ensures c.loop-at.invariant.listed);
+          (lists_more c.args.word c.args.base c.loop-at.at c.first_in_word-place.result c.args.out.now.items c.loop-at.out.items
+          c.loop-at.invariant.few inside c.first_in_word-place.ensures c.loop-at.invariant.listed);
     }

@@ -3,7 +3,8 @@ use Rattle.raster.proofs.packed.push_number.Goals as goal
 
 pub returns-clause-packed : goal.returns-clause-packed
 returns-clause-packed c =
-    number_packed c.args.order c.args.octets.now.items c.make_more_room.new.octets.items c.or_octets.new.octets.items c.word_octets.result c.args.count c.args.more c.args.value c.number_word-word.result
+    number_packed c.args.order c.args.octets.now.items c.make_more_room.new.octets.items c.or_octets.new.octets.items c.word_octets.result
+    c.args.count c.args.more c.args.value c.number_word-word.result
     (record {
       packed = c.requires.packed;
       few = c.requires.more;
@@ -18,7 +19,8 @@ returns-clause-packed c =
 
 pub returns-clause-ok : goal.returns-clause-ok
 returns-clause-ok c =
-    number_added c.args.order c.args.octets.now.items c.make_more_room.new.octets.items c.or_octets.new.octets.items c.word_octets.result c.args.count c.args.more c.args.value c.number_word-word.result
+    number_added c.args.order c.args.octets.now.items c.make_more_room.new.octets.items c.or_octets.new.octets.items c.word_octets.result
+    c.args.count c.args.more c.args.value c.number_word-word.result
     (record {
       packed = c.requires.packed;
       few = c.requires.more;

@@ -13,4 +13,5 @@ returns-in-Some-clause-first c =
 
 pub returns-in-None-clause-first : goal.returns-in-None-clause-first
 returns-in-None-clause-first c =
-    word_piece c.args.octets.now c.args.at c.octet_word-word.result c.first_in_word.result c.args.bit c.octet_word-word.ensures c.first_in_word.ensures
+    word_piece c.args.octets.now c.args.at c.octet_word-word.result c.first_in_word.result c.args.bit c.octet_word-word.ensures
+    c.first_in_word.ensures

@@ -27,14 +27,26 @@ returns-in-LsbFirst-clause-after c k low h =
 pub returns-in-MsbFirst-clause-before : goal.returns-in-MsbFirst-clause-before
 returns-in-MsbFirst-clause-before c k h =
     let e : k % 8 ≡ k = omega arith in
-    rw (c.in-MsbFirst.is, ones_is (8 - c.args.end) (8 - c.args.from) (omega arith) (omega arith), e) (bit_at_mask_above (8 - c.args.end) (8 - c.args.from) (7 - k) (omega arith))
+    rw (
+      c.in-MsbFirst.is,
+      ones_is (8 - c.args.end) (8 - c.args.from) (omega arith) (omega arith),
+      e,
+    ) (bit_at_mask_above (8 - c.args.end) (8 - c.args.from) (7 - k) (omega arith))
 
 pub returns-in-MsbFirst-clause-inside : goal.returns-in-MsbFirst-clause-inside
 returns-in-MsbFirst-clause-inside c k low h =
     let e : k % 8 ≡ k = omega arith in
-    rw (c.in-MsbFirst.is, ones_is (8 - c.args.end) (8 - c.args.from) (omega arith) (omega arith), e) (bit_at_mask_inside (8 - c.args.end) (8 - c.args.from) (7 - k) (omega arith) (omega arith))
+    rw (
+      c.in-MsbFirst.is,
+      ones_is (8 - c.args.end) (8 - c.args.from) (omega arith) (omega arith),
+      e,
+    ) (bit_at_mask_inside (8 - c.args.end) (8 - c.args.from) (7 - k) (omega arith) (omega arith))
 
 pub returns-in-MsbFirst-clause-after : goal.returns-in-MsbFirst-clause-after
 returns-in-MsbFirst-clause-after c k low h =
     let e : k % 8 ≡ k = omega arith in
-    rw (c.in-MsbFirst.is, ones_is (8 - c.args.end) (8 - c.args.from) (omega arith) (omega arith), e) (bit_at_mask_below (8 - c.args.end) (8 - c.args.from) (7 - k) (omega arith))
+    rw (
+      c.in-MsbFirst.is,
+      ones_is (8 - c.args.end) (8 - c.args.from) (omega arith) (omega arith),
+      e,
+    ) (bit_at_mask_below (8 - c.args.end) (8 - c.args.from) (7 - k) (omega arith))

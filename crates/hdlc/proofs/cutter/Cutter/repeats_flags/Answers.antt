@@ -13,7 +13,8 @@ returns c e counts queue bits handed old =
     eqb-true _ _ e ∙ ap (λ t. get_or t c.args.self.now.held 0) c.repeated.ensures in
     let at : repeats c.args.self.now.held c.args.octet ≡ true =
     ap (repeats c.args.self.now.held) is ∙ repeated_leads c.args.self.now.held 0 few in
-    let leads : leads_to c.args.self.now.held c.args.self.now.window (octet_bits c.args.octet) c.args.self.now.held c.args.self.now.window ≡ true =
+    let leads : leads_to c.args.self.now.held c.args.self.now.window (octet_bits c.args.octet) c.args.self.now.held c.args.self.now.window ≡
+    true =
     ap (λ w. leads_to c.args.self.now.held w (octet_bits c.args.octet) c.args.self.now.held w) (sym c.if-octet-self.false) ∙ at in
     rw (bits_of-one c.args.octet)
     (flags_repeat c.args.self.now counts queue bits (octet_bits c.args.octet) handed old c.if-not-self.false few leads)

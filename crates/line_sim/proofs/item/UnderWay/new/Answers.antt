@@ -6,4 +6,5 @@ pub returns-in_ok-octets-in-Frame : goal.returns-in_ok-octets-in-Frame
 returns-in_ok-octets-in-Frame c =
     rw c.in-Frame.is
     (says_carried c.kind_of-kind.result c.in_ok-octets-in-Frame.octets.items
-    (plain c.in-Frame.signal) c.frame_octets_grow.ensures c.reads_what_is_written.ensures c.in_ok-octets-in-Frame.ensures.carries c.kind_of-kind.ensures)
+    (plain c.in-Frame.signal) c.frame_octets_grow.ensures c.reads_what_is_written.ensures c.in_ok-octets-in-Frame.ensures.carries
+    c.kind_of-kind.ensures)

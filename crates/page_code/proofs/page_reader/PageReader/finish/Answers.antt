@@ -3,7 +3,8 @@ use Rattle.std.specs.Prelude.{Ok, Err}
 use Rattle.raster.specs.Packed.{bits_of}
 use Rattle.page_code.specs.Codings.{read_rows}
 use Rattle.page_code.proofs.GivesPage.{gives_begun}
-use Rattle.page_code.proofs.PageReaders.{finish_only, finish_reads, finish_refuses, gives_now, reads_from, stands_empty, stands_still, wide_now}
+use Rattle.page_code.proofs.PageReaders.{finish_only, finish_reads, finish_refuses, gives_now, reads_from, stands_empty, stands_still}
+use Rattle.page_code.proofs.PageReaders.{wide_now}
 use Rattle.page_code.proofs.page_reader.PageReader.finish.Goals as goal
 
 pub read_to_end-requires-clause-read : goal.read_to_end-requires-clause-read

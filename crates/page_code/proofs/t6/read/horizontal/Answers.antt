@@ -4,7 +4,8 @@ use Rattle.std.proofs.lemmas.Result.{err_from_is_err_and}
 use Rattle.raster.specs.declared.row.Color.{Color}
 use Rattle.raster.specs.Pixels.{other}
 use Rattle.page_code.specs.declared.t6.a0.A0.{A0}
-use Rattle.page_code.proofs.TwoDimensions.StepsOn.{within_page, horizontal_read, horizontal_first_refused, horizontal_second_refused, horizontal_empty}
+use Rattle.page_code.proofs.TwoDimensions.StepsOn.{within_page, horizontal_read, horizontal_first_refused, horizontal_second_refused}
+use Rattle.page_code.proofs.TwoDimensions.StepsOn.{horizontal_empty}
 use Rattle.page_code.proofs.t6.read.horizontal.Goals as goal
 
 pub returns-in_err-first : goal.returns-in_err-first

@@ -20,7 +20,8 @@ returns-in_err-read_mode c =
       c.width-width.ensures.width,
     ) in
     rw (p.1, p.2) (row_stays c.args.reference.now c.args.reader.now c.loop-reader.reader c.read_mode.new.reader c.loop-reader.line
-    c.read_mode.new.line c.in_err-read_mode.field-0.0 short c.loop-reader.invariant.reads (rw c.loop-reader.invariant.same at c.in_err-read_mode.ensures.steps))
+    c.read_mode.new.line c.in_err-read_mode.field-0.0 short c.loop-reader.invariant.reads (rw c.loop-reader.invariant.same at
+    c.in_err-read_mode.ensures.steps))
 
 pub returns-in_err-into_row : goal.returns-in_err-into_row
 returns-in_err-into_row c =
