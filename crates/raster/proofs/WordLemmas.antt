@@ -1,15 +1,16 @@
 -- Bits of octets as numbers of 64 bits.
 use Rattle.std.proofs.Common.{set, ◌≡◌, ℕ, ◌+◌, ◌-◌, ◌*◌, ◌/◌, ◌%◌, ◌^◌, ◌<◌, ◌≤◌, ◌||◌, true, false, List, [], ◌∷◌, refl, sym, ap, ◌∙◌}
 use Rattle.std.proofs.Common.{get_or, nat_eq, arith, bit_or, zero, suc, w8, w64, inl, inr, max, length}
-use Rattle.std.specs.Int.{bit_at, reverse_bits, reverse_bits_onto, from_le_bytes, from_be_bytes, to_le_bytes, to_be_bytes}
+use Rattle.std.specs.Int.{bit_at, reverse_bits, reverse_bits_onto, from_be_bytes, to_be_bytes}
 use Rattle.std.proofs.lemmas.Nat.{shr-shr, or_shifted, shl_whole, one_shl, pow_pos, pow-add}
 use Rattle.std.proofs.Math.Pow.{pow_mono}
 use Rattle.std.proofs.lemmas.List.{get_or-set_same, get_or-set_other}
 use Rattle.std.proofs.lemmas.Nat.Bits.{bit_at_lowest, bit_at-suc, bit_at-zero, bit_at_or, bit_at_cat_low, bit_at_cat_high, bit_at_above}
 use Rattle.std.proofs.lemmas.Nat.Bits.{bit_at-lt}
 use Rattle.std.proofs.lemmas.Bool.{cases_lt, cases_eq}
+use Rattle.std.specs.Prelude.{slice_index}
 use Rattle.raster.specs.Packed.{bit_in, place_in}
-use Rattle.raster.specs.Words.{IsWordAt, bit_of_word}
+use Rattle.raster.specs.Words.{IsWordAt, bit_of_word, turned_octet}
 use Rattle.raster.proofs.PackedLemmas.{place_in-same, bit_in-past}
 use Rattle.raster.specs.declared.packed.Order.{Order}
 use Rattle.raster.specs.declared.packed.Order.TheVariants.{LsbFirst, MsbFirst}
@@ -65,9 +66,6 @@ onto_new (suc k) n a i h =
 
 pub bit_at_turned8 : (n k : ℕ) → k < 8 → bit_at (reverse_bits w8 n) (7 - k) ≡ bit_at n k
 bit_at_turned8 n k h = let e : 7 - (7 - k) ≡ k = omega arith in onto_new 8 n 0 (7 - k) (omega arith) ∙ ap (bit_at n) e
-
-pub bit_at_turned64 : (n k : ℕ) → k < 64 → bit_at (reverse_bits w64 n) (63 - k) ≡ bit_at n k
-bit_at_turned64 n k h = let e : 63 - (63 - k) ≡ k = omega arith in onto_new 64 n 0 (63 - k) (omega arith) ∙ ap (bit_at n) e
 
 -- ---- octets as a number, the first of them the highest
 
@@ -138,50 +136,6 @@ be_word octets at small =
     let e : (((((((0 * 2 ^ 8 + b 0) * 2 ^ 8 + b 1) * 2 ^ 8 + b 2) * 2 ^ 8 + b 3) * 2 ^ 8 + b 4) * 2 ^ 8 + b 5) * 2 ^ 8 + b 6) * 2 ^ 8 + b 7
     ≡ from_be_bytes w64 (b 0 ∷ b 1 ∷ b 2 ∷ b 3 ∷ b 4 ∷ b 5 ∷ b 6 ∷ b 7 ∷ []) = omega arith in
     rw (← ap (λ m. get_or octets m 0) first, ← e) (has_all MsbFirst octets at _ all)
-
--- ---- octets as a number, the first of them the lowest
-
-pub record HasLow (octets : List ℕ) (at n word : ℕ) : Type 0 where
-  pub small : word < 2 ^ (8 * n)
-  pub same : (k : ℕ) → k < 8 * n → nat_eq (bit_at word k) 1 ≡ bit_in LsbFirst octets (8 * at + k)
-
-low_none : (octets : List ℕ) (at : ℕ) → HasLow octets at 0 0
-low_none octets at = record { small = omega arith; same = λ k h. absurd (omega arith) }
-
-low_below : (word octet n : ℕ) → word < 2 ^ (8 * n) → octet < 256 → octet * 2 ^ (8 * n) + word < 2 ^ (8 * (n + 1))
-low_below word octet n small byte =
-    let e : 2 ^ (8 * (n + 1)) ≡ 256 * 2 ^ (8 * n) = ap (λ k. 2 ^ k) (omega arith) ∙ pow-add 2 8 (8 * n) in
-    grind (arith, e, small, byte)
-
-low_octet : (octets : List ℕ) (at n word : ℕ) → get_or octets (at + n) 0 < 256 → HasLow octets at n word
-    → HasLow octets at (n + 1) (get_or octets (at + n) 0 * 2 ^ (8 * n) + word)
-low_octet octets at n word byte has = record {
-  small = low_below word (get_or octets (at + n) 0) n has.small byte;
-  same = λ k h.
-      elim (cases_lt k (8 * n)) [
-        | inl early ↦ ap (λ b. nat_eq b 1) (bit_at_cat_low (get_or octets (at + n) 0) (8 * n) word k early) ∙ has.same k early
-        | inr late ↦
-            let which : at + n ≡ (8 * at + k) / 8 = omega arith in
-            let within : k - 8 * n ≡ (8 * at + k) % 8 = omega arith in
-            ap (λ b. nat_eq b 1) (bit_at_cat_high (get_or octets (at + n) 0) (8 * n) word k has.small late ∙
-            (ap (bit_at (get_or octets (at + n) 0)) within ∙ ap (λ m. bit_at (get_or octets m 0) ((8 * at + k) % 8)) which))
-      ];
-}
-
--- eight octets in a row, the first the lowest, and then turned
-pub le_word : (octets : List ℕ) (at : ℕ) → ((i : ℕ) → get_or octets i 0 < 256) → IsWordAt LsbFirst octets (8 * at) (reverse_bits w64
-    (from_le_bytes w64 (get_or octets at 0 ∷ get_or octets (at + 1) 0 ∷ get_or octets (at + 2) 0 ∷ get_or octets (at + 3) 0 ∷ get_or octets
-    (at + 4) 0 ∷ get_or octets (at + 5) 0 ∷ get_or octets (at + 6) 0 ∷ get_or octets (at + 7) 0 ∷ [])))
-le_word octets at small k h =
-    let b : ℕ → ℕ = λ i. get_or octets (at + i) 0 in
-    let step : (n word : ℕ) → HasLow octets at n word → HasLow octets at (n + 1) (b n * 2 ^ (8 * n) + word) = λ n word has. low_octet octets
-    at n word (small (at + n)) has in
-    let first : at + 0 ≡ at = omega arith in
-    let all = step 7 _ (step 6 _ (step 5 _ (step 4 _ (step 3 _ (step 2 _ (step 1 _ (step 0 _ (low_none octets at)))))))) in
-    let e : b 7 * 2 ^ 56 + (b 6 * 2 ^ 48 + (b 5 * 2 ^ 40 + (b 4 * 2 ^ 32 + (b 3 * 2 ^ 24 + (b 2 * 2 ^ 16 + (b 1 * 2 ^ 8 + (b 0 * 1 +
-    0))))))) ≡ from_le_bytes w64 (b 0 ∷ b 1 ∷ b 2 ∷ b 3 ∷ b 4 ∷ b 5 ∷ b 6 ∷ b 7 ∷ []) = omega arith in
-    rw (← ap (λ m. get_or octets m 0) first, ← e)
-    (ap (λ x. nat_eq x 1) (bit_at_turned64 _ k h) ∙ all.same k h)
 
 -- ---- a word that begins within an octet
 
@@ -265,17 +219,6 @@ aligned_after value count within k from below =
 
 -- ---- a word's octets
 
-le_at : (n q : ℕ) → q < 8 → get_or (to_le_bytes w64 n) q 0 ≡ n / 2 ^ (8 * q) % 2 ^ 8
-le_at n zero h = omega arith
-le_at n (suc zero) h = refl
-le_at n (suc (suc zero)) h = refl
-le_at n (suc (suc (suc zero))) h = refl
-le_at n (suc (suc (suc (suc zero)))) h = refl
-le_at n (suc (suc (suc (suc (suc zero))))) h = refl
-le_at n (suc (suc (suc (suc (suc (suc zero)))))) h = refl
-le_at n (suc (suc (suc (suc (suc (suc (suc zero))))))) h = refl
-le_at n (suc (suc (suc (suc (suc (suc (suc (suc q)))))))) h = absurd (omega arith)
-
 be_at : (n q : ℕ) → q < 8 → get_or (to_be_bytes w64 n) q 0 ≡ n / 2 ^ (8 * (7 - q)) % 2 ^ 8
 be_at n zero h = refl
 be_at n (suc zero) h = refl
@@ -290,16 +233,6 @@ be_at n (suc (suc (suc (suc (suc (suc (suc (suc q)))))))) h = absurd (omega arit
 -- a bit of an octet of a number
 octet_bit : (n s place : ℕ) → place < 8 → bit_at (n / 2 ^ s % 2 ^ 8) place ≡ bit_at n (s + place)
 octet_bit n s place h = bit_at_rest (n / 2 ^ s) 8 place h ∙ bit_at_shr n s place
-
-pub le_octets : (word k : ℕ) → k < 64 → bit_of_word word k ≡ bit_in LsbFirst (to_le_bytes w64 (reverse_bits w64 word)) k
-le_octets word k h =
-    let turned : ℕ = reverse_bits w64 word in
-    let there : 8 * (k / 8) + k % 8 ≡ k = omega arith in
-    let back : 63 - (63 - k) ≡ k = omega arith in
-    sym (ap (λ b. nat_eq b 1)
-    (ap (λ x. bit_at x (k % 8)) (le_at turned (k / 8) (omega arith)) ∙
-    (octet_bit turned (8 * (k / 8)) (k % 8) (omega arith) ∙
-    (ap (bit_at turned) there ∙ (ap (bit_at turned) (sym back) ∙ bit_at_turned64 word (63 - k) (omega arith))))))
 
 pub be_octets : (word k : ℕ) → k < 64 → bit_of_word word k ≡ bit_in MsbFirst (to_be_bytes w64 word) k
 be_octets word k h =
@@ -333,3 +266,13 @@ turn_bit order octets at mask k h e one =
     let set_is : bit_at (bit_or (get_or octets at 0) mask) (place_in order k) ≡ 1 =
     omega (arith, bit_at_or (get_or octets at 0) mask (place_in order k), one, bit_at-lt (get_or octets at 0) (place_in order k)) in
     rw (e, get_or-set_same octets at (bit_or (get_or octets at 0) mask) 0 h, set_is) refl
+
+-- the octets of a number, each turned: the first bit of each is its lowest
+pub turned_octets_are : (word : ℕ) (octets : List ℕ) → ((i : ℕ) → i < 8 → slice_index octets i ≡ turned_octet (slice_index (to_be_bytes w64
+    word) i)) → (k : ℕ) → k < 64 → bit_of_word word k ≡ bit_in LsbFirst octets k
+turned_octets_are word octets turned k h =
+    let octet : ℕ = slice_index (to_be_bytes w64 word) (k / 8) in
+    let back : 7 - (7 - k % 8) ≡ k % 8 = omega arith in
+    be_octets word k h ∙ sym (ap (λ b. nat_eq b 1)
+    (ap (λ x. bit_at x (k % 8)) (turned (k / 8) (omega arith)) ∙
+    (ap (bit_at (turned_octet octet)) (sym back) ∙ bit_at_turned8 octet (7 - k % 8) (omega arith))))

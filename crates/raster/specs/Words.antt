@@ -1,6 +1,6 @@
 -- Bits as numbers, the most significant first.
 use Rattle.std.specs.Prelude.{ℕ, ◌≡◌, ◌≤◌, ◌<◌, ◌+◌, ◌-◌, Bool, List, Some, bit_or, length, map, nat_eq, not, slice_get, slice_index}
-use Rattle.std.specs.Int.{bit_at}
+use Rattle.std.specs.Int.{bit_at, reverse_bits_onto}
 use Rattle.std.specs.List.{range_with_len}
 use Rattle.raster.specs.declared.packed.Order.{Order}
 use Rattle.raster.specs.declared.packed.Order.TheVariants.{MsbFirst}
@@ -15,6 +15,14 @@ bit_of_word word place = nat_eq (bit_at word (63 - place)) 1
 -- the number is the 64 bits of the octets from a place on; past the octets they are 0
 abbrev pub IsWordAt : Order → List ℕ → ℕ → ℕ → Type 0
 IsWordAt order octets place word = (k : ℕ) → k < 64 → bit_of_word word k ≡ bit_in order octets (place + k)
+
+-- the octet with its bits in the other order
+abbrev pub turned_octet : ℕ → ℕ
+turned_octet octet = reverse_bits_onto 8 octet 0
+
+-- the octets 0 to 255, each with its bits in the other order
+abbrev pub turned_octets : List ℕ
+turned_octets = map turned_octet (range_with_len 0 256)
 
 -- so many of the lowest bits of a number, the most significant of them first
 abbrev pub number_bits : ℕ → ℕ → List Bool

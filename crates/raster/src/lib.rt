@@ -14,6 +14,7 @@ mod row;
 #[cfg(test)]
 mod tests;
 mod text;
+mod turned;
 mod words;
 
 pub use crate::blocks::block_change;

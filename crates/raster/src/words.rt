@@ -1,30 +1,31 @@
 //! Bits of octets, up to 64 at a time.
 
 ghost use Rattle.raster.specs.Packed.{bit_in, place_in};
-ghost use Rattle.raster.specs.Words.{bit_of_word, IsWordAt, IsFirstInWord, IsFirstOther, AreOred};
+ghost use Rattle.raster.specs.Words.{bit_of_word, turned_octet, IsWordAt, IsFirstInWord, IsFirstOther, AreOred};
 ghost use Rattle.std.specs.Int.{bit_at};
-ghost use Rattle.std.specs.Prelude.{ℕ, true, false, ◌≡◌, ◌≤◌, ◌<◌, ◌+◌, ◌-◌, ◌*◌, ◌/◌, length, nat_eq};
+ghost use Rattle.std.specs.Prelude.{ℕ, true, false, ◌≡◌, ◌≤◌, ◌<◌, ◌+◌, ◌-◌, ◌*◌, ◌/◌, length, nat_eq, slice_index};
 
 use crate::blocks::block_change;
 use crate::packed::Order;
 use crate::row::Color;
+use crate::turned::turned;
 
 /// The octet with its first bit the most significant.
 fn first_highest(order: Order, octet: u8) -> u8
     ensures { (k : ℕ) → k < 8 → bit_at result (7 - k) ≡ bit_at octet (place_in order k) }
 {
     match order {
-        Order::LsbFirst => octet.reverse_bits(),
+        Order::LsbFirst => turned(octet),
         Order::MsbFirst => octet,
     }
 }
 
-/// The 64 bits of eight octets.
-fn whole_word(order: Order, octets: &[u8], at: usize) -> u64
+/// The 64 bits of eight octets, the most significant bit of each first.
+fn whole_word(octets: &[u8], at: usize) -> u64
     requires { at + 8 ≤ length octets.now }
-    ensures { IsWordAt order octets.now (8 * at) result }
+    ensures { IsWordAt Order.MsbFirst octets.now (8 * at) result }
 {
-    let eight = [
+    u64::from_be_bytes([
         octets[at],
         octets[at + 1],
         octets[at + 2],
@@ -33,11 +34,7 @@ fn whole_word(order: Order, octets: &[u8], at: usize) -> u64
         octets[at + 5],
         octets[at + 6],
         octets[at + 7],
-    ];
-    match order {
-        Order::LsbFirst => u64::from_le_bytes(eight).reverse_bits(),
-        Order::MsbFirst => u64::from_be_bytes(eight),
-    }
+    ])
 }
 
 /// The octet, or 0 past the octets, with its first bit the most significant.
@@ -52,7 +49,6 @@ fn octet_or_zero(order: Order, octets: &[u8], at: usize) -> u8
 }
 
 /// The bits from an octet on, filled with 0 bits to 64.
-#[inline(never)]
 fn last_word(order: Order, octets: &[u8], at: usize) -> u64
     requires { at ≤ length octets.now }
     ensures { IsWordAt order octets.now (8 * at) result }
@@ -69,10 +65,12 @@ pub(crate) fn octet_word(order: Order, octets: &[u8], at: usize) -> u64
     requires { at ≤ length octets.now }
     ensures { IsWordAt order octets.now (8 * at) result }
 {
-    if octets.len() - at >= 8 {
-        whole_word(order, octets, at)
-    } else {
-        last_word(order, octets, at)
+    if octets.len() - at < 8 {
+        return last_word(order, octets, at);
+    }
+    match order {
+        Order::LsbFirst => last_word(order, octets, at),
+        Order::MsbFirst => whole_word(octets, at),
     }
 }
 
@@ -87,12 +85,28 @@ pub(crate) fn shifted_word(order: Order, octets: &[u8], at: usize, within: u32) 
     word << within | next as u64 >> (8 - within)
 }
 
+/// The octets, each with its bits in the other order.
+fn turned_eight(octets: [u8; 8]) -> [u8; 8]
+    ensures { (i : ℕ) → i < 8 → slice_index result i ≡ turned_octet (slice_index octets i) }
+{
+    [
+        turned(octets[0]),
+        turned(octets[1]),
+        turned(octets[2]),
+        turned(octets[3]),
+        turned(octets[4]),
+        turned(octets[5]),
+        turned(octets[6]),
+        turned(octets[7]),
+    ]
+}
+
 /// The eight octets whose bits are those of a word.
 pub(crate) fn word_octets(order: Order, word: u64) -> [u8; 8]
     ensures { IsWordAt order result 0 word }
 {
     match order {
-        Order::LsbFirst => word.reverse_bits().to_le_bytes(),
+        Order::LsbFirst => turned_eight(word.to_be_bytes()),
         Order::MsbFirst => word.to_be_bytes(),
     }
 }

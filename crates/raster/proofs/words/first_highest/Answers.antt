@@ -6,4 +6,4 @@ use Rattle.raster.proofs.words.first_highest.Goals as goal
 pub returns-in-LsbFirst : goal.returns-in-LsbFirst
 returns-in-LsbFirst c k h =
     let e : k ≡ k % 8 = omega arith in
-    rw (c.in-LsbFirst.is, c.reverse_bits.ensures) (bit_at_turned8 c.args.octet k h ∙ ap (bit_at c.args.octet) e)
+    rw (c.in-LsbFirst.is, c.turned.ensures) (bit_at_turned8 c.args.octet k h ∙ ap (bit_at c.args.octet) e)
