@@ -30,4 +30,4 @@ returns-clause-data c =
     ap (λ store. has_frame store.frames c.args.n) c.self.view_is ∙ sym c.if-not-has.ensures.has in
     rw (c.frame_at-place.ensures, c.deref.ensures.value, ← c.self.view_is)
     (frame_there c.self.inside.small c.self.inside.buffer.items c.self.inside.there c.self.inside.lengths c.args.n below c.self.invariant
-        has)
+    has)

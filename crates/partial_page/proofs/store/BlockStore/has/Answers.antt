@@ -10,4 +10,4 @@ returns-clause-has c =
     let below : c.args.n < 256 = omega arith in
     rw (← c.self.view_is)
     (c.bit_of.ensures ∙ sym (has_frame-frames_in c.self.inside.small c.self.inside.buffer.items c.self.inside.there c.self.inside.lengths
-        c.args.n below))
+    c.args.n below))

@@ -12,4 +12,4 @@ returns-clause-ok c =
     omega (arith, c.resize.new.self.ok, c.in_ok-resize.ensures.len, c.frame_octets.ensures.size) in
     rw (← c.self.view_is)
     (taken_is c.self.inside.small c.self.inside.buffer.items c.resize.new.self.items c.self.inside.there c.self.inside.lengths
-        c.self.invariant untaken taken)
+    c.self.invariant untaken taken)
