@@ -1,75 +1,55 @@
--- A row's changing elements as a list: one more at its end, and the next one from a place.
-use Rattle.std.proofs.Common.{ℕ, ◌≡◌, ◌+◌, ◌-◌, ◌<◌, ◌≤◌, inl, inr, List, [], ◌∷◌, ◌++◌, length, subst, sym, ◌∙◌, arith}
+-- A row's changing elements as a list: the next one from a place.
+use Rattle.std.proofs.Common.{ℕ, ◌≡◌, ◌-◌, ◌<◌, ◌≤◌, inl, inr, List, length, arith}
 use Rattle.std.specs.Prelude.{slice_index_or}
-use Rattle.std.proofs.lemmas.Bool.{cases_eq, cases_lt}
-use Rattle.std.proofs.lemmas.List.{length-append, get_or_append_left, get_or_default, get_or_past, get_or_push}
+use Rattle.std.proofs.lemmas.Bool.{cases_lt}
+use Rattle.std.proofs.lemmas.List.{get_or_default, get_or_past}
 use Rattle.raster.specs.declared.row.Color.{Color}
-use Rattle.raster.specs.Changes.{IsNextChange}
-use Rattle.page_code.specs.TwoDimensions.Changes.{AreChangesBefore, AreChanges, IsFirstFrom}
+use Rattle.raster.specs.Changes.{AreChanges, IsNextChange}
+use Rattle.page_code.specs.TwoDimensions.Changes.{IsFirstFrom}
 
--- sought from further to the right, where it isn't passed
-narrowed : (row : List Color) (low from place : ℕ) → low ≤ from → (place < length row → from ≤ place) → IsNextChange row low place
-    → IsNextChange row from place
-narrowed row low from place up right next = record {
-  bound = next.bound;
-  changing = λ h. (right h, (next.changing h).1);
-  least = λ k a b. next.least k (omega arith) b;
-}
+-- in a list in rising order, what is after another index isn't less
+not_less : (row : List Color) (places : List ℕ) (i j : ℕ) → AreChanges row places → i ≤ j → j < length places
+    → slice_index_or places i 0 ≤ slice_index_or places j 0
+not_less row places i j all up h = elim (cases_lt i j) [
+  | inl l ↦ omega (arith, all.rising i j l h)
+  | inr g ↦ let same : i ≡ j = omega arith in rw same (omega arith)
+]
 
--- an element of the list, or `last` after it, is the next one after those to the left of a place
+-- the place at an index of the first from a place on, or the row's end where there is none, is the next changing element
 pub change_at : (row : List Color) (places : List ℕ) (from at place : ℕ) → AreChanges row places → IsFirstFrom places from at
     → place ≡ slice_index_or places at (length row) → IsNextChange row from place
-change_at row places from at place all index is = rw is (elim (cases_eq at 0) [
-  | inl e ↦ rw e (narrowed row 0 from (slice_index_or places 0 (length row)) (omega arith) (subst (λ (n : ℕ).
-      slice_index_or places n (length row) < length row → from ≤ slice_index_or places n (length row)) e right) all.first)
-  | inr ne ↦
-      let before : at - 1 < length places = omega (arith, index.within) in
-      let same : at - 1 + 1 ≡ at = omega arith in
-      let next : IsNextChange row (slice_index_or places (at - 1) (length row) + 1) (slice_index_or places at (length row)) =
-      subst (λ (n : ℕ). IsNextChange row (slice_index_or places (at - 1) (length row) + 1) (slice_index_or places n (length row))) same
-      (all.next (at - 1) before) in
-      let left : slice_index_or places (at - 1) 0 < from = index.left (omega arith) in
-      narrowed row (slice_index_or places (at - 1) (length row) + 1) from (slice_index_or places at (length row)) (omega (
-        arith,
-        left,
-        get_or_default places (at - 1) (length row) 0 before,
-      )) right next
-])
-  where
-    right : slice_index_or places at (length row) < length row → from ≤ slice_index_or places at (length row)
-    right h = elim (cases_lt at (length places)) [
-      | inl l ↦ omega (arith, index.reached l, get_or_default places at (length row) 0 l)
-      | inr g ↦ absurd (omega (arith, get_or_past places at (length row) (omega arith)))
-    ]
-
--- no place is listed yet
-pub none_listed : (row : List Color) (place : ℕ) → IsNextChange row 0 place → AreChangesBefore row [] place
-none_listed row place next = record { first = next; next = λ at h. absurd (omega arith) }
-
--- one more place is listed
-pub one_listed : (row : List Color) (places : List ℕ) (place after : ℕ) → AreChangesBefore row places place
-    → IsNextChange row (place + 1) after → AreChangesBefore row (places ++ place ∷ []) after
-one_listed row places place after all next = record {
-  first = subst (λ (n : ℕ). IsNextChange row 0 n) (sym (listed 0 (omega arith))) all.first;
-  next = λ at h.
-      let short : at ≤ length places = omega (arith, length-append places (place ∷ [])) in
-      elim (cases_lt at (length places)) [
-        | inl l ↦ rw (listed at short, listed (at + 1) (omega arith)) (all.next at l)
-        | inr g ↦
-            let is : slice_index_or (places ++ place ∷ []) at after ≡ place = get_or_push places place after at (omega arith) in
-            let past : slice_index_or (places ++ place ∷ []) (at + 1) after ≡ after = get_or_past (places ++ place ∷ []) (at + 1) after
-            (omega (arith, length-append places (place ∷ []))) in
-            rw (is, past) next
-      ];
+change_at row places from at place all index is = record {
+  bound = elim (cases_lt at (length places)) [
+    | inl l ↦ omega (arith, is, get_or_default places at (length row) 0 l, (all.changing at l).0)
+    | inr g ↦ omega (arith, is, get_or_past places at (length row) (omega arith))
+  ];
+  changing = λ h. elim (cases_lt at (length places)) [
+    | inl l ↦
+        let here : place ≡ slice_index_or places at 0 = omega (arith, is, get_or_default places at (length row) 0 l) in
+        rw here (index.reached l, all.changing at l)
+    | inr g ↦ absurd (omega (arith, h, is, get_or_past places at (length row) (omega arith)))
+  ];
+  least = λ k low below changing. none_before k low below (all.all k changing);
 }
   where
-    listed : (at : ℕ) → at ≤ length places → slice_index_or (places ++ place ∷ []) at after ≡ slice_index_or places at place
-    listed at h = elim (cases_lt at (length places)) [
-      | inl l ↦ get_or_append_left places (place ∷ []) after at l ∙ get_or_default places at after place l
-      | inr g ↦ get_or_push places place after at (omega arith) ∙ sym (get_or_past places at place (omega arith))
-    ]
-
--- all places are listed, where the next is the row's end
-pub all_listed : (row : List Color) (places : List ℕ) (place : ℕ) → AreChangesBefore row places place → place ≡ length row
-    → AreChanges row places
-all_listed row places place all end = subst (λ (n : ℕ). AreChangesBefore row places n) end all
+    none_before : (k : ℕ) → from ≤ k → k < place → (i : ℕ) × (i < length places) × (slice_index_or places i k ≡ k) → ⊥
+    none_before k low below there =
+        let i = there.0 in
+        let here : slice_index_or places i 0 ≡ k = omega (arith, there.2, get_or_default places i k 0 there.1) in
+        elim (cases_lt i at) [
+          | inl early ↦ omega (
+            arith,
+            here,
+            low,
+            index.left (omega arith),
+            not_less row places i (at - 1) all (omega arith) (omega (arith, index.within)),
+          )
+          | inr late ↦ omega (
+            arith,
+            here,
+            below,
+            is,
+            not_less row places at i all (omega arith) there.1,
+            get_or_default places at (length row) 0 (omega (arith, there.1)),
+          )
+        ]

@@ -1,7 +1,7 @@
 //! The changing elements of a line as a list, in which a0 goes on (ITU-T T.6, 2.2.1).
 
-ghost use Rattle.page_code.specs.TwoDimensions.Changes.{AreChanges, IsFirstFrom, IsLeftBefore};
-ghost use Rattle.raster.specs.Changes.{IsNextChange};
+ghost use Rattle.page_code.specs.TwoDimensions.Changes.{IsFirstFrom, IsLeftBefore};
+ghost use Rattle.raster.specs.Changes.{AreChanges, IsNextChange};
 ghost use Rattle.raster.specs.Pixels.{IsWidth};
 ghost use Rattle.std.specs.Prelude.{◌≡◌, ◌≤◌, ◌<◌, IfOk, Some, length, slice_get};
 
@@ -10,16 +10,11 @@ use std::alloc::{AllocError, Global};
 use std::marker::Model;
 
 /// The places of a row's changing elements, from left to right (ITU-T T.6, 2.2.1), in the memory of a list.
-fn changes_of(row: &Row, mut places: Vec<u32>) -> Result<Vec<u32>, AllocError>
+fn changes_of(alloc: Global, row: &Row, mut places: Vec<u32>) -> Result<Vec<u32>, AllocError>
     ensures { IfOk result (λ places. AreChanges row.now places.items) }
 {
-    let width = row.width();
     places.clear();
-    let mut place = row.next_change(0);
-    while place < width {
-        places.push(place)?;
-        place = row.next_change(place + 1);
-    }
+    row.changes(alloc, &mut places)?;
     Ok(places)
 }
 
@@ -61,7 +56,7 @@ pub(crate) struct Changes<'a> {
 impl<'a> Model for Changes<'a> {
     ghost use Rattle.std.specs.Prelude.{◌≤◌, List, length};
     ghost use Rattle.raster.specs.declared.row.Color.{Color};
-    ghost use Rattle.page_code.specs.TwoDimensions.Changes.{AreChanges};
+    ghost use Rattle.raster.specs.Changes.{AreChanges};
 
     ghost Value = { List Color };
 
@@ -75,15 +70,15 @@ impl<'a> Changes<'a> {
     pub(crate) fn of(alloc: Global, row: &'a Row) -> Result<Self, AllocError>
         ensures { IfOk result (λ changes. changes ≡ row.now) }
     {
-        let places = changes_of(row, Vec::new(alloc))?;
+        let places = changes_of(alloc, row, Vec::new(alloc))?;
         Ok(Changes { row, places, at: 0 })
     }
 
     /// The changing elements of another row, in the same memory.
-    pub(crate) fn of_next(self, row: &'a Row) -> Result<Self, AllocError>
+    pub(crate) fn of_next(self, alloc: Global, row: &'a Row) -> Result<Self, AllocError>
         ensures { IfOk result (λ changes. changes ≡ row.now) }
     {
-        let places = changes_of(row, self.places)?;
+        let places = changes_of(alloc, row, self.places)?;
         Ok(Changes { row, places, at: 0 })
     }
 

@@ -121,7 +121,7 @@ fn write_rows<'a>(
     let mut spare = Changes::of(alloc, white)?;
     let mut reference = Changes::of(alloc, white)?;
     for at in 0..rows.len() {
-        let mut row = spare.of_next(&rows[at])?;
+        let mut row = spare.of_next(alloc, &rows[at])?;
         write_row(writer, &mut reference, &mut row)?;
         spare = reference;
         reference = row;
