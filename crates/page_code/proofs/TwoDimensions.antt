@@ -15,3 +15,4 @@ pub mod StepsOn
 pub mod ModeTable
 pub mod RowsOn
 pub mod ReadsItsCode
+pub mod ZeroBits

@@ -2,12 +2,13 @@
 
 ghost use Rattle.page_code.specs.RowsSoFar.{IsReadTo, ReadsOn};
 ghost use Rattle.page_code.specs.TwoDimensions.Fronts.{mode_word, mode_codes};
+ghost use Rattle.page_code.specs.TwoDimensions.Modes.{eofb};
 ghost use Rattle.page_code.specs.TwoDimensions.Reading.{LeadsOn, MovesTo, ReadsHorizontal, ReadsMode, ReadsRow, SeesStart, StepsOn, missing_mode};
 ghost use Rattle.page_code.specs.TwoDimensions.Writing.{reference_at};
 ghost use Rattle.raster.specs.Packed.{bits_of};
 ghost use Rattle.raster.specs.Pixels.{IsWidth};
 ghost use Rattle.run_tables.specs.Reading.{rest_of};
-ghost use Rattle.run_tables.specs.Texts.{all_zero, is_cut};
+ghost use Rattle.run_tables.specs.Texts.{all_zero, begins, is_cut};
 ghost use Rattle.std.specs.Prelude.{◌≡◌, ◌≤◌, ◌<◌, ◌+◌, [], OnOk, length};
 
 use crate::coding::Coding;
@@ -15,7 +16,7 @@ use crate::page::{Progress, push_row, row_of};
 use crate::t6::a0::b2;
 use crate::t6::changes::Changes;
 use crate::t6::line::Line;
-use crate::t6::mode::{EOFB, ModeCode, Shift};
+use crate::t6::mode::{EOFB, EOFB_NUMBER, ModeCode, Shift};
 use crate::t6::mode_table::mode_of;
 use raster::packed::Order;
 use raster::{MAX_ROWS, Row};
@@ -45,10 +46,20 @@ enum Start {
     Refused(CodeFaultKind),
 }
 
+/// Whether EOFB begins the bits that are left (ITU-T T.6, 2.4).
+fn is_at_eofb(reader: &BitReader) -> bool
+    ensures { result ≡ begins eofb (rest_of reader.now) }
+{
+    reader.starts_with(EOFB_NUMBER, 24)
+}
+
 /// Whether the bits that are left are only 0 bits, or none.
 fn only_zeros(reader: &BitReader) -> bool
     ensures { result ≡ all_zero (rest_of reader.now) }
 {
+    if reader.peek() != 0 {
+        return false;
+    }
     let mut ahead = reader.look_ahead();
     while let Some(bit) = ahead.bit() {
         if bit {
@@ -62,7 +73,7 @@ fn only_zeros(reader: &BitReader) -> bool
 fn start_at(reader: &BitReader, rows: usize) -> Start
     ensures { SeesStart (rest_of reader.now) rows result }
 {
-    if reader.begins_with(EOFB) {
+    if is_at_eofb(reader) {
         if rows == 0 {
             return Start::Refused(CodeFaultKind::NoRows);
         }
