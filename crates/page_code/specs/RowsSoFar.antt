@@ -1,9 +1,7 @@
 -- The whole rows that bits spell so far, one after the other from the beginning, and how far a reader of a page is.
 use Rattle.std.specs.Prelude.{ℕ, ◌≡◌, ◌<◌, ◌≤◌, Bool, List, [], ◌∷◌, ◌++◌, length, Result, Ok, Err, ◌⊎◌}
-use Rattle.raster.specs.declared.packed.Order.{Order}
 use Rattle.raster.specs.declared.row.Color.{Color}
-use Rattle.raster.specs.Packed.{bits_of}
-use Rattle.raster.specs.Pages.{PagePixels, max_rows}
+use Rattle.raster.specs.Pages.{max_rows}
 use Rattle.run_tables.specs.declared.fault.CodeFault.{CodeFault}
 use Rattle.run_tables.specs.declared.fault.CodeFaultKind.TheVariants.{NoMemory}
 use Rattle.run_tables.specs.Fronts.{Walk, spell}

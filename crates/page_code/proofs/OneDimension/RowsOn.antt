@@ -1,14 +1,13 @@
 -- Reading a one-dimensional page row by row: which items lead over a row, where they end, and the whole rows before that.
-use Rattle.std.proofs.Common.{ℕ, ◌≡◌, ◌+◌, ◌*◌, ◌-◌, ◌<◌, ◌≤◌, Bool, false, List, [], ◌∷◌, ◌++◌, length, drop, map, None, Some, inl, inr}
-use Rattle.std.proofs.Common.{refl, ap, sym, ◌∙◌, subst, arith, cond, ltb, length-append, append_assoc}
-use Rattle.std.specs.Prelude.{Ok, Err, ◌⊎◌}
+use Rattle.std.proofs.Common.{ℕ, ◌≡◌, ◌+◌, ◌*◌, ◌<◌, ◌≤◌, Bool, false, List, [], ◌∷◌, ◌++◌, length, drop, map, None, Some, inl, inr}
+use Rattle.std.proofs.Common.{refl, ap, sym, ◌∙◌, subst, arith, cond, ltb, append_assoc}
+use Rattle.std.specs.Prelude.{Ok, Err}
 use Rattle.std.proofs.lemmas.Bool.{le-ltb}
 use Rattle.std.proofs.lemmas.List.{length_push, append-nil, length-drop}
 use Rattle.raster.specs.declared.packed.Order.{Order}
 use Rattle.raster.specs.declared.row.Color.{Color}
 use Rattle.raster.specs.declared.row.Color.TheVariants.{White}
 use Rattle.raster.specs.Packed.{bits_of}
-use Rattle.raster.specs.Pages.{IsPage, PagePixels}
 use Rattle.raster.specs.Pixels.{IsWidth}
 use Rattle.raster.proofs.PackedLemmas.{length-bits_in}
 use Rattle.run_tables.specs.declared.fault.CodeFault.{CodeFault}
@@ -24,7 +23,7 @@ use Rattle.run_tables.specs.RowReading.{RefusesRow}
 use Rattle.run_tables.specs.RowLaws.{ReadsAsRow}
 use Rattle.run_tables.specs.RowLaws.{IsLongestFront as IsLongestRow}
 use Rattle.run_tables.proofs.CodeLooks.{step_from_put}
-use Rattle.run_tables.proofs.FrontWalks.{way_on, read_walk}
+use Rattle.run_tables.proofs.FrontWalks.{way_on}
 use Rattle.page_code.specs.PageCodes.{GivesPage}
 use Rattle.page_code.specs.Codings.{read_rows}
 use Rattle.page_code.specs.RowsSoFar.{AreRowsSoFar, BeginWith, IsFurther, IsReadTo, LeadsTo, ReadsOn, after_rows}

@@ -1,5 +1,5 @@
 -- The law of the two-dimensional code, in the words of its trait.
-use Rattle.std.proofs.Common.{◌++◌, suc, arith, ℕ, ◌≡◌, List, [], ◌∷◌, length}
+use Rattle.std.proofs.Common.{◌++◌, suc, arith, ◌≡◌, List, [], ◌∷◌, length}
 use Rattle.std.specs.List.{AllByRecursion}
 use Rattle.std.specs.Prelude.{All}
 use Rattle.page_code.specs.TwoDimensions.Modes.{ReadsAsPage}

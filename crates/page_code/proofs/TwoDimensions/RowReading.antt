@@ -14,7 +14,7 @@ use Rattle.page_code.specs.TwoDimensions.Positions.{CodingLine}
 use Rattle.page_code.specs.TwoDimensions.Modes.{extension_word}
 use Rattle.page_code.specs.declared.t6.mode.ModeCode.{ModeCode}
 use Rattle.page_code.specs.TwoDimensions.Fronts.{mode_word, mode_codes, PageItem, page_item_word, PageSoFar, PageState, after_mode}
-use Rattle.page_code.specs.TwoDimensions.Fronts.{found_mode, look_mode, page_look}
+use Rattle.page_code.specs.TwoDimensions.Fronts.{found_mode, look_mode}
 use Rattle.page_code.specs.TwoDimensions.Fronts.PageItem.{mode_item}
 use Rattle.page_code.specs.TwoDimensions.Fronts.PageState.{between, inside, running}
 use Rattle.page_code.specs.TwoDimensions.Reading.{RowStep, row_look, row_reading}

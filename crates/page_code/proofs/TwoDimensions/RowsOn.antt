@@ -1,7 +1,7 @@
 -- Reading a T.6 page row by row: which items lead over a row, where they end, and the whole rows before that.
 use Rattle.std.proofs.Common.{ltb, ℕ, suc, ◌≡◌, ◌+◌, ◌-◌, ◌*◌, ◌<◌, ◌≤◌, Bool, true, false, List, [], ◌∷◌, ◌++◌, length, drop, replicate}
 use Rattle.std.proofs.Common.{Some, None, inl, inr, refl, ap, sym, ◌∙◌, subst, arith, cond, nat_eq, length-append}
-use Rattle.std.specs.Prelude.{Option, Result, Ok, Err, All, ◌⊎◌}
+use Rattle.std.specs.Prelude.{Option, Result, Ok, Err, All}
 use Rattle.std.proofs.lemmas.Bool.{lt-ltb}
 use Rattle.std.proofs.lemmas.List.{length_push, append-nil, append_cancel_left, append_cancel_right, length-replicate}
 use Rattle.std.proofs.lemmas.List.Elements.{All-head, All-tail}
@@ -17,11 +17,11 @@ use Rattle.run_tables.specs.Reading.{Reading, rest_of}
 use Rattle.run_tables.specs.declared.fault.CodeFault.{CodeFault}
 use Rattle.run_tables.specs.declared.fault.CodeFaultKind.{CodeFaultKind}
 use Rattle.run_tables.specs.declared.fault.CodeFaultKind.TheVariants.{BadCode, Backwards, PastEnd, EmptyHorizontal, MissingEofb}
-use Rattle.run_tables.specs.Fronts.{Walk, spell, Answers}
+use Rattle.run_tables.specs.Fronts.{Walk, spell}
 use Rattle.run_tables.specs.Fronts.Look.{go, stop, refuse}
 use Rattle.run_tables.specs.RowFronts.{amount, run_of}
 use Rattle.run_tables.proofs.FrontLaws.{halts, answers_there}
-use Rattle.run_tables.proofs.FrontWalks.{stops, refuses, walk_on, spell-append, read_walk, read_seen}
+use Rattle.run_tables.proofs.FrontWalks.{stops, refuses, read_walk}
 use Rattle.page_code.specs.declared.coding.Coding.TheVariants.{T6}
 use Rattle.page_code.specs.declared.t6.mode.ModeCode.{ModeCode}
 use Rattle.page_code.specs.declared.t6.mode.ModeCode.TheVariants.{Pass, Horizontal, Vertical}
@@ -32,7 +32,7 @@ use Rattle.page_code.specs.PageCodes.{GivesPage}
 use Rattle.page_code.specs.Codings.{read_rows}
 use Rattle.page_code.specs.RowsSoFar.{AreRowsSoFar, BeginWith, IsFurther, IsReadTo, LeadsTo, ReadsOn, between_rows}
 use Rattle.page_code.specs.TwoDimensions.Positions.{CodingLine, line_begin, white_line, right_of_a0, filled_to, b1_of, b2_of}
-use Rattle.page_code.specs.TwoDimensions.Modes.{to_right, to_left, eofb, runs_added, SpellsRows}
+use Rattle.page_code.specs.TwoDimensions.Modes.{to_right, to_left, eofb, runs_added}
 use Rattle.page_code.specs.TwoDimensions.Fronts.{PageItem, page_item_word, PageSoFar, PageState, page_begin, row_added, mode_ended}
 use Rattle.page_code.specs.TwoDimensions.Fronts.{after_mode, run_ended, after_run, PageStep, PageLook, page_end, page_look, reading}
 use Rattle.page_code.specs.TwoDimensions.Fronts.{read_page}

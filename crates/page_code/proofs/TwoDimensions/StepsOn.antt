@@ -7,7 +7,6 @@ use Rattle.std.proofs.lemmas.Bool.{lt-ltb, le-ltb, ne_eqb, cases_eq}
 use Rattle.std.proofs.lemmas.List.{drop-drop, length-drop, length-replicate, append-nil}
 use Rattle.std.proofs.lemmas.Option.{slice_get_cases}
 use Rattle.raster.specs.declared.row.Color.{Color}
-use Rattle.raster.specs.declared.row.Color.TheVariants.{White}
 use Rattle.raster.specs.Pixels.{other}
 use Rattle.raster.specs.Changes.{IsNextChange}
 use Rattle.run_tables.specs.declared.fault.CodeFault.{CodeFault}
@@ -26,20 +25,19 @@ use Rattle.run_tables.proofs.BeginsLemmas.{pick_sound, begins_split}
 use Rattle.run_tables.proofs.CodeLooks.{code_positive}
 use Rattle.run_tables.proofs.RowReads.{pick_items, cut_items}
 use Rattle.page_code.specs.declared.t6.a0.A0.{A0}
-use Rattle.page_code.specs.declared.t6.read.Start.TheVariants.{Row, End, Refused}
 use Rattle.page_code.specs.declared.t6.mode.Shift.{Shift}
 use Rattle.page_code.specs.declared.t6.mode.Shift.TheVariants.{V0, VR1, VR2, VR3, VL1, VL2, VL3}
 use Rattle.page_code.specs.declared.t6.mode.ModeCode.{ModeCode}
 use Rattle.page_code.specs.declared.t6.mode.ModeCode.TheVariants.{Pass, Horizontal, Vertical}
-use Rattle.page_code.specs.TwoDimensions.Positions.{a0_of, right_of, CodingLine, line_begin, white_line, right_of_a0, filled_to, IsFirstTo}
+use Rattle.page_code.specs.TwoDimensions.Positions.{a0_of, right_of, CodingLine, line_begin, right_of_a0, filled_to, IsFirstTo}
 use Rattle.page_code.specs.TwoDimensions.Positions.{IsB1, b1_of, b2_of}
-use Rattle.page_code.specs.TwoDimensions.Modes.{to_right, to_left, eofb, runs_added}
-use Rattle.page_code.specs.TwoDimensions.Fronts.{mode_word, mode_codes, PageSoFar, PageState, page_begin, row_added, mode_ended, after_mode}
+use Rattle.page_code.specs.TwoDimensions.Modes.{to_right, to_left, runs_added}
+use Rattle.page_code.specs.TwoDimensions.Fronts.{mode_word, mode_codes, PageSoFar, PageState, row_added, mode_ended, after_mode}
 use Rattle.page_code.specs.TwoDimensions.Fronts.{run_color, run_ended, after_run, found_run, look_run}
 use Rattle.page_code.specs.TwoDimensions.Fronts.PageItem.{run_item}
-use Rattle.page_code.specs.TwoDimensions.Fronts.PageState.{between, inside, running}
+use Rattle.page_code.specs.TwoDimensions.Fronts.PageState.{inside, running}
 use Rattle.page_code.specs.TwoDimensions.Reading.{row_reading, ReadsMode, HasRoom, ReadsRun, LeadsOn, MovesTo, ReadsHorizontal, StepsOn}
-use Rattle.page_code.specs.TwoDimensions.Reading.{ReadsRow, missing_mode}
+use Rattle.page_code.specs.TwoDimensions.Reading.{missing_mode}
 use Rattle.page_code.specs.TwoDimensions.Writing.{reference_at}
 use Rattle.page_code.proofs.TwoDimensions.Positions.{b1_is, b2_is}
 use Rattle.page_code.proofs.TwoDimensions.Prescribed.{other_twice}

@@ -3,7 +3,6 @@ use Rattle.std.specs.Prelude.{ℕ, suc, ◌≡◌, ◌+◌, ◌<◌, ◌≤◌, 
 use Rattle.std.specs.Prelude.{Some, Result, Ok, Err}
 use Rattle.raster.specs.declared.row.Color.{Color}
 use Rattle.raster.specs.declared.row.Color.TheVariants.{White}
-use Rattle.raster.specs.Pages.{PagePixels}
 use Rattle.raster.specs.Runs.{colored}
 use Rattle.run_tables.specs.declared.fault.CodeFault.{CodeFault}
 use Rattle.run_tables.specs.declared.fault.CodeFaultKind.{CodeFaultKind}
@@ -18,9 +17,9 @@ use Rattle.page_code.specs.declared.t6.read.Start.{Start}
 use Rattle.page_code.specs.declared.t6.read.Start.TheVariants.{Row, End, Refused}
 use Rattle.page_code.specs.TwoDimensions.Positions.{CodingLine, line_begin}
 use Rattle.page_code.specs.TwoDimensions.Modes.{eofb, extension_word}
-use Rattle.page_code.specs.TwoDimensions.Fronts.{mode_word, mode_codes, PageItem, page_item_word, PageSoFar, PageState, page_begin}
+use Rattle.page_code.specs.TwoDimensions.Fronts.{mode_word, mode_codes, PageItem, page_item_word, PageSoFar, PageState}
 use Rattle.page_code.specs.TwoDimensions.Fronts.{mode_ended, after_mode, run_color, run_ended, PageStep, PageLook, look_mode, look_run}
-use Rattle.page_code.specs.TwoDimensions.Fronts.{page_look, reading}
+use Rattle.page_code.specs.TwoDimensions.Fronts.{page_look}
 use Rattle.page_code.specs.TwoDimensions.Fronts.PageState.{between, inside, running}
 
 -- what is seen in the bits of a row: what is seen in those of a page, until the row is whole
