@@ -2,6 +2,7 @@
 use Rattle.std.specs.Prelude.{ℕ, ◌≡◌, ◌<◌, ◌≤◌, ◌↔◌, ◌++◌, Bool, List, length, All, Result, Ok, Err}
 use Rattle.raster.specs.declared.row.Color.{Color}
 use Rattle.raster.specs.Pixels.{IsWidth}
+use Rattle.raster.specs.Pages.{max_rows}
 use Rattle.run_tables.specs.declared.fault.CodeFaultKind.{CodeFaultKind}
 use Rattle.page_code.specs.declared.coding.Coding.{Coding}
 use Rattle.page_code.specs.declared.coding.Coding.TheVariants.{OneDim, T6}
@@ -60,5 +61,5 @@ ReadsCode = (coding : Coding) → ReadsItsCode (code_of coding) (ReadsIn coding)
 abbrev pub GivesCodedRows : Type 0
 GivesCodedRows =
     (coding : Coding) (width : ℕ) (rows : List (List Color)) (rest : List Bool) → IsWidth width
-    → 0 < length rows → length rows ≤ 20000 → All (λ row. length row ≡ width) rows
+    → 0 < length rows → length rows ≤ max_rows → All (λ row. length row ≡ width) rows
     → read_rows coding width (code_of coding width rows ++ rest) ≡ Ok (rows, length (code_of coding width rows))

@@ -3,7 +3,7 @@ use Rattle.std.specs.Prelude.{ℕ, ◌≡◌, ◌≤◌, ◌<◌, ◌++◌, Bool
 use Rattle.raster.specs.declared.packed.Order.{Order}
 use Rattle.raster.specs.declared.row.Color.{Color}
 use Rattle.raster.specs.Packed.{FillsOctets}
-use Rattle.raster.specs.Pages.{PagePixels}
+use Rattle.raster.specs.Pages.{PagePixels, max_rows}
 use Rattle.raster.specs.Pixels.{IsWidth}
 use Rattle.run_tables.specs.declared.fault.CodeFault.{CodeFault}
 use Rattle.run_tables.specs.declared.fault.CodeFaultKind.{CodeFaultKind}
@@ -46,5 +46,5 @@ GivesPage outcome width fine (Err fault) = (fault.kind ≡ NoMemory) ⊎ (outcom
 -- the code of a page, followed by any bits, reads as the page with the code's length
 abbrev pub ReadsItsCode : (ℕ → List (List Color) → List Bool) → (ℕ → List Bool → List (List Color) → ℕ → Type 0) → Type 0
 ReadsItsCode code Reads =
-    (width : ℕ) (rows : List (List Color)) (rest : List Bool) → IsWidth width → 0 < length rows → length rows ≤ 20000
+    (width : ℕ) (rows : List (List Color)) (rest : List Bool) → IsWidth width → 0 < length rows → length rows ≤ max_rows
     → All (λ row. length row ≡ width) rows → Reads width (code width rows ++ rest) rows (length (code width rows))

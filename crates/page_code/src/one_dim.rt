@@ -6,6 +6,7 @@ ghost use Rattle.page_code.specs.OneDimension.Pages.{rows_words, eol_words, rtc}
 ghost use Rattle.page_code.specs.OneDimension.Reading.{FindsRow, ReadsRowOfPage, SeesStart};
 ghost use Rattle.page_code.specs.RowsSoFar.{IsReadTo, ReadsOn};
 ghost use Rattle.raster.specs.Packed.{Bits, bits_of};
+ghost use Rattle.raster.specs.Pages.{max_rows};
 ghost use Rattle.raster.specs.Pixels.{IsWidth};
 ghost use Rattle.raster.specs.declared.row.Color.{Color};
 ghost use Rattle.std.specs.Prelude.{◌≡◌, ◌≤◌, ◌<◌, ◌+◌, ◌*◌, ◌++◌, ◌∷◌, [], ℕ, List, length, OnOk, All};
@@ -73,7 +74,7 @@ fn start_at(octets: &[u8], order: Order, place: u128, rows: usize) -> Start
 fn next_row(octets: &[u8], order: Order, to: &Progress) -> Start
     requires { to.now.place ≤ 8 * length octets.now }
     ensures finds { FindsRow (bits_of order octets.now) to.now.page.width to.now.page.rows to.now.place result }
-    ensures few { length to.now.page.rows ≤ 20000 }
+    ensures few { length to.now.page.rows ≤ max_rows }
 {
     let rows = to.page.rows().len();
     match eol_at(octets, order, to.place) {
@@ -104,7 +105,7 @@ fn read_row(
     to: &mut Progress,
 ) -> Result<(), CodeFault>
     requires within { place ≤ 8 * length octets.now }
-    requires room { length to.old.page.rows < 20000 }
+    requires room { length to.old.page.rows < max_rows }
     requires width { IsWidth to.old.page.width }
     ensures { ReadsRowOfPage (bits_of order octets.now) place to.old to.new result }
 {

@@ -1,5 +1,6 @@
 //! Rows and pages where only memory can be refused.
 
+ghost use Rattle.raster.specs.Pages.{max_rows};
 ghost use Rattle.raster.specs.Pixels.{IsWidth};
 ghost use Rattle.raster.specs.Runs.{colored};
 ghost use Rattle.std.specs.Prelude.{◌≡◌, ◌<◌, ◌++◌, ◌∷◌, [], IfOk, OnOk, length, sum};
@@ -20,7 +21,7 @@ pub(crate) fn row_of(alloc: Global, runs: &[u32]) -> Result<Row, AllocError>
 }
 
 /// A page that is read: its whole rows so far, and the place in the bits after them.
-#[derive(Drop)]
+#[derive(Debug, Drop)]
 pub(crate) struct Progress {
     pub(crate) page: Page,
     pub(crate) place: u128,
@@ -42,7 +43,7 @@ impl Progress {
 /// Appends a row of the page's width, where there is room for it. Errs where memory is refused.
 pub(crate) fn push_row(page: &mut Page, row: Row) -> Result<(), AllocError>
     requires wide { length row ≡ page.old.width }
-    requires room { length page.old.rows < 20000 }
+    requires room { length page.old.rows < max_rows }
     ensures { OnOk result (page.new ≡ record page.old { rows = page.old.rows ++ row ∷ [] }) }
 {
     match page.push_row(row) {

@@ -42,7 +42,7 @@ fn read_rows_on(
 
 /// Reads a page whose octets come in pieces: each call is given all octets so far, and reads on after
 /// the whole rows that were read before. It keeps the rows, and not the octets.
-#[derive(Drop)]
+#[derive(Debug, Drop)]
 pub struct PageReader {
     alloc: Global,
     coding: Coding,

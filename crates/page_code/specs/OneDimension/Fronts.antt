@@ -5,6 +5,7 @@ use Rattle.std.specs.Prelude.{Option, Some, None, Result}
 use Rattle.std.specs.Option.{option_map}
 use Rattle.raster.specs.declared.row.Color.{Color}
 use Rattle.raster.specs.declared.row.Color.TheVariants.{White}
+use Rattle.raster.specs.Pages.{max_rows}
 use Rattle.run_tables.specs.declared.fault.CodeFaultKind.{CodeFaultKind}
 use Rattle.run_tables.specs.declared.fault.CodeFaultKind.TheVariants.{NoRows, BadCode, TooManyCodedRows}
 use Rattle.run_tables.specs.Fronts.{Look, read_from}
@@ -47,7 +48,7 @@ abbrev pub Step : ℕ → PageState → PageItem → PageState → Type 0
 Step width first (eol count) state = (11 ≤ count) × (row_start [] ≡ state)
 Step width first (coded code) state = CodeThere width [] [] White None code state
 Step width (row_start rows) (eol count) state = ⊥
-Step width (row_start rows) (coded code) state = (length rows < 20000) × CodeThere width rows [] White None code state
+Step width (row_start rows) (coded code) state = (length rows < max_rows) × CodeThere width rows [] White None code state
 Step width (in_row rows pixels color makeup) (eol count) state = ⊥
 Step width (in_row rows pixels color makeup) (coded code) state = CodeThere width rows pixels color makeup code state
 Step width (row_end rows) (eol count) state = (11 ≤ count) × (row_start rows ≡ state)
@@ -97,7 +98,7 @@ look_in_row width rows pixels color makeup x = look_code coded (λ row. put rows
 abbrev pub look : ℕ → PageState → List Bool → PageLook
 look width first x = by_eol (zeros_before x) (refuse NoRows) (λ count. go (eol count) (row_start [])) (look_in_row width [] [] White None x)
 look width (row_start rows) x =
-    by_eol (zeros_before x) (ends_with rows 0) (λ count. ends_with rows (bits_of_five x)) (if nat_lt (length rows) 20000 then look_in_row
+    by_eol (zeros_before x) (ends_with rows 0) (λ count. ends_with rows (bits_of_five x)) (if nat_lt (length rows) max_rows then look_in_row
     width rows [] White None x else refuse TooManyCodedRows)
 look width (in_row rows pixels color makeup) x = look_in_row width rows pixels color makeup x
 look width (row_end rows) x = by_eol (zeros_before x) (stop rows 0) (λ count. go (eol count) (row_start rows)) (refuse BadCode)
@@ -113,7 +114,7 @@ read_page width x = reading width first 0 x
 -- a row may begin in the state, after these rows
 abbrev pub MayBegin : PageState → List (List Color) → Type 0
 MayBegin first rows = [] ≡ rows
-MayBegin (row_start before) rows = (length before < 20000) × (before ≡ rows)
+MayBegin (row_start before) rows = (length before < max_rows) × (before ≡ rows)
 MayBegin (in_row before pixels color makeup) rows = ⊥
 MayBegin (row_end before) rows = ⊥
 

@@ -2,6 +2,7 @@
 use Rattle.std.specs.Prelude.{ℕ, ◌≡◌, ◌<◌, ◌≤◌, ◌↔◌, Bool, List, ◌++◌, length, All, Ok, Err}
 use Rattle.raster.specs.declared.row.Color.{Color}
 use Rattle.raster.specs.Pixels.{IsWidth}
+use Rattle.raster.specs.Pages.{max_rows}
 use Rattle.run_tables.specs.declared.fault.CodeFaultKind.{CodeFaultKind}
 use Rattle.run_tables.specs.Fronts.{IsFront, Nested}
 use Rattle.run_tables.specs.Longest.{IsLongest}
@@ -39,5 +40,5 @@ OneFront = (width : ℕ) (x : List Bool) (items others : List PageItem) → IsPa
 
 -- the code of a page, followed by any bits, reads as the page
 abbrev pub ReadsCode : Type 0
-ReadsCode = (width : ℕ) (page : List (List Color)) (rest : List Bool) → IsWidth width → 0 < length page → length page ≤ 20000
+ReadsCode = (width : ℕ) (page : List (List Color)) (rest : List Bool) → IsWidth width → 0 < length page → length page ≤ max_rows
     → All (λ row. length row ≡ width) page → read_page width (page_words page ++ rest) ≡ Ok (page, length (page_words page))

@@ -3,6 +3,7 @@ use Rattle.std.specs.Prelude.{ℕ, ◌≡◌, ◌+◌, ◌<◌, ◌≤◌, ◌�
 use Rattle.std.specs.List.{AllByRecursion}
 use Rattle.raster.specs.declared.row.Color.{Color}
 use Rattle.raster.specs.declared.row.Color.TheVariants.{White}
+use Rattle.raster.specs.Pages.{max_rows}
 use Rattle.run_tables.specs.RunWords.{runs_words, SpellsRow}
 use Rattle.page_code.specs.OneDimension.OwnRuns.{own_runs}
 
@@ -76,7 +77,7 @@ pub record ReadsAs (width : ℕ) (x : List Bool) (page : List (List Color)) (use
   pub bits : List Bool
   pub rest : List Bool
   pub last : ℕ
-  pub few : length page ≤ 20000
+  pub few : length page ≤ max_rows
   pub leads : IsLead lead
   pub rows : SpellsRows width page bits
   pub ends : IsEnd rest last

@@ -1,6 +1,7 @@
 -- What the parts of a one-dimensional page's reader and writer answer (ITU-T T.4, 4.1).
 use Rattle.std.specs.Prelude.{ℕ, ◌≡◌, ◌+◌, ◌<◌, ◌≤◌, Bool, List, length, drop, None, Some, Result, Ok, Err, [], ◌∷◌, ◌++◌, ◌⊎◌}
 use Rattle.raster.specs.declared.row.Color.{Color}
+use Rattle.raster.specs.Pages.{max_rows}
 use Rattle.run_tables.specs.declared.fault.CodeFault.{CodeFault}
 use Rattle.run_tables.specs.declared.fault.CodeFaultKind.TheVariants.{NoMemory}
 use Rattle.run_tables.specs.Fronts.{Walk, spell}
@@ -24,7 +25,7 @@ SeesEol x OnlyZeros = zeros_before x ≡ None
 
 -- what is found after an EOL, after so many rows: a row's first code, or the page's end or a refusal, whatever the rows are
 abbrev pub SeesStart : List Bool → ℕ → ℕ → Start → Type 0
-SeesStart bits place count (Row at) = (at ≡ place) × CodeBegins (drop place bits) × (count < 20000)
+SeesStart bits place count (Row at) = (at ≡ place) × CodeBegins (drop place bits) × (count < max_rows)
 SeesStart bits place count (End used) =
     (more : ℕ) × (used ≡ place + more) × ((width : ℕ) (rows : List (List Color)) → length rows ≡ count
     → look width (row_start rows) (drop place bits) ≡ stop rows more)

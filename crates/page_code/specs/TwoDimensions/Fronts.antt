@@ -3,6 +3,7 @@ use Rattle.std.specs.Prelude.{ℕ, suc, ◌≡◌, ◌+◌, ◌-◌, ◌<◌, Bo
 use Rattle.std.specs.Prelude.{Some, None, Result, Ok, Err, Contains}
 use Rattle.raster.specs.declared.row.Color.{Color}
 use Rattle.raster.specs.Pixels.{other}
+use Rattle.raster.specs.Pages.{max_rows}
 use Rattle.run_tables.specs.declared.fault.CodeFaultKind.{CodeFaultKind}
 use Rattle.run_tables.specs.declared.fault.CodeFaultKind.TheVariants.{NoRows, BadCode, Truncated, Backwards, PastEnd, EmptyHorizontal}
 use Rattle.run_tables.specs.declared.fault.CodeFaultKind.TheVariants.{Extension, MissingEofb, TooManyCodedRows}
@@ -110,7 +111,7 @@ pub record RunStep (width : ℕ) (page : PageSoFar) (line : CodingLine) (first m
 
 -- the item may be there, and leads to the state; a page has at most 20,000 rows
 abbrev pub PageStep : ℕ → PageState → PageItem → PageState → Type 0
-PageStep width (between page) (mode_item code) state = (length page.rows < 20000) × ModeStep width page line_begin code state
+PageStep width (between page) (mode_item code) state = (length page.rows < max_rows) × ModeStep width page line_begin code state
 PageStep width (inside page line) (mode_item code) state = ModeStep width page line code state
 PageStep width (running page line first makeup) (mode_item code) state = ⊥
 PageStep width (between page) (run_item code) state = ⊥
@@ -155,7 +156,7 @@ page_look width (between page) x =
     if begins eofb x then page_end page.rows else
     if all_zero x then refuse MissingEofb else
     if begins x eofb then refuse Truncated else
-    if nat_lt (length page.rows) 20000 then look_mode width page line_begin x else refuse TooManyCodedRows
+    if nat_lt (length page.rows) max_rows then look_mode width page line_begin x else refuse TooManyCodedRows
 page_look width (inside page line) x = look_mode width page line x
 page_look width (running page line first makeup) x = look_run width page line first makeup x
 

@@ -4,6 +4,7 @@ use Rattle.std.specs.List.{AllByRecursion}
 use Rattle.raster.specs.declared.row.Color.{Color}
 use Rattle.raster.specs.Pixels.{IsWidth}
 use Rattle.raster.specs.Changes.{IsNextChange}
+use Rattle.raster.specs.Pages.{max_rows}
 use Rattle.run_tables.specs.declared.fault.CodeFaultKind.{CodeFaultKind}
 use Rattle.run_tables.specs.Fronts.{IsFront, Nested}
 use Rattle.run_tables.specs.Longest.{IsLongest}
@@ -62,6 +63,6 @@ OneFront = (width : ℕ) (x : List Bool) (items others : List PageItem) → IsPa
 -- the code of a page, followed by any bits, reads as the page and the code's length
 abbrev pub RoundTrip : Type 0
 RoundTrip =
-    (width : ℕ) (rows : List (List Color)) (rest : List Bool) → IsWidth width → 0 < length rows → length rows ≤ 20000
+    (width : ℕ) (rows : List (List Color)) (rest : List Bool) → IsWidth width → 0 < length rows → length rows ≤ max_rows
     → AllByRecursion (λ row. length row ≡ width) rows →
     read_page width (page_code width rows ++ rest) ≡ Ok (rows, length (page_code width rows))

@@ -2,6 +2,7 @@
 use Rattle.std.specs.Prelude.{ℕ, ◌≡◌, ◌+◌, ◌<◌, ◌≤◌, Bool, true, List, [], ◌∷◌, ◌++◌, length, replicate, codes}
 use Rattle.raster.specs.declared.row.Color.{Color}
 use Rattle.raster.specs.Pixels.{other}
+use Rattle.raster.specs.Pages.{max_rows}
 use Rattle.run_tables.specs.Codes.{text, run_words}
 use Rattle.page_code.specs.declared.t6.mode.Shift.{Shift}
 use Rattle.page_code.specs.declared.t6.mode.Shift.TheVariants.{V0, VR1, VR2, VR3, VL1, VL2, VL3}
@@ -105,7 +106,7 @@ SpellsRows width reference (row ∷ rows) bits =
 -- x reads as a page of 1 to 20,000 rows, so many bits used: they spell the rows, the first after an imaginary white line, and end with EOFB
 pub record ReadsAsPage (width : ℕ) (x : List Bool) (rows : List (List Color)) (used : ℕ) : Type 0 where
   pub some : 0 < length rows
-  pub few : length rows ≤ 20000
+  pub few : length rows ≤ max_rows
   pub front : List Bool
   pub rest : List Bool
   pub spells : SpellsRows width (white_line width) rows front

@@ -4,6 +4,7 @@ use Rattle.std.specs.Prelude.{Some, Result, Ok, Err}
 use Rattle.raster.specs.declared.row.Color.{Color}
 use Rattle.raster.specs.declared.row.Color.TheVariants.{White}
 use Rattle.raster.specs.Runs.{colored}
+use Rattle.raster.specs.Pages.{max_rows}
 use Rattle.run_tables.specs.declared.fault.CodeFault.{CodeFault}
 use Rattle.run_tables.specs.declared.fault.CodeFaultKind.{CodeFaultKind}
 use Rattle.run_tables.specs.declared.fault.CodeFaultKind.TheVariants.{NoMemory, EmptyHorizontal, Extension, Truncated, BadCode}
@@ -118,7 +119,7 @@ ReadsRow reference old new (Err fault) =
 
 -- what is found where a row may begin, after so many rows
 abbrev pub SeesStart : List Bool → ℕ → Start → Type 0
-SeesStart x count Row = (begins eofb x ≡ false) × (all_zero x ≡ false) × (begins x eofb ≡ false) × (count < 20000)
+SeesStart x count Row = (begins eofb x ≡ false) × (all_zero x ≡ false) × (begins x eofb ≡ false) × (count < max_rows)
 SeesStart x count End = (begins eofb x ≡ true) × (0 < count)
 SeesStart x count (Refused kind) = (width : ℕ) (page : PageSoFar) → length page.rows ≡ count
     → page_look width (between page) x ≡ refuse kind

@@ -1,7 +1,7 @@
 //! The changing elements a0, b1 and b2, from which the next mode is coded (ITU-T T.6, 2.2.1).
 
 ghost use Rattle.page_code.specs.TwoDimensions.Positions.{IsB2, IsFirstTo, right_of};
-ghost use Rattle.raster.specs.Pixels.{other};
+ghost use Rattle.raster.specs.Pixels.{max_width, other};
 ghost use Rattle.std.specs.Prelude.{◌≡◌, ◌≤◌, length, true, false};
 
 use crate::t6::changes::Changes;
@@ -40,7 +40,7 @@ impl A0 {
 
     /// The least place to the right of a0.
     pub(crate) fn right(self) -> u32
-        requires { self.place ≤ 2432 }
+        requires { self.place ≤ max_width }
         ensures { result ≡ right_of self }
     {
         if self.begun {
@@ -53,9 +53,9 @@ impl A0 {
     /// b1: the first changing element of the reference line to the right of a0 and of opposite color,
     /// or the line's end where there is none.
     pub(crate) fn b1(self, reference: &mut Changes) -> u32
-        requires { self.place ≤ 2432 }
+        requires { self.place ≤ max_width }
         ensures first { IsFirstTo reference.old (other self.color) (right_of self) result }
-        ensures range { result ≤ 2432 }
+        ensures range { result ≤ max_width }
         ensures same { reference.new ≡ reference.old }
     {
         next_change_to(reference, self.color.other(), self.right())
@@ -65,7 +65,7 @@ impl A0 {
 /// The first changing element of this color at or above a place, or the width where there is none.
 fn next_change_to(row: &mut Changes, color: Color, from: u32) -> u32
     ensures first { IsFirstTo row.old color from result }
-    ensures range { result ≤ 2432 }
+    ensures range { result ≤ max_width }
     ensures same { row.new ≡ row.old }
 {
     let first = row.next_change(from);
@@ -78,9 +78,9 @@ fn next_change_to(row: &mut Changes, color: Color, from: u32) -> u32
 /// b2: the next changing element of the reference line to the right of b1, or the line's end where
 /// there is none.
 pub(crate) fn b2(reference: &mut Changes, b1: u32) -> u32
-    requires { b1 ≤ 2432 }
+    requires { b1 ≤ max_width }
     ensures next { IsB2 reference.old b1 result }
-    ensures range { result ≤ 2432 }
+    ensures range { result ≤ max_width }
     ensures same { reference.new ≡ reference.old }
 {
     let _width = reference.width(); // tells the proof that it is at most 2,432

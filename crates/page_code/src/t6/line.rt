@@ -1,7 +1,7 @@
 //! The coding line that is read, up to a0 (ITU-T T.6, 2.2.1).
 
 ghost use Rattle.page_code.specs.TwoDimensions.Positions.{a0_of, line_begin};
-ghost use Rattle.raster.specs.Pixels.{IsWidth, other};
+ghost use Rattle.raster.specs.Pixels.{IsWidth, max_width, other};
 ghost use Rattle.std.specs.Prelude.{◌≡◌, ◌≤◌, ◌+◌, ◌++◌, IfOk, OnOk, length, replicate, true};
 
 use crate::page::row_of;
@@ -20,6 +20,7 @@ pub(crate) struct Line {
 impl Model for Line {
     ghost use Rattle.std.specs.Prelude.{◌≡◌, ◌≤◌, length};
     ghost use Rattle.raster.specs.declared.row.Color.TheVariants.{White};
+    ghost use Rattle.raster.specs.Pixels.{max_width};
     ghost use Rattle.raster.specs.Runs.{colored};
     ghost use Rattle.page_code.specs.TwoDimensions.Positions.{CodingLine};
     ghost use Rattle.page_code.specs.TwoDimensions.Reading.{GoesOnWith};
@@ -28,7 +29,7 @@ impl Model for Line {
 
     ghost view = { λ line. record { pixels = colored White line.runs.items; begun = line.a0.begun; color = line.a0.color } };
 
-    ghost invariant = { λ line. (line.a0.place ≡ length (colored White line.runs.items)) × GoesOnWith line.runs.items line.a0.color × (line.a0.place ≤ 2432) };
+    ghost invariant = { λ line. (line.a0.place ≡ length (colored White line.runs.items)) × GoesOnWith line.runs.items line.a0.color × (line.a0.place ≤ max_width) };
 }
 
 impl Line {
@@ -45,14 +46,14 @@ impl Line {
     /// a0, which is after the pixels so far.
     pub(crate) fn a0(&self) -> A0
         ensures is { result ≡ a0_of self.now }
-        ensures range { result.place ≤ 2432 }
+        ensures range { result.place ≤ max_width }
     {
         self.a0
     }
 
     /// Appends a run of a0's color, and moves a0 after it, to the other color.
     pub(crate) fn push_run(&mut self, run: u32) -> Result<(), AllocError>
-        requires { length self.old.pixels + run ≤ 2432 }
+        requires { length self.old.pixels + run ≤ max_width }
         ensures { OnOk result (self.new ≡ record { pixels = self.old.pixels ++ replicate run self.old.color; begun = true; color = other self.old.color }) }
     {
         self.runs.push(run)?;

@@ -6,7 +6,7 @@ ghost use Rattle.page_code.specs.TwoDimensions.Modes.{eofb};
 ghost use Rattle.page_code.specs.TwoDimensions.Reading.{LeadsOn, MovesTo, ReadsHorizontal, ReadsMode, ReadsRow, SeesStart, StepsOn, missing_mode};
 ghost use Rattle.page_code.specs.TwoDimensions.Writing.{reference_at};
 ghost use Rattle.raster.specs.Packed.{bits_of};
-ghost use Rattle.raster.specs.Pixels.{IsWidth};
+ghost use Rattle.raster.specs.Pixels.{IsWidth, max_width};
 ghost use Rattle.run_tables.specs.Reading.{rest_of};
 ghost use Rattle.run_tables.specs.Texts.{all_zero, begins, is_cut};
 ghost use Rattle.std.specs.Prelude.{◌≡◌, ◌≤◌, ◌<◌, ◌+◌, [], OnOk, length};
@@ -176,7 +176,7 @@ fn vertical(
 /// The two runs of horizontal mode: a0 goes to a2.
 fn horizontal(reader: &mut BitReader, width: u32, line: &mut Line) -> Result<(), CodeFault>
     requires short { length line.old.pixels < width }
-    requires width { width ≤ 2432 }
+    requires width { width ≤ max_width }
     ensures { ReadsHorizontal width reader.old reader.new line.old line.new result }
 {
     let a0 = line.a0();

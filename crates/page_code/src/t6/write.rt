@@ -3,6 +3,7 @@
 ghost use Rattle.page_code.specs.TwoDimensions.Code.{page_code, row_code, rows_code, verticals, vertical_to};
 ghost use Rattle.page_code.specs.TwoDimensions.Fronts.{mode_word};
 ghost use Rattle.page_code.specs.TwoDimensions.Writing.{IsCodedTo, WritesMode, reference_at, row_at};
+ghost use Rattle.raster.specs.Pixels.{max_width};
 ghost use Rattle.run_tables.specs.Written.{Appends};
 ghost use Rattle.std.specs.Prelude.{◌≡◌, ◌≤◌, ◌<◌, ◌+◌, All, length, OnOk};
 
@@ -16,8 +17,8 @@ use std::alloc::{AllocError, Global};
 
 /// The vertical mode that leads from b1 to a1, where there is one (ITU-T T.6, 2.2.3).
 fn shift_to(b1: u32, a1: u32) -> Option<Shift>
-    requires b1 { b1 ≤ 2432 }
-    requires a1 { a1 ≤ 2432 }
+    requires b1 { b1 ≤ max_width }
+    requires a1 { a1 ≤ max_width }
     ensures { result ≡ vertical_to b1 a1 verticals }
 {
     if a1 == b1 {
