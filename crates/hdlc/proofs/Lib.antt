@@ -16,6 +16,7 @@ pub mod FlagRuns
 pub mod FrameGrowsLemmas
 pub mod Hearing
 pub mod Written
+pub mod WritingOctets
 pub mod FrameLemmas
 pub mod Extending
 pub mod OneFrame

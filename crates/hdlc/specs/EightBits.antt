@@ -12,6 +12,11 @@ abbrev pub has_no_stuffed : ℕ → List Bool → Bool
 has_no_stuffed ones [] = true
 has_no_stuffed ones (b ∷ bits) = nat_lt ones 5 && has_no_stuffed (cond b (1 + ones) 0) bits
 
+-- there are never five 1 bits in a row, with these bits after so many
+abbrev pub has_no_five : ℕ → List Bool → Bool
+has_no_five ones [] = nat_lt ones 5
+has_no_five ones (b ∷ bits) = nat_lt ones 5 && has_no_five (cond b (1 + ones) 0) bits
+
 -- how many 1 bits in a row there are at the end, with these bits after so many
 abbrev pub ones_at_end : ℕ → List Bool → ℕ
 ones_at_end ones [] = ones
