@@ -31,12 +31,17 @@ width_callable W1728 = (omega arith, omega arith)
 width_callable W2048 = (omega arith, omega arith)
 width_callable W2432 = (omega arith, omega arith)
 
+pub over_limit : (octets : List ℕ) → 8388608 < length octets → within_page_limit octets ≡ false
+unfolding within_page_limit
+over_limit octets long = lt-leb (length octets) 8388608 long
+
+pub within_limit : (octets : List ℕ) → length octets ≤ 8388608 → within_page_limit octets ≡ true
+unfolding within_page_limit
+within_limit octets few = le-leb (length octets) 8388608 few
+
 pub too_long : (params : Params) (octets : List ℕ) → 8388608 < length octets → None ≡ page_read params octets
-unfolding page_read within_page_limit
-too_long params octets long = rw (ltb-leb octets long) refl
-  where
-    ltb-leb : (octets : List ℕ) → 8388608 < length octets → nat_le (length octets) 8388608 ≡ false
-    ltb-leb octets long = lt-leb (length octets) 8388608 long
+unfolding page_read
+too_long params octets long = rw (over_limit octets long) refl
 
 -- a page whose rows the octets read as
 pub page_is_read :

@@ -9,3 +9,4 @@ pub mod CallerFields
 pub mod Lending
 pub mod Runs
 pub mod Limits
+pub mod OpenPage

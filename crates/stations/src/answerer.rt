@@ -1,24 +1,24 @@
 //! The answering station: ITU-T T.30, phases B to E and Annex A.
 
 ghost use Rattle.partial_page.specs.Store.{no_frames, joined_frames, IsMissingMap};
-ghost use Rattle.std.specs.Prelude.{◌≡◌, ◌≢◌, ◌<◌, ◌≤◌, ◌+◌, ◌++◌, ℕ, true, length, take, Some, None, Ok, IfOk, IsOk, IsSome, IsTrue, ◌↔◌, ◌⊎◌, false};
+ghost use Rattle.std.specs.Prelude.{◌≡◌, ◌≢◌, ◌+◌, ◌++◌, ℕ, true, Some, None, Ok, IsOk, IsSome, IsTrue, ◌↔◌, ◌⊎◌, false};
 ghost use Rattle.stations.specs.AnswererStep.{Answerer as AnswererTuple, new_answerer, same_mark, is_repeated, last_counted, all_there, ppr_map, confirms, first_dcs, later_dcs, keeps_frame, judges_training, answers_pps, takes_block, Steps, StepsOrRefuses, AnswererTakesNoMemory, answers_rr, answers_repeated, leaves, end_after, answerer_ends, answerer_table, answerer_step, answerer_items, is_clear, Frames, state_after, stores};
 ghost use Rattle.stations.specs.declared.turn.End.TheVariants.{BadPage, NoAnswer};
-ghost use Rattle.stations.specs.Layers.{page_read, is_good_training, within_page_limit, within_frame_size};
+ghost use Rattle.stations.specs.Layers.{page_read, is_good_training, within_frame_size};
 ghost use Rattle.stations.specs.declared.turn.AnswererState.TheVariants.{PhaseB, WaitTraining, Message};
 ghost use Rattle.stations.specs.CallerStep.{no_params};
 ghost use Rattle.stations.specs.Inputs.{answerer_input};
 ghost use Rattle.stations.specs.Limits.{IsLimited};
 
+use crate::caller::no_params;
 use crate::input::AnswererIn;
 use crate::laws::open_is_limited;
 use crate::lending::Items;
 use crate::mark::{Accepted, Asked, Mark};
+use crate::open_page::OpenPage;
 use crate::turn::{AnswererState, End, Turn};
-use partial_page::{BlockFault, BlockStore, MAX_PAGE_OCTETS};
+use partial_page::{BlockFault, BlockStore};
 use raster::Page;
-use raster::packed::Order;
-use run_tables::CodeFaultKind;
 use signals::{Caps, PageEnd, Params, Signal, allows, training_good};
 use std::alloc::{AllocError, Global};
 use std::marker::Model;
@@ -31,12 +31,11 @@ mod tests;
 pub struct Answerer {
     alloc: Global,
     caps: Caps,
-    params: Params,
     state: AnswererState,
     busy: bool,
     accepted: Option<Accepted>,
     asked: Option<Asked>,
-    octets: Vec<u8>,
+    open_page: OpenPage,
     store: BlockStore,
     pages: Vec<Page>,
     end: Option<End>,
@@ -52,19 +51,19 @@ impl Model for Answerer {
 
     ghost view = { λ a. record {
       caps = a.caps;
-      params = a.params;
+      params = a.open_page.params;
       state = a.state;
       busy = a.busy;
       accepted = a.accepted;
       asked = a.asked;
-      octets = a.octets.items;
+      octets = a.open_page.octets;
       frames = a.store.frames;
       ready = a.store.ready;
       pages = a.pages.items;
       ending = a.end;
     } };
 
-    ghost invariant = { λ a. (a.store.small ≡ a.params.small) × (a.state ≢ Message → a.store.frames ≡ no_frames) };
+    ghost invariant = { λ a. (a.store.small ≡ a.open_page.params.small) × (a.state ≢ Message → a.store.frames ≡ no_frames) };
 }
 
 impl Answerer {
@@ -80,12 +79,11 @@ impl Answerer {
         let station = Answerer {
             alloc,
             caps,
-            params: crate::caller::no_params(),
             state: AnswererState::PhaseB,
             busy: false,
             accepted: None,
             asked: None,
-            octets: Vec::new(alloc),
+            open_page: OpenPage::new(alloc, no_params()),
             store: BlockStore::new(alloc, false),
             pages: Vec::new(alloc),
             end: None,
@@ -244,7 +242,7 @@ impl Answerer {
             return Turn::Silent;
         }
         self.state = AnswererState::WaitTraining;
-        self.params = params;
+        self.open_page.agree(params);
         self.store = BlockStore::new(self.alloc, params.small);
         Turn::Silent
     }
@@ -257,7 +255,7 @@ impl Answerer {
             return Turn::Silent;
         }
         self.state = AnswererState::WaitTraining;
-        self.params = params;
+        self.open_page.agree(params);
         self.store = BlockStore::new(self.alloc, params.small);
         self.asked = None;
         Turn::Silent
@@ -269,7 +267,7 @@ impl Answerer {
         requires state { self.old.state ≡ WaitTraining }
         ensures { Steps self.old self.new result (judges_training self.old octets.now) }
     {
-        if training_good(octets, self.params.speed) {
+        if training_good(octets, self.open_page.params().speed) {
             self.state = AnswererState::Message;
             Turn::Cfr
         } else {
@@ -441,40 +439,33 @@ impl Answerer {
         requires whole { all_there self.old.frames last ≡ true }
         ensures { StepsOrRefuses self.old self.new result (takes_block self.old ends mark (self.old.octets ++ joined_frames self.old.frames (last + 1))) }
     {
-        let start = self.octets.len();
-        self.store.append_joined(last, &mut self.octets)?;
         match ends {
-            PageEnd::Null => Ok(self.take_open(mark, start)),
-            _ => self.take_page(ends, mark, start),
+            PageEnd::Null => self.take_open(mark, last),
+            _ => self.take_page(ends, mark, last),
         }
     }
 
-    /// Takes a block that isn't its page's last, whose octets are those of the open page from `start` on.
-    #[tactic(auto, unfolding(crate::specs::Layers::within_page_limit))]
-    fn take_open(&mut self, mark: Mark, start: usize) -> Turn
-        requires start { start ≤ length self.old.octets }
-        ensures next { self.new ≡ (takes_block (record self.old { octets = take start self.old.octets }) PageEnd.Null mark self.old.octets).next }
-        ensures turn { result ≡ (takes_block (record self.old { octets = take start self.old.octets }) PageEnd.Null mark self.old.octets).turn }
+    /// Takes a block that isn't its page's last. Errs where memory is refused, which changes nothing.
+    fn take_open(&mut self, mark: Mark, last: u8) -> Result<Turn, AllocError>
+        requires whole { all_there self.old.frames last ≡ true }
+        ensures { StepsOrRefuses self.old self.new result (takes_block self.old PageEnd.Null mark (self.old.octets ++ joined_frames self.old.frames (last + 1))) }
     {
-        if self.octets.len() > MAX_PAGE_OCTETS {
-            self.octets.truncate(start);
-            return self.refuse_page();
+        if !self.open_page.take(&self.store, last)? {
+            return Ok(self.refuse_page());
         }
-        self.accept(PageEnd::Null, mark)
+        Ok(self.accept(PageEnd::Null, mark))
     }
 
-    /// Takes a block that is its page's last, whose octets are those of the open page from `start` on.
-    fn take_page(&mut self, ends: PageEnd, mark: Mark, start: usize) -> Result<Turn, AllocError>
-        requires start { start ≤ length self.old.octets }
-        ensures { StepsOrRefuses (record self.old { octets = take start self.old.octets }) self.new result (stores (record self.old { octets = take start self.old.octets }) ends mark (page_read self.old.params self.old.octets)) }
+    /// Takes a block that is its page's last. Errs where memory is refused, which changes nothing.
+    fn take_page(&mut self, ends: PageEnd, mark: Mark, last: u8) -> Result<Turn, AllocError>
+        requires whole { all_there self.old.frames last ≡ true }
+        ensures { StepsOrRefuses self.old self.new result (stores self.old ends mark (page_read self.old.params (self.old.octets ++ joined_frames self.old.frames (last + 1)))) }
     {
-        let read = read_page(self.alloc, self.params, &self.octets);
-        self.octets.truncate(start);
-        let Some(page) = read? else {
+        let Some(page) = self.open_page.finish(&self.store, last)? else {
             return Ok(self.refuse_page());
         };
         self.pages.push(page)?;
-        self.octets.clear();
+        self.open_page.clear();
         Ok(self.accept(ends, mark))
     }
 
@@ -501,35 +492,6 @@ impl Answerer {
         };
         self.confirm()
     }
-}
-
-/// The page that octets begin with; none where they begin with no page, or are too many.
-fn read_page(alloc: Global, params: Params, octets: &[u8]) -> Result<Option<Page>, AllocError>
-    ensures { IfOk result (λ page. page ≡ page_read params octets.now) }
-{
-    if octets.len() > MAX_PAGE_OCTETS {
-        return Ok(None);
-    }
-    let width = params.width.pixels();
-    let read = params
-        .coding
-        .decode(alloc, octets, Order::LsbFirst, width, params.fine);
-    match read {
-        Ok((page, _)) => Ok(Some(page)),
-        Err(fault) => {
-            if is_memory(fault.kind) {
-                return Err(AllocError);
-            }
-            Ok(None)
-        }
-    }
-}
-
-/// Whether memory was refused.
-fn is_memory(kind: CodeFaultKind) -> bool
-    ensures { IsTrue result ↔ (kind ≡ CodeFaultKind.NoMemory) }
-{
-    kind == CodeFaultKind::NoMemory
 }
 
 /// Whether two marks are the same.

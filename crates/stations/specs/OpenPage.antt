@@ -1,0 +1,33 @@
+-- The page that an answerer has open, and the reader that reads it as its blocks come.
+use Rattle.std.specs.Prelude.{ℕ, ◌≡◌, Bool, true, false, List, Result, Ok, Err}
+use Rattle.raster.specs.declared.packed.Order.TheVariants.{LsbFirst}
+use Rattle.page_code.specs.PageReaders.{PageReading, GoesOnTo}
+use Rattle.signals.specs.Agreement.{pixels_of}
+use Rattle.signals.specs.declared.params.Params.{Params}
+use Rattle.stations.specs.Layers.{within_page_limit}
+
+-- the open page: how it is sent, and its octets so far
+pub record OpenOctets : Type 0 where
+  pub params : Params
+  pub octets : List ℕ
+
+-- the reader reads the code, the order of bits, the width and the lines that were agreed, and stands for a beginning of the octets
+pub record IsReaderOf (params : Params) (octets : List ℕ) (reader : PageReading) : Type 0 where
+  pub coding : reader.coding ≡ params.coding
+  pub order : reader.order ≡ LsbFirst
+  pub width : reader.page.width ≡ pixels_of params.width
+  pub fine : reader.page.fine ≡ params.fine
+  pub goes_on : GoesOnTo reader octets
+
+-- pages are of the same code, width and lines
+pub record AreReadAlike (params other : Params) : Type 0 where
+  pub coding : params.coding ≡ other.coding
+  pub width : pixels_of params.width ≡ pixels_of other.width
+  pub fine : params.fine ≡ other.fine
+
+-- all octets are those of the open page from now on, if a call carries so many for a page; where not, or where memory is refused, nothing
+-- changes
+abbrev pub TakesOctets : {E : Type 0} → OpenOctets → OpenOctets → Result Bool E → List ℕ → Type 0
+TakesOctets old new (Ok true) all = (within_page_limit all ≡ true) × (new ≡ record old { octets = all })
+TakesOctets old new (Ok false) all = (within_page_limit all ≡ false) × (new ≡ old)
+TakesOctets old new (Err refused) all = new ≡ old

@@ -1,0 +1,174 @@
+//! The page that an answerer has open: its octets so far, which are read as its blocks come.
+
+ghost use Rattle.page_code.specs.PageReaders.{GoesOnTo, IsLike};
+ghost use Rattle.partial_page.specs.Store.{joined_frames};
+ghost use Rattle.std.specs.Prelude.{◌≡◌, ◌+◌, ◌++◌, ◌↔◌, ℕ, List, [], true, IfOk, IsTrue};
+ghost use Rattle.stations.specs.AnswererStep.{all_there};
+ghost use Rattle.stations.specs.Layers.{page_read};
+ghost use Rattle.stations.specs.OpenPage.{AreReadAlike, IsReaderOf, TakesOctets};
+
+use page_code::PageReader;
+use partial_page::{BlockStore, MAX_PAGE_OCTETS};
+use raster::Page;
+use raster::packed::Order;
+use run_tables::CodeFaultKind;
+use signals::Params;
+use std::alloc::{AllocError, Global};
+use std::fmt;
+use std::marker::Model;
+
+/// The page that is open: how it is sent, its octets so far, and the reader of a beginning of them.
+#[derive(Drop)]
+pub(crate) struct OpenPage {
+    alloc: Global,
+    params: Params,
+    octets: Vec<u8>,
+    reader: PageReader,
+}
+
+impl Model for OpenPage {
+    ghost use Rattle.stations.specs.OpenPage.{IsReaderOf, OpenOctets};
+
+    ghost Value = { OpenOctets };
+
+    ghost view = { λ p. record { params = p.params; octets = p.octets.items } };
+
+    ghost invariant = { λ p. IsReaderOf p.params p.octets.items p.reader };
+}
+
+impl fmt::Debug for OpenPage {
+    fn fmt<W: fmt::Write>(&self, f: &mut fmt::Formatter<W>) -> fmt::Result {
+        f.debug_struct("OpenPage")
+            .field("params", &self.params)
+            .field("octets", &self.octets)
+            .finish()
+    }
+}
+
+impl OpenPage {
+    /// A page with no octets, which is sent so. Takes no memory.
+    pub(crate) fn new(alloc: Global, params: Params) -> OpenPage
+        ensures { result ≡ record { params = params; octets = [] } }
+    {
+        OpenPage {
+            alloc,
+            params,
+            octets: Vec::new(alloc),
+            reader: reader_of(alloc, params),
+        }
+    }
+
+    /// How the page is sent.
+    pub(crate) fn params(&self) -> Params
+        ensures { result ≡ self.now.params }
+    {
+        self.params
+    }
+
+    /// The page is sent so from now on; where it is read otherwise then, it is read anew. Takes no
+    /// memory.
+    pub(crate) fn agree(&mut self, params: Params)
+        ensures { self.new ≡ record self.old { params = params } }
+    {
+        let alike = are_read_alike(self.params, params);
+        self.params = params;
+        if alike {
+            return;
+        }
+        self.reader = reader_of(self.alloc, params);
+    }
+
+    /// The page has no octets from now on. Takes no memory.
+    pub(crate) fn clear(&mut self)
+        ensures { self.new ≡ record self.old { octets = [] } }
+    {
+        self.octets.clear();
+        self.reader = reader_of(self.alloc, self.params);
+    }
+
+    /// Appends the frames 0 to `last` of a block, and reads on; false where the page is too long then.
+    /// Errs where memory is refused.
+    pub(crate) fn take(&mut self, store: &BlockStore, last: u8) -> Result<bool, AllocError>
+        requires whole { all_there store.now.frames last ≡ true }
+        ensures { TakesOctets self.old self.new result (self.old.octets ++ joined_frames store.now.frames (last + 1)) }
+    {
+        let start = self.octets.len();
+        store.append_joined(last, &mut self.octets)?;
+        if self.octets.len() > MAX_PAGE_OCTETS {
+            self.octets.truncate(start);
+            return Ok(false);
+        }
+        if self.reader.read_on(&self.octets).is_err() {
+            self.octets.truncate(start);
+            return Err(AllocError);
+        }
+        Ok(true)
+    }
+
+    /// The page that its octets with the frames 0 to `last` of a block begin with; none where they
+    /// begin with no page, or are too many. Errs where memory is refused.
+    pub(crate) fn finish(
+        &mut self,
+        store: &BlockStore,
+        last: u8,
+    ) -> Result<Option<Page>, AllocError>
+        requires whole { all_there store.now.frames last ≡ true }
+        ensures same { self.new ≡ self.old }
+        ensures page { IfOk result (λ page. page ≡ page_read self.old.params (self.old.octets ++ joined_frames store.now.frames (last + 1))) }
+    {
+        let start = self.octets.len();
+        store.append_joined(last, &mut self.octets)?;
+        let read = read_page(&mut self.reader, self.params, &self.octets);
+        self.octets.truncate(start);
+        read
+    }
+}
+
+/// A reader of pages that are sent so. Takes no memory.
+fn reader_of(alloc: Global, params: Params) -> PageReader
+    ensures { (octets : List ℕ) → IsReaderOf params octets result }
+{
+    let width = params.width.pixels();
+    PageReader::new(alloc, params.coding, Order::LsbFirst, width, params.fine)
+}
+
+/// Whether pages that are sent so are read alike.
+fn are_read_alike(params: Params, other: Params) -> bool
+    ensures { IsTrue result ↔ AreReadAlike params other }
+{
+    params.coding == other.coding
+        && params.width.pixels() == other.width.pixels()
+        && params.fine == other.fine
+}
+
+/// The page that octets begin with; none where they begin with no page, or are too many.
+fn read_page(
+    reader: &mut PageReader,
+    params: Params,
+    octets: &[u8],
+) -> Result<Option<Page>, AllocError>
+    requires { IsReaderOf params octets.now reader.old }
+    ensures page { IfOk result (λ page. page ≡ page_read params octets.now) }
+    ensures like { IsLike reader.old reader.new }
+    ensures goes_on { (all : List ℕ) → GoesOnTo reader.old all → GoesOnTo reader.new all }
+{
+    if octets.len() > MAX_PAGE_OCTETS {
+        return Ok(None);
+    }
+    match reader.finish(octets) {
+        Ok((page, _)) => Ok(Some(page)),
+        Err(fault) => {
+            if is_memory(fault.kind) {
+                return Err(AllocError);
+            }
+            Ok(None)
+        }
+    }
+}
+
+/// Whether memory was refused.
+fn is_memory(kind: CodeFaultKind) -> bool
+    ensures { IsTrue result ↔ (kind ≡ CodeFaultKind.NoMemory) }
+{
+    kind == CodeFaultKind::NoMemory
+}
