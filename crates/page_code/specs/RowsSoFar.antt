@@ -53,6 +53,7 @@ abbrev pub after_rows : List (List Color) → OneDimState
 after_rows [] = first
 after_rows (row ∷ rows) = row_end (row ∷ rows)
 
+-- where the next row may begin, after these
 abbrev pub between_rows : ℕ → List (List Color) → T6State
 between_rows width rows = between (record { rows = rows; reference = reference_at (white_line width) rows (length rows) })
 
