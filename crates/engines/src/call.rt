@@ -23,9 +23,6 @@ use signals::{Caps, Modems, PageWidth, Wish};
 use std::alloc::Global;
 use std::io::{Read, Write};
 
-#[cfg(test)]
-mod tests;
-
 /// The answerer of a call: with these modems, it takes pages of each width, of fine lines too, in each
 /// code, with error correction.
 fn answerer_caps(modems: Modems) -> Caps

@@ -14,9 +14,6 @@ use std::alloc::Global;
 use std::io;
 use std::io::{Read, Write};
 
-#[cfg(test)]
-mod tests;
-
 /// How many octets are read at a time.
 const PIECE: usize = 4096;
 

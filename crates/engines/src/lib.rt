@@ -7,10 +7,6 @@ mod frames;
 mod options;
 mod pages;
 mod script;
-#[cfg(test)]
-mod seam_tests;
-#[cfg(test)]
-mod test_streams;
 mod texts;
 mod transcript;
 
@@ -21,4 +17,4 @@ pub use crate::options::CallOptions;
 pub use crate::pages::{code_engine, decode_engine, show_engine};
 pub use crate::script::{Command, read_script};
 pub use crate::texts::{ContentText, SignalText};
-pub use crate::transcript::write_report;
+pub use crate::transcript::{end_word, write_entry, write_report};

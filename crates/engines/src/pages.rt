@@ -10,9 +10,6 @@ use run_tables::Order;
 use std::alloc::Global;
 use std::io::{Read, Write};
 
-#[cfg(test)]
-mod tests;
-
 /// The fault of an input of more than one image.
 const SEVERAL_PAGES: ToolFault = ToolFault::No(27);
 

@@ -143,6 +143,3 @@ pub fn read_script(alloc: Global, text: &[u8]) -> Result<Vec<Command>, ToolFault
     add_line(&mut commands, rest, number)?;
     Ok(commands)
 }
-
-#[cfg(test)]
-mod tests;

@@ -12,9 +12,6 @@ use stations::{End, Turn};
 use std::fmt;
 use std::io::Write;
 
-#[cfg(test)]
-mod tests;
-
 /// The word of an event, as scripts have it.
 fn event_word(event: Event) -> &'static str
     ensures { result.now ≡ word_of event }
@@ -34,8 +31,8 @@ fn event_word(event: Event) -> &'static str
     }
 }
 
-/// Why a call ended for a station, or that it goes on.
-fn end_word(ending: Option<End>) -> &'static str
+/// The word of why a call ended for a station, or that it goes on: `normal`, `no-reply`, .., `running`.
+pub fn end_word(ending: Option<End>) -> &'static str
     ensures { result.now ≡ end_text ending }
 {
     match ending {
@@ -112,8 +109,8 @@ impl fmt::Display for TurnText {
 }
 
 /// Writes the line of an event: its number, its word, the item, the turn, and ` !` where a growth was
-/// refused in it.
-fn write_entry<W: Write>(number: usize, entry: &Entry, writer: &mut W) -> Result<(), ToolFault>
+/// refused in it. Errs where the writer fails.
+pub fn write_entry<W: Write>(number: usize, entry: &Entry, writer: &mut W) -> Result<(), ToolFault>
     ensures line { OnOk result (Appends (W.contents writer.old) (W.contents writer.new) (entry_line number entry.now)) }
     ensures fault { IfErr result IsOutside }
 {

@@ -6,8 +6,6 @@ ghost use Rattle.std.specs.Prelude.{◌≡◌};
 
 use crate::remainders::REMAINDERS;
 
-#[cfg(test)]
-mod tests;
 
 /// What registers whose high octet is 0 become with eight 0 bits more.
 fn remainders() -> &'static [u16]

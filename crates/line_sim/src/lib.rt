@@ -10,8 +10,6 @@ pub mod laws;
 mod polite;
 mod report;
 mod stream;
-#[cfg(test)]
-mod tests;
 mod world;
 
 pub use crate::event::{Entry, Event, Kind};

@@ -13,8 +13,6 @@ use signals::Caps;
 use stations::{Answerer, AnswererIn, End, Turn};
 use std::alloc::{AllocError, Global};
 
-#[cfg(test)]
-mod tests;
 
 /// What an answerer is given next.
 #[derive(Clone, Copy, Debug, PartialEq, Eq)]

@@ -12,8 +12,6 @@ ghost use Rattle.raster.specs.declared.row.Color.{Color};
 ghost use Rattle.std.specs.Prelude.{◌≡◌, ◌≤◌, ◌<◌, ◌+◌, ◌*◌, ◌++◌, ◌∷◌, [], ℕ, List, length, OnOk, All};
 
 mod eol;
-#[cfg(test)]
-mod tests;
 
 use crate::coding::{Coding, PageCode};
 use crate::one_dim::eol::{Eol, after_five_eols, eol_at};

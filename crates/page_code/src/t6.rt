@@ -11,8 +11,6 @@ mod line;
 pub(crate) mod mode;
 mod mode_table;
 pub(crate) mod read;
-#[cfg(test)]
-mod tests;
 mod write;
 
 use crate::coding::PageCode;

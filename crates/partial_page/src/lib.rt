@@ -6,8 +6,6 @@ mod blocks;
 mod fault;
 pub mod laws;
 mod store;
-#[cfg(test)]
-mod tests;
 
 pub use crate::blocks::{Blocks, MAX_PAGE_OCTETS};
 pub use crate::fault::BlockFault;

@@ -11,8 +11,6 @@ mod page;
 mod pbm;
 mod pbm_writer;
 mod row;
-#[cfg(test)]
-mod tests;
 mod text;
 mod turned;
 mod words;

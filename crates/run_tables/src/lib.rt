@@ -8,8 +8,6 @@ mod read_table;
 mod reader;
 mod row_reader;
 mod table;
-#[cfg(test)]
-mod tests;
 mod write_table;
 mod writer;
 

@@ -9,8 +9,6 @@ use crate::params::{Caps, Modems, PageWidth, Params, Speed, Wish};
 use page_code::Coding;
 use thiserror::Error;
 
-#[cfg(test)]
-mod tests;
 
 /// Two stations have no way to send the pages.
 #[derive(Clone, Copy, Debug, PartialEq, Eq, Error)]

@@ -23,8 +23,6 @@ use signals::{Caps, PageEnd, Params, Signal, allows, training_good};
 use std::alloc::{AllocError, Global};
 use std::marker::Model;
 
-#[cfg(test)]
-mod tests;
 
 /// The answering station of a call (ITU-T T.30, phases B to E and Annex A).
 #[derive(Debug, Drop)]

@@ -30,8 +30,6 @@ use signals::{Caps, Modems, PageEnd, PageWidth, Params, Signal, Speed, Wish, agr
 use std::alloc::{AllocError, Global};
 use std::marker::Model;
 
-#[cfg(test)]
-mod tests;
 
 /// The calling station of a call (ITU-T T.30, phases B to E and Annex A).
 #[derive(Debug, Drop)]

@@ -1,0 +1,121 @@
+//! What no clause says of images and coded pages: octets that come and go one by one, and readers and writers that fail.
+
+use crate::streams::{Narrow, OneByOne};
+use engines::{FAILED, ToolFault, code_engine, decode_engine, show_engine};
+use page_code::Coding;
+use run_tables::Order;
+use std::test::Fail;
+
+const IMAGE: [u8; 8] = [0x50, 0x34, 0x0A, 0x38, 0x20, 0x31, 0x0A, 0x30];
+
+const CODE: [u8; 12] = [
+    0x00, 0x17, 0xEC, 0x00, 0x40, 0x04, 0x00, 0x40, 0x04, 0x00, 0x40, 0x04,
+];
+
+const TEXT: &[u8] = b"..##....\n";
+
+#[test]
+fn a_failing_reader_is_fault_8(rt: HostRuntime) {
+    let alloc = rt.alloc();
+    for given in 0..=IMAGE.len() {
+        let mut reader = OneByOne {
+            left: &IMAGE[..given],
+            fails: true,
+        };
+        let mut octets = Vec::new(alloc);
+        let done = code_engine(
+            alloc,
+            &mut reader,
+            &mut octets,
+            Coding::OneDim,
+            Order::MsbFirst,
+        );
+        assert_eq!(rt; done, Err(FAILED), "{given} octets");
+    }
+}
+
+#[test]
+fn a_failing_writer_is_fault_8(rt: HostRuntime) {
+    let alloc = rt.alloc();
+    for room in 0..TEXT.len() {
+        let mut reader = CODE.as_slice();
+        let mut writer = Narrow {
+            taken: Vec::new(alloc),
+            room,
+        };
+        let done = show_engine(
+            alloc,
+            &mut reader,
+            &mut writer,
+            Coding::OneDim,
+            Order::MsbFirst,
+            8,
+        );
+        assert_eq!(rt; done, Err(FAILED), "room for {room}");
+    }
+}
+
+#[test]
+fn octets_come_and_go_one_by_one(rt: HostRuntime) -> Result<(), Fail> {
+    let alloc = rt.alloc();
+    let mut image = OneByOne {
+        left: &IMAGE,
+        fails: false,
+    };
+    let mut code = Narrow {
+        taken: Vec::with_capacity(alloc, 100)?,
+        room: 100,
+    };
+    code_engine(
+        alloc,
+        &mut image,
+        &mut code,
+        Coding::OneDim,
+        Order::MsbFirst,
+    )?;
+    assert_eq!(rt; code.taken.as_slice(), CODE.as_slice());
+    let mut coded = OneByOne {
+        left: &code.taken,
+        fails: false,
+    };
+    let mut text = Narrow {
+        taken: Vec::with_capacity(alloc, 100)?,
+        room: 100,
+    };
+    show_engine(
+        alloc,
+        &mut coded,
+        &mut text,
+        Coding::OneDim,
+        Order::MsbFirst,
+        8,
+    )?;
+    assert_eq!(rt; text.taken.as_slice(), TEXT);
+    Ok(())
+}
+
+/// The code is EOL (12 bits), a row of white 2, black 2 and white 4 (10 bits), and six EOLs.
+#[test]
+fn a_code_is_decoded_to_its_image(rt: HostRuntime) -> Result<(), Fail> {
+    let alloc = rt.alloc();
+    let mut coded = OneByOne {
+        left: &CODE,
+        fails: false,
+    };
+    let mut image = Narrow {
+        taken: Vec::with_capacity(alloc, 100)?,
+        room: 100,
+    };
+    let told = decode_engine(
+        alloc,
+        &mut coded,
+        &mut image,
+        Coding::OneDim,
+        Order::MsbFirst,
+        8,
+        false,
+    )?;
+    assert_eq!(rt; told, (1, 94));
+    assert_eq!(rt; image.taken.as_slice(), IMAGE.as_slice());
+    Ok(())
+}

@@ -1,0 +1,166 @@
+//! Blocks and stores at size, and refused memory.
+
+ghost use Rattle.std.specs.Prelude.{◌<◌};
+
+use partial_page::{BlockFault, BlockStore, Blocks, MAX_PAGE_OCTETS};
+use std::alloc::{AllocError, Global};
+use std::test::Fail;
+
+/// So many octets of one value.
+fn octets(alloc: Global, count: usize, value: u8) -> Result<Vec<u8>, AllocError> {
+    let mut octets = Vec::new(alloc);
+    octets.resize(count, value)?;
+    Ok(octets)
+}
+
+/// How many blocks so many octets are cut into, and the last frame of the last one; 0 and 0 where there is none.
+fn cut_into(alloc: Global, count: usize, small: bool) -> Result<(usize, u8), BlockFault> {
+    let blocks = Blocks::cut(alloc, octets(alloc, count, 7)?, small)?;
+    match blocks.count() {
+        0 => Ok((0, 0)),
+        count => Ok((count, blocks.last(count - 1))),
+    }
+}
+
+#[test]
+fn pages_are_cut_into_blocks(rt: HostRuntime) -> Result<(), Fail> {
+    let pages = [
+        (0, false, 0, 0),
+        (0, true, 0, 0),
+        (600, false, 1, 2),
+        (65, true, 1, 1),
+        (65_537, false, 2, 0),
+        (MAX_PAGE_OCTETS, false, 128, 255),
+        (MAX_PAGE_OCTETS, true, 512, 255),
+    ];
+    for (count, small, blocks, last) in pages {
+        assert_eq!(rt; cut_into(rt.alloc(), count, small)?, (blocks, last));
+    }
+    Ok(())
+}
+
+#[test]
+fn a_longer_page_is_refused(rt: HostRuntime) -> Result<(), Fail> {
+    for small in [false, true] {
+        let refused = cut_into(rt.alloc(), 8_388_609, small).err();
+        assert_eq!(rt; refused, Some(BlockFault::PageTooLong));
+    }
+    Ok(())
+}
+
+#[test]
+fn the_last_frame_is_filled(rt: HostRuntime) -> Result<(), Fail> {
+    let alloc = rt.alloc();
+    let blocks = Blocks::cut(alloc, octets(alloc, 600, 7)?, false)?;
+    let mut filled = octets(alloc, 88, 7)?;
+    filled.resize(256, 0)?;
+    assert_eq!(rt; blocks.count(), 1);
+    assert_eq!(rt; blocks.last(0), 2);
+    assert_eq!(rt; blocks.frame(0, 2), filled.as_slice());
+    Ok(())
+}
+
+#[test]
+fn the_missing_frames_are_marked(rt: HostRuntime) -> Result<(), Fail> {
+    let mut store = BlockStore::new(rt.alloc(), false);
+    store.put(0, &[1, 2])?;
+    store.put(2, &[3])?;
+    let mut map = [0xFF; 32];
+    map[0] = 0xFA;
+    assert_eq!(rt; store.missing(2), map);
+    Ok(())
+}
+
+#[test]
+fn a_shorter_frame_replaces_a_full_one(rt: HostRuntime) -> Result<(), Fail> {
+    let alloc = rt.alloc();
+    let mut store = BlockStore::new(alloc, false);
+    store.put(0, &octets(alloc, 256, 7)?)?;
+    store.put(0, &[0xAA])?;
+    assert_eq!(rt; store.frame(0), Some([0xAA].as_slice()));
+    store.clear();
+    assert_eq!(rt; store.frame(0), None);
+    assert!(rt; store.ready());
+    Ok(())
+}
+
+/// Whether octets are frames of a size, each of octets of its number.
+fn are_frames(octets: &[u8], size: usize) -> bool
+    requires { 0 < size }
+{
+    for (place, octet) in octets.iter().enumerate() {
+        if *octet as usize != place / size {
+            return false;
+        }
+    }
+    true
+}
+
+#[test]
+fn a_whole_block_of_full_frames_is_joined(rt: HostRuntime) -> Result<(), Fail> {
+    let alloc = rt.alloc();
+    for small in [false, true] {
+        let size = if small { 64 } else { 256 };
+        let mut store = BlockStore::new(alloc, small);
+        for n in 0..=255u8 {
+            store.put(n, &octets(alloc, size, n)?)?;
+        }
+        assert!(rt; store.whole(255));
+        let mut joined = Vec::new(alloc);
+        store.append_joined(255, &mut joined)?;
+        assert_eq!(rt; joined.len(), 256 * size);
+        assert!(rt; are_frames(&joined, size));
+    }
+    Ok(())
+}
+
+#[test]
+fn data_longer_than_a_frame_are_refused(rt: HostRuntime) -> Result<(), Fail> {
+    let alloc = rt.alloc();
+    for (small, count) in [(true, 65), (false, 257)] {
+        let mut store = BlockStore::new(alloc, small);
+        store.put(0, &[1, 2])?;
+        let refused = store.put(0, &octets(alloc, count, 7)?).err();
+        assert_eq!(rt; refused, Some(BlockFault::TooLong));
+        assert_eq!(rt; store.frame(0), Some([1, 2].as_slice()));
+    }
+    Ok(())
+}
+
+/// Run with each allocation refused in turn.
+#[test]
+fn a_refused_cut_says_no_memory(rt: HostRuntime) -> Result<(), Fail> {
+    let alloc = rt.alloc();
+    let Ok(page) = octets(alloc, 600, 7) else {
+        return Ok(());
+    };
+    match Blocks::cut(alloc, page, false) {
+        Ok(blocks) => assert_eq!(rt; blocks.count(), 1),
+        Err(refused) => assert_eq!(rt; refused, BlockFault::NoMemory),
+    }
+    Ok(())
+}
+
+/// Run with each allocation refused in turn.
+#[test]
+fn a_refused_growth_changes_nothing(rt: HostRuntime) -> Result<(), Fail> {
+    let alloc = rt.alloc();
+    let mut store = BlockStore::new(alloc, true);
+    if let Err(refused) = store.put(0, &[1, 2]) {
+        assert_eq!(rt; refused, BlockFault::NoMemory);
+        assert_eq!(rt; store.missing(255), [0xFF; 32]);
+        assert!(rt; !store.ready());
+        store.put(0, &[1, 2])?;
+    }
+    assert_eq!(rt; store.put(0, &[3]).err(), None);
+    let mut joined = Vec::new(alloc);
+    if store.append_joined(0, &mut joined).is_err() {
+        assert!(rt; joined.is_empty());
+        store.append_joined(0, &mut joined)?;
+    }
+    assert_eq!(rt; joined.as_slice(), [3].as_slice());
+    store.clear();
+    assert_eq!(rt; store.put(255, &[4]).err(), None);
+    assert_eq!(rt; store.frame(255), Some([4].as_slice()));
+    Ok(())
+}

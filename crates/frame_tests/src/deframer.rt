@@ -1,0 +1,192 @@
+//! Frames found in bits that come in any pieces, and the classes of gaps.
+
+ghost use Rattle.std.specs.Prelude.{◌≤◌, length};
+
+use hdlc::{Counts, Deframer, write_frame};
+use run_tables::{BitWriter, Order};
+use std::alloc::{AllocError, Global};
+use std::test::Fail;
+
+/// The content of a message confirmation (MCF) of the answering station, and its frame.
+const CONFIRMATION: [u8; 3] = [0xFF, 0x13, 0x8C];
+
+const FRAME: [u8; 8] = [0x7E, 0xDF, 0x47, 0x30, 0x8A, 0xC6, 0xFB, 0x01];
+
+const NONE: Counts = Counts {
+    good: 0,
+    aborted: 0,
+    ragged: 0,
+    short: 0,
+    long: 0,
+    damaged: 0,
+};
+
+/// What has taken the octets, one a piece with an empty piece before each.
+fn one_by_one(alloc: Global, octets: &[u8]) -> Result<Deframer, AllocError> {
+    let mut deframer = Deframer::new(alloc);
+    for octet in octets {
+        deframer.feed(&[])?;
+        deframer.feed(&[*octet])?;
+    }
+    Ok(deframer)
+}
+
+/// The octets of a content's frame.
+fn framed(alloc: Global, content: &[u8]) -> Result<Vec<u8>, AllocError>
+    requires least { 3 ≤ length content.now }
+    requires most { length content.now ≤ 300 }
+{
+    let mut writer = BitWriter::new(alloc, Order::LsbFirst);
+    write_frame(content, &mut writer)?;
+    Ok(writer.into_octets())
+}
+
+/// Whether the deframer hands out this content next.
+fn next_is(deframer: &mut Deframer, content: &[u8]) -> bool {
+    match deframer.next() {
+        Some(next) => next == content,
+        None => false,
+    }
+}
+
+/// The counts of the bits that digits `0` and `1` write, with 0 bits to an octet.
+fn counted(alloc: Global, digits: &[u8]) -> Result<Counts, AllocError> {
+    let mut writer = BitWriter::new(alloc, Order::LsbFirst);
+    for digit in digits {
+        writer.push(*digit == b'1')?;
+    }
+    Ok(one_by_one(alloc, &writer.into_octets())?.counts())
+}
+
+/// The counts of so many octets 00 and a few more bits between two flags.
+fn counted_zeros(alloc: Global, octets: u32, more: u32) -> Result<Counts, AllocError> {
+    let mut writer = BitWriter::new(alloc, Order::LsbFirst);
+    for digit in b"01111110" {
+        writer.push(*digit == b'1')?;
+    }
+    for _octet in 0..octets {
+        for _bit in 0..8 {
+            writer.push(false)?;
+        }
+    }
+    for _bit in 0..more {
+        writer.push(false)?;
+    }
+    for digit in b"01111110" {
+        writer.push(*digit == b'1')?;
+    }
+    Ok(one_by_one(alloc, &writer.into_octets())?.counts())
+}
+
+#[test]
+fn any_pieces(rt: HostRuntime) -> Result<(), Fail> {
+    let mut whole = Deframer::new(rt.alloc());
+    whole.feed(&FRAME)?;
+    assert_eq!(rt; whole.counts(), Counts { good: 1, ..NONE });
+    assert!(rt; next_is(&mut whole, &CONFIRMATION));
+    assert!(rt; whole.next().is_none());
+    let mut pieces = one_by_one(rt.alloc(), &FRAME)?;
+    assert_eq!(rt; pieces.counts(), Counts { good: 1, ..NONE });
+    assert!(rt; next_is(&mut pieces, &CONFIRMATION));
+    assert!(rt; pieces.next().is_none());
+    Ok(())
+}
+
+#[test]
+fn one_after_the_other(rt: HostRuntime) -> Result<(), Fail> {
+    let mut twice = Deframer::new(rt.alloc());
+    twice.feed(&FRAME)?;
+    twice.feed(&framed(rt.alloc(), &[0xFF, 0x13, 0x84])?)?;
+    assert_eq!(rt; twice.counts(), Counts { good: 2, ..NONE });
+    assert!(rt; next_is(&mut twice, &CONFIRMATION));
+    assert!(rt; next_is(&mut twice, &[0xFF, 0x13, 0x84]));
+    assert!(rt; twice.next().is_none());
+    Ok(())
+}
+
+#[test]
+fn flags_may_share(rt: HostRuntime) -> Result<(), Fail> {
+    for shared in [1, 8] {
+        let mut writer = BitWriter::new(rt.alloc(), Order::LsbFirst);
+        write_frame(&CONFIRMATION, &mut writer)?;
+        let end = writer.bits();
+        writer.truncate(end.saturating_sub(shared));
+        write_frame(&CONFIRMATION, &mut writer)?;
+        let deframer = one_by_one(rt.alloc(), &writer.into_octets())?;
+        assert_eq!(rt;
+            deframer.counts(),
+            Counts { good: 2, ..NONE },
+            "{shared} bits"
+        );
+    }
+    assert_eq!(rt; counted(rt.alloc(), b"011111101111110")?, NONE);
+    assert_eq!(rt; counted(rt.alloc(), b"0111111001111110")?, NONE);
+    Ok(())
+}
+
+#[test]
+fn each_class(rt: HostRuntime) -> Result<(), Fail> {
+    let alloc = rt.alloc();
+    let mut wrong = FRAME;
+    wrong[3] = 0x31;
+    assert_eq!(rt;
+        one_by_one(alloc, &wrong)?.counts(),
+        Counts { damaged: 1, ..NONE }
+    );
+    let aborted = Counts { aborted: 1, ..NONE };
+    assert_eq!(rt; one_by_one(alloc, &[0x7E, 0xFF, 0x7E])?.counts(), aborted);
+    // seven 1 bits are fill, eight are aborted, and so are nine, though these are ragged too
+    assert_eq!(rt; counted(alloc, b"01111110111111101111110")?, NONE);
+    assert_eq!(rt; counted(alloc, b"011111101111111101111110")?, aborted);
+    assert_eq!(rt; counted(alloc, b"0111111011111111101111110")?, aborted);
+    Ok(())
+}
+
+#[test]
+fn sizes(rt: HostRuntime) -> Result<(), Fail> {
+    let alloc = rt.alloc();
+    let ragged = Counts { ragged: 1, ..NONE };
+    for (octets, counts) in [
+        (1, Counts { short: 1, ..NONE }),
+        (4, Counts { short: 1, ..NONE }),
+        (5, Counts { damaged: 1, ..NONE }),
+        (302, Counts { damaged: 1, ..NONE }),
+        (303, Counts { long: 1, ..NONE }),
+    ] {
+        assert_eq!(rt; counted_zeros(alloc, octets, 0)?, counts, "{octets} octets");
+        assert_eq!(rt; counted_zeros(alloc, octets, 1)?, ragged, "{octets} octets");
+    }
+    Ok(())
+}
+
+#[test]
+fn longest_content(rt: HostRuntime) -> Result<(), Fail> {
+    let content = [0x5A; 300];
+    let mut deframer = one_by_one(rt.alloc(), &framed(rt.alloc(), &content)?)?;
+    assert_eq!(rt; deframer.counts(), Counts { good: 1, ..NONE });
+    assert!(rt; next_is(&mut deframer, &content));
+    Ok(())
+}
+
+/// A call that refuses changes nothing: the same call right after it gives the right answer.
+#[test]
+fn again_after_a_refusal(rt: HostRuntime) -> Result<(), Fail> {
+    let mut writer = BitWriter::new(rt.alloc(), Order::LsbFirst);
+    for _frame in 0..2 {
+        if write_frame(&CONFIRMATION, &mut writer).is_err() {
+            write_frame(&CONFIRMATION, &mut writer)?;
+        }
+    }
+    let octets = writer.into_octets();
+    let mut deframer = Deframer::new(rt.alloc());
+    if deframer.feed(&octets).is_err() {
+        assert_eq!(rt; deframer.counts(), NONE);
+        assert!(rt; deframer.next().is_none());
+        deframer.feed(&octets)?;
+    }
+    assert_eq!(rt; deframer.counts(), Counts { good: 2, ..NONE });
+    assert!(rt; next_is(&mut deframer, &CONFIRMATION));
+    assert!(rt; next_is(&mut deframer, &CONFIRMATION));
+    assert!(rt; deframer.next().is_none());
+    Ok(())
+}

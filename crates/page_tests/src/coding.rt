@@ -1,0 +1,77 @@
+//! Tests of pages in either code.
+
+use page_code::Coding;
+use raster::packed::Order;
+use raster::{Page, RasterFault, Row};
+use run_tables::{CodeFault, CodeFaultKind};
+use std::alloc::Global;
+use std::test::Fail;
+
+const WIDTH: u32 = 2432;
+
+/// Rows of two black runs, whose lengths and places change from row to row.
+fn wide_page(alloc: Global) -> Result<Page, RasterFault> {
+    let mut page = Page::new(alloc, WIDTH, true)?;
+    for row in 0..300u32 {
+        let runs = [row, 300 - row, 7 * row, 1, 2131 - 7 * row];
+        page.push_row(Row::from_runs(alloc, &runs)?)?;
+    }
+    Ok(page)
+}
+
+/// The own runs of the page's rows, one row after the other.
+fn runs_of(alloc: Global, page: &Page) -> Result<Vec<u32>, RasterFault> {
+    let mut runs = Vec::new(alloc);
+    for row in page.rows() {
+        row.runs(alloc, &mut runs)?;
+    }
+    Ok(runs)
+}
+
+#[test]
+fn a_wide_page_comes_back(rt: HostRuntime) -> Result<(), Fail> {
+    let alloc = rt.alloc();
+    let page = wide_page(alloc)?;
+    let runs = runs_of(alloc, &page)?;
+    assert!(rt; !page.rows().is_empty());
+    for coding in [Coding::OneDim, Coding::T6] {
+        for order in [Order::LsbFirst, Order::MsbFirst] {
+            let mut octets = Vec::new(alloc);
+            coding.encode(alloc, &page, order, &mut octets)?;
+            let (read, used) = coding.decode(alloc, &octets, order, WIDTH, true)?;
+            assert_eq!(rt; used.div_ceil(8), octets.len() as u128);
+            assert_eq!(rt; read.fine(), true);
+            assert_eq!(rt; read.rows().len(), 300);
+            assert_eq!(rt; runs_of(alloc, &read)?.as_slice(), runs.as_slice());
+        }
+    }
+    Ok(())
+}
+
+// A white row of 1,728 pixels.
+#[test]
+fn only_memory_is_refused_for_a_code(rt: HostRuntime) {
+    let alloc = rt.alloc();
+    for (coding, octets, bits) in [
+        (
+            Coding::OneDim,
+            [
+                0x00, 0x28, 0x9B, 0x15, 0x00, 0x01, 0x10, 0x00, 0x01, 0x10, 0x00, 0x01, 0x10,
+            ]
+            .as_slice(),
+            101,
+        ),
+        (Coding::T6, &[0x01, 0x10, 0x00, 0x01], 25),
+    ] {
+        match coding.decode(alloc, octets, Order::LsbFirst, 1728, false) {
+            Ok((_, used)) => assert_eq!(rt; used, bits),
+            Err(fault) => assert_eq!(rt;
+                fault,
+                CodeFault {
+                    place: 0,
+                    kind: CodeFaultKind::NoMemory,
+                }
+            ),
+        }
+    }
+}

@@ -1,0 +1,20 @@
+//! What no clause of `raster`, `run_tables` and `page_code` says: vectors of other programs, pages at size, refused memory, and readers
+//! and writers that fail. They stand apart so that proving a test does not prove the crate that it calls anew.
+#![tactic(auto)]
+
+#[cfg(test)]
+mod coding;
+#[cfg(test)]
+mod one_dim;
+#[cfg(test)]
+mod page_reader;
+#[cfg(test)]
+mod pbm;
+#[cfg(test)]
+mod pbm_writer;
+#[cfg(test)]
+mod rows;
+#[cfg(test)]
+mod run_codes;
+#[cfg(test)]
+mod t6;
