@@ -1,5 +1,5 @@
 -- A reader of a page that comes in pieces: what it keeps holds when octets follow, and what it answers at the end.
-use Rattle.std.proofs.Common.{ℕ, ◌≡◌, ◌≢◌, ◌≤◌, Bool, List, [], ◌++◌, length, inl, inr, refl, ap, sym, ◌∙◌, subst, arith, append_assoc}
+use Rattle.std.proofs.Common.{ℕ, ◌≡◌, ◌≢◌, ◌≤◌, ◌<◌, Bool, List, [], ◌++◌, length, inl, inr, refl, ap, sym, ◌∙◌, subst, arith, append_assoc}
 use Rattle.std.specs.Prelude.{Result, Ok, Err, IfOk, IfErr}
 use Rattle.std.proofs.lemmas.Bool.{cases_eq}
 use Rattle.raster.specs.declared.packed.Order.{Order}
@@ -16,7 +16,7 @@ use Rattle.page_code.specs.declared.page.Progress.{Progress}
 use Rattle.page_code.specs.Codings.{IsLongestIn, ReadsIn, read_rows}
 use Rattle.page_code.specs.PageCodes.{GivesPage, GivesRows, IsOnlyAnswer, ReadsPage, RefusesPage}
 use Rattle.page_code.specs.declared.coding.Coding.TheVariants.{OneDim, T6}
-use Rattle.page_code.specs.RowsSoFar.{AreRowsSoFar, BeginWith, IsFurther, IsReadTo, ReadsOn, RowsStay, after_rows, between_rows}
+use Rattle.page_code.specs.RowsSoFar.{AreRowsSoFar, AreWholeRows, BeginWith, IsFurther, IsReadTo, ReadsOn, RowsStay, after_rows, between_rows}
 use Rattle.page_code.specs.PageReaders.{PageReading, StandsFor, GoesOnTo, IsLike, StandsAsBefore}
 use Rattle.page_code.specs.OneDimension.Fronts.{item_word, Step}
 use Rattle.page_code.specs.OneDimension.Fronts.PageState.{first}
@@ -196,3 +196,22 @@ module _ (coding : Coding) (width : ℕ) (fine : Bool) (bits : List Bool) (resul
 
   pub finish_gives : GivesRows (read_rows coding width bits) result
   finish_gives = gives_rows (read_rows coding width bits) width fine result gives
+
+-- rows that were read begin the bits
+begin_read : (coding : Coding) (width : ℕ) (bits : List Bool) (rows : List (List Color)) (place : ℕ) → IsWidth width → 0 < length rows
+    → IsReadTo coding width bits rows place → BeginWith coding width bits rows
+unfolding IsReadTo
+begin_read OneDim width bits rows place wide some read = one_dim.spelled_rows width bits rows place wide some read
+begin_read T6 width bits rows place wide some read = t6.spelled_rows width bits rows place some read
+
+-- rows that were read, of which the bits spell no more, are all whole rows
+pub salvaged : (coding : Coding) (width : ℕ) (bits : List Bool) (old new : Progress) → IsWidth width → old.page.width ≡ width
+    → IsFurther coding bits old new × AreRowsSoFar coding new.page.width bits (length new.page.rows)
+    → AreWholeRows coding width bits new.page.rows
+salvaged coding width bits old new wide same read =
+    let is : new.page.width ≡ width = read.0.width ∙ same in
+    record {
+      all = subst (λ w. AreRowsSoFar coding w bits (length new.page.rows)) is read.1;
+      begins = λ some. begin_read coding width bits new.page.rows new.place wide some (subst (λ w. IsReadTo coding w bits new.page.rows
+      new.place) is read.0.read);
+    }

@@ -33,6 +33,11 @@ pub record AreRowsSoFar (coding : Coding) (width : ℕ) (bits : List Bool) (coun
   pub there : 0 < count → (rows : List (List Color)) × (length rows ≡ count) × BeginWith coding width bits rows
   pub no_more : (rows : List (List Color)) → length rows ≤ max_rows → BeginWith coding width bits rows → length rows ≤ count
 
+-- these are the whole rows that the bits spell, one after the other, with none left out: of a page that can't be read, what is there
+pub record AreWholeRows (coding : Coding) (width : ℕ) (bits : List Bool) (rows : List (List Color)) : Type 0 where
+  pub all : AreRowsSoFar coding width bits (length rows)
+  pub begins : 0 < length rows → BeginWith coding width bits rows
+
 -- rows that are whole stay whole when bits follow
 abbrev pub RowsStay : Type 0
 RowsStay =

@@ -3,7 +3,7 @@
 ghost use Rattle.page_code.specs.Codings.{read_rows};
 ghost use Rattle.page_code.specs.PageCodes.{GivesPage, GivesRows, IsOnlyAnswer, ReadsPage, RefusesPage};
 ghost use Rattle.page_code.specs.PageReaders.{GoesOnTo, IsLike, StandsAsBefore, StandsFor};
-ghost use Rattle.page_code.specs.RowsSoFar.{AreRowsSoFar, IsFurther, IsReadTo, ReadsOn};
+ghost use Rattle.page_code.specs.RowsSoFar.{AreRowsSoFar, AreWholeRows, IsFurther, IsReadTo, ReadsOn};
 ghost use Rattle.raster.specs.Packed.{bits_of};
 ghost use Rattle.raster.specs.Pixels.{IsWidth};
 ghost use Rattle.run_tables.specs.declared.fault.CodeFaultKind.TheVariants.{NoMemory};
@@ -106,6 +106,29 @@ fn read_to_end(
     let mut to = progress;
     let used = read_rows_on(alloc, coding, octets, order, &mut to)?;
     Ok((to.page, used))
+}
+
+impl Coding {
+    /// The page of the whole rows at the beginning of the octets' bits, of this width in pixels: of a page that
+    /// can't be read, what is there before the refused bit. It has none where the first row isn't whole, and 20,000 at
+    /// most. Errs where memory is refused.
+    pub fn salvage(
+        self,
+        alloc: Global,
+        octets: &[u8],
+        order: Order,
+        width: u32,
+        fine: bool,
+    ) -> Result<Page, AllocError>
+        requires { IsWidth width }
+        ensures width { IfOk result (λ page. page.width ≡ width) }
+        ensures fine { IfOk result (λ page. page.fine ≡ fine) }
+        ensures rows { IfOk result (λ page. AreWholeRows self width (bits_of order octets.now) page.rows) }
+    {
+        let mut to = Progress::new(alloc, width, fine);
+        read_further(alloc, self, octets, order, &mut to)?;
+        Ok(to.page)
+    }
 }
 
 impl PageReader {

@@ -93,7 +93,7 @@ after_push [] row = refl
 after_push (r ∷ rows) row = refl
 
 -- rows that were read are spelled
-spelled_rows : (width : ℕ) (bits : List Bool) (rows : List (List Color)) (place : ℕ) → IsWidth width → 0 < length rows
+pub spelled_rows : (width : ℕ) (bits : List Bool) (rows : List (List Color)) (place : ℕ) → IsWidth width → 0 < length rows
     → Kept width bits rows place → BeginWith OneDim width bits rows
 unfolding BeginWith
 spelled_rows width bits rows place wide some kept =

@@ -276,7 +276,7 @@ row_stopped width page place at kind x sees e =
 -- Whole rows
 
 -- rows that were read are spelled
-spelled_rows : (width : ℕ) (bits : List Bool) (rows : List (List Color)) (place : ℕ) → 0 < length rows
+pub spelled_rows : (width : ℕ) (bits : List Bool) (rows : List (List Color)) (place : ℕ) → 0 < length rows
     → LeadsTo page_item_word (PageStep width) (page_begin width) (between_rows width rows) bits place → BeginWith T6 width bits rows
 unfolding BeginWith reading
 spelled_rows width bits rows place some leads =
