@@ -1,5 +1,5 @@
 -- What the commands that code, show and decode pages do with what they read.
-use Rattle.std.specs.Prelude.{ℕ, ◌≡◌, ◌≢◌, ◌≤◌, ◌⊎◌, Bool, false, List, [], ◌∷◌, Option, length, Err}
+use Rattle.std.specs.Prelude.{ℕ, ◌≡◌, ◌≢◌, ◌≤◌, ◌<◌, ◌⊎◌, Bool, false, List, [], ◌∷◌, Option, length, Err, MatchResult}
 use Rattle.std.specs.Io.KnownBytes.{Appends}
 use Rattle.raster.specs.declared.packed.Order.{Order}
 use Rattle.raster.specs.declared.row.Color.{Color}
@@ -16,8 +16,10 @@ use Rattle.run_tables.specs.Faults.{number_of as kind_number}
 use Rattle.page_code.specs.declared.Coding.{Coding}
 use Rattle.page_code.specs.Codings.{IsLongestIn, ReadsIn, code_of}
 use Rattle.page_code.specs.PageCodes.{ReadsPage, RefusesPage}
+use Rattle.page_code.specs.RowsSoFar.{AreWholeRows}
 use Rattle.engines.specs.Faults.{IsOutside}
 use Rattle.engines.specs.declared.fault.ToolFault.{ToolFault}
+use Rattle.engines.specs.declared.pages.Salvage.{Salvage}
 use Rattle.engines.specs.declared.fault.ToolFault.TheVariants.{No, AtBit}
 
 -- the octets read are one image, and its code with 0 bits to an octet is written
@@ -65,3 +67,22 @@ pub record RefusesCode (coding : Coding) (order : Order) (width : ℕ) (octets :
 -- why no page was shown or decoded
 abbrev pub RefusesShow : Coding → Order → ℕ → List ℕ → ToolFault → Type 0
 RefusesShow coding order width octets fault = IsOutside fault ⊎ RefusesCode coding order width octets fault
+
+-- the octets read begin with no page's code, and of the page's rows those that are whole before the refused bit are written as an
+-- image, if there is one: it is of the width, and has all rows that the bits spell, one after the other
+pub record SalvagesRows (coding : Coding) (order : Order) (width : ℕ) (fine : Bool) (before after : Option (List ℕ)) (rows : ℕ)
+    (fault : ToolFault) (octets : List ℕ) : Type 0 where
+  pub refused : RefusesCode coding order width octets fault
+  pub page : PagePixels
+  pub width_is : page.width ≡ width
+  pub fine_is : page.fine ≡ fine
+  pub whole : AreWholeRows coding width (bits_of order octets) page.rows
+  pub rows_are : rows ≡ length page.rows
+  pub written : 0 < rows → AppendsSome (ArePagesText (page ∷ [])) before after
+  pub not_written : rows ≡ 0 → after ≡ before
+
+-- the page is written as `decode` writes it, or what there is of it
+abbrev pub SalvagesPage : Coding → Order → ℕ → Bool → Option (List ℕ) → Option (List ℕ) → Salvage → List ℕ → Type 0
+SalvagesPage coding order width fine before after salvage octets = MatchResult salvage.end
+    (λ bits. DecodesPage coding order width fine before after salvage.rows bits octets)
+    (λ fault. SalvagesRows coding order width fine before after salvage.rows fault octets)

@@ -1,5 +1,5 @@
 -- What the command that lists frames writes of bits.
-use Rattle.std.specs.Prelude.{ℕ, ◌+◌, ◌-◌, ◌^◌, ◌++◌, ◌∷◌, [], Bool, List, codes, min}
+use Rattle.std.specs.Prelude.{ℕ, ◌+◌, ◌-◌, ◌^◌, ◌++◌, ◌∷◌, [], Bool, List, Option, Some, None, codes, if◌then◌else◌, length, min, nat_lt, take}
 use Rattle.std.specs.Fmt.{decimal}
 use Rattle.hex.specs.Hex.{encode_lower}
 use Rattle.hdlc.specs.Gaps.{count_of, good}
@@ -12,14 +12,19 @@ use Rattle.engines.specs.Texts.{content_text, spaced}
 abbrev pub line : List (List ℕ) → List ℕ
 line words = spaced words ++ 10 ∷ []
 
--- the line of a good frame: its number, its content in lower-case hex, and what it says
-abbrev pub frame_line : ℕ → List ℕ → List ℕ
-frame_line number content = line (decimal number ∷ encode_lower content ∷ content_text content ∷ [])
+-- a content in lower-case hex: the whole of it, or at most so many of its octets and `..` where it has more
+abbrev pub shown : Option ℕ → List ℕ → List ℕ
+shown None content = encode_lower content
+shown (Some most) content = encode_lower (take most content) ++ (if nat_lt most (length content) then codes ".." else [])
+
+-- the line of a good frame: its number, its content in hex, and what it says
+abbrev pub frame_line : Option ℕ → ℕ → List ℕ → List ℕ
+frame_line most number content = line (decimal number ∷ shown most content ∷ content_text content ∷ [])
 
 -- the lines of good frames, numbered from the first one's number
-abbrev pub frame_lines : ℕ → List (List ℕ) → List ℕ
-frame_lines first [] = []
-frame_lines first (content ∷ contents) = frame_line first content ++ frame_lines (first + 1) contents
+abbrev pub frame_lines : Option ℕ → ℕ → List (List ℕ) → List ℕ
+frame_lines most first [] = []
+frame_lines most first (content ∷ contents) = frame_line most first content ++ frame_lines most (first + 1) contents
 
 -- how many gaps of bits are of a class, up to 2 ^ 64 - 1
 abbrev pub counted : List Bool → Class → ℕ
@@ -43,5 +48,5 @@ counts_line counts = line (codes "good" ∷ decimal counts.good ∷ codes "abort
     ∷ codes "long" ∷ decimal counts.long ∷ codes "damaged" ∷ decimal counts.damaged ∷ [])
 
 -- a line for each good frame of bits, numbered from 1, and the line of the counts
-abbrev pub listing : List Bool → List ℕ
-listing bits = frame_lines 1 (good bits) ++ counts_line (counts_of bits)
+abbrev pub listing : Option ℕ → List Bool → List ℕ
+listing most bits = frame_lines most 1 (good bits) ++ counts_line (counts_of bits)

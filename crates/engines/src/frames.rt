@@ -5,7 +5,7 @@ ghost use Rattle.engines.specs.Frames.{counts_line, frame_line, frame_lines, lis
 ghost use Rattle.raster.specs.Packed.{bits_of};
 ghost use Rattle.raster.specs.declared.packed.Order.TheVariants.{LsbFirst};
 ghost use Rattle.std.specs.Io.KnownBytes.{Appends, Consumes, IsAtEnd};
-ghost use Rattle.std.specs.Prelude.{◌≡◌, ◌<◌, ◌≤◌, ◌+◌, [], IfErr, IfOk, IfSome, OnOk, length, take};
+ghost use Rattle.std.specs.Prelude.{◌≡◌, ◌<◌, ◌≤◌, ◌+◌, [], IfErr, IfOk, IfSome, None, OnOk, length, take};
 
 use crate::fault::{FAILED, ToolFault};
 use crate::texts::ContentText;
@@ -17,18 +17,24 @@ use std::io::{Read, Write};
 /// How many octets are read at a time.
 const PIECE: usize = 4096;
 
-/// Writes the line of a good frame: its number, its content in hex, and what it says.
+/// Writes the line of a good frame: its number, its content in hex, of which at most so many octets are
+/// shown, and what it says.
 fn write_frame<W: Write>(
     alloc: Global,
     number: u64,
     content: &[u8],
+    most: Option<usize>,
     writer: &mut W,
 ) -> Result<(), ToolFault>
-    ensures line { OnOk result (Appends (W.contents writer.old) (W.contents writer.new) (frame_line number content.now)) }
+    ensures line { OnOk result (Appends (W.contents writer.old) (W.contents writer.new) (frame_line most number content.now)) }
     ensures fault { IfErr result IsOutside }
 {
-    let digits = hex::encode(alloc, content)?;
-    writeln!(writer, "{number} {digits} {}", ContentText(content))?;
+    let (front, cut) = match most {
+        Some(most) if most < content.len() => (&content[..most], ".."),
+        _ => (content, ""),
+    };
+    let digits = hex::encode(alloc, front)?;
+    writeln!(writer, "{number} {digits}{cut} {}", ContentText(content))?;
     Ok(())
 }
 
@@ -38,16 +44,17 @@ fn write_frames<W: Write>(
     alloc: Global,
     deframer: &mut Deframer,
     first: u64,
+    most: Option<usize>,
     writer: &mut W,
 ) -> Result<u64, ToolFault>
-    ensures lines { OnOk result (Appends (W.contents writer.old) (W.contents writer.new) (frame_lines first deframer.old.queue)) }
+    ensures lines { OnOk result (Appends (W.contents writer.old) (W.contents writer.new) (frame_lines most first deframer.old.queue)) }
     ensures next { IfOk result (λ next. next ≡ first + length deframer.old.queue) }
     ensures taken { OnOk result (deframer.new ≡ record deframer.old { queue = [] }) }
     ensures fault { IfErr result IsOutside }
 {
     let mut number = first;
     while let Some(content) = deframer.next() {
-        write_frame(alloc, number, content, writer)?;
+        write_frame(alloc, number, content, most, writer)?;
         number = number.checked_add(1).ok_or(FAILED)?;
     }
     Ok(number)
@@ -90,15 +97,30 @@ fn read_some<R: Read>(reader: &mut R, piece: &mut [u8]) -> Result<usize, ToolFau
 
 /// Reads bits, the least significant of each octet first, and writes a line for each good frame in
 /// them, with its number from 1, its content in hex and what it says, and then a line with the counts
-/// of all gaps. Errs with 8 where the reader or the writer fails, or the reader doesn't end in 2^64
-/// reads, and with 9.
+/// of all gaps. Each line is written, and the writer flushed, as soon as its frame was read. Errs with 8 where the
+/// reader or the writer fails, or the reader doesn't end in 2^64 reads, and with 9.
 pub fn frames_engine<R: Read, W: Write>(
     alloc: Global,
     reader: &mut R,
     writer: &mut W,
 ) -> Result<(), ToolFault>
     ensures listed { OnOk result (IfSome (R.remaining reader.old) (λ octets.
-        Appends (W.contents writer.old) (W.contents writer.new) (listing (bits_of LsbFirst octets)))) }
+        Appends (W.contents writer.old) (W.contents writer.new) (listing None (bits_of LsbFirst octets)))) }
+    ensures fault { IfErr result IsOutside }
+{
+    list_frames(alloc, reader, writer, None)
+}
+
+/// What `frames_engine` does, with at most so many octets of a content shown: a line has `..` after
+/// them where the content has more.
+pub fn list_frames<R: Read, W: Write>(
+    alloc: Global,
+    reader: &mut R,
+    writer: &mut W,
+    most: Option<usize>,
+) -> Result<(), ToolFault>
+    ensures listed { OnOk result (IfSome (R.remaining reader.old) (λ octets.
+        Appends (W.contents writer.old) (W.contents writer.new) (listing most (bits_of LsbFirst octets)))) }
     ensures fault { IfErr result IsOutside }
 {
     let mut deframer = Deframer::new(alloc);
@@ -110,7 +132,8 @@ pub fn frames_engine<R: Read, W: Write>(
             return write_counts(deframer.counts(), writer);
         }
         deframer.feed(&piece[..count])?;
-        number = write_frames(alloc, &mut deframer, number, writer)?;
+        number = write_frames(alloc, &mut deframer, number, most, writer)?;
+        writer.flush()?;
     }
     Err(FAILED)
 }

@@ -12,9 +12,9 @@ mod transcript;
 
 pub use crate::call::call_engine;
 pub use crate::fault::{FAILED, NO_MEMORY, ToolFault};
-pub use crate::frames::frames_engine;
+pub use crate::frames::{frames_engine, list_frames};
 pub use crate::options::CallOptions;
-pub use crate::pages::{code_engine, decode_engine, show_engine};
+pub use crate::pages::{Salvage, code_engine, decode_engine, salvage_engine, show_engine};
 pub use crate::script::{Command, read_script};
 pub use crate::texts::{ContentText, SignalText};
 pub use crate::transcript::{end_word, write_entry, write_report};

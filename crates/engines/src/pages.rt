@@ -1,14 +1,25 @@
 //! What is done with images and coded pages: coding, showing and decoding, over any reader and any writer.
-ghost use Rattle.engines.specs.CodedPages.{CodesImage, DecodesPage, RefusesImage, RefusesShow, ShowsPage};
+ghost use Rattle.engines.specs.CodedPages.{CodesImage, DecodesPage, RefusesImage, RefusesShow, SalvagesPage, ShowsPage};
+ghost use Rattle.engines.specs.Faults.{IsOutside};
+ghost use Rattle.raster.specs.PbmText.{AppendsSome, ArePagesText};
 ghost use Rattle.raster.specs.Pixels.{IsWidth};
-ghost use Rattle.std.specs.Prelude.{IfErr, IfOk, IfSome, OnOk};
+ghost use Rattle.std.specs.Prelude.{◌≡◌, ◌<◌, ◌∷◌, [], IfErr, IfOk, IfSome, OnOk, length};
 
-use crate::fault::ToolFault;
+use crate::fault::{NO_MEMORY, ToolFault};
 use page_code::Coding;
-use raster::{read_pbm, write_pbm, write_text};
-use run_tables::Order;
+use raster::{Page, read_pbm, write_pbm, write_text};
+use run_tables::{CodeFaultKind, Order};
 use std::alloc::Global;
 use std::io::{Read, Write};
+
+/// What there was of a coded page.
+#[derive(Clone, Copy, Debug, PartialEq, Eq)]
+pub struct Salvage {
+    /// How many rows were written.
+    pub rows: usize,
+    /// How many bits the page's code has, or the fault for which the rest of it was refused.
+    pub end: Result<u128, ToolFault>,
+}
 
 /// The fault of an input of more than one image.
 const SEVERAL_PAGES: ToolFault = ToolFault::No(27);
@@ -84,4 +95,56 @@ pub fn decode_engine<R: Read, W: Write>(
     let rows = page.rows().len();
     write_pbm(&[page], writer)?;
     Ok((rows, bits))
+}
+
+/// Does what `decode_engine` does; but where the octets are refused, the whole rows before the refused bit are
+/// written, if there is one, and the answer has the fault. Errs with 8 where the reader or the writer fails, and
+/// with 9.
+pub fn salvage_engine<R: Read, W: Write>(
+    alloc: Global,
+    reader: &mut R,
+    writer: &mut W,
+    coding: Coding,
+    order: Order,
+    width: u32,
+    fine: bool,
+) -> Result<Salvage, ToolFault>
+    requires { IsWidth width }
+    ensures salvaged { IfOk result (λ salvage. IfSome (R.remaining reader.old)
+        (SalvagesPage coding order width fine (W.contents writer.old) (W.contents writer.new) salvage)) }
+    ensures fault { IfErr result IsOutside }
+{
+    let mut octets = Vec::new(alloc);
+    reader.read_to_end(&mut octets)?;
+    let fault = match coding.decode(alloc, &octets, order, width, fine) {
+        Ok((page, bits)) => {
+            let rows = page.rows().len();
+            write_pbm(&[page], writer)?;
+            return Ok(Salvage {
+                rows,
+                end: Ok(bits),
+            });
+        }
+        Err(fault) if fault.kind == CodeFaultKind::NoMemory => return Err(NO_MEMORY),
+        Err(fault) => ToolFault::from(fault),
+    };
+    let rows = write_some(coding.salvage(alloc, &octets, order, width, fine)?, writer)?;
+    Ok(Salvage {
+        rows,
+        end: Err(fault),
+    })
+}
+
+/// Writes a page as an image where it has rows, and answers how many.
+fn write_some<W: Write>(page: Page, writer: &mut W) -> Result<usize, ToolFault>
+    ensures rows { IfOk result (λ rows. rows ≡ length page.rows) }
+    ensures written { OnOk result (0 < length page.rows → AppendsSome (ArePagesText (page ∷ [])) (W.contents writer.old) (W.contents writer.new)) }
+    ensures none { OnOk result (length page.rows ≡ 0 → W.contents writer.new ≡ W.contents writer.old) }
+    ensures fault { IfErr result IsOutside }
+{
+    let rows = page.rows().len();
+    if rows > 0 {
+        write_pbm(&[page], writer)?;
+    }
+    Ok(rows)
 }

@@ -15,7 +15,7 @@ use Rattle.clap.proofs.WalkLemmas.{one_text-rows}
 use Rattle.faxtool.specs.declared.words.Job.TheVariants.{Call, Code, Decode, Frames, Show}
 use Rattle.faxtool.specs.declared.words.Outcome.{Outcome}
 use Rattle.faxtool.specs.declared.words.Outcome.TheVariants.{Done, Fault, Words}
-use Rattle.faxtool.specs.Jobs.{AreOptionsIn, HasNoJob, HasNoOptions, IsFaxtool, IsOutcomeOf, IsRefusalOf, IsWidthIn, ReadsWidth}
+use Rattle.faxtool.specs.Jobs.{AreOptionsIn, HasNoJob, HasNoOptions, IsFaxtool, IsOutcomeOf, IsRefusalOf, IsWidthIn, ReadsNumber}
 use Rattle.faxtool.specs.Jobs.{TakesNames, call_app, faxtool_app, page_app}
 
 -- ---- the width
@@ -23,38 +23,38 @@ use Rattle.faxtool.specs.Jobs.{TakesNames, call_app, faxtool_app, page_app}
 same_text : (a b : Text) → Some a ≡ Some b → a ≡ b
 same_text a b e = ap (λ (o : Option Text). unwrap_or o a) e
 
-pub width_reads : {E : Type 0} (f : Found) (gives : Text → Result ℕ E → Type 0) (r : Option ℕ)
+pub number_reads : {E : Type 0} (id : Text) (f : Found) (gives : Text → Result ℕ E → Type 0) (r : Option ℕ)
     → ((text : Text) (x : Result ℕ E) → gives text x → ParsesUnsigned 32 10 text x)
-    → (one_text f (codes "width") ≡ None → r ≡ None)
-    → ((text : Text) → one_text f (codes "width") ≡ Some text → ReadsOne gives text r)
-    → ReadsWidth (rows_of f) r
-width_reads {E} f gives None parses none value =
+    → (one_text f id ≡ None → r ≡ None)
+    → ((text : Text) → one_text f id ≡ Some text → ReadsOne gives text r)
+    → ReadsNumber id (rows_of f) r
+number_reads {E} id f gives None parses none value =
     λ text given numeral fits.
-    let read = value text (one_text-rows f (codes "width") ∙ given) in
+    let read = value text (one_text-rows f id ∙ given) in
     parses text (Err read.0) read.1 (numeral, fits)
-width_reads {E} f gives (Some width) parses none value = go (one_text f (codes "width")) refl
+number_reads {E} id f gives (Some number) parses none value = go (one_text f id) refl
   where
-    go : (o : Option Text) → one_text f (codes "width") ≡ o → ReadsWidth (rows_of f) (Some width)
+    go : (o : Option Text) → one_text f id ≡ o → ReadsNumber id (rows_of f) (Some number)
     go None e =
-        let no : Some width ≡ None = none e in
+        let no : Some number ≡ None = none e in
         cc
     go (Some text) e =
-        let read = parses text (Ok width) (value text e) in
-        (text, sym (one_text-rows f (codes "width")) ∙ e, (read.0.0, read.1))
+        let read = parses text (Ok number) (value text e) in
+        (text, sym (one_text-rows f id) ∙ e, (read.0.0, read.1))
 
-pub width_made : (rows : List Row) (width : ℕ) → ReadsWidth rows (Some width) → 1 ≤ width → width ≤ 2432
+pub width_made : (rows : List Row) (width : ℕ) → ReadsNumber (codes "width") rows (Some width) → 1 ≤ width → width ≤ 2432
     → IsWidthIn rows width
 width_made rows width (text, given, number) least most =
     record { text = text; given = given; number = number; least = least; most = most }
 
-pub width_outside : (rows : List Row) (width : ℕ) → ReadsWidth rows (Some width) → (1 ≤ width → width ≤ 2432 → ⊥)
+pub width_outside : (rows : List Row) (width : ℕ) → ReadsNumber (codes "width") rows (Some width) → (1 ≤ width → width ≤ 2432 → ⊥)
     → (n : ℕ) → IsWidthIn rows n → ⊥
 width_outside rows width (text, given, number) outside n is =
     let same : text ≡ is.text = same_text text is.text (sym given ∙ is.given) in
     let one : n ≡ width = is.number.1 ∙ (ap (λ (t : Text). digits_value 10 (without_leading_plus t)) (sym same) ∙ sym number.1) in
     outside (subst (λ k. 1 ≤ k) one is.least) (subst (λ k. k ≤ 2432) one is.most)
 
-pub width_none : (rows : List Row) → ReadsWidth rows None → (n : ℕ) → IsWidthIn rows n → ⊥
+pub width_none : (rows : List Row) → ReadsNumber (codes "width") rows None → (n : ℕ) → IsWidthIn rows n → ⊥
 width_none rows none n is =
     let most : digits_value 10 (without_leading_plus is.text) ≤ 2432 = subst (λ k. k ≤ 2432) is.number.1 is.most in
     none is.text is.given is.number.0 (omega (arith, most))
@@ -173,9 +173,9 @@ pub no_width : (rows : List Row) → ((n : ℕ) → IsWidthIn rows n → ⊥) �
 no_width rows none (Code coding order input output) (others, e, is) = show_is_code (some_name (codes "show") (codes "code") rows others e)
 no_width rows none (Show coding order width input) (others, e, is) =
     none width (subst (λ (xs : List Row). IsWidthIn xs width) (sym (some_rows (codes "show") (codes "show") rows others e)) is.width_is)
-no_width rows none (Decode coding order width fine verbose input output) (others, e, is) =
+no_width rows none (Decode coding order width fine salvage verbose input output) (others, e, is) =
     show_is_decode (some_name (codes "show") (codes "decode") rows others e)
-no_width rows none (Frames input) (others, e, is) = show_is_frames (some_name (codes "show") (codes "frames") rows others e)
+no_width rows none (Frames data input) (others, e, is) = show_is_frames (some_name (codes "show") (codes "frames") rows others e)
 no_width rows none (Call script options out input) (others, e, is) =
     show_is_call (some_name (codes "show") (codes "call") rows others e)
 
@@ -185,10 +185,10 @@ no_width_to_decode rows none (Code coding order input output) (others, e, is) =
     decode_is_code (some_name (codes "decode") (codes "code") rows others e)
 no_width_to_decode rows none (Show coding order width input) (others, e, is) =
     show_is_decode (sym (some_name (codes "decode") (codes "show") rows others e))
-no_width_to_decode rows none (Decode coding order width fine verbose input output) (others, e, is) =
+no_width_to_decode rows none (Decode coding order width fine salvage verbose input output) (others, e, is) =
     none width (subst (λ (xs : List Row). IsWidthIn xs width) (sym (some_rows (codes "decode") (codes "decode") rows others e))
     is.shown.width_is)
-no_width_to_decode rows none (Frames input) (others, e, is) =
+no_width_to_decode rows none (Frames data input) (others, e, is) =
     decode_is_frames (some_name (codes "decode") (codes "frames") rows others e)
 no_width_to_decode rows none (Call script options out input) (others, e, is) =
     decode_is_call (some_name (codes "decode") (codes "call") rows others e)
@@ -199,9 +199,9 @@ no_options rows none (Code coding order input output) (others, e, is) =
     call_is_code (some_name (codes "call") (codes "code") rows others e)
 no_options rows none (Show coding order width input) (others, e, is) =
     show_is_call (sym (some_name (codes "call") (codes "show") rows others e))
-no_options rows none (Decode coding order width fine verbose input output) (others, e, is) =
+no_options rows none (Decode coding order width fine salvage verbose input output) (others, e, is) =
     decode_is_call (sym (some_name (codes "call") (codes "decode") rows others e))
-no_options rows none (Frames input) (others, e, is) =
+no_options rows none (Frames data input) (others, e, is) =
     call_is_frames (some_name (codes "call") (codes "frames") rows others e)
 no_options rows none (Call script options out input) (others, e, is) =
     none options (subst (λ (xs : List Row). AreOptionsIn xs options) (sym (some_rows (codes "call") (codes "call") rows others e))

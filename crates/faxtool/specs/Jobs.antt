@@ -92,14 +92,20 @@ with_page_options app codings orders = with_rule (with_rule (with_rule app (codi
 abbrev pub show_app : ValueParser → ValueParser → App
 show_app codings orders = with_rule (with_page_options (new_app (codes "show")) codings orders) (file_rule (codes "file"))
 
--- `decode`: the code, the width, the order, fine or not, verbose or not, and the files of the page and of its image
-abbrev pub decode_app : ValueParser → ValueParser → App
-decode_app codings orders = with_rule (with_rule (with_rule (with_rule (with_page_options (new_app (codes "decode")) codings orders)
-    (flag_rule (codes "fine"))) (flag_rule (codes "verbose"))) (file_rule (codes "file"))) (file_rule (codes "out"))
+-- the command with `--fine`, `--salvage` and `--verbose`
+abbrev pub with_flags : App → App
+with_flags app = with_rule (with_rule (with_rule app (flag_rule (codes "fine"))) (flag_rule (codes "salvage")))
+    (flag_rule (codes "verbose"))
 
--- `frames`: the file of the bits
+-- `decode`: the code, the width, the order, fine or not, salvage or not, verbose or not, and the files of the page and of its image
+abbrev pub decode_app : ValueParser → ValueParser → App
+decode_app codings orders = with_rule (with_rule (with_flags (with_page_options (new_app (codes "decode")) codings orders))
+    (file_rule (codes "file"))) (file_rule (codes "out"))
+
+-- `frames`: how many octets of a content are shown, 0 to 300, and the file of the bits
 abbrev pub frames_app : App
-frames_app = with_rule (new_app (codes "frames")) (file_rule (codes "file"))
+frames_app = with_rule (with_rule (new_app (codes "frames"))
+    (record (option_rule (codes "data")) { parser = Some (vp.Signed (pos 0) (pos 300)) })) (file_rule (codes "file"))
 
 -- the command with `--code`, `--frame` and `--modems`
 abbrev pub with_choices : App → ValueParser → ValueParser → ValueParser → App
@@ -182,11 +188,10 @@ pub record IsWidthIn (rows : List Row) (width : ℕ) : Type 0 where
   pub least : 1 ≤ width
   pub most : width ≤ 2432
 
--- the number that is read of the width, and none where the text is no number below 2 ^ 32
-abbrev pub ReadsWidth : List Row → Option ℕ → Type 0
-ReadsWidth rows (Some n) =
-    (text : Text) × (one_of (codes "width") rows ≡ Some text) × IsNumberText text n
-ReadsWidth rows None = (text : Text) → one_of (codes "width") rows ≡ Some text
+-- the number that is read of an option's value, and none where there is no value or its text is no number below 2 ^ 32
+abbrev pub ReadsNumber : Text → List Row → Option ℕ → Type 0
+ReadsNumber id rows (Some n) = (text : Text) × (one_of id rows ≡ Some text) × IsNumberText text n
+ReadsNumber id rows None = (text : Text) → one_of id rows ≡ Some text
     → IsNumeral 10 (without_leading_plus text)
     → digits_value 10 (without_leading_plus text) < 2 ^ 32 → ⊥
 
@@ -207,10 +212,11 @@ pub record IsShowOf (rows : List Row) (coding : Coding) (order : Order) (width :
   pub input_is : first_of (codes "file") rows ≡ Some input
 
 -- the values of the command `decode` are those of the job
-pub record IsDecodeOf (rows : List Row) (coding : Coding) (order : Order) (width : ℕ) (fine verbose : Bool) (input output : Text)
-    : Type 0 where
+pub record IsDecodeOf (rows : List Row) (coding : Coding) (order : Order) (width : ℕ) (fine salvage verbose : Bool)
+    (input output : Text) : Type 0 where
   pub shown : IsShowOf rows coding order width input
   pub fine_is : fine ≡ is_named (codes "true") (first_of (codes "fine") rows)
+  pub salvage_is : salvage ≡ is_named (codes "true") (first_of (codes "salvage") rows)
   pub verbose_is : verbose ≡ is_named (codes "true") (first_of (codes "verbose") rows)
   pub output_is : first_of (codes "out") rows ≡ Some output
 
@@ -241,11 +247,12 @@ IsJobOf met (Code coding order input output) = (rows : List Row)
 IsJobOf met (Show coding order width input) = (rows : List Row)
     × (met ≡ Some (codes "show", rows))
     × IsShowOf rows coding order width (string_bytes input)
-IsJobOf met (Decode coding order width fine verbose input output) = (rows : List Row)
+IsJobOf met (Decode coding order width fine salvage verbose input output) = (rows : List Row)
     × (met ≡ Some (codes "decode", rows))
-    × IsDecodeOf rows coding order width fine verbose (string_bytes input) (string_bytes output)
-IsJobOf met (Frames input) = (rows : List Row)
+    × IsDecodeOf rows coding order width fine salvage verbose (string_bytes input) (string_bytes output)
+IsJobOf met (Frames data input) = (rows : List Row)
     × (met ≡ Some (codes "frames", rows))
+    × ReadsNumber (codes "data") rows data
     × (first_of (codes "file") rows ≡ Some (string_bytes input))
 IsJobOf met (Call script options out input) = (rows : List Row)
     × (met ≡ Some (codes "call", rows))
@@ -287,6 +294,6 @@ status_of (Words error) = 2
 abbrev pub HasWidth : Job → Type 0
 HasWidth (Code coding order input output) = Unit {0}
 HasWidth (Show coding order width input) = IsWidth width
-HasWidth (Decode coding order width fine verbose input output) = IsWidth width
-HasWidth (Frames input) = Unit {0}
+HasWidth (Decode coding order width fine salvage verbose input output) = IsWidth width
+HasWidth (Frames data input) = Unit {0}
 HasWidth (Call script options out input) = Unit {0}

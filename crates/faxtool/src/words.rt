@@ -1,15 +1,16 @@
 //! The words that the program is called with.
 ghost use Rattle.std.specs.Prelude.{◌≡◌, ◌≢◌, IfOk, MatchOption, MatchResult, Some, codes, false, true};
-ghost use Rattle.std.specs.Prelude.{ℕ, map, option_map, string_bytes};
+ghost use Rattle.std.specs.Prelude.{ℕ, map, option_map, pos, string_bytes};
 ghost use Rattle.clap.specs.Words.{app_of, first_of, found_of, kind_of, rows_of, rule_of};
 ghost use Rattle.clap.specs.Words.{new_app, subcommand_rows_of, with_rule, with_subcommand};
 ghost use Rattle.clap.specs.declared.builder.command.Command.TheViews.{out-Command as fields_of};
+ghost use Rattle.clap.specs.declared.builder.value_parser.ValueParser.TheVariants as vp;
 ghost use Rattle.clap.specs.declared.error.kind.ErrorKind.TheVariants.{OutOfMemory};
 ghost use Rattle.faxtool.specs.Jobs.{AreOptionsIn, HasNoJob, HasNoOptions, IsFaxtool, IsJobOf, IsOutcomeOf, IsRefusalOf};
-ghost use Rattle.faxtool.specs.Jobs.{IsWidthIn, ReadsAs, ReadsWidth, call_app, choice_rule, code_app, coding_named, coding_rule};
+ghost use Rattle.faxtool.specs.Jobs.{IsWidthIn, ReadsAs, ReadsNumber, call_app, choice_rule, code_app, coding_named, coding_rule};
 ghost use Rattle.faxtool.specs.Jobs.{decode_app, empty_app, file_option_rule, file_rule, flag_rule, frames_app, is_named, modems_named};
 ghost use Rattle.faxtool.specs.Jobs.{option_rule, order_named, order_rule, page_app, show_app, status_of, width_rule, with_choices};
-ghost use Rattle.faxtool.specs.Jobs.{with_page_options};
+ghost use Rattle.faxtool.specs.Jobs.{with_flags, with_page_options};
 
 use clap::builder::ValueParser;
 use clap::error::ErrorKind;
@@ -55,6 +56,8 @@ pub enum Job {
         width: u32,
         /// 7.7 lines a millimetre in place of 3.85.
         fine: bool,
+        /// Whether of a page that can't be read its whole rows are written.
+        salvage: bool,
         /// Whether its rows and the bits of its code are told on standard error.
         verbose: bool,
         /// The name of the page's file.
@@ -64,6 +67,8 @@ pub enum Job {
     },
     /// Lists the frames in a file of bits.
     Frames {
+        /// At most how many octets of a content are shown, where it isn't all of them.
+        data: Option<u32>,
         /// The name of the file.
         input: String,
     },
@@ -240,6 +245,7 @@ fn decode_job(alloc: Global, matches: &ArgMatches<'_>) -> Result<Option<Job>, Al
         order: order_in(matches),
         width,
         fine: is_named(text_in(matches, "fine"), "true"),
+        salvage: is_named(text_in(matches, "salvage"), "true"),
         verbose: is_named(text_in(matches, "verbose"), "true"),
         input: String::from_str(alloc, input)?,
         output: String::from_str(alloc, output)?,
@@ -254,6 +260,7 @@ fn frames_job(alloc: Global, matches: &ArgMatches<'_>) -> Result<Option<Job>, Al
         return Ok(None);
     };
     Ok(Some(Job::Frames {
+        data: number_in(matches, "data"),
         input: String::from_str(alloc, input)?,
     }))
 }
@@ -370,17 +377,17 @@ fn width_in(matches: &ArgMatches<'_>) -> Option<u32>
     ensures { let rows = rows_of (found_of matches.now) in
         MatchOption result ((width : ℕ) → IsWidthIn rows width → ⊥) (IsWidthIn rows) }
 {
-    match number_in(matches) {
+    match number_in(matches, "width") {
         Some(width) if 1 <= width && width <= 2432 => Some(width),
         _ => None,
     }
 }
 
-// The number of the width.
-fn number_in(matches: &ArgMatches<'_>) -> Option<u32>
-    ensures { ReadsWidth (rows_of (found_of matches.now)) result }
+// The number that is an option's value.
+fn number_in(matches: &ArgMatches<'_>, id: &str) -> Option<u32>
+    ensures { ReadsNumber id.now (rows_of (found_of matches.now)) result }
 {
-    matches.get_one::<u32>("width")
+    matches.get_one::<u32>(id)
 }
 
 // The error for words that miss a value, which a parse refuses by itself.
@@ -453,8 +460,8 @@ fn code_command<'a>(
         .about("Writes the code of an image into a file")
         .arg(coding_option(alloc, codings))?
         .arg(order_option(alloc, orders))?
-        .arg(file_name(alloc, "in", "IN", "The file of the image, a PBM"))?
-        .arg(file_name(alloc, "out", "OUT", "The file that the code is written to"))
+        .arg(file_name(alloc, "in", "IN", "The file of the image, a PBM; - is standard input"))?
+        .arg(file_name(alloc, "out", "OUT", "The file that the code is written to; - is standard output"))
 }
 
 fn show_command<'a>(
@@ -472,7 +479,7 @@ fn show_command<'a>(
         codings,
         orders,
     )?
-    .arg(file_name(alloc, "file", "FILE", "The file of the coded page"))
+    .arg(file_name(alloc, "file", "FILE", "The file of the coded page; - is standard input"))
 }
 
 fn decode_command<'a>(
@@ -483,6 +490,21 @@ fn decode_command<'a>(
     ensures app { IfOk result (λ command. app_of command ≡ decode_app codings.entry orders.entry) }
     ensures local { IfOk result (λ command. (fields_of command).has_globals ≡ false) }
 {
+    flagged_command(alloc, codings, orders)?
+        .arg(file_name(alloc, "file", "FILE", "The file of the coded page; - is standard input"))?
+        .arg(file_name(alloc, "out", "OUT", "The file that the image is written to; - is standard output"))
+}
+
+// The command `decode` with its options.
+fn flagged_command<'a>(
+    alloc: Global,
+    codings: ValueParser<'a>,
+    orders: ValueParser<'a>,
+) -> Result<Command<'a>, AllocError>
+    ensures app { IfOk result (λ command. app_of command ≡ with_flags (with_page_options (new_app (codes "decode")) codings.entry orders.entry)) }
+    ensures local { IfOk result (λ command. (fields_of command).has_globals ≡ false) }
+{
+    let salvage = "Writes the whole rows before the bit where the page can't be read, if there is one";
     page_command(
         alloc,
         "decode",
@@ -490,18 +512,9 @@ fn decode_command<'a>(
         codings,
         orders,
     )?
-    .arg(flag_option(
-        alloc,
-        "fine",
-        "The page has 7.7 lines a millimetre in place of 3.85",
-    ))?
-    .arg(flag_option(
-        alloc,
-        "verbose",
-        "Tells the page's rows and the bits of its code",
-    ))?
-    .arg(file_name(alloc, "file", "FILE", "The file of the coded page"))?
-    .arg(file_name(alloc, "out", "OUT", "The file that the image is written to"))
+    .arg(flag_option(alloc, "fine", "The page has 7.7 lines a millimetre in place of 3.85"))?
+    .arg(flag_option(alloc, "salvage", salvage))?
+    .arg(flag_option(alloc, "verbose", "Tells the page's rows and the bits of its code"))
 }
 
 // The command of this name with the options of coded pages.
@@ -528,7 +541,8 @@ fn frames_command<'a>(alloc: Global) -> Result<Command<'a>, AllocError>
 {
     Command::new(alloc, "frames")
         .about("Lists the frames in a file of bits, the least significant of an octet first")
-        .arg(file_name(alloc, "file", "FILE", "The file of the bits"))
+        .arg(data_option(alloc))?
+        .arg(file_name(alloc, "file", "FILE", "The file of the bits; - is standard input"))
 }
 
 fn call_command<'a>(
@@ -553,7 +567,7 @@ fn call_command<'a>(
             "Sends 7.7 lines a millimetre in place of 3.85",
         ))?
         .arg(out)?
-        .arg(file_name(alloc, "in", "IN", "The file of the document, a PBM"))
+        .arg(file_name(alloc, "in", "IN", "The file of the document, a PBM; - is standard input"))
 }
 
 // The command of a call with its script and the options that are one of several names.
@@ -672,6 +686,15 @@ fn width_option<'a>(alloc: Global) -> Arg<'a>
         .help("The width of the page in pixels, 1 to 2432")
 }
 
+fn data_option<'a>(alloc: Global) -> Arg<'a>
+    ensures rule { rule_of result ≡ record (option_rule (codes "data")) { parser = Some (vp.Signed (pos 0) (pos 300)) } }
+    ensures local { result.global ≡ false }
+{
+    named_option(alloc, "data", "N")
+        .value_parser(clap::value_parser!(u32).range(0..=300))
+        .help("Shows at most N octets of a content, and `..` where it has more")
+}
+
 fn file_name<'a>(alloc: Global, id: &'a str, shown: &'a str, help: &'a str) -> Arg<'a>
     ensures rule { rule_of result ≡ file_rule id.entry.now }
     ensures local { result.global ≡ false }
@@ -682,6 +705,3 @@ fn file_name<'a>(alloc: Global, id: &'a str, shown: &'a str, help: &'a str) -> A
         .action(ArgAction::Set)
         .help(help)
 }
-
-#[cfg(test)]
-mod tests;
