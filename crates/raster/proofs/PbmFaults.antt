@@ -4,10 +4,10 @@ use Rattle.std.proofs.Common.{sym, ap, subst, ◌∙◌, append_assoc, arith, in
 use Rattle.std.specs.List.{AllByRecursion, concat}
 use Rattle.std.proofs.lemmas.List.{length-append}
 use Rattle.raster.specs.declared.fault.RasterFault.{RasterFault}
-use Rattle.raster.specs.declared.fault.RasterFault.TheVariants.{NoPages}
+use Rattle.raster.specs.declared.fault.RasterFault.TheVariants.{NoPages, Io, NoMemory}
 use Rattle.raster.specs.Pages.{PagePixels}
-use Rattle.raster.specs.Pbm.{Follow, AreImages, image_at, images_at, read_images, ◌>>=◌}
-use Rattle.raster.specs.PbmFaults.{BreaksOff, IsOneImage, AfterImages, IsFirstFault, NamesFirstFault}
+use Rattle.raster.specs.Pbm.{Follow, AreImages, image_at, images_at, read_images, Gives, ◌>>=◌}
+use Rattle.raster.specs.PbmFaults.{BreaksOff, IsOneImage, AfterImages, IsFirstFault, AnswersFirstFault, NamesFirstFault}
 use Rattle.raster.proofs.PbmImages.{image_takes, image_again, image_less, image_length, reads_images}
 use Rattle.raster.proofs.PbmReading.{images_of, images_next_of}
 use Rattle.raster.proofs.PbmFaultParts.{image_or_fault, image_breaks, breaks_some}
@@ -138,3 +138,13 @@ names_first_fault = record {
       (reads_fault fine octets fault is);
   one = λ octets a b is also. fault_is a b (read_images true octets) (reads_fault true octets a is) (reads_fault true octets b also);
 }
+
+-- ---- what the public call says
+
+pub answers_first : (fine : Bool) (octets : List ℕ) (result : Result (List PagePixels) RasterFault)
+    → Gives (λ document. document) result (read_images fine octets) → AnswersFirstFault octets result
+answers_first fine octets (Ok pages) given =
+    λ fault is. no_fault fault pages (read_images fine octets) given (reads_fault fine octets fault is)
+answers_first fine octets (Err Io) given = tt
+answers_first fine octets (Err NoMemory) given = tt
+answers_first fine octets (Err fault) given = fault_first fine octets fault given

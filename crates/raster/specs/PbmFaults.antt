@@ -1,9 +1,10 @@
 -- The first fault of octets that are no images of Netpbm's raw PBM format, said of the octets in the format's own words.
 -- A part of an image is what the grammar says that it is; how octets are read doesn't matter here.
-use Rattle.std.specs.Prelude.{ℕ, ◌≡◌, ◌≢◌, ◌<◌, ◌*◌, Bool, true, false, ◌⊎◌, ◌↔◌, List, [], ◌∷◌, ◌++◌, length, codes, Err}
+use Rattle.std.specs.Prelude.{ℕ, ◌≡◌, ◌≢◌, ◌<◌, ◌*◌, Bool, true, false, ◌⊎◌, ◌↔◌, List, [], ◌∷◌, ◌++◌, length, codes, Result, Ok, Err}
 use Rattle.std.specs.List.{AllByRecursion, concat}
 use Rattle.raster.specs.declared.fault.RasterFault.{RasterFault}
-use Rattle.raster.specs.declared.fault.RasterFault.TheVariants.{BadWidth, TooManyRows, NoRows, BadHeader, ShortData, NoPages}
+use Rattle.raster.specs.declared.fault.RasterFault.TheVariants.{BadWidth, TooManyRows, NoRows, BadHeader, ShortData, NoPages, Io}
+use Rattle.raster.specs.declared.fault.RasterFault.TheVariants.{NoMemory}
 use Rattle.raster.specs.declared.row.Color.{Color}
 use Rattle.raster.specs.Pages.{PagePixels, max_rows}
 use Rattle.raster.specs.Pbm.{is_white, is_digit, IsSpace, IsNumber, IsHeight, IsImage, AreImages, stride, read_images}
@@ -81,6 +82,13 @@ pub record AfterImages (fault : RasterFault) (octets : List ℕ) : Type 0 where
 abbrev pub IsFirstFault : RasterFault → List ℕ → Type 0
 IsFirstFault NoPages octets = octets ≡ []
 IsFirstFault fault octets = AfterImages fault octets
+
+-- what reading answers, the reader's own errors and memory aside: pages of octets that have no fault, or their first fault
+abbrev pub AnswersFirstFault : List ℕ → Result (List PagePixels) RasterFault → Type 0
+AnswersFirstFault octets (Ok pages) = (fault : RasterFault) → ¬ IsFirstFault fault octets
+AnswersFirstFault octets (Err Io) = Unit {0}
+AnswersFirstFault octets (Err NoMemory) = Unit {0}
+AnswersFirstFault octets (Err fault) = IsFirstFault fault octets
 
 -- the law of faults
 pub record NamesFirstFault : Type 0 where
