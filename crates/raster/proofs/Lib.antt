@@ -12,3 +12,6 @@ pub mod PbmParts
 pub mod PbmImages
 pub mod PbmReading
 pub mod PbmWriting
+pub mod PbmFaultParts
+pub mod PbmFaults
+pub mod PbmFaultExamples

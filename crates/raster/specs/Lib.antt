@@ -9,4 +9,5 @@ pub mod Pages
 pub mod Text
 pub mod Pbm
 pub mod PbmText
+pub mod PbmFaults
 pub mod Laws

@@ -2,6 +2,7 @@
 
 ghost use Rattle.raster.specs.Laws.{BitsJoin, PackedHold, PackedAlone};
 ghost use Rattle.raster.specs.Pbm.{ReadsImages};
+ghost use Rattle.raster.specs.PbmFaults.{NamesFirstFault, AreFaultExamples};
 ghost use Rattle.raster.specs.PbmText.{ReadsWritten};
 
 /// The bits of octets and then of others are those of all the octets, in either order.
@@ -23,6 +24,17 @@ pub fn packed_alone()
 /// Reading gives pages exactly where the octets are their images.
 pub fn pbm_reads_exactly()
     ensures { ReadsImages }
+{}
+
+/// Reading answers a fault exactly where it is the first one of the octets; octets are images or have
+/// one first fault, and never both.
+pub fn pbm_first_fault()
+    ensures { NamesFirstFault }
+{}
+
+/// Written-out octets have the first faults that the format gives them.
+pub fn pbm_fault_examples()
+    ensures { AreFaultExamples }
 {}
 
 /// The octets that are written of pages are images that read as those pages, their lines fine or not
