@@ -62,7 +62,7 @@ refuses() {
 # octets TEXT: a file of the octets of a text in hex, whose name it prints.
 octets() {
     name=$work/octets_$(echo "$1" | cksum | tr -d ' ')
-    for hex in $1; do
+    for hex in $(echo "$1" | tr _ ' '); do
         printf "\\$(printf %03o "0x$hex")"
     done > "$name"
     echo "$name"
@@ -131,6 +131,66 @@ try_frames() {
     works frames "$work/nothing"
     echo "good 0 aborted 0 ragged 0 short 0 long 0 damaged 0" > "$work/wanted"
     is_same "$work/output" "$work/wanted" "frames of nothing"
+}
+
+# A part of each content, and lines that come as their frames do.
+try_data() {
+    frames=$(octets "7E DF 47 30 8A C6 FB 01")
+    for shown in "0 .." "2 ff13.." "3 ff138c" "300 ff138c"; do
+        works frames --data "${shown% *}" "$frames"
+        printf '1 %s MCF\ngood 1 aborted 0 ragged 0 short 0 long 0 damaged 0\n' "${shown#* }" > "$work/wanted"
+        is_same "$work/output" "$work/wanted" "frames --data ${shown% *}"
+    done
+    mkfifo "$work/bits"
+    "$program" frames - < "$work/bits" > "$work/output" &
+    exec 3> "$work/bits"
+    cat "$frames" >&3
+    for _wait in $(seq 100); do [ -s "$work/output" ] || sleep 0.05; done
+    [ "$(cat "$work/output")" = "1 ff138c MCF" ] || fails "frames doesn't list a frame as soon as it has come"
+    exec 3>&-
+    wait
+    rm "$work/bits"
+}
+
+# Standard input and output in the place of files.
+try_standard() {
+    for code in mh mmr; do
+        "$program" code --code $code - - < "$data/page.pbm" > "$work/made"
+        is_same "$work/made" "$data/page.$code.msb" "code --code $code - -"
+        "$program" decode --code $code --width 315 - - < "$work/made" > "$work/decoded"
+        is_same "$work/decoded" "$data/page.pbm" "decode --code $code - -"
+        "$program" show --code $code --width 315 - < "$work/made" > "$work/output"
+        is_same "$work/output" "$data/page.txt" "show --code $code -"
+    done
+    "$program" frames - < "$data/line.bits" > "$work/output"
+    is_same "$work/output" "$data/line.txt" "frames -"
+    input=$(octets "$white")
+    printf 'polite 11' | "$program" call --script - --out - "$input" > "$work/output"
+    tail -c 226 "$work/output" > "$work/pages"
+    is_same "$work/pages" "$input" "call --script - --out -"
+    faults "fault 8" call --script - -
+    count=$((count + 8))
+}
+
+# An output that can't be written to its end: what was there stays, and nothing lies beside it. And one that is a link, or has
+# permissions of its own.
+try_kept() {
+    echo "as it was" > "$work/kept"
+    cp "$work/kept" "$work/made"
+    status=0
+    (trap '' XFSZ; ulimit -f 1; exec "$program" code --code mh "$work/large.pbm" "$work/made" 2> /dev/null) || status=$?
+    [ $status = 1 ] || fails "code above the greatest size of a file ended with status $status"
+    is_same "$work/made" "$work/kept" "OUT where the disk is full"
+    [ ! -e "$work/made.part" ] || fails "code left a part of OUT"
+    chmod 640 "$work/made"
+    works code --code mh "$data/page.pbm" "$work/made"
+    [ "$(stat -c %a "$work/made")" = 640 ] || fails "OUT has other permissions"
+    ln -s made "$work/link"
+    works code --code mmr "$data/page.pbm" "$work/link"
+    is_same "$work/made" "$data/page.mmr.msb" "OUT by a link"
+    [ -L "$work/link" ] || fails "code replaced a link"
+    rm -f "$work/link" "$work/made"
+    count=$((count + 1))
 }
 
 # Bits with one gap of each class that is no good frame, and what there is counted.
@@ -212,6 +272,33 @@ CASES
     done
 }
 
+# What there is of pages that can't be read: whole rows, with the fault as ever, and nothing where no row is whole.
+try_salvage() {
+    while read -r code fault bit rows hex; do
+        rm -f "$work/salvaged"
+        faults "fault $fault at bit $bit" decode --salvage --code "$code" --width 8 "$(octets "$hex")" "$work/salvaged"
+        if [ "$rows" = none ]; then
+            [ ! -e "$work/salvaged" ] || fails "decode --salvage made OUT of no row"
+        else
+            is_same "$work/salvaged" "$(octets "50 34 0A 38 20 $rows")" "decode --salvage of $code $hex"
+        fi
+    done << CASES
+mmr 16 0 none 02
+mmr 10 11 31_0A_30 2F E0 00
+mmr 10 12 31_0A_30 2F F0 00
+mmr 16 13 32_0A_30_30 2F F8 10
+mh 12 12 none 00 1A 00
+mh 12 34 31_0A_30 00 17 EC 00 68 00
+CASES
+    code=$(octets "00 17 EC 00 40 04 00 40 04 00 40 04")
+    works decode --salvage --code mh --width 8 "$code" "$work/salvaged"
+    is_same "$work/salvaged" "$(octets "50 34 0A 38 20 31 0A 30")" "decode --salvage of a whole page"
+    gives 0 decode --salvage --verbose --code mh --width 8 "$code" "$work/salvaged"
+    [ "$(cat "$work/error")" = "rows 1 bits 94" ] || fails "decode --salvage --verbose didn't tell 1 row of 94 bits"
+    faults "fault 8" decode --salvage --code mh --width 8 "$work/missing" "$work/salvaged"
+    python3 -B "$data/try_salvage.py" "$program" "$work" || fails "decode --salvage of cut pages"
+}
+
 # A page of 300 rows of all kinds and one of 20,000 rows, 2,432 pixels wide, and their codes, as other software writes them.
 # Of each code the last one stays, the most significant bit first.
 try_large_pages() {
@@ -279,7 +366,7 @@ try_words() {
         "code --code mh --order up a b" "show --code mh a" "show --width 8 a" "show --code mh --width 0 a" \
         "show --code mh --width 2433 a" "show --code mh --width x a" "frames" "frames a b" "frames --code mh a" \
         "help show" "call --help" paint "code --code mr a b" "code --code mh --order MSB a b" "show --code mh --width 8" \
-        "show --code mh --width 8.0 a" "show --code mh --width 4294967304 a" "show --code mh --width 18446744073709551624 a" \
+        "frames --data x a" "frames --data 301 a" "frames --data -1 a" "frames --data 1 --data 1 a" "decode --code mh --width 8 --salvage --salvage a b" "show --code mh --width 8.0 a" "show --code mh --width 4294967304 a" "show --code mh --width 18446744073709551624 a" \
         "call a" "call --script a" "call --script a --frame 128 b" "call --script a --modems v34 b" \
         "call --script a --fine --fine b" "decode --code mh --width 8 a" "decode --code mh a b" "decode --width 8 a b" \
         "decode --code mh --width 8 --verbose --verbose a b" "decode --code mh --width 8 a b c" "decode --help"; do
@@ -412,10 +499,14 @@ for program in "$@"; do
     try_frames
     try_gaps
     try_images
+    try_data
+    try_standard
     try_told
     try_codes
     try_large_pages
     try_cut_pages
+    try_kept
+    try_salvage
     try_most_rows
     try_large_frames
     try_words

@@ -1,7 +1,7 @@
 //! What no clause says of images and coded pages: octets that come and go one by one, and readers and writers that fail.
 
 use crate::streams::{Narrow, OneByOne};
-use engines::{FAILED, ToolFault, code_engine, decode_engine, show_engine};
+use engines::{FAILED, ToolFault, code_engine, decode_engine, salvage_engine, show_engine};
 use page_code::Coding;
 use run_tables::Order;
 use std::test::Fail;
@@ -117,5 +117,29 @@ fn a_code_is_decoded_to_its_image(rt: HostRuntime) -> Result<(), Fail> {
     )?;
     assert_eq!(rt; told, (1, 94));
     assert_eq!(rt; image.taken.as_slice(), IMAGE.as_slice());
+    Ok(())
+}
+
+// Two whole rows, and then a code word of no row: they are written, and the bit of the fault is told.
+#[test]
+fn whole_rows_are_salvaged(rt: HostRuntime) -> Result<(), Fail> {
+    let alloc = rt.alloc();
+    let mut reader = OneByOne {
+        left: &[0x2F, 0xF8, 0x10],
+        fails: false,
+    };
+    let mut image = Vec::new(alloc);
+    let salvage = salvage_engine(
+        alloc,
+        &mut reader,
+        &mut image,
+        Coding::T6,
+        Order::MsbFirst,
+        8,
+        false,
+    )?;
+    assert_eq!(rt; image.as_slice(), b"P4\n8 2\n00".as_slice());
+    assert_eq!(rt; salvage.rows, 2);
+    assert_eq!(rt; salvage.end, Err(ToolFault::AtBit { no: 16, place: 13 }));
     Ok(())
 }

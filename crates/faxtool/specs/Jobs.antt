@@ -250,9 +250,9 @@ IsJobOf met (Show coding order width input) = (rows : List Row)
 IsJobOf met (Decode coding order width fine salvage verbose input output) = (rows : List Row)
     × (met ≡ Some (codes "decode", rows))
     × IsDecodeOf rows coding order width fine salvage verbose (string_bytes input) (string_bytes output)
-IsJobOf met (Frames data input) = (rows : List Row)
+IsJobOf met (Frames most input) = (rows : List Row)
     × (met ≡ Some (codes "frames", rows))
-    × ReadsNumber (codes "data") rows data
+    × ReadsNumber (codes "data") rows most
     × (first_of (codes "file") rows ≡ Some (string_bytes input))
 IsJobOf met (Call script options out input) = (rows : List Row)
     × (met ≡ Some (codes "call", rows))
@@ -295,5 +295,5 @@ abbrev pub HasWidth : Job → Type 0
 HasWidth (Code coding order input output) = Unit {0}
 HasWidth (Show coding order width input) = IsWidth width
 HasWidth (Decode coding order width fine salvage verbose input output) = IsWidth width
-HasWidth (Frames data input) = Unit {0}
+HasWidth (Frames most input) = Unit {0}
 HasWidth (Call script options out input) = Unit {0}

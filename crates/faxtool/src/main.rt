@@ -6,18 +6,19 @@ ghost use Rattle.engines.specs.Calls.{HaveRows};
 ghost use Rattle.faxtool.specs.Jobs.{HasWidth};
 ghost use Rattle.raster.specs.Pixels.{IsWidth};
 
+mod files;
 mod words;
 
 use engines::{
-    CallOptions, NO_MEMORY, ToolFault, call_engine, code_engine, decode_engine, frames_engine,
-    show_engine,
+    CallOptions, FAILED, NO_MEMORY, ToolFault, call_engine, code_engine, decode_engine,
+    list_frames, salvage_engine, show_engine,
 };
 use page_code::Coding;
 use raster::{Page, write_pbm};
 use run_tables::Order;
 use std::io::{BufWriter, Write};
 use std::process::ExitCode;
-use std::{env, fs, io};
+use std::{env, io};
 use words::{Job, Outcome, read_words, status};
 
 fn main(rt: HostRuntime) -> ExitCode {
@@ -74,14 +75,19 @@ fn run_job(rt: &HostRuntime, job: Job) -> Outcome
             order,
             width,
             fine,
+            salvage,
             verbose,
             input,
             output,
         } => {
-            let decoded = decode_file(rt, *coding, *order, *width, *fine, input, output);
+            let decoded = if *salvage {
+                salvage_file(rt, *coding, *order, *width, *fine, input, output)
+            } else {
+                decode_file(rt, *coding, *order, *width, *fine, input, output)
+            };
             tell(rt, *verbose, decoded)
         }
-        Job::Frames { input } => list_file(rt, input),
+        Job::Frames { most, input } => list_file(rt, *most, input),
         Job::Call {
             script,
             options,
@@ -103,11 +109,10 @@ fn code_file(
     input: &str,
     output: &str,
 ) -> Result<(), ToolFault> {
-    let mut reader = fs::open(rt, input)?;
+    let mut reader = files::open(rt, input)?;
     let mut octets = Vec::new(rt.alloc());
     code_engine(rt.alloc(), &mut reader, &mut octets, coding, order)?;
-    fs::write(rt, output, octets.as_slice())?;
-    Ok(())
+    files::write(rt, output, octets.as_slice())
 }
 
 /// Shows the page in a file.
@@ -120,7 +125,7 @@ fn show_file(
 ) -> Result<(), ToolFault>
     requires { IsWidth width }
 {
-    let mut reader = fs::open(rt, input)?;
+    let mut reader = files::open(rt, input)?;
     let mut writer = BufWriter::new(rt.alloc(), io::writer(rt))?;
     show_engine(rt.alloc(), &mut reader, &mut writer, coding, order, width)?;
     writer.flush()?;
@@ -140,7 +145,7 @@ fn decode_file(
 ) -> Result<(usize, u128), ToolFault>
     requires { IsWidth width }
 {
-    let mut reader = fs::open(rt, input)?;
+    let mut reader = files::open(rt, input)?;
     let mut octets = Vec::new(rt.alloc());
     let told = decode_engine(
         rt.alloc(),
@@ -151,8 +156,38 @@ fn decode_file(
         width,
         fine,
     )?;
-    fs::write(rt, output, octets.as_slice())?;
+    files::write(rt, output, octets.as_slice())?;
     Ok(told)
+}
+
+/// Decodes the page in a file as far as it can be read, and answers its rows and the bits of its code, or the
+/// fault of the rest. The image's file is opened only once its whole content is made, and where there is a row.
+fn salvage_file(
+    rt: &HostRuntime,
+    coding: Coding,
+    order: Order,
+    width: u32,
+    fine: bool,
+    input: &str,
+    output: &str,
+) -> Result<(usize, u128), ToolFault>
+    requires { IsWidth width }
+{
+    let mut reader = files::open(rt, input)?;
+    let mut octets = Vec::new(rt.alloc());
+    let salvage = salvage_engine(
+        rt.alloc(),
+        &mut reader,
+        &mut octets,
+        coding,
+        order,
+        width,
+        fine,
+    )?;
+    if salvage.rows > 0 {
+        files::write(rt, output, octets.as_slice())?;
+    }
+    Ok((salvage.rows, salvage.end?))
 }
 
 /// Tells the rows of a page that was decoded and the bits of its code on standard error, where that is
@@ -169,17 +204,18 @@ fn tell(
     Ok(())
 }
 
-/// Lists the frames in a file.
-fn list_file(rt: &HostRuntime, input: &str) -> Result<(), ToolFault> {
-    let mut reader = fs::open(rt, input)?;
+/// Lists the frames in a file, with at most so many octets of a content.
+fn list_file(rt: &HostRuntime, most: Option<u32>, input: &str) -> Result<(), ToolFault> {
+    let mut reader = files::open(rt, input)?;
     let mut writer = BufWriter::new(rt.alloc(), io::writer(rt))?;
-    frames_engine(rt.alloc(), &mut reader, &mut writer)?;
+    let most = most.map(|most| most as usize);
+    list_frames(rt.alloc(), &mut reader, &mut writer, most)?;
     writer.flush()?;
     Ok(())
 }
 
 /// Runs a call by a script's file, and prints what has become of it. The file of the stored pages is
-/// opened last, and only where there are any.
+/// opened last, and only where there are any. Standard input can't be both files.
 fn call_file(
     rt: &HostRuntime,
     script: &str,
@@ -187,8 +223,11 @@ fn call_file(
     out: Option<&str>,
     input: &str,
 ) -> Result<(), ToolFault> {
-    let mut script = fs::open(rt, script)?;
-    let mut reader = fs::open(rt, input)?;
+    if script == "-" && input == "-" {
+        return Err(FAILED);
+    }
+    let mut script = files::open(rt, script)?;
+    let mut reader = files::open(rt, input)?;
     let mut writer = BufWriter::new(rt.alloc(), io::writer(rt))?;
     let pages = call_engine(rt.alloc(), &mut script, &mut reader, &mut writer, options)?;
     writer.flush()?;
@@ -202,7 +241,7 @@ fn call_file(
 fn write_pages(rt: &HostRuntime, name: &str, pages: &[Page]) -> Result<(), ToolFault>
     requires { HaveRows pages.now }
 {
-    let mut file = fs::File::create(rt, name)?;
-    write_pbm(pages, &mut file)?;
-    Ok(())
+    let mut octets = Vec::new(rt.alloc());
+    write_pbm(pages, &mut octets)?;
+    files::write(rt, name, octets.as_slice())
 }

@@ -68,7 +68,7 @@ pub enum Job {
     /// Lists the frames in a file of bits.
     Frames {
         /// At most how many octets of a content are shown, where it isn't all of them.
-        data: Option<u32>,
+        most: Option<u32>,
         /// The name of the file.
         input: String,
     },
@@ -260,7 +260,7 @@ fn frames_job(alloc: Global, matches: &ArgMatches<'_>) -> Result<Option<Job>, Al
         return Ok(None);
     };
     Ok(Some(Job::Frames {
-        data: number_in(matches, "data"),
+        most: number_in(matches, "data"),
         input: String::from_str(alloc, input)?,
     }))
 }
@@ -460,8 +460,18 @@ fn code_command<'a>(
         .about("Writes the code of an image into a file")
         .arg(coding_option(alloc, codings))?
         .arg(order_option(alloc, orders))?
-        .arg(file_name(alloc, "in", "IN", "The file of the image, a PBM; - is standard input"))?
-        .arg(file_name(alloc, "out", "OUT", "The file that the code is written to; - is standard output"))
+        .arg(file_name(
+            alloc,
+            "in",
+            "IN",
+            "The file of the image, a PBM; - is standard input",
+        ))?
+        .arg(file_name(
+            alloc,
+            "out",
+            "OUT",
+            "The file that the code is written to; - is standard output",
+        ))
 }
 
 fn show_command<'a>(
@@ -479,7 +489,12 @@ fn show_command<'a>(
         codings,
         orders,
     )?
-    .arg(file_name(alloc, "file", "FILE", "The file of the coded page; - is standard input"))
+    .arg(file_name(
+        alloc,
+        "file",
+        "FILE",
+        "The file of the coded page; - is standard input",
+    ))
 }
 
 fn decode_command<'a>(
@@ -491,8 +506,18 @@ fn decode_command<'a>(
     ensures local { IfOk result (λ command. (fields_of command).has_globals ≡ false) }
 {
     flagged_command(alloc, codings, orders)?
-        .arg(file_name(alloc, "file", "FILE", "The file of the coded page; - is standard input"))?
-        .arg(file_name(alloc, "out", "OUT", "The file that the image is written to; - is standard output"))
+        .arg(file_name(
+            alloc,
+            "file",
+            "FILE",
+            "The file of the coded page; - is standard input",
+        ))?
+        .arg(file_name(
+            alloc,
+            "out",
+            "OUT",
+            "The file that the image is written to; - is standard output",
+        ))
 }
 
 // The command `decode` with its options.
@@ -504,7 +529,8 @@ fn flagged_command<'a>(
     ensures app { IfOk result (λ command. app_of command ≡ with_flags (with_page_options (new_app (codes "decode")) codings.entry orders.entry)) }
     ensures local { IfOk result (λ command. (fields_of command).has_globals ≡ false) }
 {
-    let salvage = "Writes the whole rows before the bit where the page can't be read, if there is one";
+    let salvage =
+        "Writes the whole rows before the bit where the page can't be read, if there is one";
     page_command(
         alloc,
         "decode",
@@ -512,9 +538,17 @@ fn flagged_command<'a>(
         codings,
         orders,
     )?
-    .arg(flag_option(alloc, "fine", "The page has 7.7 lines a millimetre in place of 3.85"))?
+    .arg(flag_option(
+        alloc,
+        "fine",
+        "The page has 7.7 lines a millimetre in place of 3.85",
+    ))?
     .arg(flag_option(alloc, "salvage", salvage))?
-    .arg(flag_option(alloc, "verbose", "Tells the page's rows and the bits of its code"))
+    .arg(flag_option(
+        alloc,
+        "verbose",
+        "Tells the page's rows and the bits of its code",
+    ))
 }
 
 // The command of this name with the options of coded pages.
@@ -542,7 +576,12 @@ fn frames_command<'a>(alloc: Global) -> Result<Command<'a>, AllocError>
     Command::new(alloc, "frames")
         .about("Lists the frames in a file of bits, the least significant of an octet first")
         .arg(data_option(alloc))?
-        .arg(file_name(alloc, "file", "FILE", "The file of the bits; - is standard input"))
+        .arg(file_name(
+            alloc,
+            "file",
+            "FILE",
+            "The file of the bits; - is standard input",
+        ))
 }
 
 fn call_command<'a>(
@@ -567,7 +606,12 @@ fn call_command<'a>(
             "Sends 7.7 lines a millimetre in place of 3.85",
         ))?
         .arg(out)?
-        .arg(file_name(alloc, "in", "IN", "The file of the document, a PBM; - is standard input"))
+        .arg(file_name(
+            alloc,
+            "in",
+            "IN",
+            "The file of the document, a PBM; - is standard input",
+        ))
 }
 
 // The command of a call with its script and the options that are one of several names.

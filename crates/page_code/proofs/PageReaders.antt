@@ -213,5 +213,5 @@ salvaged coding width bits old new wide same read =
     record {
       all = subst (λ w. AreRowsSoFar coding w bits (length new.page.rows)) is read.1;
       begins = λ some. begin_read coding width bits new.page.rows new.place wide some (subst (λ w. IsReadTo coding w bits new.page.rows
-      new.place) is read.0.read);
+          new.place) is read.0.read);
     }

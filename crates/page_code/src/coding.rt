@@ -8,7 +8,6 @@ ghost use Rattle.run_tables.specs.declared.fault.CodeFaultKind.{CodeFaultKind as
 ghost use Rattle.run_tables.specs.declared.fault.CodeFaultKind.TheVariants.{NoMemory};
 ghost use Rattle.std.specs.Prelude.{◌≡◌, ◌≢◌, ◌<◌, ◌++◌, ℕ, List, Bool, Result, length, IfOk, IfErr, OnOk, OnErr};
 
-
 use crate::one_dim::OneDim;
 use crate::t6::T6;
 use raster::Page;

@@ -9,7 +9,6 @@ ghost use Rattle.raster.specs.Pixels.{IsWidth};
 ghost use Rattle.run_tables.specs.declared.fault.CodeFaultKind.TheVariants.{NoMemory};
 ghost use Rattle.std.specs.Prelude.{◌≡◌, ◌≢◌, ◌↔◌, [], List, ℕ, IfErr, IfOk, IsTrue, OnErr, OnOk, length};
 
-
 use crate::coding::Coding;
 use crate::page::Progress;
 use crate::{one_dim, t6};
