@@ -1,10 +1,11 @@
-//! Bits that are kept eight an octet, in either order. Rows and bit writers stand on it.
+//! Bits that are kept eight an octet, in either order. Rows and bit writers are made of it.
 
 ghost use Rattle.raster.specs.Changes.{AreChanges};
 ghost use Rattle.raster.specs.Pixels.{colors};
 ghost use Rattle.raster.specs.Packed.{bit_in, bits_in, bits_of, place_in, IsPacked, Bits, FillsOctets};
 ghost use Rattle.raster.specs.Words.{IsWordAt, IsFirstOtherBit, number_bits};
-ghost use Rattle.std.specs.Prelude.{false, ◌≢◌, ℕ, ◌≡◌, ◌≤◌, ◌<◌, ◌+◌, ◌-◌, ◌*◌, ◌^◌, ◌||◌, ◌/◌, ◌++◌, ◌∷◌, [], nat_eq, length, replicate, take, slice_get, IfOk, OnOk, OnErr};
+ghost use Rattle.std.specs.Prelude.{false, ◌≢◌, ℕ, ◌≡◌, ◌≤◌, ◌<◌, ◌+◌, ◌-◌, ◌*◌, ◌^◌, ◌||◌, ◌/◌, ◌++◌, ◌∷◌, [], nat_eq, length};
+ghost use Rattle.std.specs.Prelude.{replicate, take, slice_get, IfOk, OnOk, OnErr};
 
 use crate::changes::changes;
 use crate::words::{first_other, number_word, or_octets, set_run, shifted_word, word_octets};
@@ -221,7 +222,7 @@ impl PackedBits {
     pub fn len(&self) -> u128
         ensures { result ≡ length self.now.bits }
     {
-        self.count // in bits
+        self.count
     }
 
     /// The bit at a place, from 0.

@@ -6,7 +6,8 @@ ghost use Rattle.raster.specs.PbmText.{HoldsRow};
 ghost use Rattle.raster.specs.Pixels.{other, color_of, colors, IsWidth};
 ghost use Rattle.raster.specs.Runs.{colored, FromRuns, AppendsRuns, AreOwnRuns};
 ghost use Rattle.raster.specs.Words.{EndsRun};
-ghost use Rattle.std.specs.Prelude.{◌≡◌, ◌≤◌, ◌<◌, ◌+◌, ◌*◌, ◌^◌, ◌↔◌, ℕ, ◌++◌, ◌∷◌, [], replicate, length, slice_get, sum, OnOk, OnErr, IfOk, IfErr, SomeIff, IsOkUnless, IsTrue};
+ghost use Rattle.std.specs.Prelude.{◌≡◌, ◌≤◌, ◌<◌, ◌+◌, ◌*◌, ◌^◌, ◌↔◌, ℕ, ◌++◌, ◌∷◌, [], replicate, length, slice_get, sum, OnOk, OnErr};
+ghost use Rattle.std.specs.Prelude.{IfOk, IfErr, SomeIff, IsOkUnless, IsTrue};
 
 use crate::fault::RasterFault;
 use crate::packed::{Order, PackedBits};
@@ -160,9 +161,9 @@ impl Row {
         octets
     }
 
-    #[tactic(auto, using(crate::proofs::RowLemmas::lengths))]
     /// The least changing position at or above `from`, or the width where there is none
     /// (ITU-T T.6, 2.2.1).
+    #[tactic(auto, using(crate::proofs::RowLemmas::lengths))]
     pub fn next_change(&self, from: u32) -> u32
         ensures { IsNextChange self.now from result }
     {
