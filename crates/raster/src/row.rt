@@ -73,12 +73,12 @@ fn push_run(pixels: &mut PackedBits, color: Color, run: u32) -> Result<(), Alloc
     Ok(())
 }
 
-/// The pixels that alternating runs spell, white first.
-fn painted(alloc: Global, runs: &[u32]) -> Result<PackedBits, AllocError>
+/// The pixels that alternating runs spell, white first, with room for a width from the start.
+fn painted(alloc: Global, runs: &[u32], width: u32) -> Result<PackedBits, AllocError>
     ensures pixels { IfOk result (λ pixels. colors pixels.bits ≡ colored Color.White runs.now) }
     ensures order { IfOk result (λ pixels. pixels.order ≡ Order.MsbFirst) }
 {
-    let mut pixels = PackedBits::new(alloc, Order::MsbFirst);
+    let mut pixels = PackedBits::with_room(alloc, Order::MsbFirst, width)?;
     let mut color = Color::White;
     for run in runs {
         push_run(&mut pixels, color, *run)?;
@@ -114,10 +114,10 @@ impl Row {
     pub fn from_runs(alloc: Global, runs: &[u32]) -> Result<Row, RasterFault>
         ensures { FromRuns runs.now result }
     {
-        let Some(_) = total_width(runs) else {
+        let Some(width) = total_width(runs) else {
             return Err(RasterFault::BadWidth);
         };
-        let pixels = painted(alloc, runs)?;
+        let pixels = painted(alloc, runs, width)?;
         Ok(Row { pixels })
     }
 
