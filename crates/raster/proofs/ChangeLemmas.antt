@@ -7,7 +7,7 @@ use Rattle.std.proofs.lemmas.List.{append-nil, get_or_append_left, get_or-append
 use Rattle.std.proofs.lemmas.List.Elements.{Contains-append_left, Contains-append_right}
 use Rattle.std.proofs.lemmas.Nat.Bits.{bit_at-lt, bit_at_above, bit_at_and, bit_at_or, bit_at_xor, bit_at_not, bit_at_ones}
 use Rattle.std.proofs.lemmas.Nat.Bits.{bit_at_ones_above, ones_shr}
-use Rattle.std.proofs.lemmas.Bool.{cases_lt, and_parts, lt-ltb, ltb-true, le-ltb}
+use Rattle.std.proofs.lemmas.Bool.{cases_lt, and_parts, lt-ltb, le-ltb}
 use Rattle.raster.specs.Packed.{bit_in, bits_in}
 use Rattle.raster.specs.Pixels.{color_of, colors}
 use Rattle.raster.specs.Words.{IsWordAt, IsFirstInWord, bit_of_word}
@@ -300,20 +300,3 @@ lists_word octets end at turned word old xs new turn inside after before lists =
               (ap (turns_at octets) (sym back) ∙ (sym (turn (k - 8 * at) (omega arith)) ∙ sym (inside (k - 8 * at) (omega arith))))
           | inr le ↦ rw (le-ltb k end le) (sym (after (k - 8 * at) (omega arith) (omega arith)))
         ]
-
--- no place is at the end or after it
-pub lists_end : (octets : List ℕ) (end most : ℕ) (old new : List ℕ) → end ≤ most → Lists (turns_below octets end) old new 0 most
-    → Lists (turns_below octets end) old new 0 end
-lists_end octets end most old new short lists = record {
-  places = lists.places;
-  appended = lists.appended;
-  rising = lists.rising;
-  only = λ i h.
-      let is = lists.only i h in (
-        is.0,
-        ltb-true (get_or lists.places i 0) end ((and_parts (nat_lt (get_or lists.places i 0) end) (turns_at octets (get_or lists.places
-            i 0)) is.2).0),
-        is.2,
-      );
-  all = λ k low h e. lists.all k low (omega arith) e;
-}

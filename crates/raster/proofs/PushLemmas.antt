@@ -8,8 +8,7 @@ use Rattle.std.proofs.lemmas.List.FromFn.{map-range_with_len_more}
 use Rattle.std.proofs.lemmas.Bool.{cases_lt}
 use Rattle.raster.specs.Packed.{bit_in, bits_in, place_in, IsPacked}
 use Rattle.raster.specs.Words.{IsWordAt, bit_of_word, number_bits, AreOred}
-use Rattle.raster.proofs.PackedLemmas.{bits_in-same, bits_in_more, bit_in-past, place_in-same}
-use Rattle.raster.proofs.WordLemmas.{ored}
+use Rattle.raster.proofs.PackedLemmas.{bits_in-same, bits_in_more}
 use Rattle.raster.specs.declared.packed.Order.{Order}
 
 -- octets of 0 bits change no bit
@@ -54,15 +53,16 @@ bits_in_run order xs ys n m bit same new =
     ap (λ (bits : List Bool). bits_in order xs n ++ bits) (all_alike bit 0 m)
 
 -- a bit of octets that others were or'ed to
-ored_bit : (order : Order) (old added new : List ℕ) (at k : ℕ) → AreOred old added new at → 8 * at ≤ k → k < 8 * length old
+ored_bit : (order : Order) (old added new : List ℕ) (at k : ℕ) → AreOred old added new at → 8 * at ≤ k → k - 8 * at < 64
     → bit_in order new k ≡ (bit_in order old k || bit_in order added (k - 8 * at))
 ored_bit order old added new at k ors low h =
-    let which : k / 8 - at ≡ (k - 8 * at) / 8 = omega arith in
-    ap (λ (octet : ℕ). nat_eq (bit_at octet (place_in order k)) 1) (ors.inside (k / 8) (omega arith) (omega arith)) ∙
-    (ored (get_or old (k / 8) 0) (get_or added (k / 8 - at) 0) (place_in order k) ∙
-    ap (λ (b : Bool). bit_in order old k || b)
-    (ap (λ (m : ℕ). nat_eq (bit_at (get_or added m 0) (place_in order k)) 1) which ∙
-    ap (λ (p : ℕ). nat_eq (bit_at (get_or added ((k - 8 * at) / 8) 0) p) 1) (place_in-same order k (k - 8 * at) (omega arith))))
+    let e : 8 * at + (k - 8 * at) ≡ k = omega arith in
+    rw e at (ors.inside order (k - 8 * at) h)
+
+-- a bit of an octet that is the same
+same_octet : (order : Order) (old new : List ℕ) (k : ℕ) → get_or {A = ℕ} new (k / 8) 0 ≡ get_or old (k / 8) 0
+    → bit_in order new k ≡ bit_in order old k
+same_octet order old new k e = ap (λ (octet : ℕ). nat_eq (bit_at octet (place_in order k)) 1) e
 
 -- octets after a number was or'ed to them
 record IsAdded (order : Order) (old new : List ℕ) (count more value : ℕ) : Type 0 where
@@ -74,7 +74,7 @@ record IsAdded (order : Order) (old new : List ℕ) (count more value : ℕ) : T
 pub record Adds (order : Order) (old mid new added : List ℕ) (count more value word : ℕ) : Type 0 where
   pub packed : IsPacked order old count
   pub few : more ≤ 32
-  pub room : length mid ≡ (count + more + 7) / 8
+  pub room : count + more + 64 ≤ 8 * length mid
   pub same : (k : ℕ) → bit_in order mid k ≡ bit_in order old k
   pub ors : AreOred mid added new (count / 8)
   pub holds : IsWordAt order added 0 word
@@ -107,11 +107,10 @@ is_added order old mid new added count more value word adds = record { before = 
     before : (k : ℕ) → k < count → bit_in order new k ≡ bit_in order old k
     before k h =
         elim (cases_lt (k / 8) (count / 8)) [
-          | inl lt ↦ ap (λ (octet : ℕ). nat_eq (bit_at octet (place_in order k)) 1) (adds.ors.before (k / 8) lt) ∙ adds.same k
+          | inl lt ↦ same_octet order mid new k (adds.ors.before (k / 8) lt) ∙ adds.same k
           | inr le ↦
               let low : 8 * (count / 8) ≤ k = omega arith in
-              let here : k < 8 * length mid = omega (arith, adds.room) in
-              ored_bit order mid added new (count / 8) k adds.ors low here ∙
+              ored_bit order mid added new (count / 8) k adds.ors low (omega arith) ∙
               (or_false (bit_in order mid k) (bit_in order added (k - 8 * (count / 8)))
               (added_bit order old mid new added count more value word k adds low (omega arith)
               ∙ adds.front (k - 8 * (count / 8)) (omega arith)) ∙
@@ -122,9 +121,8 @@ is_added order old mid new added count more value word adds = record { before = 
     inside j h =
         let k : ℕ = count + j in
         let low : 8 * (count / 8) ≤ count + j = omega arith in
-        let here : count + j < 8 * length mid = omega (arith, adds.room) in
         let place : count % 8 + more - 1 - (count + j - 8 * (count / 8)) ≡ more - 1 - j = omega arith in
-        ored_bit order mid added new (count / 8) (count + j) adds.ors low here ∙
+        ored_bit order mid added new (count / 8) (count + j) adds.ors low (omega (arith, adds.few)) ∙
         (false_or (bit_in order mid (count + j)) (bit_in order added (count + j - 8 * (count / 8))) (adds.same (count + j)
         ∙ adds.packed.clear (count + j) (omega arith)) ∙
         (added_bit order old mid new added count more value word (count + j) adds low (omega (arith, adds.few)) ∙
@@ -132,14 +130,15 @@ is_added order old mid new added count more value word adds = record { before = 
 
     after : (k : ℕ) → count + more ≤ k → bit_in order new k ≡ false
     after k h =
-        elim (cases_lt k (8 * length mid)) [
+        elim (cases_lt k (8 * (count / 8) + 64)) [
           | inl lt ↦
               let low : 8 * (count / 8) ≤ k = omega arith in
-              let few : k - 8 * (count / 8) < 64 = omega (arith, adds.room, adds.few) in
-              ored_bit order mid added new (count / 8) k adds.ors low lt ∙
+              let few : k - 8 * (count / 8) < 64 = omega arith in
+              ored_bit order mid added new (count / 8) k adds.ors low few ∙
               (false_or (bit_in order mid k) (bit_in order added (k - 8 * (count / 8))) (adds.same k ∙ adds.packed.clear k (omega arith)) ∙
               (added_bit order old mid new added count more value word k adds low few ∙ adds.rest (k - 8 * (count / 8)) (omega arith) few))
-          | inr le ↦ bit_in-past order new k (omega (arith, adds.ors.same_length))
+          | inr le ↦
+              same_octet order mid new k (adds.ors.after (k / 8) (omega arith)) ∙ (adds.same k ∙ adds.packed.clear k (omega arith))
         ]
 
 -- the bits after it
@@ -154,6 +153,55 @@ pub number_packed : (order : Order) (old mid new added : List ℕ) (count more v
     → Adds order old mid new added count more value word → IsPacked order new (count + more)
 number_packed order old mid new added count more value word adds = record {
   room = omega (arith, adds.room, adds.ors.same_length);
-  tight = omega (arith, adds.room, adds.ors.same_length);
   clear = (is_added order old mid new added count more value word adds).after;
 }
+
+-- ---- a run of ones
+
+or_true : (a b : Bool) → b ≡ true → (a || b) ≡ true
+or_true true b e = refl
+or_true false b e = e
+
+-- octets after a word of ones was or'ed to them
+pub record Sets (order : Order) (old added new : List ℕ) (from end word : ℕ) : Type 0 where
+  pub ors : AreOred old added new (from / 8)
+  pub holds : IsWordAt order added 0 word
+  pub front : (k : ℕ) → k < from % 8 → bit_of_word word k ≡ false
+  pub ones : (k : ℕ) → from % 8 ≤ k → k < from % 8 + (end - from) → bit_of_word word k ≡ true
+  pub rest : (k : ℕ) → from % 8 + (end - from) ≤ k → k < 64 → bit_of_word word k ≡ false
+
+-- the bit that is or'ed at a place
+set_bit_at : (order : Order) (old added new : List ℕ) (from end word k : ℕ) → Sets order old added new from end word
+    → k - 8 * (from / 8) < 64 → bit_in order added (k - 8 * (from / 8)) ≡ bit_of_word word (k - 8 * (from / 8))
+set_bit_at order old added new from end word k sets h =
+    let e : 0 + (k - 8 * (from / 8)) ≡ k - 8 * (from / 8) = omega arith in
+    sym (sets.holds (k - 8 * (from / 8)) h ∙ ap (bit_in order added) e)
+
+pub set_before : (order : Order) (old added new : List ℕ) (from end word k : ℕ) → Sets order old added new from end word → k < from
+    → bit_in order new k ≡ bit_in order old k
+set_before order old added new from end word k sets h =
+    elim (cases_lt (k / 8) (from / 8)) [
+      | inl lt ↦ same_octet order old new k (sets.ors.before (k / 8) lt)
+      | inr le ↦
+          ored_bit order old added new (from / 8) k sets.ors (omega arith) (omega arith) ∙
+          or_false (bit_in order old k) (bit_in order added (k - 8 * (from / 8)))
+          (set_bit_at order old added new from end word k sets (omega arith) ∙ sets.front (k - 8 * (from / 8)) (omega arith))
+    ]
+
+pub set_inside : (order : Order) (old added new : List ℕ) (from end word k : ℕ) → Sets order old added new from end word
+    → end ≤ 8 * (from / 8) + 64 → from ≤ k → k < end → bit_in order new k ≡ true
+set_inside order old added new from end word k sets within low h =
+    ored_bit order old added new (from / 8) k sets.ors (omega arith) (omega arith) ∙
+    or_true (bit_in order old k) (bit_in order added (k - 8 * (from / 8)))
+    (set_bit_at order old added new from end word k sets (omega arith) ∙ sets.ones (k - 8 * (from / 8)) (omega arith) (omega arith))
+
+pub set_after : (order : Order) (old added new : List ℕ) (from end word k : ℕ) → Sets order old added new from end word → from < end
+    → end ≤ k → bit_in order new k ≡ bit_in order old k
+set_after order old added new from end word k sets some low =
+    elim (cases_lt k (8 * (from / 8) + 64)) [
+      | inl lt ↦
+          ored_bit order old added new (from / 8) k sets.ors (omega arith) (omega arith) ∙
+          or_false (bit_in order old k) (bit_in order added (k - 8 * (from / 8)))
+          (set_bit_at order old added new from end word k sets (omega arith) ∙ sets.rest (k - 8 * (from / 8)) (omega arith) (omega arith))
+      | inr le ↦ same_octet order old new k (sets.ors.after (k / 8) (omega arith))
+    ]

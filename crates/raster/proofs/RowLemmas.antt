@@ -26,17 +26,9 @@ pub length-colors : (bits : List Bool) → length (colors bits) ≡ length bits
 unfolding colors
 length-colors bits = length-map bits color_of
 
-pub colors-append : (a b : List Bool) → colors (a ++ b) ≡ colors a ++ colors b
-unfolding colors
-colors-append a b = map-append color_of a b
-
 pub colors-none : colors [] ≡ []
 unfolding colors
 colors-none = refl
-
-pub colors-push : (a : List Bool) (bit : Bool) → colors (a ++ bit ∷ []) ≡ colors a ++ color_of bit ∷ []
-unfolding colors
-colors-push a bit = map-append color_of a (bit ∷ [])
 
 pub slice_get-colors : (bits : List Bool) (k : ℕ) (bit : Bool) → slice_get bits k ≡ Some bit
     → slice_get (colors bits) k ≡ Some (color_of bit)
@@ -61,22 +53,9 @@ color_of-is Black false is = absurd (false≢true (is.1 refl))
 
 pub ruleset lengths = (length-colored, length-colors, colors-none)
 
-pub other_from_ne : (a b : Color) → (a ≡ b → ⊥) → a ≡ other b
-other_from_ne White White h = absurd (h refl)
-other_from_ne White Black h = refl
-other_from_ne Black White h = refl
-other_from_ne Black Black h = absurd (h refl)
-
 pub take_next : (row : List Color) (at : ℕ) (color : Color) → at < length row → slice_get row at ≡ Some color
     → take (at + 1) row ≡ take at row ++ color ∷ []
 take_next row at color h e = take_more row at color h ∙ ap (λ c. take at row ++ c ∷ []) (get_or_from_slice_get row at color color e)
-
--- the run goes on
-pub spelled_same : (row : List Color) (at run : ℕ) (color : Color) (front : List Color) → at < length row → slice_get row at ≡ Some color
-    → front ++ replicate run color ≡ take at row → front ++ replicate (run + 1) color ≡ take (at + 1) row
-spelled_same row at run color front h e s =
-    ap (λ xs. front ++ xs) (sym (replicate_more run color)) ∙ (sym (append_assoc front (replicate run color) (color ∷ []))
-    ∙ (ap (λ xs. xs ++ color ∷ []) s ∙ sym (take_next row at color h e)))
 
 -- the colors of what follows
 abbrev pub Follows : List ℕ → Color → Type 0
@@ -92,14 +71,6 @@ follows_push runs run color follows tail =
     (follows (run ∷ tail) ∙
     (sym (append_assoc (colored White runs) (replicate run color) (colored (other color) tail)) ∙
     ap (λ xs. xs ++ colored (other color) tail) (sym (colored_push runs run color follows))))
-
--- the next run begins, with the other color
-pub spelled_other : (row : List Color) (at run : ℕ) (runs : List ℕ) (color pixel : Color) → at < length row → slice_get row at ≡ Some pixel
-    → (pixel ≡ color → ⊥) → Follows runs color → colored White runs ++ replicate run color ≡ take at row
-    → colored White (runs ++ run ∷ []) ++ replicate 1 (other color) ≡ take (at + 1) row
-spelled_other row at run runs color pixel h e ne follows s =
-    ap (λ xs. xs ++ other color ∷ []) (colored_push runs run color follows ∙ s) ∙
-    (ap (λ c. take at row ++ c ∷ []) (sym (other_from_ne pixel color ne)) ∙ sym (take_next row at pixel h e))
 
 pub later_push : (runs : List ℕ) (run : ℕ) → (runs ≢ [] → 0 < run) → All (λ n. 0 < n) (drop 1 runs)
     → All (λ n. 0 < n) (drop 1 (runs ++ run ∷ []))

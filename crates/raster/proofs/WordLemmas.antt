@@ -1,13 +1,11 @@
 -- Bits of octets as numbers of 64 bits.
-use Rattle.std.proofs.Common.{set, ◌≡◌, ℕ, ◌+◌, ◌-◌, ◌*◌, ◌/◌, ◌%◌, ◌^◌, ◌<◌, ◌≤◌, ◌||◌, true, false, List, [], ◌∷◌, refl, sym, ap, ◌∙◌}
+use Rattle.std.proofs.Common.{◌≡◌, ℕ, ◌+◌, ◌-◌, ◌*◌, ◌/◌, ◌%◌, ◌^◌, ◌<◌, ◌≤◌, ◌||◌, true, false, List, [], ◌∷◌, refl, sym, ap, ◌∙◌}
 use Rattle.std.proofs.Common.{get_or, nat_eq, arith, bit_or, zero, suc, w8, w64, inl, inr, max, length}
 use Rattle.std.specs.Int.{bit_at, reverse_bits, reverse_bits_onto, from_be_bytes, to_be_bytes}
-use Rattle.std.proofs.lemmas.Nat.{shr-shr, or_shifted, shl_whole, one_shl, pow_pos, pow-add}
-use Rattle.std.proofs.Math.Pow.{pow_mono}
-use Rattle.std.proofs.lemmas.List.{get_or-set_same, get_or-set_other}
+use Rattle.std.proofs.lemmas.Nat.{shr-shr, or_shifted, shl_whole, pow_pos, pow-add}
 use Rattle.std.proofs.lemmas.Nat.Bits.{bit_at_lowest, bit_at-suc, bit_at-zero, bit_at_or, bit_at_cat_low, bit_at_cat_high, bit_at_above}
-use Rattle.std.proofs.lemmas.Nat.Bits.{bit_at-lt}
-use Rattle.std.proofs.lemmas.Bool.{cases_lt, cases_eq}
+use Rattle.std.proofs.lemmas.Nat.Bits.{bit_at-lt, bit_at_mask_inside}
+use Rattle.std.proofs.lemmas.Bool.{cases_lt}
 use Rattle.std.specs.Prelude.{slice_index}
 use Rattle.raster.specs.Packed.{bit_in, place_in}
 use Rattle.raster.specs.Words.{IsWordAt, bit_of_word, turned_octet}
@@ -197,15 +195,15 @@ highest_past order octets at past k h =
 abbrev pub aligned : ℕ → ℕ → ℕ → ℕ
 aligned value count within = value * 2 ^ (64 - count) % 2 ^ 64 / 2 ^ within
 
-pub aligned_before : (value count within k : ℕ) → k < within → within < 8 → bit_of_word (aligned value count within) k ≡ false
+pub aligned_before : (value count within k : ℕ) → k < within → within < 64 → bit_of_word (aligned value count within) k ≡ false
 aligned_before value count within k h few =
     let small : value * 2 ^ (64 - count) % 2 ^ 64 < 2 ^ 64 = omega arith in
     ap (λ b. nat_eq b 1) (bit_at_shr (value * 2 ^ (64 - count) % 2 ^ 64) within (63 - k) ∙ bit_at_above (value * 2 ^ (64 - count) % 2 ^ 64)
     64 (within + (63 - k)) small (omega arith))
 
-pub aligned_inside : (value count within k : ℕ) → count ≤ 32 → within < 8 → within ≤ k → k < within + count
+pub aligned_inside : (value count within k : ℕ) → within + count ≤ 64 → within ≤ k → k < within + count
     → bit_of_word (aligned value count within) k ≡ nat_eq (bit_at value (within + count - 1 - k)) 1
-aligned_inside value count within k few low from below =
+aligned_inside value count within k few from below =
     let e : within + (63 - k) - (64 - count) ≡ within + count - 1 - k = omega arith in
     ap (λ b. nat_eq b 1) (bit_at_shr (value * 2 ^ (64 - count) % 2 ^ 64) within (63 - k) ∙
     (bit_at_rest (value * 2 ^ (64 - count)) 64 (within + (63 - k)) (omega arith) ∙
@@ -241,31 +239,53 @@ be_octets word k h =
     (ap (λ x. bit_at x (7 - k % 8)) (be_at word (k / 8) (omega arith)) ∙
     (octet_bit word (8 * (7 - k / 8)) (7 - k % 8) (omega arith) ∙ ap (bit_at word) there)))
 
--- ---- a run of ones
+-- the bits of a word of ones, up to a place
+pub ones_inside : (count within k : ℕ) → within + count ≤ 64 → within ≤ k → k < within + count
+    → bit_of_word (aligned (2 ^ 64 - 1) count within) k ≡ true
+ones_inside count within k fits from below =
+    aligned_inside (2 ^ 64 - 1) count within k fits from below ∙
+    ap (λ b. nat_eq b 1) (bit_at_mask_inside 0 64 (within + count - 1 - k) (omega arith) (omega arith))
 
-pub ones_grow : (a b : ℕ) → a ≤ b → b ≤ 8 → 1 * 2 ^ a % 2 ^ 32 ≤ 1 * 2 ^ b % 2 ^ 32
-ones_grow a b h few = rw (one_shl a 32 (omega arith), one_shl b 32 (omega arith)) (pow_mono h)
+-- ---- octets that others are or'ed to
 
-pub ones_is : (a b : ℕ) → a ≤ 8 → b ≤ 8 → 1 * 2 ^ b % 2 ^ 32 - 1 * 2 ^ a % 2 ^ 32 ≡ 2 ^ b - 2 ^ a
-ones_is a b p q = rw (one_shl a 32 (omega arith), one_shl b 32 (omega arith)) refl
+-- the bits of an octet from the lowest on are those from the highest on, turned
+lowest_as_highest : (octets : List ℕ) (p : ℕ) → bit_in LsbFirst octets p ≡ bit_in MsbFirst octets (8 * (p / 8) + (7 - p % 8))
+lowest_as_highest octets p =
+    let which : p / 8 ≡ (8 * (p / 8) + (7 - p % 8)) / 8 = omega arith in
+    let place : p % 8 ≡ 7 - (8 * (p / 8) + (7 - p % 8)) % 8 = omega arith in
+    ap (λ m. nat_eq (bit_at (get_or octets m 0) (p % 8)) 1) which ∙
+    ap (λ q. nat_eq (bit_at (get_or octets ((8 * (p / 8) + (7 - p % 8)) / 8) 0) q) 1) place
 
-pub keep_bit : (order : Order) (octets : List ℕ) (at mask k : ℕ) → at < length octets → (k / 8 ≡ at → bit_at mask (place_in order k) ≡ 0)
-    → bit_in order (set octets at (bit_or (get_or octets at 0) mask)) k ≡ bit_in order octets k
-keep_bit order octets at mask k h none =
-    elim (cases_eq (k / 8) at) [
-      | inl e ↦
-          let same : bit_at (bit_or (get_or octets at 0) mask) (place_in order k) ≡ bit_at (get_or octets at 0) (place_in order k) =
-          omega (arith, bit_at_or (get_or octets at 0) mask (place_in order k), none e) in
-          rw (e, get_or-set_same octets at (bit_or (get_or octets at 0) mask) 0 h, same) refl
-      | inr e ↦ rw (get_or-set_other octets at (k / 8) (bit_or (get_or octets at 0) mask) 0 e) refl
-    ]
+-- eight octets were written: a word of the old ones or'ed to a word of others
+pub record Ors (old added new : List ℕ) (at a b : ℕ) : Type 0 where
+  pub held : IsWordAt MsbFirst old (8 * at) a
+  pub more : IsWordAt MsbFirst added 0 b
+  pub put : (j : ℕ) → j < 8 → get_or new (at + j) 0 ≡ get_or (to_be_bytes w64 (bit_or a b)) j 0
 
-pub turn_bit : (order : Order) (octets : List ℕ) (at mask k : ℕ) → at < length octets → k / 8 ≡ at → bit_at mask (place_in order k) ≡ 1
-    → bit_in order (set octets at (bit_or (get_or octets at 0) mask)) k ≡ true
-turn_bit order octets at mask k h e one =
-    let set_is : bit_at (bit_or (get_or octets at 0) mask) (place_in order k) ≡ 1 =
-    omega (arith, bit_at_or (get_or octets at 0) mask (place_in order k), one, bit_at-lt (get_or octets at 0) (place_in order k)) in
-    rw (e, get_or-set_same octets at (bit_or (get_or octets at 0) mask) 0 h, set_is) refl
+ored_highest : (old added new : List ℕ) (at a b k : ℕ) → Ors old added new at a b → k < 64
+    → bit_in MsbFirst new (8 * at + k) ≡ (bit_in MsbFirst old (8 * at + k) || bit_in MsbFirst added k)
+ored_highest old added new at a b k ors h =
+    let which : (8 * at + k) / 8 ≡ at + k / 8 = omega arith in
+    let place : 7 - (8 * at + k) % 8 ≡ 7 - k % 8 = omega arith in
+    let e : 0 + k ≡ k = omega arith in
+    ap (λ q. nat_eq (bit_at (get_or new ((8 * at + k) / 8) 0) q) 1) place ∙
+    (ap (λ m. nat_eq (bit_at (get_or new m 0) (7 - k % 8)) 1) which ∙
+    (ap (λ octet. nat_eq (bit_at octet (7 - k % 8)) 1) (ors.put (k / 8) (omega arith)) ∙
+    (sym (be_octets (bit_or a b) k h) ∙
+    (ored a b (63 - k) ∙
+    (ap (λ x. x || bit_of_word b k) (ors.held k h) ∙
+    ap (λ y. bit_in MsbFirst old (8 * at + k) || y) (ors.more k h ∙ ap (bit_in MsbFirst added) e))))))
+
+pub ored_octets : (order : Order) (old added new : List ℕ) (at a b k : ℕ) → Ors old added new at a b → k < 64
+    → bit_in order new (8 * at + k) ≡ (bit_in order old (8 * at + k) || bit_in order added k)
+ored_octets MsbFirst old added new at a b k ors h = ored_highest old added new at a b k ors h
+ored_octets LsbFirst old added new at a b k ors h =
+    let there : 8 * ((8 * at + k) / 8) + (7 - (8 * at + k) % 8) ≡ 8 * at + (8 * (k / 8) + (7 - k % 8)) = omega arith in
+    lowest_as_highest new (8 * at + k) ∙
+    (ap (bit_in MsbFirst new) there ∙
+    (ored_highest old added new at a b (8 * (k / 8) + (7 - k % 8)) ors (omega arith) ∙
+    (ap (λ x. x || bit_in MsbFirst added (8 * (k / 8) + (7 - k % 8))) (sym (lowest_as_highest old (8 * at + k) ∙ ap (bit_in MsbFirst old) there)) ∙
+    ap (λ y. bit_in LsbFirst old (8 * at + k) || y) (sym (lowest_as_highest added k)))))
 
 -- the octets of a number, each turned: the first bit of each is its lowest
 pub turned_octets_are : (word : ℕ) (octets : List ℕ) → ((i : ℕ) → i < 8 → slice_index octets i ≡ turned_octet (slice_index (to_be_bytes w64

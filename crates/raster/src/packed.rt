@@ -1,10 +1,11 @@
-//! Bits that are kept eight an octet, in either order. Rows and bit writers stand on it.
+//! Bits that are kept eight an octet, in either order. Rows and bit writers are made of it.
 
 ghost use Rattle.raster.specs.Changes.{AreChanges};
 ghost use Rattle.raster.specs.Pixels.{colors};
 ghost use Rattle.raster.specs.Packed.{bit_in, bits_in, bits_of, place_in, IsPacked, Bits, FillsOctets};
 ghost use Rattle.raster.specs.Words.{IsWordAt, IsFirstOtherBit, number_bits};
-ghost use Rattle.std.specs.Prelude.{false, ◌≢◌, ℕ, ◌≡◌, ◌≤◌, ◌<◌, ◌+◌, ◌-◌, ◌*◌, ◌^◌, ◌||◌, ◌/◌, ◌++◌, ◌∷◌, [], nat_eq, length, replicate, take, slice_get, IfOk, OnOk, OnErr};
+ghost use Rattle.std.specs.Prelude.{false, ◌≢◌, ℕ, ◌≡◌, ◌≤◌, ◌<◌, ◌+◌, ◌-◌, ◌*◌, ◌^◌, ◌||◌, ◌/◌, ◌++◌, ◌∷◌, [], nat_eq, length};
+ghost use Rattle.std.specs.Prelude.{replicate, take, slice_get, IfOk, OnOk, OnErr};
 
 use crate::changes::changes;
 use crate::words::{first_other, number_word, or_octets, set_run, shifted_word, word_octets};
@@ -68,17 +69,28 @@ fn clear_bit(order: Order, octets: &mut Vec<u8>, place: u128)
     octets[(place / 8) as usize] &= !(1 << shift_of(order, place));
 }
 
-/// Room for one more bit, which is 0.
-#[tactic(auto, using(crate::proofs::PackedLemmas::push_zeros))]
-fn make_room(order: Order, octets: &mut Vec<u8>, count: u128) -> Result<(), AllocError>
-    requires { IsPacked order octets.old.items count }
-    ensures room { OnOk result (count < 8 * length octets.new.items) }
-    ensures tight { OnOk result (8 * length octets.new.items < count + 9) }
-    ensures same { (k : ℕ) → bit_in order octets.new.items k ≡ bit_in order octets.old.items k }
+/// So many octets, the new ones 0.
+#[cold]
+fn grow(octets: &mut Vec<u8>, needed: usize) -> Result<(), AllocError>
+    requires { length octets.old.items ≤ needed }
+    ensures room { OnOk result (needed ≤ length octets.new.items) }
+    ensures same { (order : Order) (k : ℕ) → bit_in order octets.new.items k ≡ bit_in order octets.old.items k }
     ensures err { OnErr result (octets.new.items ≡ octets.old.items) }
 {
-    if (count / 8) as usize == octets.len() {
-        octets.push(0)?;
+    octets.resize(needed, 0)?;
+    Ok(())
+}
+
+/// Room for so many bits more and for the 64 after them.
+fn make_room(octets: &mut Vec<u8>, count: u128, more: u32) -> Result<(), AllocError>
+    requires { count ≤ 8 * length octets.old.items }
+    ensures room { OnOk result (count + more + 64 ≤ 8 * length octets.new.items) }
+    ensures same { (order : Order) (k : ℕ) → bit_in order octets.new.items k ≡ bit_in order octets.old.items k }
+    ensures err { OnErr result (octets.new.items ≡ octets.old.items) }
+{
+    let needed = ((count + more as u128) / 8) as usize + 9;
+    if octets.len() < needed {
+        grow(octets, needed + 64)?;
     }
     Ok(())
 }
@@ -89,27 +101,10 @@ fn push_bit(order: Order, octets: &mut Vec<u8>, count: u128, bit: bool) -> Resul
     ensures ok { OnOk result (bits_in order octets.new.items (count + 1) ≡ bits_in order octets.old.items count ++ bit ∷ []) }
     ensures err { OnErr result (octets.new.items ≡ octets.old.items) }
 {
-    make_room(order, octets, count)?;
+    make_room(octets, count, 1)?;
     if bit {
         set_bit(order, octets, count);
     }
-    Ok(())
-}
-
-/// Octets of 0 bits, as many as so many more bits need.
-#[tactic(auto, using(crate::proofs::PackedLemmas::push_zeros))]
-fn make_more_room(
-    order: Order,
-    octets: &mut Vec<u8>,
-    count: u128,
-    more: u32,
-) -> Result<(), AllocError>
-    requires { IsPacked order octets.old.items count }
-    ensures room { OnOk result (length octets.new.items ≡ (count + more + 7) / 8) }
-    ensures same { (k : ℕ) → bit_in order octets.new.items k ≡ bit_in order octets.old.items k }
-    ensures err { OnErr result (octets.new.items ≡ octets.old.items) }
-{
-    octets.resize(((count + more as u128 + 7) / 8) as usize, 0)?;
     Ok(())
 }
 
@@ -126,7 +121,7 @@ fn push_number(
     ensures ok { OnOk result (bits_in order octets.new.items (count + more) ≡ bits_in order octets.old.items count ++ number_bits more value) }
     ensures err { OnErr result (octets.new.items ≡ octets.old.items) }
 {
-    make_more_room(order, octets, count, more)?;
+    make_room(octets, count, more)?;
     let word = number_word(value, more, (count % 8) as u32);
     or_octets(octets, (count / 8) as usize, word_octets(order, word));
     Ok(())
@@ -144,11 +139,19 @@ fn push_same(
     ensures ok { OnOk result (bits_in order octets.new.items (count + more) ≡ bits_in order octets.old.items count ++ replicate more bit) }
     ensures err { OnErr result (octets.new.items ≡ octets.old.items) }
 {
-    make_more_room(order, octets, count, more)?;
+    make_room(octets, count, more)?;
     if bit {
         set_run(order, octets, count, count + more as u128);
     }
     Ok(())
+}
+
+/// The number of octets that so many bits fill, the last of them in part.
+fn octets_for(count: u128) -> usize
+    requires { count < 2 ^ 66 }
+    ensures { result ≡ (count + 7) / 8 }
+{
+    ((count + 7) / 8) as usize
 }
 
 /// Keeps the first bits, and clears the others of the last octet.
@@ -157,7 +160,7 @@ fn cut(order: Order, octets: &mut Vec<u8>, count: u128)
     ensures packed { IsPacked order octets.new.items count }
     ensures same { (k : ℕ) → k < count → bit_in order octets.new.items k ≡ bit_in order octets.old.items k }
 {
-    octets.truncate(((count + 7) / 8) as usize);
+    octets.truncate(octets_for(count));
     let end = 8 * octets.len() as u128;
     for place in count..end {
         clear_bit(order, octets, place);
@@ -195,6 +198,20 @@ impl PackedBits {
         }
     }
 
+    /// No bits, and room for so many.
+    #[tactic(auto, using(crate::proofs::PackedLemmas::views))]
+    pub(crate) fn with_room(alloc: Global, order: Order, bits: u32) -> Result<Self, AllocError>
+        ensures { IfOk result (λ p. p ≡ record { order = order; bits = [] }) }
+    {
+        let mut octets = Vec::new(alloc);
+        grow(&mut octets, bits as usize / 8 + 9)?;
+        Ok(PackedBits {
+            octets,
+            order,
+            count: 0,
+        })
+    }
+
     /// The first bits of octets.
     #[tactic(auto, using(crate::proofs::PackedLemmas::views))]
     pub(crate) fn copied(
@@ -221,7 +238,7 @@ impl PackedBits {
     pub fn len(&self) -> u128
         ensures { result ≡ length self.now.bits }
     {
-        self.count // in bits
+        self.count
     }
 
     /// The bit at a place, from 0.
@@ -302,7 +319,7 @@ impl PackedBits {
     pub fn octets(&self) -> &[u8]
         ensures { FillsOctets self.now.order self.now.bits result.now }
     {
-        &self.octets
+        &self.octets[..octets_for(self.count)]
     }
 
     /// The octets that hold the bits, the last one filled with 0 bits.
@@ -310,10 +327,11 @@ impl PackedBits {
         ensures { FillsOctets self.order self.bits result.items }
     {
         let PackedBits {
-            octets,
+            mut octets,
             order: _,
-            count: _,
+            count,
         } = self;
-        octets // filled with 0 bits by the invariant
+        octets.truncate(octets_for(count));
+        octets
     }
 }

@@ -6,7 +6,8 @@ ghost use Rattle.raster.specs.PbmText.{HoldsRow};
 ghost use Rattle.raster.specs.Pixels.{other, color_of, colors, IsWidth};
 ghost use Rattle.raster.specs.Runs.{colored, FromRuns, AppendsRuns, AreOwnRuns};
 ghost use Rattle.raster.specs.Words.{EndsRun};
-ghost use Rattle.std.specs.Prelude.{◌≡◌, ◌≤◌, ◌<◌, ◌+◌, ◌*◌, ◌^◌, ◌↔◌, ℕ, ◌++◌, ◌∷◌, [], replicate, length, slice_get, sum, OnOk, OnErr, IfOk, IfErr, SomeIff, IsOkUnless, IsTrue};
+ghost use Rattle.std.specs.Prelude.{◌≡◌, ◌≤◌, ◌<◌, ◌+◌, ◌*◌, ◌^◌, ◌↔◌, ℕ, ◌++◌, ◌∷◌, [], replicate, length, slice_get, sum, OnOk, OnErr};
+ghost use Rattle.std.specs.Prelude.{IfOk, IfErr, SomeIff, IsOkUnless, IsTrue};
 
 use crate::fault::RasterFault;
 use crate::packed::{Order, PackedBits};
@@ -72,12 +73,12 @@ fn push_run(pixels: &mut PackedBits, color: Color, run: u32) -> Result<(), Alloc
     Ok(())
 }
 
-/// The pixels that alternating runs spell, white first.
-fn painted(alloc: Global, runs: &[u32]) -> Result<PackedBits, AllocError>
+/// The pixels that alternating runs spell, white first, with room for a width from the start.
+fn painted(alloc: Global, runs: &[u32], width: u32) -> Result<PackedBits, AllocError>
     ensures pixels { IfOk result (λ pixels. colors pixels.bits ≡ colored Color.White runs.now) }
     ensures order { IfOk result (λ pixels. pixels.order ≡ Order.MsbFirst) }
 {
-    let mut pixels = PackedBits::new(alloc, Order::MsbFirst);
+    let mut pixels = PackedBits::with_room(alloc, Order::MsbFirst, width)?;
     let mut color = Color::White;
     for run in runs {
         push_run(&mut pixels, color, *run)?;
@@ -113,10 +114,10 @@ impl Row {
     pub fn from_runs(alloc: Global, runs: &[u32]) -> Result<Row, RasterFault>
         ensures { FromRuns runs.now result }
     {
-        let Some(_) = total_width(runs) else {
+        let Some(width) = total_width(runs) else {
             return Err(RasterFault::BadWidth);
         };
-        let pixels = painted(alloc, runs)?;
+        let pixels = painted(alloc, runs, width)?;
         Ok(Row { pixels })
     }
 
@@ -160,9 +161,9 @@ impl Row {
         octets
     }
 
-    #[tactic(auto, using(crate::proofs::RowLemmas::lengths))]
     /// The least changing position at or above `from`, or the width where there is none
     /// (ITU-T T.6, 2.2.1).
+    #[tactic(auto, using(crate::proofs::RowLemmas::lengths))]
     pub fn next_change(&self, from: u32) -> u32
         ensures { IsNextChange self.now from result }
     {

@@ -125,48 +125,55 @@ pub(crate) fn number_word(value: u32, count: u32, within: u32) -> u64
     (value as u64) << (64 - count) >> within
 }
 
-/// Ors octets to those from a place on.
+/// Writes eight octets over those from a place on.
+fn put_octets(octets: &mut [u8], at: usize, eight: [u8; 8])
+    requires { at + 8 ≤ length octets.old }
+    ensures length { length octets.new ≡ length octets.old }
+    ensures before { (j : ℕ) → j < at → slice_index octets.new j ≡ slice_index octets.old j }
+    ensures inside { (j : ℕ) → j < 8 → slice_index octets.new (at + j) ≡ slice_index eight j }
+    ensures after { (j : ℕ) → at + 8 ≤ j → slice_index octets.new j ≡ slice_index octets.old j }
+{
+    octets[at..at + 8].copy_from_slice(&eight);
+}
+
+/// Ors eight octets to those from a place on.
 pub(crate) fn or_octets(octets: &mut Vec<u8>, at: usize, added: [u8; 8])
-    requires { length octets.old.items ≤ at + 8 }
+    requires { at + 8 ≤ length octets.old.items }
     ensures { AreOred octets.old.items added octets.new.items at }
 {
-    for j in at..octets.len() {
-        octets[j] |= added[j - at];
-    }
+    let both = whole_word(octets, at) | whole_word(&added, 0);
+    put_octets(octets, at, both.to_be_bytes());
 }
 
-/// The octet whose bits from one place up to another are 1, and else 0.
-fn mask(order: Order, from: u32, end: u32) -> u8
-    requires order { from ≤ end }
-    requires within { end ≤ 8 }
-    ensures before { (k : ℕ) → k < from → bit_at result (place_in order k) ≡ 0 }
-    ensures inside { (k : ℕ) → from ≤ k → k < end → bit_at result (place_in order k) ≡ 1 }
-    ensures after { (k : ℕ) → end ≤ k → k < 8 → bit_at result (place_in order k) ≡ 0 }
+/// The word whose bits from a place on are so many 1 bits, and else 0.
+fn ones_word(count: u32, within: u32) -> u64
+    requires some { 0 < count }
+    requires fits { within + count ≤ 64 }
+    ensures before { (k : ℕ) → k < within → bit_of_word result k ≡ false }
+    ensures inside { (k : ℕ) → within ≤ k → k < within + count → bit_of_word result k ≡ true }
+    ensures after { (k : ℕ) → within + count ≤ k → k < 64 → bit_of_word result k ≡ false }
 {
-    match order {
-        Order::LsbFirst => ((1u32 << end) - (1u32 << from)) as u8,
-        Order::MsbFirst => ((1u32 << (8 - from)) - (1u32 << (8 - end))) as u8,
-    }
+    u64::MAX << (64 - count) >> within
 }
 
-/// Sets the bits of one octet from one place up to another.
+/// Sets the bits from one place up to another, all of them in the eight octets from the first one's on.
 fn set_within(order: Order, octets: &mut Vec<u8>, from: u128, end: u128)
     requires order { from < end }
-    requires within { end ≤ 8 * (from / 8) + 8 }
-    requires inside { end ≤ 8 * length octets.old.items }
+    requires within { end ≤ 8 * (from / 8) + 64 }
+    requires inside { end + 64 ≤ 8 * length octets.old.items }
     ensures length { length octets.new.items ≡ length octets.old.items }
     ensures before { (k : ℕ) → k < from → bit_in order octets.new.items k ≡ bit_in order octets.old.items k }
     ensures set { (k : ℕ) → from ≤ k → k < end → bit_in order octets.new.items k ≡ true }
     ensures after { (k : ℕ) → end ≤ k → bit_in order octets.new.items k ≡ bit_in order octets.old.items k }
 {
-    let first = (from % 8) as u32;
-    octets[(from / 8) as usize] |= mask(order, first, first + (end - from) as u32);
+    let word = ones_word((end - from) as u32, (from % 8) as u32);
+    or_octets(octets, (from / 8) as usize, word_octets(order, word));
 }
 
 /// Sets the bits from one place up to another.
 pub(crate) fn set_run(order: Order, octets: &mut Vec<u8>, from: u128, end: u128)
     requires order { from ≤ end }
-    requires inside { end ≤ 8 * length octets.old.items }
+    requires inside { end + 64 ≤ 8 * length octets.old.items }
     ensures length { length octets.new.items ≡ length octets.old.items }
     ensures before { (k : ℕ) → k < from → bit_in order octets.new.items k ≡ bit_in order octets.old.items k }
     ensures set { (k : ℕ) → from ≤ k → k < end → bit_in order octets.new.items k ≡ true }
@@ -174,7 +181,7 @@ pub(crate) fn set_run(order: Order, octets: &mut Vec<u8>, from: u128, end: u128)
 {
     let mut at = from;
     while at < end {
-        let next = (8 * (at / 8) + 8).min(end);
+        let next = (8 * (at / 8) + 64).min(end);
         set_within(order, octets, at, next);
         at = next;
     }

@@ -1,4 +1,4 @@
--- The run codes (ITU-T T.4, 4.1.1, tables 2 and 3): which code word stands for which run of which color.
+-- The run codes (ITU-T T.4, 4.1.1, tables 2 and 3): the code word of each run of each color.
 use Rattle.std.specs.Prelude.{ℕ, ◌+◌, ◌-◌, ◌*◌, ◌/◌, ◌%◌, ◌++◌, Bool, List, [], ◌∷◌, map, nat_eq, nat_lt, codes, Contains, if◌then◌else◌}
 use Rattle.std.specs.Prelude.{slice_index_or}
 use Rattle.raster.specs.declared.row.Color.{Color}

@@ -2,13 +2,15 @@
 
 ghost use Rattle.raster.specs.Packed.{bits_of};
 ghost use Rattle.raster.specs.Words.{number_bits};
-ghost use Rattle.run_tables.specs.CodeReading.{PicksCode, ReadsCode, ReadsRun, ReadsRunCode, ReadsRunWithin, count_among, first_runs, kind_among, runs_among};
+ghost use Rattle.run_tables.specs.CodeReading.{PicksCode, ReadsCode, ReadsRun, ReadsRunCode, ReadsRunWithin, count_among, first_runs};
+ghost use Rattle.run_tables.specs.CodeReading.{kind_among, runs_among};
 ghost use Rattle.run_tables.specs.Codes.{code_word, text};
 ghost use Rattle.run_tables.specs.Numbers.{IsFirst64, first_bits, number_text};
 ghost use Rattle.run_tables.specs.Reading.{rest_of};
 ghost use Rattle.run_tables.specs.Texts.{begins, is_cut, pick};
 ghost use Rattle.std.specs.Bool.{OnTrue};
-ghost use Rattle.std.specs.Prelude.{None, OnSome, Some, IfNone, IfSome, if◌then◌else◌, is_some, length, slice_get, ◌*◌, ◌+◌, ◌^◌, ◌<◌, ◌≡◌, ◌≤◌};
+ghost use Rattle.std.specs.Prelude.{None, OnSome, Some, IfNone, IfSome, if◌then◌else◌, is_some, length, slice_get, ◌*◌, ◌+◌, ◌^◌, ◌<◌};
+ghost use Rattle.std.specs.Prelude.{◌≡◌, ◌≤◌};
 
 use crate::fault::{CodeFault, CodeFaultKind};
 use crate::read_table::entry;

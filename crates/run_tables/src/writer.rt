@@ -28,7 +28,7 @@ fn own_runs(alloc: Global, row: &Row) -> Result<Vec<u32>, AllocError>
 }
 
 /// A list of bits that grows at its end, and the order in which octets are to hold them.
-#[derive(Drop)]
+#[derive(Debug, Drop)]
 pub struct BitWriter {
     packed: PackedBits,
 }

@@ -5,11 +5,11 @@ use Rattle.raster.proofs.packed.push_same.Goals as goal
 pub returns-then-bit-clause-ok : goal.returns-then-bit-clause-ok
 returns-then-bit-clause-ok c =
     bits_in_run c.args.order _ _ c.args.count c.args.more c.args.bit
-    (λ k h. c.set_run.ensures.before k h ∙ c.make_more_room.ensures.same k)
+    (λ k h. c.set_run.ensures.before k h ∙ c.make_room.ensures.same c.args.order k)
     (λ k low h. c.set_run.ensures.set k low h ∙ sym c.if-bit.true)
 
 pub returns-else-bit-clause-ok : goal.returns-else-bit-clause-ok
 returns-else-bit-clause-ok c =
     bits_in_run c.args.order _ _ c.args.count c.args.more c.args.bit
-    (λ k h. c.make_more_room.ensures.same k)
-    (λ k low h. c.make_more_room.ensures.same k ∙ (c.requires.clear k low ∙ sym c.if-bit.false))
+    (λ k h. c.make_room.ensures.same c.args.order k)
+    (λ k low h. c.make_room.ensures.same c.args.order k ∙ (c.requires.clear k low ∙ sym c.if-bit.false))

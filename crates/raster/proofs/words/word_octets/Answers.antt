@@ -1,6 +1,4 @@
-use Rattle.std.proofs.Common.{◌≡◌, ◌+◌, ap, arith}
-use Rattle.std.specs.Prelude.{slice_index}
-use Rattle.raster.specs.Words.{turned_octet}
+use Rattle.std.proofs.Common.{◌≡◌, ◌+◌, arith}
 use Rattle.raster.proofs.WordLemmas.{turned_octets_are, be_octets}
 use Rattle.raster.proofs.words.word_octets.Goals as goal
 
