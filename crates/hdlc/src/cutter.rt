@@ -10,7 +10,8 @@ ghost use Rattle.hdlc.specs.DeframerParts.{Cuts, PartsAfter, Grows, count_in};
 ghost use Rattle.hdlc.specs.EightBits.{ends_no_flag, repeated};
 ghost use Rattle.hdlc.specs.declared.counts.Class.{Class as AnyClass};
 ghost use Rattle.hdlc.specs.declared.counts.Counts.{Counts as AnyCounts};
-ghost use Rattle.std.specs.Prelude.{ℕ, ◌≡◌, ◌+◌, ◌/◌, ◌%◌, ◌≤◌, ◌++◌, ◌∷◌, ◌&&◌, [], List, Bool, true, false, cond, min, nat_lt, length, OnOk};
+ghost use Rattle.std.specs.Prelude.{ℕ, ◌≡◌, ◌+◌, ◌/◌, ◌%◌, ◌≤◌, ◌++◌, ◌∷◌, ◌&&◌, []};
+ghost use Rattle.std.specs.Prelude.{List, Bool, true, false, cond, min, nat_lt, length, OnOk};
 
 use crate::assembler::shifted;
 use crate::collector::{Collector, bit_at};

@@ -17,7 +17,6 @@ use std::alloc::{AllocError, Global};
 use std::collections::VecDeque;
 use std::marker::Model;
 
-
 /// Finds frames in bits that come in any pieces, and hands out the contents of the good ones, the
 /// oldest first (ISO/IEC 13239, frame structure). What it gives depends on all bits together alone,
 /// not on where the pieces are cut.
