@@ -4,12 +4,19 @@ use Rattle.std.specs.Prelude.{cond, nat_eq, nat_lt, length, map, min}
 use Rattle.std.specs.Int.{bit_at}
 use Rattle.std.specs.List.{range_with_len}
 use Rattle.raster.specs.Octets.{number}
+use Rattle.raster.specs.Packed.{bits_of}
+use Rattle.raster.specs.declared.packed.Order.TheVariants.{LsbFirst}
 
 -- none of these bits, that come into a register of the last eight bits, ends a flag
 abbrev pub ends_no_flag : ℕ → List Bool → Bool
 ends_no_flag window [] = true
 ends_no_flag window (b ∷ bits) =
     not (nat_eq (window / 2 + cond b 128 0) 126) && ends_no_flag (window / 2 + cond b 128 0) bits
+
+-- the same of octets, that come after the last eight bits
+abbrev pub end_no_flag : ℕ → List ℕ → Bool
+end_no_flag window [] = true
+end_no_flag window (octet ∷ octets) = ends_no_flag window (bits_of LsbFirst (octet ∷ [])) && end_no_flag octet octets
 
 -- how many 1 bits in a row there are after one bit more, five where there are more
 abbrev pub run_after : ℕ → Bool → ℕ
