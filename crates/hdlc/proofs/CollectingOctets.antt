@@ -37,7 +37,7 @@ unstuffed_run gap (b ∷ more) n h =
     (unstuffed_run (gap ++ b ∷ []) more (run_after n b) (run_more gap b n h) ∙
     (ap (λ xs. xs ++ rest) one ∙ append_assoc (unstuffed gap) (cond (nat_lt n 5) (b ∷ []) []) rest))
 
-or_false : (x : Bool) → (x || false) ≡ x
+pub or_false : (x : Bool) → (x || false) ≡ x
 or_false true = refl
 or_false false = refl
 
@@ -106,6 +106,23 @@ unstuffed_few n (b ∷ bits) =
     go true h = omega arith
     go false h = omega arith
 
+-- where all are unstuffed they are the bits, and none is the sixth 1 bit
+pub whole_same : (n : ℕ) (bits : List Bool) → length (unstuffed_from n bits) ≡ length bits
+    → (unstuffed_from n bits ≡ bits) × (six_from n bits ≡ false)
+whole_same n [] h = (refl, refl)
+whole_same n (b ∷ bits) h = go (nat_lt n 5) (whole_same (run_after n b) bits) h
+  where
+    rest : List Bool
+    rest = unstuffed_from (run_after n b) bits
+
+    go : (t : Bool) → (length rest ≡ length bits → (rest ≡ bits) × (six_from (run_after n b) bits ≡ false))
+        → length (cond t (b ∷ []) [] ++ rest) ≡ length (b ∷ bits)
+        → (cond t (b ∷ []) [] ++ rest ≡ b ∷ bits) × (((not t && b) || six_from (run_after n b) bits) ≡ false)
+    go true others h =
+        let same : length rest ≡ length bits = omega arith in
+        let both = others same in (ap (λ xs. b ∷ xs) both.0, both.1)
+    go false others h = let few : length rest ≤ length bits = unstuffed_few (run_after n b) bits in absurd (omega arith)
+
 -- a stuffed bit that is 1 is the sixth, and then the others have fewer 1 bits than the octet
 abbrev fewer : ℕ → ℕ → Bool
 fewer n octet = nat_lt (count_ones (number (unstuffed_from n (octet_bits octet)))) (count_ones octet)
@@ -143,7 +160,7 @@ ends (suc (suc (suc (suc (suc (suc (suc n))))))) octet few small = absurd (omega
 
 pub collects_octet : (c new : Collector) (gap : List Bool) (octet : ℕ) → Collects c gap → octet < 256 → new.seen ≡ 8
     → new.ones ≡ min 6 (leading_ones w8 octet)
-    → new.aborted ≡ (c.aborted || nat_lt (count_ones (number (unstuffed_from (min 5 c.ones) (octet_bits octet)))) (count_ones octet))
+    → new.aborted ≡ (c.aborted || six_from (min 5 c.ones) (octet_bits octet))
     → Assembles new.unstuffed (unstuffed gap ++ unstuffed_from (min 5 c.ones) (octet_bits octet)) → Collects new (gap ++ octet_bits octet)
 collects_octet c new gap octet old small seen last aborted more =
     let eight : List Bool = octet_bits octet in
@@ -157,7 +174,6 @@ collects_octet c new gap octet old small seen last aborted more =
       ones =
           last ∙ (end ∙ (end_same c.ones (ones gap) eight (omega arith) ∙ ap (min 6) (sym (ones_run gap eight))));
       aborted =
-          aborted ∙ (ap (λ x. c.aborted || x) (six_is (min 5 c.ones) octet (omega arith) small) ∙
-          (ap (λ x. x || six_from (min 5 c.ones) eight) old.aborted ∙ sym (six_run gap eight (min 5 c.ones) n)));
+          aborted ∙ (ap (λ x. x || six_from (min 5 c.ones) eight) old.aborted ∙ sym (six_run gap eight (min 5 c.ones) n));
       unstuffed = rw (unstuffed_run gap eight (min 5 c.ones) n) more;
     }

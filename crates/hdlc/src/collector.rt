@@ -100,6 +100,10 @@ impl Collector {
         let (value, count) = unstuffed(self.ones.min(5), octet);
         self.seen = 8;
         self.ones = octet.leading_ones().min(6) as u8;
+        if count == 8 {
+            self.unstuffed.push_bits(octet, 8);
+            return;
+        }
         self.aborted |= value.count_ones() < octet.count_ones(); // a stuffed 1 bit is the sixth
         self.unstuffed.push_bits(value, count);
     }
