@@ -1,4 +1,4 @@
--- Eight bits more in an assembler.
+-- Up to eight bits more in an assembler.
 use Rattle.std.proofs.Common.{◌≡◌, ℕ, suc, ◌+◌, ◌-◌, ◌*◌, ◌/◌, ◌%◌, ◌^◌, ◌<◌, ◌≤◌, Bool, true, false, List, [], ◌∷◌, ◌++◌, length, take}
 use Rattle.std.proofs.Common.{drop, map, refl, ap, sym, ◌∙◌, arith, nat_lt}
 use Rattle.std.specs.List.{range_with_len}
@@ -33,11 +33,31 @@ tail_is bits eight =
     sym (ap (drop (8 - n % 8)) front
     ∙ (drop-drop (8 - n % 8) n long ∙ (ap (λ k. drop k long) places ∙ sym (drop-drop (8 * (n / 8)) 8 long))))
 
--- an octet more
-octets_of-eight : (bits eight : List Bool) → length eight ≡ 8 → octets_of (bits ++ eight) ≡ octets_of bits ++ number
-    (take 8 (drop (8 - length bits % 8) (recent false bits ++ eight))) ∷ []
+-- the last eight bits, with up to eight more
+recent-append : (fill : Bool) (bits more : List Bool) → recent fill (bits ++ more) ≡ drop (length more) (recent fill bits ++ more)
+unfolding recent
+recent-append fill bits more =
+    let n : ℕ = length bits in
+    let whole : List Bool = fill ∷ fill ∷ fill ∷ fill ∷ fill ∷ fill ∷ fill ∷ fill ∷ bits in
+    let long : List Bool = fill ∷ fill ∷ fill ∷ fill ∷ fill ∷ fill ∷ fill ∷ fill ∷ (bits ++ more) in
+    let front : drop n whole ++ more ≡ drop n long = sym (drop-append-le n whole more (omega arith)) in
+    let size : length (bits ++ more) ≡ n + length more = length-append bits more in
+    ap (λ k. drop k long) size ∙ (sym (drop-drop (length more) n long) ∙ ap (drop (length more)) (sym front))
+
+-- no octet more, where they are too few
+octets_of-few : (bits more : List Bool) → length bits % 8 + length more < 8 → octets_of (bits ++ more) ≡ octets_of bits
 unfolding octets_of
-octets_of-eight bits eight h =
+octets_of-few bits more h =
+    let size : length (bits ++ more) ≡ length bits + length more = length-append bits more in
+    let count : length (bits ++ more) / 8 ≡ length bits / 8 = omega arith in
+    ap (λ m. map (octet_at (bits ++ more)) (range_with_len 0 m)) count
+    ∙ map_range_agree (octet_at (bits ++ more)) (octet_at bits) (length bits / 8) (λ i h. octet_at-append bits more i (omega arith))
+
+-- an octet more, where they fill it
+octets_of-eight : (bits eight : List Bool) → length eight ≤ 8 → 8 ≤ length bits % 8 + length eight
+    → octets_of (bits ++ eight) ≡ octets_of bits ++ number (take 8 (drop (8 - length bits % 8) (recent false bits ++ eight))) ∷ []
+unfolding octets_of
+octets_of-eight bits eight few fill =
     let size : length (bits ++ eight) ≡ length bits + length eight = length-append bits eight in
     let count : length (bits ++ eight) / 8 ≡ suc (length bits / 8) = omega arith in
     let next : 0 + length bits / 8 ≡ length bits / 8 = omega arith in
@@ -68,10 +88,10 @@ number_inside xs m h =
     ap number (sym (take-append-drop 8 rest)) ∙ number-append (take 8 rest) (drop 8 rest) 8 eight in
     sym (ap (λ n. n % 256) high ∙ omega arith)
 
-completed_is : (a : Assembler) (bits eight : List Bool) (o x : ℕ) → Assembles a bits → length eight ≡ 8 → number eight ≡ o
-    → x ≡ (o * 256 + a.window) / 2 ^ (8 - a.part % 8) % 256
+completed_is : (a : Assembler) (bits eight : List Bool) (o x : ℕ) → Assembles a bits → 8 ≤ length bits % 8 + length eight
+    → number eight ≡ o → x ≡ (o * 256 + a.window) / 2 ^ (8 - a.part % 8) % 256
     → number (take 8 (drop (8 - length bits % 8) (recent false bits ++ eight))) ≡ x
-completed_is a bits eight o x old h e is =
+completed_is a bits eight o x old fill e is =
     let part : a.part ≡ length bits % 8 = old.part in
     let shift : 8 - length bits % 8 ≡ 8 - a.part % 8 = omega arith in
     let eight_recent : length (recent false bits) ≡ 8 = length-recent false bits in
@@ -82,21 +102,53 @@ completed_is a bits eight o x old h e is =
     number_inside (recent false bits ++ eight) (8 - length bits % 8) room
     ∙ (ap (λ n. n / 2 ^ (8 - length bits % 8) % 256) both ∙ (ap (λ s. (o * 256 + a.window) / 2 ^ s % 256) shift ∙ sym is))
 
+-- the register of the last eight bits
+window_is : (a : Assembler) (bits more : List Bool) (v w : ℕ) → Assembles a bits → length more ≤ 8 → number more ≡ v
+    → w ≡ (v * 256 + a.window) / 2 ^ length more % 256 → w ≡ number (recent false (bits ++ more))
+window_is a bits more v w old few e is =
+    let eight : length (recent false bits) ≡ 8 = length-recent false bits in
+    let size : length (recent false bits ++ more) ≡ 8 + length more = length-append (recent false bits) more ∙ omega arith in
+    let left : List Bool = drop (length more) (recent false bits ++ more) in
+    let rest : length left ≤ 8 = rw length-drop (omega arith) in
+    let window : number (recent false bits) ≡ a.window = sym old.window in
+    let both : number (recent false bits ++ more) ≡ v * 256 + a.window =
+    number-append (recent false bits) more 8 eight ∙ (rw (window, e) (omega arith)) in
+    is ∙ (sym (ap (λ n. n / 2 ^ length more % 256) both)
+    ∙ (sym (number_inside (recent false bits ++ more) (length more) (omega arith))
+    ∙ (ap number (take_all 8 left rest) ∙ sym (ap number (recent-append false bits more)))))
+
+-- no octet is whole
+pub bits_kept : (a new : Assembler) (bits more : List Bool) (v : ℕ) → Assembles a bits → length more ≤ 8 → number more ≡ v
+    → a.part % 8 + length more < 8 → new.part ≡ a.part % 8 + length more → new.window ≡ (v * 256 + a.window) / 2 ^ length more % 256
+    → new.whole.items ≡ a.whole.items → new.long ≡ a.long → Assembles new (bits ++ more)
+bits_kept a new bits more v old h e few part window whole long =
+    let was : a.part ≡ length bits % 8 = old.part in
+    let size : length (bits ++ more) ≡ length bits + length more = length-append bits more in
+    let same : octets_of (bits ++ more) ≡ octets_of bits = octets_of-few bits more (omega arith) in
+    record {
+      part = omega arith;
+      window = window_is a bits more v new.window old h e window;
+      whole = whole ∙ (old.whole ∙ ap (take 302) (sym same));
+      long = long ∙ (old.long ∙ ap (λ xs. nat_lt 302 (length xs)) (sym same));
+    }
+
 -- there is room for the octet
-pub octet_kept : (a new : Assembler) (bits eight : List Bool) (o x : ℕ) → Assembles a bits → length eight ≡ 8 → number eight ≡ o
-    → x ≡ (o * 256 + a.window) / 2 ^ (8 - a.part % 8) % 256 → new.part ≡ a.part → new.window ≡ o → length a.whole.items < 302
+pub octet_kept : (a new : Assembler) (bits eight : List Bool) (o x : ℕ) → Assembles a bits → length eight ≤ 8 → number eight ≡ o
+    → 8 ≤ a.part % 8 + length eight → x ≡ (o * 256 + a.window) / 2 ^ (8 - a.part % 8) % 256 → new.part ≡ a.part % 8 + length eight - 8
+    → new.window ≡ (o * 256 + a.window) / 2 ^ length eight % 256 → length a.whole.items < 302
     → new.whole.items ≡ a.whole.items ++ x ∷ [] → new.long ≡ a.long → Assembles new (bits ++ eight)
-octet_kept a new bits eight o x old h e is part window few whole long =
+octet_kept a new bits eight o x old h e fill is part window few whole long =
     let was : a.part ≡ length bits % 8 = old.part in
     let size : length (bits ++ eight) ≡ length bits + length eight = length-append bits eight in
+    let full : 8 ≤ length bits % 8 + length eight = omega arith in
     let more : octets_of (bits ++ eight) ≡ octets_of bits ++ x ∷ [] =
-    octets_of-eight bits eight h ∙ ap (λ w. octets_of bits ++ w ∷ []) (completed_is a bits eight o x old h e is) in
+    octets_of-eight bits eight h full ∙ ap (λ w. octets_of bits ++ w ∷ []) (completed_is a bits eight o x old full e is) in
     let kept : length (take 302 (octets_of bits)) < 302 = rw (← old.whole) few in
     let room : length (octets_of bits) < 302 = omega (arith, length-take 302 (octets_of bits)) in
     let count : length (octets_of bits ++ x ∷ []) ≡ length (octets_of bits) + 1 = length-append (octets_of bits) (x ∷ []) in
     record {
       part = omega arith;
-      window = window ∙ (sym e ∙ ap number (sym (recent_after false bits eight h)));
+      window = window_is a bits eight o new.window old h e window;
       whole =
           whole ∙ (ap (λ xs. xs ++ x ∷ []) (old.whole ∙ take_all 302 (octets_of bits) (omega arith)) ∙
           (sym more ∙ sym (take_all 302 (octets_of (bits ++ eight)) (rw more (omega arith)))));
@@ -106,20 +158,21 @@ octet_kept a new bits eight o x old h e is part window few whole long =
     }
 
 -- there is none
-pub octet_past : (a new : Assembler) (bits eight : List Bool) (o : ℕ) → Assembles a bits → length eight ≡ 8 → number eight ≡ o
-    → new.part ≡ a.part → new.window ≡ o → length a.whole.items ≡ 302 → new.whole.items ≡ a.whole.items → new.long ≡ true
-    → Assembles new (bits ++ eight)
-octet_past a new bits eight o old h e part window full whole long =
+pub octet_past : (a new : Assembler) (bits eight : List Bool) (o : ℕ) → Assembles a bits → length eight ≤ 8 → number eight ≡ o
+    → 8 ≤ a.part % 8 + length eight → new.part ≡ a.part % 8 + length eight - 8
+    → new.window ≡ (o * 256 + a.window) / 2 ^ length eight % 256 → length a.whole.items ≡ 302
+    → new.whole.items ≡ a.whole.items → new.long ≡ true → Assembles new (bits ++ eight)
+octet_past a new bits eight o old h e fill part window full whole long =
     let was : a.part ≡ length bits % 8 = old.part in
     let size : length (bits ++ eight) ≡ length bits + length eight = length-append bits eight in
     let last : ℕ = number (take 8 (drop (8 - length bits % 8) (recent false bits ++ eight))) in
-    let more : octets_of (bits ++ eight) ≡ octets_of bits ++ last ∷ [] = octets_of-eight bits eight h in
+    let more : octets_of (bits ++ eight) ≡ octets_of bits ++ last ∷ [] = octets_of-eight bits eight h (omega arith) in
     let kept : length (take 302 (octets_of bits)) ≡ 302 = sym (ap length old.whole) ∙ full in
     let room : 302 ≤ length (octets_of bits) = omega (arith, length-take 302 (octets_of bits)) in
     let count : length (octets_of bits ++ last ∷ []) ≡ length (octets_of bits) + 1 = length-append (octets_of bits) (last ∷ []) in
     record {
       part = omega arith;
-      window = window ∙ (sym e ∙ ap number (sym (recent_after false bits eight h)));
+      window = window_is a bits eight o new.window old h e window;
       whole = whole ∙ (old.whole ∙ (sym (take-append-le 302 (octets_of bits) (last ∷ []) room) ∙ ap (take 302) (sym more)));
       long = long ∙ (sym (lt-ltb 302 (length (octets_of bits ++ last ∷ [])) (omega arith)) ∙ ap (λ xs. nat_lt 302 (length xs)) (sym more));
     }

@@ -2,6 +2,8 @@
 use Rattle.std.proofs.Common.{◌≡◌, ℕ, zero, suc, ◌+◌, ◌-◌, ◌*◌, ◌/◌, ◌%◌, ◌^◌, ◌<◌, ◌≤◌, Bool, true, false, not, ◌&&◌, List, [], ◌∷◌, ◌++◌}
 use Rattle.std.proofs.Common.{length, take, drop, cond, min, refl, ap, sym, ◌∙◌, arith, nat_eq, bit_and, inl, inr, append_assoc, Option}
 use Rattle.std.proofs.Common.{Some, None}
+use Rattle.std.proofs.Common.{get_or}
+use Rattle.std.proofs.Math.Seq.{drop-cons}
 use Rattle.std.specs.Prelude.{is_some}
 use Rattle.std.proofs.lemmas.List.{append-nil, drop-append-le, length-append, take_at, take-append-drop, drop_all, length-take-le}
 use Rattle.std.specs.Int.{bit_at}
@@ -20,7 +22,7 @@ use Rattle.hdlc.specs.Gaps.{good, count_of}
 use Rattle.hdlc.specs.OpenGap.{begun, held, recent, unclosed, unclosed_after, at_flag, last_flag, held_after}
 use Rattle.hdlc.specs.Collects.{Collects}
 use Rattle.hdlc.specs.DeframerParts.{Cuts, PartsAfter}
-use Rattle.hdlc.specs.EightBits.{ends_no_flag}
+use Rattle.hdlc.specs.EightBits.{ends_no_flag, end_no_flag}
 use Rattle.hdlc.proofs.BitPlaces.{bits_of-one}
 use Rattle.hdlc.proofs.Flags.{length-recent, recent_long, last_flag_within}
 use Rattle.hdlc.proofs.UnstuffedLemmas.{number-recent, at_flag_is}
@@ -344,3 +346,18 @@ no_flag_is window octet small fits =
         let e7 : x / 64 / 2 ≡ x / 128 = omega arith in
         let e8 : x / 128 / 2 ≡ x / 256 = omega arith in
         rw (e2, e3, e4, e5, e6, e7, e8, and_true (differs (x / 256))) refl
+
+-- ---- octets one after the other
+
+pub full_whole : (b : Bool) → cond b 8 0 % 8 ≡ 0
+full_whole true = refl
+full_whole false = refl
+
+pub end_next : (octets : List ℕ) (i last : ℕ) → i < length octets → end_no_flag last (drop i octets)
+    ≡ (ends_no_flag last (bits_of LsbFirst (get_or octets i 0 ∷ [])) && end_no_flag (get_or octets i 0) (drop (i + 1) octets))
+end_next octets i last h =
+    let more : suc i ≡ i + 1 = omega arith in
+    ap (end_no_flag last) (drop-cons octets i 0 h ∙ ap (λ n. get_or octets i 0 ∷ drop n octets) more)
+
+pub end_none : (octets : List ℕ) (i last : ℕ) → length octets ≤ i → end_no_flag last (drop i octets) ≡ true
+end_none octets i last h = ap (end_no_flag last) (drop_all i octets h)

@@ -1,30 +1,47 @@
 -- Eight bits more of a stuffed text, with no 0 bit to put between them.
-use Rattle.std.proofs.Common.{◌≡◌, ℕ, suc, zero, ◌+◌, ◌-◌, ◌*◌, ◌/◌, ◌%◌, ◌^◌, ◌<◌, ◌≤◌, Bool, true, false, List, [], ◌∷◌, ◌++◌}
+use Rattle.std.proofs.Common.{◌≡◌, ℕ, suc, zero, ◌+◌, ◌-◌, ◌*◌, ◌/◌, ◌%◌, ◌^◌, ◌<◌, ◌≤◌, Bool, true, false, ◌&&◌, List, [], ◌∷◌, ◌++◌}
 use Rattle.std.proofs.Common.{cond, refl, ap, sym, ◌∙◌, arith, nat_eq, nat_lt, append_assoc, bit_and, bit_or, w8}
 use Rattle.std.specs.Int.{leading_ones}
+use lib.Count.{count_leading_zeros}
 use Rattle.std.proofs.lemmas.List.{append-nil}
-use Rattle.std.proofs.lemmas.Bool.{and_parts, and_left, ltb-true, le-ltb, agree_below_at}
+use Rattle.std.proofs.lemmas.Bool.{and_parts, and_left, ltb-true, le-ltb, eqb-true, agree_below_at}
 use Rattle.run_tables.specs.Texts.{begins}
 use Rattle.raster.specs.Packed.{bits_of}
 use Rattle.raster.specs.Words.{number_bits}
 use Rattle.raster.specs.declared.packed.Order.TheVariants.{LsbFirst}
 use Rattle.raster.proofs.OctetBits.{octet_bits}
 use Rattle.hdlc.specs.Writing.{IsWriting}
-use Rattle.hdlc.specs.EightBits.{has_no_stuffed, has_no_five, ones_at_end}
+use Rattle.hdlc.specs.EightBits.{has_no_five, ones_at_end}
 use Rattle.hdlc.proofs.BitPlaces.{bits_of-one}
 use Rattle.hdlc.proofs.UnstuffedLemmas.{begins_whole}
-use Rattle.hdlc.proofs.CollectingOctets.{fives, ends_is}
 use Rattle.hdlc.proofs.Written.{writes_plain}
 
 few_before : (count : ℕ) (more : List Bool) → has_no_five count more ≡ true → count < 5
 few_before count [] h = ltb-true count 5 h
 few_before count (b ∷ more) h = ltb-true count 5 (and_parts (nat_lt count 5) (has_no_five (cond b (1 + count) 0) more) h).0
 
-none_stuffed : (count : ℕ) (more : List Bool) → has_no_five count more ≡ true → has_no_stuffed count more ≡ true
-none_stuffed count [] h = refl
-none_stuffed count (b ∷ more) h =
-    let parts = and_parts (nat_lt count 5) (has_no_five (cond b (1 + count) 0) more) h in
-    rw parts.0 (none_stuffed (cond b (1 + count) 0) more parts.1)
+abbrev plain_of : ℕ → ℕ → Bool
+plain_of ones octet = has_no_five ones (octet_bits octet)
+
+-- where there are no five, the highest bits of the octet tell how many 1 bits end it
+abbrev end_of : ℕ → ℕ → Bool
+end_of ones octet = plain_of ones octet && nat_eq (leading_ones w8 octet) (ones_at_end ones (octet_bits octet))
+
+ends : (ones octet : ℕ) → ones < 5 → octet < 256 → end_of ones octet ≡ plain_of ones octet
+unfolding count_leading_zeros
+ends zero octet few small = agree_below_at (end_of 0) (plain_of 0) 256 octet refl small
+ends (suc zero) octet few small = agree_below_at (end_of 1) (plain_of 1) 256 octet refl small
+ends (suc (suc zero)) octet few small = agree_below_at (end_of 2) (plain_of 2) 256 octet refl small
+ends (suc (suc (suc zero))) octet few small = agree_below_at (end_of 3) (plain_of 3) 256 octet refl small
+ends (suc (suc (suc (suc zero)))) octet few small = agree_below_at (end_of 4) (plain_of 4) 256 octet refl small
+ends (suc (suc (suc (suc (suc n))))) octet few small = absurd (omega arith)
+
+ends_is : (ones octet : ℕ) → ones < 5 → octet < 256 → plain_of ones octet ≡ true
+    → leading_ones w8 octet ≡ ones_at_end ones (octet_bits octet)
+ends_is ones octet few small plain =
+    let both : end_of ones octet ≡ true = ends ones octet few small ∙ plain in
+    eqb-true (leading_ones w8 octet) (ones_at_end ones (octet_bits octet))
+    (and_parts (plain_of ones octet) (nat_eq (leading_ones w8 octet) (ones_at_end ones (octet_bits octet))) both).1
 
 writes_many : (all start bits more : List Bool) (count : ℕ) → IsWriting all start bits count → has_no_five count more ≡ true
     → IsWriting (all ++ more) start (bits ++ more) (ones_at_end count more)
@@ -48,17 +65,17 @@ writes_octet all new start bits count octet last small none is ends w =
     let plain : has_no_five count (octet_bits octet) ≡ true = ap (has_no_five count) (sym one) ∙ none in
     let few : count < 5 = few_before count (octet_bits octet) plain in
     let end : last ≡ ones_at_end count (octet_bits octet) =
-    ends ∙ ends_is count octet few small (none_stuffed count (octet_bits octet) plain) in
+    ends ∙ ends_is count octet few small plain in
     rw (is, one, end) (writes_many all start bits (octet_bits octet) count w plain)
 
 -- ---- the tests, by computing
 
 -- the 1 bits before an octet and the octet's bits after them: no five in a row begin
+abbrev fives : ℕ → ℕ
+fives bits = bit_and (bit_and (bit_and (bit_and bits (bits / 2)) (bits / 4)) (bits / 8)) (bits / 16)
+
 abbrev test_of : ℕ → ℕ → Bool
 test_of ones octet = nat_eq (fives (octet * 16 + (16 - 16 / 2 ^ ones))) 0
-
-abbrev plain_of : ℕ → ℕ → Bool
-plain_of ones octet = has_no_five ones (octet_bits octet)
 
 pub no_five_is : (ones octet : ℕ) → ones < 5 → octet < 256 → test_of ones octet ≡ plain_of ones octet
 no_five_is zero octet few small = agree_below_at (test_of 0) (plain_of 0) 256 octet refl small

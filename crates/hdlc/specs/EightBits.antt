@@ -1,5 +1,11 @@
 -- Eight bits that come at once: whether each of them may be taken as it is. The clauses of private functions name this.
-use Rattle.std.specs.Prelude.{ℕ, ◌+◌, ◌/◌, Bool, true, not, ◌&&◌, List, [], ◌∷◌, cond, nat_eq, nat_lt}
+use Rattle.std.specs.Prelude.{ℕ, ◌+◌, ◌/◌, ◌%◌, Bool, true, false, not, ◌&&◌, ◌||◌, List, [], ◌∷◌, ◌++◌}
+use Rattle.std.specs.Prelude.{cond, nat_eq, nat_lt, length, map, min}
+use Rattle.std.specs.Int.{bit_at}
+use Rattle.std.specs.List.{range_with_len}
+use Rattle.raster.specs.Octets.{number}
+use Rattle.raster.specs.Packed.{bits_of}
+use Rattle.raster.specs.declared.packed.Order.TheVariants.{LsbFirst}
 
 -- none of these bits, that come into a register of the last eight bits, ends a flag
 abbrev pub ends_no_flag : ℕ → List Bool → Bool
@@ -7,10 +13,36 @@ ends_no_flag window [] = true
 ends_no_flag window (b ∷ bits) =
     not (nat_eq (window / 2 + cond b 128 0) 126) && ends_no_flag (window / 2 + cond b 128 0) bits
 
--- none of these bits, that come after so many 1 bits in a row, is directly after five of them
-abbrev pub has_no_stuffed : ℕ → List Bool → Bool
-has_no_stuffed ones [] = true
-has_no_stuffed ones (b ∷ bits) = nat_lt ones 5 && has_no_stuffed (cond b (1 + ones) 0) bits
+-- the same of octets, that come after the last eight bits
+abbrev pub end_no_flag : ℕ → List ℕ → Bool
+end_no_flag window [] = true
+end_no_flag window (octet ∷ octets) = ends_no_flag window (bits_of LsbFirst (octet ∷ [])) && end_no_flag octet octets
+
+-- how many 1 bits in a row there are after one bit more, five where there are more
+abbrev pub run_after : ℕ → Bool → ℕ
+run_after ones b = cond b (min 5 (ones + 1)) 0
+
+-- these bits without the stuffed ones, that come after so many 1 bits in a row
+abbrev pub unstuffed_from : ℕ → List Bool → List Bool
+unstuffed_from ones [] = []
+unstuffed_from ones (b ∷ bits) = cond (nat_lt ones 5) (b ∷ []) [] ++ unstuffed_from (run_after ones b) bits
+
+-- one of these bits, that come after so many 1 bits in a row, is the sixth 1 bit in a row
+abbrev pub six_from : ℕ → List Bool → Bool
+six_from ones [] = false
+six_from ones (b ∷ bits) = (not (nat_lt ones 5) && b) || six_from (run_after ones b) bits
+
+-- the unstuffed bits of an octet, by the 1 bits in a row before it, none to five, and the octet
+abbrev pub unstuffed_at : ℕ → List Bool
+unstuffed_at place = unstuffed_from (place / 256) (map (λ bit. nat_eq (bit_at (place % 256) bit) 1) (range_with_len 0 8))
+
+-- how many they are
+abbrev pub kept_counts : List ℕ
+kept_counts = map (λ place. length (unstuffed_at place)) (range_with_len 0 1536)
+
+-- the numbers that they are
+abbrev pub unstuffed_numbers : List ℕ
+unstuffed_numbers = map (λ place. number (unstuffed_at place)) (range_with_len 0 1536)
 
 -- there are never five 1 bits in a row, with these bits after so many
 abbrev pub has_no_five : ℕ → List Bool → Bool

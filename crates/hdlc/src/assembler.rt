@@ -1,9 +1,8 @@
 //! Bits put together to octets.
 
 ghost use Rattle.hdlc.specs.Assembles.{Assembles};
-ghost use Rattle.raster.specs.Packed.{bits_of};
-ghost use Rattle.raster.specs.declared.packed.Order.TheVariants.{LsbFirst};
-ghost use Rattle.std.specs.Prelude.{◌≡◌, ◌+◌, ◌/◌, ◌++◌, ◌∷◌, [], List, Bool, cond};
+ghost use Rattle.raster.specs.Octets.{number};
+ghost use Rattle.std.specs.Prelude.{◌≡◌, ◌≤◌, ◌+◌, ◌/◌, ◌++◌, ◌∷◌, [], List, Bool, cond, length};
 
 use arrayvec::ArrayVec;
 
@@ -77,17 +76,24 @@ impl Assembler {
         self.whole.push(self.window);
     }
 
-    /// The eight bits of an octet more, the least significant first.
-    pub fn push_octet(&mut self, octet: u8)
-        ensures { (bits : List Bool) → Assembles self.old bits → Assembles self.new (bits ++ bits_of LsbFirst (octet ∷ [])) }
+    /// Up to eight bits more: so many of a number's, the least significant first.
+    pub fn push_bits(&mut self, value: u8, count: u8)
+        requires { count ≤ 8 }
+        ensures { (bits more : List Bool) → length more ≡ count → number more ≡ value
+            → Assembles self.old bits → Assembles self.new (bits ++ more) }
     {
-        let both = u16::from(octet) * 256 + u16::from(self.window);
-        let whole = ((both >> (8 - self.part % 8)) % 256) as u8;
-        self.window = octet;
+        let part = self.part % 8;
+        let both = u16::from(value) * 256 + u16::from(self.window);
+        self.window = ((both >> count) % 256) as u8;
+        if part + count < 8 {
+            self.part = part + count;
+            return;
+        }
+        self.part = part + count - 8;
         if self.whole.is_full() {
             self.long = true;
             return;
         }
-        self.whole.push(whole);
+        self.whole.push(((both >> (8 - part)) % 256) as u8);
     }
 }

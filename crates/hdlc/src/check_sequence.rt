@@ -6,7 +6,6 @@ ghost use Rattle.std.specs.Prelude.{◌≡◌};
 
 use crate::remainders::REMAINDERS;
 
-
 /// What registers whose high octet is 0 become with eight 0 bits more.
 fn remainders() -> &'static [u16]
     ensures { result.now ≡ remainders }

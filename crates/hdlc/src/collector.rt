@@ -1,7 +1,6 @@
 //! The bits of one gap, as they come.
 
 ghost use Rattle.hdlc.specs.Collects.{Collects};
-ghost use Rattle.hdlc.specs.EightBits.{has_no_stuffed};
 ghost use Rattle.raster.specs.Packed.{bits_of, bit_in};
 ghost use Rattle.raster.specs.declared.packed.Order.TheVariants.{LsbFirst};
 ghost use Rattle.hdlc.specs.Gaps.{class_of, checks, content};
@@ -11,6 +10,7 @@ ghost use Rattle.std.specs.Prelude.{◌≡◌, ◌<◌, ◌≤◌, ◌+◌, ◌+
 use crate::assembler::Assembler;
 use crate::check_sequence::fcs;
 use crate::counts::Class;
+use crate::unstuffing::unstuffed;
 use byteorder::{ByteOrder, LittleEndian};
 
 /// Whether the last two octets are the check sequence of the others, its low octet first.
@@ -31,17 +31,6 @@ fn ones_after(ones: u8, bit: bool) -> u8
     } else {
         0
     }
-}
-
-/// Whether no bit of an octet is stuffed, after so many 1 bits in a row.
-fn has_no_stuffed(ones: u8, octet: u8) -> bool
-    ensures { result ≡ has_no_stuffed ones (bits_of LsbFirst (octet ∷ [])) }
-{
-    if ones >= 5 {
-        return false;
-    }
-    let bits = u16::from(octet) * 32 + (32 - (32 >> ones));
-    (bits & (bits >> 1) & (bits >> 2) & (bits >> 3) & (bits >> 4)) % 256 == 0
 }
 
 /// The bit at a place of an octet, from the least significant.
@@ -104,26 +93,19 @@ impl Collector {
         self.unstuffed.push(bit);
     }
 
-    /// The eight bits of an octet more, the least significant first, bit by bit.
-    fn push_each(&mut self, octet: u8)
-        ensures { (gap : List Bool) → Collects self.old gap → Collects self.new (gap ++ bits_of LsbFirst (octet ∷ [])) }
-    {
-        for place in 0..8 {
-            self.push(bit_at(octet, place));
-        }
-    }
-
     /// The eight bits of an octet more, the least significant first.
     pub fn push_octet(&mut self, octet: u8)
         ensures { (gap : List Bool) → Collects self.old gap → Collects self.new (gap ++ bits_of LsbFirst (octet ∷ [])) }
     {
-        if !has_no_stuffed(self.ones, octet) {
-            self.push_each(octet);
+        let (value, count) = unstuffed(self.ones.min(5), octet);
+        self.seen = 8;
+        self.ones = octet.leading_ones().min(6) as u8;
+        if count == 8 {
+            self.unstuffed.push_bits(octet, 8);
             return;
         }
-        self.seen = 8;
-        self.ones = octet.leading_ones() as u8;
-        self.unstuffed.push_octet(octet);
+        self.aborted |= value.count_ones() < octet.count_ones(); // a stuffed 1 bit is the sixth
+        self.unstuffed.push_bits(value, count);
     }
 
     /// The class of the gap, if it ends here.

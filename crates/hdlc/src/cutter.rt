@@ -7,10 +7,11 @@ ghost use Rattle.hdlc.specs.Contents.{contents_of};
 ghost use Rattle.hdlc.specs.Gaps.{class_of, is_class, content};
 ghost use Rattle.hdlc.specs.OpenGap.{settled};
 ghost use Rattle.hdlc.specs.DeframerParts.{Cuts, PartsAfter, Grows, count_in};
-ghost use Rattle.hdlc.specs.EightBits.{ends_no_flag, repeated};
+ghost use Rattle.hdlc.specs.EightBits.{ends_no_flag, end_no_flag, repeated};
 ghost use Rattle.hdlc.specs.declared.counts.Class.{Class as AnyClass};
 ghost use Rattle.hdlc.specs.declared.counts.Counts.{Counts as AnyCounts};
-ghost use Rattle.std.specs.Prelude.{ℕ, ◌≡◌, ◌+◌, ◌/◌, ◌%◌, ◌≤◌, ◌++◌, ◌∷◌, ◌&&◌, [], List, Bool, true, false, cond, min, nat_lt, length, OnOk};
+ghost use Rattle.std.specs.Prelude.{ℕ, ◌≡◌, ◌+◌, ◌/◌, ◌%◌, ◌≤◌, ◌++◌, ◌∷◌, ◌&&◌, []};
+ghost use Rattle.std.specs.Prelude.{List, Bool, true, false, cond, min, nat_lt, length, OnOk};
 
 use crate::assembler::shifted;
 use crate::collector::{Collector, bit_at};
@@ -70,6 +71,20 @@ fn ends_no_flag(window: u8, octet: u8) -> bool
         & (both / 64 % 256 != 0x7E)
         & (both / 128 % 256 != 0x7E)
         & (both / 256 % 256 != 0x7E)
+}
+
+/// Whether no bit of octets, after these last eight bits, ends a flag.
+fn end_no_flag(window: u8, octets: &[u8]) -> bool
+    ensures { result ≡ end_no_flag window octets.now }
+{
+    let mut last = window;
+    for octet in octets {
+        if !ends_no_flag(last, *octet) {
+            return false;
+        }
+        last = *octet;
+    }
+    true
 }
 
 /// Eight where a flag has come, else none.
@@ -142,7 +157,9 @@ impl Cutter {
     fn take_quiet(&mut self, octet: u8)
         requires whole { self.old.held % 8 ≡ 0 }
         requires quiet { ends_no_flag self.old.window (bits_of LsbFirst (octet ∷ [])) ≡ true }
-        ensures { (bits : List Bool) → Cuts self.old bits → Cuts self.new (bits ++ bits_of LsbFirst (octet ∷ [])) }
+        ensures whole { self.new.held % 8 ≡ 0 }
+        ensures window { self.new.window ≡ octet }
+        ensures cuts { (bits : List Bool) → Cuts self.old bits → Cuts self.new (bits ++ bits_of LsbFirst (octet ∷ [])) }
     {
         if self.held == 8 {
             self.gap.push_octet(self.window);
@@ -169,9 +186,22 @@ impl Cutter {
         true
     }
 
+    /// Takes octets none of whose bits ends a flag, where none or all of the last eight bits came after
+    /// the last flag.
+    fn take_quiet_octets(&mut self, octets: &[u8])
+        requires whole { self.old.held % 8 ≡ 0 }
+        requires quiet { end_no_flag self.old.window octets.now ≡ true }
+        ensures { (counts : AnyCounts) (queue : List (List ℕ)) (bits : List Bool) (handed : ℕ)
+            → PartsAfter self.old counts queue bits handed → PartsAfter self.new counts queue (bits ++ bits_of LsbFirst octets.now) handed }
+    {
+        for octet in octets {
+            self.take_quiet(*octet);
+        }
+    }
+
     /// Takes an octet that ends no flag or repeats flags, which changes no count and brings no
     /// content, and answers whether it did; else nothing is changed.
-    pub fn take_at_once(&mut self, octet: u8) -> bool
+    fn take_at_once(&mut self, octet: u8) -> bool
         ensures taken { result ≡ true → (counts : AnyCounts) (queue : List (List ℕ)) (bits : List Bool) (handed : ℕ)
             → PartsAfter self.old counts queue bits handed
             → PartsAfter self.new counts queue (bits ++ bits_of LsbFirst (octet ∷ [])) handed }
@@ -187,6 +217,51 @@ impl Cutter {
             return false;
         }
         self.take_unless_flag(octet)
+    }
+
+    /// Takes octets none of whose bits ends a flag, and answers whether it did; else nothing is changed.
+    fn take_unless_flags(&mut self, octets: &[u8]) -> bool
+        ensures taken { result ≡ true → (counts : AnyCounts) (queue : List (List ℕ)) (bits : List Bool) (handed : ℕ)
+            → PartsAfter self.old counts queue bits handed
+            → PartsAfter self.new counts queue (bits ++ bits_of LsbFirst octets.now) handed }
+        ensures left { result ≡ false → self.new ≡ self.old }
+    {
+        if self.held % 8 != 0 {
+            return false;
+        }
+        if !end_no_flag(self.window, octets) {
+            return false;
+        }
+        self.take_quiet_octets(octets);
+        true
+    }
+
+    /// Takes a piece of one octet that changes no count and brings no content, and answers whether it
+    /// did; else nothing is changed.
+    fn take_one(&mut self, piece: &[u8]) -> bool
+        ensures taken { result ≡ true → (counts : AnyCounts) (queue : List (List ℕ)) (bits : List Bool) (handed : ℕ)
+            → PartsAfter self.old counts queue bits handed
+            → PartsAfter self.new counts queue (bits ++ bits_of LsbFirst piece.now) handed }
+        ensures left { result ≡ false → self.new ≡ self.old }
+    {
+        let [octet] = piece else {
+            return false;
+        };
+        self.take_at_once(*octet)
+    }
+
+    /// Takes a piece that changes no count and brings no content, and answers whether it did; else
+    /// nothing is changed.
+    pub fn take_piece(&mut self, piece: &[u8]) -> bool
+        ensures taken { result ≡ true → (counts : AnyCounts) (queue : List (List ℕ)) (bits : List Bool) (handed : ℕ)
+            → PartsAfter self.old counts queue bits handed
+            → PartsAfter self.new counts queue (bits ++ bits_of LsbFirst piece.now) handed }
+        ensures left { result ≡ false → self.new ≡ self.old }
+    {
+        if self.take_one(piece) {
+            return true;
+        }
+        self.take_unless_flags(piece)
     }
 }
 

@@ -17,7 +17,6 @@ use std::alloc::{AllocError, Global};
 use std::collections::VecDeque;
 use std::marker::Model;
 
-
 /// Finds frames in bits that come in any pieces, and hands out the contents of the good ones, the
 /// oldest first (ISO/IEC 13239, frame structure). What it gives depends on all bits together alone,
 /// not on where the pieces are cut.
@@ -55,17 +54,13 @@ impl Deframer {
         }
     }
 
-    /// Takes a piece of one octet that needs no memory, and answers whether it did; else nothing is
-    /// changed.
-    fn take_one(&mut self, piece: &[u8]) -> bool
+    /// Takes a piece that needs no memory, and answers whether it did; else nothing is changed.
+    fn take_in_place(&mut self, piece: &[u8]) -> bool
         ensures taken { result ≡ true → (bits : List Bool) (handed : ℕ) → IsAfter self.old bits handed
             → IsAfter self.new (bits ++ bits_of LsbFirst piece.now) handed }
         ensures left { result ≡ false → self.new ≡ self.old }
     {
-        let [octet] = piece else {
-            return false;
-        };
-        self.cutter.take_at_once(*octet)
+        self.cutter.take_piece(piece)
     }
 
     /// Takes a piece of any octets.
@@ -101,7 +96,7 @@ impl Deframer {
             → IsAfter self.new (bits ++ bits_of LsbFirst piece.now) handed) }
         ensures err { OnErr result (self.new ≡ self.old) }
     {
-        if self.take_one(piece) {
+        if self.take_in_place(piece) {
             return Ok(());
         }
         self.take_all(piece)

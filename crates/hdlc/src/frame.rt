@@ -16,7 +16,6 @@ use byteorder::{ByteOrder, LittleEndian};
 use run_tables::BitWriter;
 use std::alloc::AllocError;
 
-
 /// Writes one bit of the text between two flags, after so many 1 bits in a row, and a 0 bit after
 /// the fifth 1 bit. Answers how many 1 bits in a row then end the text.
 fn write_bit(writer: &mut BitWriter, ones: u8, bit: bool) -> Result<u8, AllocError>

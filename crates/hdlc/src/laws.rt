@@ -1,6 +1,7 @@
 //! Laws of flags, gaps and frames: calls that do nothing, whose contracts are the laws.
 
-ghost use Rattle.hdlc.specs.Laws.{FlagsStand, FlagForgets, GoodContentsStay, FrameGrows, FrameOctetsGrow, OneFrame, NextWaits, NextStands, NewIsIdle, FrameIsHeard};
+ghost use Rattle.hdlc.specs.Laws.{FlagsStand, FlagForgets, GoodContentsStay, FrameGrows, FrameOctetsGrow, OneFrame};
+ghost use Rattle.hdlc.specs.Laws.{NextWaits, NextStands, NewIsIdle, FrameIsHeard};
 ghost use Rattle.hdlc.specs.Examples.{AreExamples};
 
 /// The flags of bits are exactly the places where there is a flag.

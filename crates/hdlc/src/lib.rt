@@ -12,6 +12,7 @@ mod deframer;
 mod frame;
 pub mod laws;
 mod remainders;
+mod unstuffing;
 
 pub use crate::check_sequence::fcs;
 pub use crate::counts::{Class, Counts};

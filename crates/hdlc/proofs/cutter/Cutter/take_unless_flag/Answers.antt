@@ -10,4 +10,4 @@ returns-clause-taken c e counts queue bits handed old =
     let quiet : ends_no_flag c.args.self.now.window (bits_of LsbFirst (c.args.octet ∷ [])) ≡ true =
     sym c.ends_no_flag.ensures ∙ c.if-not-ends_no_flag.false in
     parts_quiet c.args.self.now _ counts queue bits (bits_of LsbFirst (c.args.octet ∷ [])) handed old quiet
-    (c.take_quiet.ensures bits old.cuts)
+    (c.take_quiet.ensures.cuts bits old.cuts)
