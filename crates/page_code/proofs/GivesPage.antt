@@ -25,12 +25,6 @@ memory_or Extension P other = inr (other (λ e. cc))
 memory_or MissingEofb P other = inr (other (λ e. cc))
 memory_or TooManyCodedRows P other = inr (other (λ e. cc))
 
--- what is refused further on is refused
-pub still_refused : {Answer : Type 0} (first later : Result Answer (ℕ × CodeFaultKind)) (fault : CodeFault) → first ≡ later
-    → (fault.kind ≡ NoMemory) ⊎ (later ≡ Err (fault.place, fault.kind)) → (fault.kind ≡ NoMemory) ⊎ (first ≡ Err (fault.place, fault.kind))
-still_refused first later fault on (inl memory) = inl memory
-still_refused first later fault on (inr e) = inr (on ∙ e)
-
 -- a refusal as the whole call answers it
 pub gives_begun : (outcome : Result (List (List Color) × ℕ) (ℕ
     × CodeFaultKind)) (width start : ℕ) (fine : Bool) (fault answer : CodeFault) → BegunAt start fault answer

@@ -1,6 +1,6 @@
 -- A reader of a page that comes in pieces: what it keeps holds when octets follow, and what it answers at the end.
 use Rattle.std.proofs.Common.{ℕ, ◌≡◌, ◌≢◌, ◌≤◌, ◌<◌, Bool, List, [], ◌++◌, length, inl, inr, refl, ap, sym, ◌∙◌, subst, arith, append_assoc}
-use Rattle.std.specs.Prelude.{Result, Ok, Err, IfOk, IfErr}
+use Rattle.std.specs.Prelude.{Result, IfOk, IfErr}
 use Rattle.std.proofs.lemmas.Bool.{cases_eq}
 use Rattle.raster.specs.declared.packed.Order.{Order}
 use Rattle.raster.specs.declared.row.Color.{Color}
@@ -16,7 +16,7 @@ use Rattle.page_code.specs.declared.page.Progress.{Progress}
 use Rattle.page_code.specs.Codings.{IsLongestIn, ReadsIn, read_rows}
 use Rattle.page_code.specs.PageCodes.{GivesPage, GivesRows, IsOnlyAnswer, ReadsPage, RefusesPage}
 use Rattle.page_code.specs.declared.coding.Coding.TheVariants.{OneDim, T6}
-use Rattle.page_code.specs.RowsSoFar.{AreRowsSoFar, AreWholeRows, BeginWith, IsFurther, IsReadTo, ReadsOn, RowsStay, after_rows, between_rows}
+use Rattle.page_code.specs.RowsSoFar.{AreRowsSoFar, AreWholeRows, BeginWith, IsFurther, IsReadTo, RowsStay, after_rows, between_rows}
 use Rattle.page_code.specs.PageReaders.{PageReading, StandsFor, GoesOnTo, IsLike, StandsAsBefore}
 use Rattle.page_code.specs.OneDimension.Fronts.{item_word, Step}
 use Rattle.page_code.specs.OneDimension.Fronts.PageState.{first}
@@ -166,19 +166,6 @@ module _ (coding : Coding) (order : Order) (old : Progress) (count : ℕ) (now :
 
   pub wide_now : IsWidth old.page.width → IsWidth now.page.width
   wide_now wide = subst (λ (r : PageReading). IsWidth r.page.width) view wide
-
--- what a page that is read on gives
-pub gives_ok : (coding : Coding) (bits : List Bool) (old new : Progress) (used : ℕ) → ReadsOn coding bits old new (Ok used)
-    → (new.page.width ≡ old.page.width) × (new.page.fine ≡ old.page.fine) × (read_rows coding old.page.width bits ≡ Ok (
-      new.page.rows,
-      used,
-    ))
-gives_ok coding bits old new used on = (on.0.width, on.0.fine, ap (λ w. read_rows coding w bits) (sym on.0.width) ∙ on.1)
-
-pub gives_err : (coding : Coding) (bits : List Bool) (old new : Progress) (fault : CodeFault) → ReadsOn coding bits old new (Err fault)
-    → GivesPage (read_rows coding old.page.width bits) old.page.width old.page.fine (Err fault)
-gives_err coding bits old new fault (inl memory) = inl memory
-gives_err coding bits old new fault (inr on) = inr (ap (λ w. read_rows coding w bits) (sym on.0.width) ∙ on.1)
 
 module _ (coding : Coding) (width : ℕ) (fine : Bool) (bits : List Bool) (result : Result (PagePixels × ℕ) CodeFault) (wide : IsWidth width)
     (gives : GivesPage (read_rows coding width bits) width fine result) where

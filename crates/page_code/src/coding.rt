@@ -40,7 +40,8 @@ impl Coding {
     ) -> Result<(), AllocError>
         requires { 0 < length page.now.rows }
         ensures ok { OnOk result (AppendsCode order (code_of self page.now.width page.now.rows) out.old.items out.new.items) }
-        ensures octets { OnOk result (order ≡ Order.LsbFirst → out.new.items ≡ out.old.items ++ packed (code_of self page.now.width page.now.rows)) }
+        ensures octets { OnOk result (order ≡ Order.LsbFirst
+            → out.new.items ≡ out.old.items ++ packed (code_of self page.now.width page.now.rows)) }
         ensures err { OnErr result (out.new.items ≡ out.old.items) }
     {
         match self {
@@ -64,7 +65,8 @@ impl Coding {
         requires { IsWidth width }
         ensures reads { IfOk result (λ read. ReadsPage (ReadsIn self) width fine (bits_of order octets.now) read.0 read.1) }
         ensures only { IsOnlyAnswer (ReadsIn self) width (bits_of order octets.now) result }
-        ensures refuses { IfErr result (λ fault. fault.kind ≢ NoMemory → RefusesPage (ReadsIn self) (IsLongestIn self) width (bits_of order octets.now) fault) }
+        ensures refuses { IfErr result (λ fault. fault.kind ≢ NoMemory
+            → RefusesPage (ReadsIn self) (IsLongestIn self) width (bits_of order octets.now) fault) }
         ensures gives { GivesRows (read_rows self width (bits_of order octets.now)) result }
         ensures memory { IfErr result (λ fault. fault.kind ≡ NoMemory → fault.place ≡ 0) }
     {

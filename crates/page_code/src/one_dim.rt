@@ -15,7 +15,7 @@ mod eol;
 
 use crate::coding::{Coding, PageCode};
 use crate::one_dim::eol::{Eol, after_five_eols, eol_at};
-use crate::page::{Progress, push_row};
+use crate::page::{Progress, append_octets, push_row};
 use raster::packed::Order;
 use raster::{MAX_ROWS, Page, Row};
 use run_tables::{BitReader, BitWriter, CodeFault, CodeFaultKind};
@@ -178,7 +178,7 @@ impl PageCode for OneDim {
         let mut bits = BitWriter::new(alloc, order);
         write_rows(alloc, page.rows(), &mut bits)?;
         write_rtc(&mut bits)?;
-        out.extend_from_slice(&bits.into_octets())
+        append_octets(out, bits.into_octets())
     }
 
     fn decode(

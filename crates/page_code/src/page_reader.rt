@@ -54,7 +54,13 @@ impl Model for PageReader {
 
     ghost Value = { PageReading };
 
-    ghost view = { λ reader. record { coding = reader.coding; order = reader.order; page = reader.progress.page; place = reader.progress.place; count = reader.count } };
+    ghost view = { λ reader. record {
+      coding = reader.coding;
+      order = reader.order;
+      page = reader.progress.page;
+      place = reader.progress.place;
+      count = reader.count;
+    } };
 
     ghost invariant = { λ reader. IsWidth reader.progress.page.width };
 }
@@ -76,7 +82,8 @@ fn read_further(
 ) -> Result<(), AllocError>
     requires width { IsWidth to.old.page.width }
     requires read { IsReadTo coding to.old.page.width (bits_of order octets.now) to.old.page.rows to.old.place }
-    ensures { OnOk result (IsFurther coding (bits_of order octets.now) to.old to.new × AreRowsSoFar coding to.new.page.width (bits_of order octets.now) (length to.new.page.rows)) }
+    ensures { OnOk result (IsFurther coding (bits_of order octets.now) to.old to.new
+        × AreRowsSoFar coding to.new.page.width (bits_of order octets.now) (length to.new.page.rows)) }
 {
     match read_rows_on(alloc, coding, octets, order, to) {
         Ok(_) => Ok(()),
@@ -180,9 +187,12 @@ impl PageReader {
         ensures like { IsLike self.old self.new }
         ensures ok { OnOk result (StandsFor self.new []) }
         ensures err { OnErr result (StandsAsBefore self.old self.new) }
-        ensures reads { IfOk result (λ read. ReadsPage (ReadsIn self.old.coding) self.old.page.width self.old.page.fine (bits_of self.old.order all.now) read.0 read.1) }
+        ensures reads { IfOk result (λ read. ReadsPage (ReadsIn self.old.coding) self.old.page.width self.old.page.fine
+            (bits_of self.old.order all.now) read.0 read.1) }
         ensures only { IsOnlyAnswer (ReadsIn self.old.coding) self.old.page.width (bits_of self.old.order all.now) result }
-        ensures refuses { IfErr result (λ fault. fault.kind ≢ NoMemory → RefusesPage (ReadsIn self.old.coding) (IsLongestIn self.old.coding) self.old.page.width (bits_of self.old.order all.now) fault) }
+        ensures refuses { IfErr result (λ fault. fault.kind ≢ NoMemory
+            → RefusesPage (ReadsIn self.old.coding) (IsLongestIn self.old.coding) self.old.page.width
+            (bits_of self.old.order all.now) fault) }
         ensures gives { GivesRows (read_rows self.old.coding self.old.page.width (bits_of self.old.order all.now)) result }
         ensures memory { IfErr result (λ fault. fault.kind ≡ NoMemory → fault.place ≡ 0) }
     {
@@ -202,7 +212,8 @@ impl PageReader {
     /// How many whole rows the bits of the octets spell that the reader stands for, one after the other
     /// from the beginning: 0 to 20,000. Takes no memory.
     pub fn rows(&self) -> u32
-        ensures { (octets : List ℕ) → StandsFor self.now octets → AreRowsSoFar self.now.coding self.now.page.width (bits_of self.now.order octets) result }
+        ensures { (octets : List ℕ) → StandsFor self.now octets
+            → AreRowsSoFar self.now.coding self.now.page.width (bits_of self.now.order octets) result }
     {
         self.count
     }

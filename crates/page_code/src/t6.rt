@@ -14,7 +14,7 @@ pub(crate) mod read;
 mod write;
 
 use crate::coding::PageCode;
-use crate::page::Progress;
+use crate::page::{Progress, append_octets};
 use crate::t6::read::read_on;
 use crate::t6::write::write_page;
 use raster::Page;
@@ -66,7 +66,7 @@ impl PageCode for T6 {
     ) -> Result<(), AllocError> {
         let mut bits = BitWriter::new(alloc, order);
         write_page(alloc, &mut bits, page)?;
-        out.extend_from_slice(&bits.into_octets())
+        append_octets(out, bits.into_octets())
     }
 
     fn decode(

@@ -16,3 +16,4 @@ pub mod RowReadings
 pub mod RowReads
 mod RowWorkedRows
 pub mod CodeLaws
+pub mod RowWriting

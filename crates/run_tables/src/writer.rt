@@ -1,30 +1,27 @@
 //! Writing of bits, and of runs and rows by their code words (ITU-T T.4, 4.1.1 and 4.1.2).
 
+ghost use Rattle.raster.specs.Changes.{IsNextChange};
 ghost use Rattle.raster.specs.Packed.{FillsOctets};
-ghost use Rattle.raster.specs.Runs.{AreOwnRuns};
 ghost use Rattle.raster.specs.Words.{number_bits};
 ghost use Rattle.run_tables.specs.Codes.{run_words, text};
-ghost use Rattle.run_tables.specs.RunWords.{runs_words};
 ghost use Rattle.run_tables.specs.Written.{Appends, AppendsRow, eol};
-ghost use Rattle.std.specs.Prelude.{◌≡◌, ◌≤◌, ◌++◌, ◌∷◌, [], All, length, replicate, take, IfOk, OnOk, OnErr};
+ghost use Rattle.std.specs.Prelude.{◌≡◌, ◌≤◌, ◌<◌, ◌+◌, ◌++◌, ◌∷◌, [], length, replicate, take, OnOk, OnErr};
 
 use crate::write_table::run_word;
 use raster::packed::{Order, PackedBits};
-use raster::{Color, RasterFault, Row};
+use raster::{Color, Row};
 use std::alloc::{AllocError, Global};
 use std::marker::Model;
 
-/// The row's own runs, white first. Errs where memory is refused.
-fn own_runs(alloc: Global, row: &Row) -> Result<Vec<u32>, AllocError>
-    ensures { IfOk result (λ runs. AreOwnRuns row.now runs.items × All (λ run. run ≤ 2623) runs.items) }
+/// The end of the run that begins at a place: the next changing position.
+fn end_of_run(row: &Row, at: u32) -> u32
+    requires { at < length row.now }
+    ensures next { IsNextChange row.now (at + 1) result }
+    ensures above { at < result }
+    ensures within { result ≤ length row.now }
 {
-    let _width = row.width(); // tells the proof that no run is above 2,432
-    let mut runs = Vec::new(alloc);
-    match row.runs(alloc, &mut runs) {
-        Ok(()) => Ok(runs),
-        Err(RasterFault::NoMemory) => Err(AllocError),
-        Err(_) => unreachable!(),
-    }
+    let _width = row.width(); // tells the proof that it is at most 2,432
+    row.next_change(at + 1)
 }
 
 /// A list of bits that grows at its end, and the order in which octets are to hold them.
@@ -137,31 +134,26 @@ impl BitWriter {
         self.push_bits(1, 12)
     }
 
-    /// Appends the code words of alternating runs, white first. Errs where memory is refused, which
-    /// changes nothing.
-    fn write_runs(&mut self, runs: &[u32]) -> Result<(), AllocError>
-        requires { All (λ run. run ≤ 2623) runs.now }
-        ensures ok { OnOk result (Appends (runs_words Color.White runs.now) self.old self.new) }
-        ensures err { OnErr result (self.new ≡ self.old) }
-    {
-        let start = self.bits();
-        let mut color = Color::White;
-        for run in runs {
-            if let Err(refused) = self.write_run(color, *run) {
-                self.truncate(start);
-                return Err(refused);
-            }
-            color = color.other();
-        }
-        Ok(())
-    }
-
     /// Appends the code words of the row's own runs, white first (ITU-T T.4, 4.1.1). Errs where memory
     /// is refused, which changes nothing.
-    pub fn write_row_1d(&mut self, alloc: Global, row: &Row) -> Result<(), AllocError>
+    pub fn write_row_1d(&mut self, _alloc: Global, row: &Row) -> Result<(), AllocError>
         ensures ok { OnOk result (AppendsRow row.now self.old self.new) }
         ensures err { OnErr result (self.new ≡ self.old) }
     {
-        self.write_runs(&own_runs(alloc, row)?)
+        let start = self.bits();
+        let width = row.width();
+        let mut color = Color::White;
+        let mut at = row.next_change(0);
+        self.write_run(color, at)?;
+        while at < width {
+            color = color.other();
+            let end = end_of_run(row, at);
+            if let Err(refused) = self.write_run(color, end - at) {
+                self.truncate(start);
+                return Err(refused);
+            }
+            at = end;
+        }
+        Ok(())
     }
 }

@@ -1,5 +1,5 @@
 -- A row inside a page: what is read of it by itself is read of it there.
-use Rattle.std.proofs.Common.{ltb, ℕ, ◌≡◌, ◌+◌, ◌<◌, ◌≤◌, Bool, List, [], ◌∷◌, ◌++◌, length, map, None, refl, ap, sym, ◌∙◌, arith, cond}
+use Rattle.std.proofs.Common.{ltb, ℕ, ◌≡◌, ◌+◌, ◌<◌, ◌≤◌, Bool, List, [], ◌∷◌, ◌++◌, length, map, None, refl, ap, ◌∙◌, cond}
 use Rattle.std.specs.Prelude.{Ok, Err}
 use Rattle.std.proofs.lemmas.Bool.{lt-ltb}
 use Rattle.raster.specs.declared.row.Color.{Color}
@@ -12,8 +12,7 @@ use Rattle.run_tables.specs.RunWords.{SpellsRow}
 use Rattle.run_tables.specs.RowFronts.{RunItem, RowState, row_begin}
 use Rattle.run_tables.specs.RowFronts.{item_word as code_bits, Step as RowStep, look as row_look}
 use Rattle.run_tables.specs.RowFronts.RowState.{inside, whole}
-use Rattle.run_tables.specs.RowLaws.{IsLongestFront as IsLongestRowFront}
-use Rattle.run_tables.proofs.FrontWalks.{Way, read_go, read_walk, read_seen, read_same}
+use Rattle.run_tables.proofs.FrontWalks.{Way, read_walk, read_seen}
 use Rattle.run_tables.proofs.CodeLooks.{step_put, refuse_put}
 use Rattle.run_tables.proofs.RowWays.{row_way}
 use Rattle.page_code.specs.OneDimension.Fronts.{PageItem, item_word, PageState, put, CodeThere, Step, bits_of_five, ends_with, look_in_row}
@@ -21,12 +20,6 @@ use Rattle.page_code.specs.OneDimension.Fronts.{look, reading, MayBegin, CodeBeg
 use Rattle.page_code.specs.OneDimension.Fronts.PageItem.{eol, coded}
 use Rattle.page_code.specs.OneDimension.Fronts.PageState.{first, row_start, in_row, row_end}
 use Rattle.page_code.proofs.OneDimension.Look.{finds, by_eol_other}
-
--- an item is read
-pub reading_go : (width : ℕ) (s t : PageState) (i : PageItem) (place : ℕ) (rest : List Bool) → Step width s i t
-    → reading width s place (item_word i ++ rest) ≡ reading width t (place + length (item_word i)) rest
-unfolding reading
-reading_go width s t i place rest step = read_go item_word (Step width) (look width) BadCode (finds width) s t i place rest step
 
 -- items are read
 pub reading_walk : (width : ℕ) (items : List PageItem) (s t : PageState) (place : ℕ) (rest : List Bool) → Walk (Step width) s items t
@@ -45,12 +38,6 @@ pub reading_refuse : (width : ℕ) (s : PageState) (place : ℕ) (x : List Bool)
     → reading width s place x ≡ Err (place, kind)
 unfolding reading
 reading_refuse width s place x kind e = read_seen item_word (look width) BadCode s place x (refuse kind) e
-
--- states that see the same read the same
-pub reading_same : (width : ℕ) (s t : PageState) (place : ℕ) (x : List Bool) → look width s x ≡ look width t x
-    → reading width s place x ≡ reading width t place x
-unfolding reading
-reading_same width s t place x e = read_same item_word (look width) BadCode s t place x e
 
 -- a walk in a row is one in the page
 pub put_walk : (width : ℕ) (rows : List (List Color)) (codes : List RunItem) (s t : RowState) → Walk (RowStep width) s codes t
@@ -102,16 +89,6 @@ put_row width s rows row front some wide may full spells =
       spelled = spell-coded (code ∷ codes) ∙ spelled;
     }
 
--- where a row's code words begins, reading goes on after the row
-pub reading_row : (width : ℕ) (s : PageState) (rows : List (List Color)) (row : List Color) (front rest : List Bool) (place : ℕ)
-    → 0 < width → width ≤ 2432 → MayBegin s rows → length row ≡ width → SpellsRow row front
-    → reading width s place (front ++ rest) ≡ reading width (row_end (rows ++ row ∷ [])) (place + length front) rest
-reading_row width s rows row front rest place some wide may full spells =
-    let way = put_row width s rows row front some wide may full spells in
-    ap (λ l. reading width s place (l ++ rest)) (sym way.spelled) ∙
-    (reading_walk width way.items s (row_end (rows ++ row ∷ [])) place rest way.walk ∙
-    ap (λ l. reading width (row_end (rows ++ row ∷ [])) (place + length l) rest) way.spelled)
-
 -- what is refused at a row's first code
 pub begin_refused : (width : ℕ) (s : PageState) (rows : List (List Color)) (x : List Bool) (kind : CodeFaultKind) → MayBegin s rows
     → CodeBegins x → row_look width row_begin x ≡ refuse kind → look width s x ≡ refuse kind
@@ -129,28 +106,3 @@ pub put_refused : (width : ℕ) (rows : List (List Color)) (s : RowState) (x : L
     → row_look width s x ≡ refuse kind → look width (put rows s) x ≡ refuse kind
 put_refused width rows (inside pixels color makeup) x kind e = refuse_put (put rows) width pixels color makeup coded x kind e
 put_refused width rows (whole row) x kind e = cc
-
--- where a row is refused, the page is refused
-pub reading_row_refused : (width : ℕ) (s : PageState) (rows : List (List Color)) (x : List Bool) (place within : ℕ) (kind : CodeFaultKind) →
-    MayBegin s rows → CodeBegins x → IsLongestRowFront width x within kind → reading width s place x ≡ Err (place + within, kind)
-reading_row_refused width s rows x place within kind may stands longest = from longest.items longest.front.walk longest.front.spelled
-    longest.place_is
-  where
-    from : (codes : List RunItem) → Walk (RowStep width) row_begin codes longest.front.end
-        → x ≡ spell code_bits codes ++ longest.front.rest → within ≡ length (spell code_bits codes)
-        → reading width s place x ≡ Err (place + within, kind)
-    from [] walk spelled is =
-        let seen : row_look width row_begin longest.front.rest ≡ refuse kind = rw (← walk) at longest.kind_is in
-        let same : place ≡ place + within = omega (arith, is) in
-        reading_refuse width s place x kind (begin_refused width s rows x kind may stands (ap (row_look width row_begin) spelled ∙
-        seen)) ∙ ap (λ (p : ℕ). Err (p, kind)) same
-    from (code ∷ codes) walk spelled is =
-        let rest : List Bool = longest.front.rest in
-        let words : spell item_word (map coded (code ∷ codes)) ≡ spell code_bits (code ∷ codes) = spell-coded (code ∷ codes) in
-        let split : x ≡ spell item_word (map coded (code ∷ codes)) ++ rest = spelled ∙ ap (λ l. l ++ rest) (sym words) in
-        let same : place + length (spell item_word (map coded (code ∷ codes))) ≡ place + within = omega (arith, is, ap length words) in
-        ap (reading width s place) split ∙
-        (reading_walk width (map coded (code ∷ codes)) s (put rows longest.front.end) place rest (begin_walk width s rows code codes
-        longest.front.end may walk) ∙
-        (reading_refuse width (put rows longest.front.end) (place + length (spell item_word (map coded (code ∷ codes)))) rest kind
-        (put_refused width rows longest.front.end rest kind longest.kind_is) ∙ ap (λ (p : ℕ). Err (p, kind)) same))

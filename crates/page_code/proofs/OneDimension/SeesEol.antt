@@ -1,6 +1,6 @@
 -- Reading an EOL, bit by bit.
 use Rattle.std.proofs.Common.{◌⊎◌, inl, inr, subst, ℕ, suc, ◌≡◌, ◌+◌, ◌-◌, ◌*◌, ◌<◌, ◌≤◌, Bool, true, false, List, ◌∷◌, length, drop, Some}
-use Rattle.std.proofs.Common.{None, refl, ap, sym, ◌∙◌, arith, length-append, drop-drop}
+use Rattle.std.proofs.Common.{None, refl, ap, sym, ◌∙◌, arith, drop-drop}
 use Rattle.std.specs.Prelude.{Option}
 use Rattle.std.specs.Option.{option_map}
 use Rattle.std.proofs.lemmas.List.{drop_more, drop_all, length-drop}
@@ -8,21 +8,15 @@ use Rattle.std.proofs.lemmas.Option.{get_or_from_slice_get}
 use Rattle.raster.specs.declared.packed.Order.{Order}
 use Rattle.raster.specs.Packed.{bit_in, bits_of}
 use Rattle.raster.proofs.PackedLemmas.{length-bits_in, slice_get-bits_in}
-use Rattle.page_code.specs.OneDimension.Pages.{eol_word}
 use Rattle.page_code.specs.OneDimension.Fronts.{zeros_before, bits_of_eols, bits_of_five, CodeBegins}
 use Rattle.page_code.specs.OneDimension.Reading.{SeesEol}
 use Rattle.page_code.specs.declared.one_dim.eol.Eol.{Eol}
 use Rattle.page_code.specs.declared.one_dim.eol.Eol.TheVariants.{Present, Absent, OnlyZeros}
-use Rattle.page_code.proofs.OneDimension.ZerosBefore.{zeros_split, length-eol}
 use Rattle.page_code.proofs.OneDimension.Reading.{five_eols, eols_go, eols_none, eols_other}
 
 -- so many 0 bits more, where a 1 follows
 abbrev pub more_zeros : ℕ → Option ℕ → Option ℕ
 more_zeros count zeros = option_map (λ n. count + n) zeros
-
-pub no_zeros : (o : Option ℕ) → o ≡ more_zeros 0 o
-no_zeros None = refl
-no_zeros (Some n) = let same : n ≡ 0 + n = omega arith in ap (λ (m : ℕ). Some m) same
 
 -- the bits from a place on
 bits_there : (order : Order) (octets : List ℕ) (at : ℕ) → at < 8 * length octets
@@ -61,12 +55,6 @@ pub none_left : (order : Order) (octets : List ℕ) (place at : ℕ) → 8 * len
 none_left order octets place at h before =
     let past : length (bits_of order octets) ≤ at = rw length-bits_in h in
     sym (before ∙ ap (λ (x : List Bool). more_zeros (at - place) (zeros_before x)) (drop_all at (bits_of order octets) past))
-
--- an EOL that is there is within the bits
-pub eol_within : (x : List Bool) (n : ℕ) → zeros_before x ≡ Some n → n + 1 ≤ length x
-eol_within x n is =
-    let there = zeros_split x n is in
-    omega (arith, ap length there.1, length-append (eol_word n) there.0, length-eol n)
 
 -- the bits of the EOLs that are there, so many at most
 unfoldable pub counted : ℕ → List Bool → ℕ

@@ -594,19 +594,6 @@ horizontal_steps reference old mid new line next (Err fault) within reads (inr r
 
 -- Rows
 
--- one mode more of a row
-pub row_steps : (reference : List Color) (start old new : Reading) (line next : CodingLine) → length line.pixels < length reference
-    → ((page : PageSoFar) → page.reference ≡ reference
-    → row_reading (length reference) (inside page line_begin) start.place (rest_of start) ≡ row_reading (length reference) (mode_ended
-    (length
-    reference) page line) old.place (rest_of old)) → StepsOn reference old new line next (Ok tt) → (page : PageSoFar)
-    → page.reference ≡ reference → row_reading (length reference) (inside page line_begin) start.place (rest_of start) ≡ row_reading (length
-    reference) (mode_ended (length reference) page next) new.place (rest_of new)
-row_steps reference start old new line next short before step page is =
-    before page is ∙ (ap (λ (s : PageState). row_reading (length reference) s old.place (rest_of old)) (mode_ended_short (length reference)
-    page
-    line short) ∙ step.4 page is)
-
 pub row_stays : (reference : List Color) (start old new : Reading) (line next : CodingLine) (fault : CodeFault)
     → length line.pixels < length reference → ((page : PageSoFar) → page.reference ≡ reference
     → row_reading (length reference) (inside page line_begin) start.place (rest_of start) ≡ row_reading (length reference) (mode_ended
@@ -619,15 +606,6 @@ row_stays reference start old new line next fault short before (inr step) =
     inr (λ page is. before page is ∙ (ap (λ (s : PageState). row_reading (length reference) s old.place (rest_of old)) (mode_ended_short
     (length
     reference) page line short) ∙ step page is))
-
--- a row before its first mode
-pub row_starts : (reference : List Color) (start now : Reading) (line : CodingLine) → 0 < length reference → now ≡ start
-    → line ≡ line_begin → (page : PageSoFar) → page.reference ≡ reference
-    → row_reading (length reference) (inside page line_begin) start.place (rest_of start) ≡ row_reading (length reference) (mode_ended
-    (length
-    reference) page line) now.place (rest_of now)
-row_starts reference start now line some same begins page is = rw (same, begins) (ap (λ (s : PageState). row_reading (length reference) s
-    start.place (rest_of start)) (sym (mode_ended_short (length reference) page line_begin (omega arith))))
 
 -- a whole row
 pub row_ends : (reference : List Color) (start now : Reading) (line : CodingLine) (row : List Color) → row ≡ line.pixels

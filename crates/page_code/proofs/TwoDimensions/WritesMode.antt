@@ -20,11 +20,7 @@ use Rattle.page_code.specs.TwoDimensions.Modes.Mode.{pass, vertical, horizontal}
 use Rattle.page_code.specs.TwoDimensions.Code.{verticals, vertical_to, a1_of, prescribed, moved, line_code, row_code, rows_code, page_code}
 use Rattle.page_code.specs.TwoDimensions.Writing.{IsUpTo, line_to, IsCodedTo, WritesMode, reference_at, row_at}
 use Rattle.page_code.proofs.TwoDimensions.Positions.{b1_is, b2_is, change_is, other_than}
-use Rattle.page_code.proofs.TwoDimensions.Prescribed.{before_next, before_to, begin_stands, prescribed_moves}
-
-other_differs : (c : Color) → c ≡ other c → ⊥
-other_differs White e = cc
-other_differs Black e = cc
+use Rattle.page_code.proofs.TwoDimensions.Prescribed.{before_next, before_to, prescribed_moves}
 
 other_of_other : (a b : Color) → a ≢ b → b ≡ other a
 other_of_other White White h = absurd (h refl)
@@ -55,15 +51,6 @@ first_to_next row color from p q first inside differs next = record {
       | inr ne ↦ next.least k (omega arith) b is.0
     ]
   ];
-}
-
--- the first changing element, if it has the color
-pub first_to_here : (row : List Color) (color : Color) (from p : ℕ) → IsNextChange row from p → (p < length row
-    → color_at row p ≡ color) → IsFirstTo row color from p
-first_to_here row color from p first is = record {
-  bound = first.bound;
-  changing = λ h. ((first.changing h).0, ((first.changing h).1, is h));
-  least = λ k a b there. first.least k a b there.0;
 }
 
 -- Which mode is prescribed
@@ -242,10 +229,6 @@ module _ (reference row : List Color) (even : length reference ≡ length row) (
       none) words (appends_on word (run_words to.color (a1 - to.place) ++ run_words color (a2 - a1)) before mid after one (appends_on
       (run_words to.color (a1 - to.place)) (run_words color (a2 - a1)) mid last after two three)) (horizontal_moved reference row
       (line_to row to) a1 b1 b2 next_a1 first_b1 is_b2 (a1 - length (take to.place row)) (a2 - a1) a2 is_a2) is_a2.bound
-
--- where coding a row begins
-pub coded_to_begin : (row : List Color) → IsCodedTo row (record { place = 0; begun = false; color = White })
-coded_to_begin row = record { within = omega arith; stands = begin_stands row }
 
 -- one mode more of a row
 pub row_on : (reference row : List Color) (old new : A0) (before after start : Bits) (so_far : List Bool)

@@ -1,6 +1,7 @@
 //! Laws of the two-dimensional code: what their contracts say is proved, and nothing runs.
 
-ghost use Rattle.page_code.specs.TwoDimensions.Laws.{FindsPositions, PassLeadsOn, ReadsExactly, RefusesNoPage, RefusesAtLongest, OneFront, RoundTrip};
+ghost use Rattle.page_code.specs.TwoDimensions.Laws.{FindsPositions, OneFront, PassLeadsOn, ReadsExactly};
+ghost use Rattle.page_code.specs.TwoDimensions.Laws.{RefusesAtLongest, RefusesNoPage, RoundTrip};
 
 /// The places that the search finds are b1, b2 and the next changing element, and no others are.
 pub fn finds_positions()

@@ -14,6 +14,9 @@ fn changes_of(alloc: Global, row: &Row, mut places: Vec<u32>) -> Result<Vec<u32>
     ensures { IfOk result (λ places. AreChanges row.now places.items) }
 {
     places.clear();
+    if row.next_change(0) >= row.width() {
+        return Ok(places); // a white row has none
+    }
     row.changes(alloc, &mut places)?;
     Ok(places)
 }

@@ -29,7 +29,8 @@ impl Model for Line {
 
     ghost view = { λ line. record { pixels = colored White line.runs.items; begun = line.a0.begun; color = line.a0.color } };
 
-    ghost invariant = { λ line. (line.a0.place ≡ length (colored White line.runs.items)) × GoesOnWith line.runs.items line.a0.color × (line.a0.place ≤ max_width) };
+    ghost invariant = { λ line. (line.a0.place ≡ length (colored White line.runs.items)) × GoesOnWith line.runs.items line.a0.color
+        × (line.a0.place ≤ max_width) };
 }
 
 impl Line {
@@ -54,7 +55,11 @@ impl Line {
     /// Appends a run of a0's color, and moves a0 after it, to the other color.
     pub(crate) fn push_run(&mut self, run: u32) -> Result<(), AllocError>
         requires { length self.old.pixels + run ≤ max_width }
-        ensures { OnOk result (self.new ≡ record { pixels = self.old.pixels ++ replicate run self.old.color; begun = true; color = other self.old.color }) }
+        ensures { OnOk result (self.new ≡ record {
+          pixels = self.old.pixels ++ replicate run self.old.color;
+          begun = true;
+          color = other self.old.color;
+        }) }
     {
         self.runs.push(run)?;
         self.a0 = A0::on_line(self.a0.place + run, self.a0.color.other());

@@ -3,7 +3,8 @@
 ghost use Rattle.page_code.specs.RowsSoFar.{IsReadTo, ReadsOn};
 ghost use Rattle.page_code.specs.TwoDimensions.Fronts.{mode_word, mode_codes};
 ghost use Rattle.page_code.specs.TwoDimensions.Modes.{eofb};
-ghost use Rattle.page_code.specs.TwoDimensions.Reading.{LeadsOn, MovesTo, ReadsHorizontal, ReadsMode, ReadsRow, SeesStart, StepsOn, missing_mode};
+ghost use Rattle.page_code.specs.TwoDimensions.Reading.{LeadsOn, MovesTo, ReadsHorizontal, ReadsMode};
+ghost use Rattle.page_code.specs.TwoDimensions.Reading.{ReadsRow, SeesStart, StepsOn, missing_mode};
 ghost use Rattle.page_code.specs.TwoDimensions.Writing.{reference_at};
 ghost use Rattle.raster.specs.Packed.{bits_of};
 ghost use Rattle.raster.specs.Pixels.{IsWidth, max_width};

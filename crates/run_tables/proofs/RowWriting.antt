@@ -1,0 +1,140 @@
+-- Writing of a row's own runs, each when its end, the next changing position, is found.
+use Rattle.std.proofs.Common.{ℕ, ◌≡◌, ◌≢◌, ◌+◌, ◌-◌, ◌<◌, ◌≤◌, Bool, List, [], ◌∷◌, ◌++◌, length, refl, sym, ap, ◌∙◌, arith, append_assoc}
+use Rattle.std.proofs.Common.{slice_get, Some, inl, inr}
+use Rattle.std.proofs.lemmas.Bool.{cases_lt}
+use Rattle.std.proofs.lemmas.List.{append-nil}
+use Rattle.std.proofs.lemmas.Option.{slice_get-get_or}
+use Rattle.std.proofs.Common.{zero, suc}
+use Rattle.raster.specs.declared.row.Color.{Color}
+use Rattle.raster.specs.declared.row.Color.TheVariants.{White, Black}
+use Rattle.raster.specs.Changes.{color_at, color_before, IsNextChange}
+use Rattle.raster.specs.Packed.{Bits}
+use Rattle.raster.specs.Pixels.{other}
+use Rattle.raster.specs.Words.{EndsRun}
+use Rattle.raster.proofs.RowLemmas.{RunsTo, runs_first, runs_more, before_next, other_from_ne}
+use Rattle.run_tables.specs.Codes.{run_words}
+use Rattle.run_tables.specs.RunWords.{runs_words}
+use Rattle.run_tables.specs.Written.{Appends}
+
+-- two colors that don't differ are one
+same_or_not : (a b : Color) → ((a ≢ b) → ⊥) → a ≡ b
+same_or_not White White h = refl
+same_or_not White Black h = absurd (h (λ e. cc))
+same_or_not Black White h = absurd (h (λ e. cc))
+same_or_not Black Black h = refl
+
+-- a pixel within the row
+pixel_at : (row : List Color) (k : ℕ) (color : Color) → k < length row → color_at row k ≡ color → slice_get row k ≡ Some color
+pixel_at row k color h e = slice_get-get_or row k White h ∙ ap (λ (c : Color). Some c) e
+
+-- a pixel that is no changing one is as the one before
+same_as_before : (row : List Color) (from end k : ℕ) (color : Color) → IsNextChange row from end → from ≤ k → k < end
+    → color_before row k ≡ color → slice_get row k ≡ Some color
+same_as_before row from end k color next low h before =
+    let inside : k < length row = omega (arith, h, next.bound) in
+    pixel_at row k color inside (same_or_not (color_at row k) (color_before row k) (λ ne. next.least k low h (inside, ne)) ∙ before)
+
+-- up to the next changing position the pixels are all as the one before
+pixels_same : (row : List Color) (from end : ℕ) (color : Color) → color_before row from ≡ color → IsNextChange row from end → (n : ℕ)
+    → from + n < end → slice_get row (from + n) ≡ Some color
+pixels_same row from end color begins next zero h =
+    let e : from + 0 ≡ from = omega arith in
+    rw e (same_as_before row from end from color next (omega arith) (omega (arith, h)) begins)
+pixels_same row from end color begins next (suc n) h =
+    let e : from + suc n ≡ from + n + 1 = omega arith in
+    let last : slice_get row (from + n) ≡ Some color = pixels_same row from end color begins next n (omega (arith, h)) in
+    rw e (same_as_before row from end (from + n + 1) color next (omega arith) (omega (arith, h)) (sym (before_next row (from
+    + n) color last)))
+
+-- the pixel before a place that all from another on are alike up to
+before_end : (row : List Color) (from end : ℕ) (color : Color) → from ≤ end → color_before row from ≡ color → IsNextChange row from end
+    → color_before row end ≡ color
+before_end row from end color low begins next = elim (cases_lt from end) [
+  | inl l ↦
+      let e : from + (end - 1 - from) + 1 ≡ end = omega arith in
+      ap (color_before row) (sym e) ∙ sym (before_next row (from + (end - 1 - from)) color (pixels_same row from end color begins next (end
+      - 1 - from) (omega arith)))
+  | inr g ↦
+      let e : end ≡ from = omega arith in
+      ap (color_before row) e ∙ begins
+]
+
+-- a run ends at the next changing position
+run_ends : (row : List Color) (from end : ℕ) (color : Color) → from ≤ length row → color_before row from ≡ color
+    → IsNextChange row from end → EndsRun row from color end
+run_ends row from end color within begins next =
+    let low : from ≤ end = elim (cases_lt end (length row)) [
+      | inl l ↦ (next.changing l).0
+      | inr g ↦ omega (arith, within)
+    ] in
+    record {
+      low = low;
+      high = next.bound;
+      before = λ k under h.
+          let e : from + (k - from) ≡ k = omega arith in
+          ap (slice_get row) (sym e) ∙ pixels_same row from end color begins next (k - from) (omega arith);
+      hit = λ h. pixel_at row end (other color) h (other_from_ne (color_at row end) color (λ e. (next.changing h).1.1 (e
+          ∙ sym (before_end row from end color low begins next))));
+    }
+
+-- the run that begins at a place, from the next one on
+run_from : (row : List Color) (at end : ℕ) (color : Color) → at < length row → slice_get row at ≡ Some color
+    → IsNextChange row (at + 1) end → EndsRun row at color end
+run_from row at end color h begins next =
+    let ends : EndsRun row (at + 1) color end
+    = run_ends row (at + 1) end color (omega (arith, h)) (sym (before_next row at color begins)) next in
+    record {
+      low = omega (arith, ends.low);
+      high = ends.high;
+      before = λ k low under. elim (cases_lt at k) [
+        | inl l ↦ ends.before k (omega arith) under
+        | inr g ↦
+            let e : k ≡ at = omega arith in
+            ap (slice_get row) e ∙ begins
+      ];
+      hit = ends.hit;
+    }
+
+-- the color of the run that follows runs, by their code words
+abbrev pub WordsFollow : List ℕ → Color → Type 0
+WordsFollow runs color = (tail : List ℕ) → runs_words White (runs ++ tail) ≡ runs_words White runs ++ runs_words color tail
+
+words_push : (runs : List ℕ) (run : ℕ) (color : Color) → WordsFollow runs color
+    → runs_words White (runs ++ run ∷ []) ≡ runs_words White runs ++ run_words color run
+words_push runs run color follows = follows (run ∷ []) ∙ ap (λ (x : List Bool). runs_words White runs ++ x) (append-nil (run_words color
+    run))
+
+follow_push : (runs : List ℕ) (run : ℕ) (color : Color) → WordsFollow runs color → WordsFollow (runs ++ run ∷ []) (other color)
+follow_push runs run color follows tail =
+    ap (runs_words White) (append_assoc runs (run ∷ []) tail) ∙
+    (follows (run ∷ tail) ∙
+    (sym (append_assoc (runs_words White runs) (run_words color run) (runs_words (other color) tail)) ∙
+    ap (λ (x : List Bool). x ++ runs_words (other color) tail) (sym (words_push runs run color follows))))
+
+-- the code words of the row's own runs up to a place, where the next, of this color, begins, were appended
+pub record WritesTo (row : List Color) (old now : Bits) (at : ℕ) (color : Color) : Type 0 where
+  pub runs : List ℕ
+  pub to : RunsTo row runs at color
+  pub follow : WordsFollow runs color
+  pub wrote : Appends (runs_words White runs) old now
+
+pub first_written : (row : List Color) (old now : Bits) (end : ℕ) → IsNextChange row 0 end → Appends (run_words White end) old now
+    → WritesTo row old now end Black
+first_written row old now end next wrote = record {
+  runs = end ∷ [];
+  to = runs_first row end (run_ends row 0 end White (omega arith) refl next);
+  follow = follow_push [] end White (λ tail. refl);
+  wrote = wrote ∙ ap (λ (x : List Bool). record old { bits = old.bits ++ x }) (sym (append-nil (run_words White end)));
+}
+
+pub next_written : (row : List Color) (old mid now : Bits) (at end : ℕ) (color : Color) → WritesTo row old mid at color → at < length row
+    → IsNextChange row (at + 1) end → Appends (run_words color (end - at)) mid now → WritesTo row old now end (other color)
+next_written row old mid now at end color so_far h next wrote = record {
+  runs = so_far.runs ++ (end - at) ∷ [];
+  to = runs_more row so_far.runs at end color so_far.to h (run_from row at end color h (so_far.to.turned h) next);
+  follow = follow_push so_far.runs (end - at) color so_far.follow;
+  wrote = wrote ∙
+      (ap (λ (b : Bits). record b { bits = b.bits ++ run_words color (end - at) }) so_far.wrote ∙
+      ap (λ (x : List Bool). record old { bits = x }) (append_assoc old.bits (runs_words White so_far.runs) (run_words color (end - at)) ∙
+      ap (λ (x : List Bool). old.bits ++ x) (sym (words_push so_far.runs (end - at) color so_far.follow))));
+}
