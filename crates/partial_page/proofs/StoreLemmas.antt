@@ -117,13 +117,7 @@ frames_in-untaken small old new there lengths laid untaken =
     unset k false is = refl
     unset k true is = let none : length old ≤ 0 = ltb-false 0 (length old) untaken in absurd (omega (arith, laid.held k is))
 
--- the buffer is taken
-pub laid-taken :
-    (small : Bool) (old new there lengths : List ℕ) → IsLaidOut small old there lengths → length new ≡ 256 * frame_size small →
-    IsLaidOut small new there lengths
-laid-taken true old new there lengths laid taken = record { room = λ some. taken; held = λ n is. omega arith; short = laid.short }
-laid-taken false old new there lengths laid taken = record { room = λ some. taken; held = λ n is. omega arith; short = laid.short }
-
+-- once the buffer is taken, the store is ready
 pub taken-ready : (small : Bool) (new : List ℕ) → length new ≡ 256 * frame_size small → nat_lt 0 (length new) ≡ true
 taken-ready true new taken = rw taken refl
 taken-ready false new taken = rw taken refl
@@ -242,7 +236,7 @@ others_kept old part octets copied len place k from count is same size all withi
     (length-put old octets place within ∙ all))
     ∙ other_octets old octets place from count within apart)
 
--- the data of a frame stand at its number, and the others as before
+-- the data of a frame are at its number, and the others are as before
 pub is_kept :
     (frames : List (Option (List ℕ))) (n : ℕ) (octets : List ℕ) → n < length frames → IsKept frames n octets (set frames n (Some octets))
 is_kept frames n octets within =

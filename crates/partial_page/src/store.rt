@@ -1,8 +1,10 @@
 //! The frames of a block, under their numbers, in one buffer.
 
 ghost use Rattle.partial_page.specs.Frames.{frame_size};
-ghost use Rattle.partial_page.specs.Store.{StoredFrames, no_frames, frame_of, has_frame, is_marked, IsStore, IsWhole, joined_frames, PutsFrame, IsKept, IsMissingMap, bit_of};
-ghost use Rattle.std.specs.Prelude.{◌≡◌, ◌≤◌, ◌<◌, ◌+◌, ◌⊎◌, ◌++◌, ◌&&◌, ◌||◌, ℕ, true, false, take, drop, length, nat_eq, slice_set, option_map, unwrap_or, [], IsOk, OnOk, OnErr, IsTrue, ◌↔◌};
+ghost use Rattle.partial_page.specs.Store.{StoredFrames, no_frames, frame_of, has_frame, is_marked, IsStore, IsWhole, joined_frames};
+ghost use Rattle.partial_page.specs.Store.{PutsFrame, IsKept, IsMissingMap, bit_of};
+ghost use Rattle.std.specs.Prelude.{◌≡◌, ◌≤◌, ◌<◌, ◌+◌, ◌⊎◌, ◌++◌, ◌&&◌, ◌||◌, ℕ, true, false, take, drop, length, nat_eq, slice_set};
+ghost use Rattle.std.specs.Prelude.{option_map, unwrap_or, [], IsOk, OnOk, OnErr, IsTrue, ◌↔◌};
 
 use crate::blocks::{frame_at, frame_octets};
 use crate::fault::BlockFault;
@@ -24,7 +26,8 @@ fn write_from(buffer: &mut Vec<u8>, place: usize, octets: &[u8])
     requires { place + length octets.now ≤ length buffer.old.items }
     ensures length { length buffer.new.items ≡ length buffer.old.items }
     ensures written { take (length octets.now) (drop place buffer.new.items) ≡ octets.now }
-    ensures others { (from count : ℕ) → (from + count ≤ place) ⊎ (place + length octets.now ≤ from) → take count (drop from buffer.new.items) ≡ take count (drop from buffer.old.items) }
+    ensures others { (from count : ℕ) → (from + count ≤ place) ⊎ (place + length octets.now ≤ from) →
+        take count (drop from buffer.new.items) ≡ take count (drop from buffer.old.items) }
 {
     buffer[place..place + octets.len()].copy_from_slice(octets);
 }
@@ -45,7 +48,11 @@ impl Model for BlockStore {
 
     ghost Value = { StoredFrames };
 
-    ghost view = { λ s. record { small = s.small; frames = frames_in s.small s.buffer.items s.there s.lengths; ready = nat_lt 0 (length s.buffer.items) } };
+    ghost view = { λ s. record {
+      small = s.small;
+      frames = frames_in s.small s.buffer.items s.there s.lengths;
+      ready = nat_lt 0 (length s.buffer.items);
+    } };
 
     ghost invariant = { λ s. IsLaidOut s.small s.buffer.items s.there s.lengths };
 }

@@ -9,7 +9,6 @@ use crate::params::{Caps, Modems, PageWidth, Params, Speed, Wish};
 use page_code::Coding;
 use thiserror::Error;
 
-
 /// Two stations have no way to send the pages.
 #[derive(Clone, Copy, Debug, PartialEq, Eq, Error)]
 #[error("the stations are not compatible")]

@@ -1,6 +1,7 @@
 //! Laws of the definitions. Nothing runs.
 
-ghost use Rattle.signals.specs.Agreement.{AgreedFits, AgreedIsAllowed, BeginsAtMostFiveAbove, GoesDownByOne, LoweredIsAllowed, WidthsHavePixels};
+ghost use Rattle.signals.specs.Agreement.{AgreedFits, AgreedIsAllowed, BeginsAtMostFiveAbove, GoesDownByOne, LoweredIsAllowed};
+ghost use Rattle.signals.specs.Agreement.{WidthsHavePixels};
 ghost use Rattle.signals.specs.BitNumbers.{ReadsByNumber, ReadsNoOthers, dcs_numbers, dis_numbers};
 ghost use Rattle.signals.specs.Saying.{ControlsHaveTexts, ReadsWhatIsSaid};
 ghost use Rattle.signals.specs.Sending.{ModemsHaveTexts, PageEndsHaveTexts, SpeedsHaveTexts, WidthsHaveTexts, WritesTheTables};

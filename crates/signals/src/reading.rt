@@ -1,6 +1,7 @@
 //! A frame's content read as a signal.
 
-ghost use Rattle.signals.specs.Reading.{field_bit, late_bit, modems_of, speed_of, widest_of, width_of, page_end_of, caps_of, params_of, read_dcs, read_fcd, read_pps, read_ppr, read_dis, read_fields, read_content};
+ghost use Rattle.signals.specs.Reading.{field_bit, late_bit, modems_of, speed_of, widest_of, width_of, page_end_of, caps_of, params_of};
+ghost use Rattle.signals.specs.Reading.{read_dcs, read_fcd, read_pps, read_ppr, read_dis, read_fields, read_content};
 ghost use Rattle.signals.specs.Signals.{plain_read};
 ghost use Rattle.std.specs.Prelude.{◌≡◌, ◌≤◌, length};
 

@@ -2,7 +2,6 @@
 
 use crate::params::{Caps, Params};
 
-
 /// What ends with a block: the second field of PPS. ITU-T T.30, A.4.3.
 #[derive(Clone, Copy, Debug, PartialEq, Eq)]
 pub enum PageEnd {

@@ -2,7 +2,8 @@
 
 ghost use Rattle.signals.specs.Reading.{read_content};
 ghost use Rattle.signals.specs.Signals.{plain};
-ghost use Rattle.signals.specs.Writing.{IsWritable, content_of, head_of, modems_octet, speed_octet, width_octet, coding_octet, dis_fields, dcs_fields, page_end_octet, written_or};
+ghost use Rattle.signals.specs.Writing.{IsWritable, content_of, head_of, modems_octet, speed_octet, width_octet, coding_octet, dis_fields};
+ghost use Rattle.signals.specs.Writing.{dcs_fields, page_end_octet, written_or};
 ghost use Rattle.std.specs.Prelude.{◌≡◌, ◌≤◌, ◌<◌, ◌+◌, ◌++◌, Ok, length};
 
 use crate::control::Control;

@@ -72,11 +72,7 @@ frame_follows [] following h = h
 frame_follows (framed signal ∷ items) following h = refl
 frame_follows (checked octets ∷ items) following h = frame_follows items following h
 
--- a training check is no frame
-pub no_frame_in_training : (training : Option ℕ) → true ≡ has_no_frame (training_left training)
-no_frame_in_training None = refl
-no_frame_in_training (Some count) = refl
-
+-- the turn's last frame follows, where it is left
 pub end_follows : (end : Option Signal) (training : Option ℕ) → end ≢ None → has_no_frame (end_left end ++ training_left training) ≡ false
 end_follows None training some = absurd (some refl)
 end_follows (Some signal) training some = refl
@@ -93,26 +89,6 @@ more_follows old new rcps end training none item first =
       ap (λ l. l ++ (replicate rcps (framed rcp) ++ (end_left end ++ training_left training))) first,
       sym (frame_follows new _ (frame_follows (replicate rcps (framed rcp)) _ (end_follows end training some))),
     )
-
-pub shows_ended : (v : CallerFields) → v.ending ≢ None → (t : Caller) → Represents v t → present_block t ≡ None
-shows_ended v over t h = at t.state t.ending (λ e. over (sym h.ending ∙ e)) (slice_get (blocks_of t) t.place)
-  where
-    at : (state : CallerState) (ending : Option End) → ending ≢ None → (block : Option Block) → present_in state ending block ≡ None
-    at WaitDis ending some block = refl
-    at WaitCfr ending some block = refl
-    at WaitBlock None some block = absurd (some refl)
-    at WaitBlock (Some why) some block = refl
-    at WaitReady None some block = absurd (some refl)
-    at WaitReady (Some why) some block = refl
-
-pub shows_waiting : (v : CallerFields) → v.state ≢ WaitBlock → v.state ≢ WaitReady → (t : Caller) → Represents v t → present_block t ≡ None
-shows_waiting v block ready t h = at t.state (λ e. block (sym h.state ∙ e)) (λ e. ready (sym h.state ∙ e))
-  where
-    at : (state : CallerState) → state ≢ WaitBlock → state ≢ WaitReady → present_in state t.ending (slice_get (blocks_of t) t.place) ≡ None
-    at WaitDis block ready = refl
-    at WaitCfr block ready = refl
-    at WaitBlock block ready = absurd (block refl)
-    at WaitReady block ready = absurd (ready refl)
 
 -- the block at the place of a caller that is sending is its present one
 is_shown :

@@ -21,7 +21,7 @@ use Rattle.stations.specs.declared.turn.End.{End}
 use Rattle.stations.specs.declared.turn.End.TheVariants.{Normal, NoAnswer, NotCompatible, Training as BadTraining, NoReply, Unreadable}
 use Rattle.stations.specs.declared.turn.End.TheVariants.{StillBusy, PeerLeft, PageTooLong}
 use Rattle.stations.specs.declared.turn.Turn.TheVariants.{Silent, Training as SendTraining, Pps as SendPps, Rr as SendRr}
-use Rattle.stations.specs.Left.{dcs_in, pps_in, StartsBlock, Spends, StepsSpend, SpendsOrRefuses}
+use Rattle.stations.specs.Left.{dcs_in, pps_in, rr_in, StartsBlock, Spends, StepsSpend, SpendsOrRefuses}
 use Rattle.stations.specs.CallerFields.{CallerFields, AnswersOrRefuses}
 use Rattle.stations.specs.declared.turn.Turn.{Turn}
 
@@ -34,8 +34,10 @@ silent_spends c input = record {
   training = λ e. cc;
   never_more = inl (omega arith);
   block = λ e. cc;
+  first = λ s e. cc;
   no_block = λ e. omega arith;
   asking = λ e. cc;
+  not_asking = λ n. omega arith;
   dcn = λ e. cc;
 }
 
@@ -44,8 +46,10 @@ ends_spends c input place why = record {
   training = λ e. cc;
   never_more = inl (go c.state);
   block = λ e. cc;
+  first = λ s e. cc;
   no_block = λ e. go_on c.state;
   asking = λ e. cc;
+  not_asking = λ n. go_ask c.state;
   dcn = λ e. refl;
 }
   where
@@ -61,6 +65,12 @@ ends_spends c input place why = record {
     go_on WaitBlock = omega arith
     go_on WaitReady = omega arith
 
+    go_ask : (state : CallerState) → rr_in state (record c { place = place; ending = Some why }) ≤ rr_in state c
+    go_ask WaitDis = omega arith
+    go_ask WaitCfr = omega arith
+    go_ask WaitBlock = omega arith
+    go_ask WaitReady = omega arith
+
 first_spends :
     (c : Caller) (input : CallerInput) (place : ℕ) (ends : PageEnd) (next : Option Block) → StartsBlock input →
     Spends c input (goes_on (record c { place = place }) ends next)
@@ -69,8 +79,10 @@ first_spends c input place ends (Some next) starts =
       training = λ e. cc;
       never_more = inl (omega arith);
       block = λ e. inr (starts, refl);
+      first = λ s e. refl;
       no_block = λ e. cc;
       asking = λ e. cc;
+      not_asking = λ n. omega arith;
       dcn = λ e. cc;
     }
 first_spends c input place Null None starts = ends_spends c input place PageTooLong
@@ -84,8 +96,10 @@ group_spends c place = record {
   training = λ e. cc;
   never_more = inr (tt, refl);
   block = λ e. cc;
+  first = λ s e. cc;
   no_block = λ e. omega arith;
   asking = λ e. cc;
+  not_asking = λ n. omega arith;
   dcn = λ e. cc;
 }
 
@@ -111,8 +125,10 @@ dis_spends speeds c caps page (Some params) e is =
       training = λ t. rw e (omega arith);
       never_more = inl (rw e (omega arith));
       block = λ t. cc;
+      first = λ s t. cc;
       no_block = λ t. omega arith;
       asking = λ t. cc;
+      not_asking = λ n. omega arith;
       dcn = λ t. cc;
     }
 
@@ -126,8 +142,10 @@ ftt_spends speeds c (Some params) e is =
       training = λ t. rw e (omega arith);
       never_more = inl (rw e (omega arith));
       block = λ t. cc;
+      first = λ s t. cc;
       no_block = λ t. rw e (omega arith);
       asking = λ t. cc;
+      not_asking = λ n. rw e (omega arith);
       dcn = λ t. cc;
     }
 
@@ -139,8 +157,10 @@ training_spends c input e =
       training = λ t. rw e (omega arith);
       never_more = inl (rw e (omega arith));
       block = λ t. cc;
+      first = λ s t. cc;
       no_block = λ t. rw e (omega arith);
       asking = λ t. cc;
+      not_asking = λ n. rw e (omega arith);
       dcn = λ t. cc;
     }))
     (λ h. ends_spends c input c.place NoReply)
@@ -153,8 +173,10 @@ pps_spends c e =
       training = λ t. cc;
       never_more = inl (rw e (omega arith));
       block = λ t. inl (rw e (omega arith));
+      first = λ s t. absurd s;
       no_block = λ t. cc;
       asking = λ t. cc;
+      not_asking = λ n. rw e (omega arith);
       dcn = λ t. cc;
     }))
     (λ h. ends_spends c timeout c.place NoReply)
@@ -167,8 +189,10 @@ rr_spends c e =
       training = λ t. cc;
       never_more = inl (rw e (omega arith));
       block = λ t. cc;
+      first = λ s t. cc;
       no_block = λ t. rw e (omega arith);
       asking = λ t. inl (rw e (omega arith));
+      not_asking = λ n. absurd (n refl);
       dcn = λ t. cc;
     }))
     (λ h. ends_spends c timeout c.place NoReply)
@@ -183,8 +207,10 @@ ppr_spends c map state e (inl w) =
       training = λ t. cc;
       never_more = inl (omega arith);
       block = λ t. inl (rw (e, w) (omega arith));
+      first = λ s t. absurd s;
       no_block = λ t. cc;
       asking = λ t. cc;
+      not_asking = λ n. omega arith;
       dcn = λ t. cc;
     }))
     (λ h. ends_spends c (hears (ppr map)) c.place Unreadable)
@@ -195,8 +221,10 @@ ppr_spends c map state e (inr w) =
       training = λ t. cc;
       never_more = inl (omega arith);
       block = λ t. inl (rw (e, w) (omega arith));
+      first = λ s t. absurd s;
       no_block = λ t. cc;
       asking = λ t. cc;
+      not_asking = λ n. omega arith;
       dcn = λ t. cc;
     }))
     (λ h. ends_spends c (hears (ppr map)) c.place Unreadable)
@@ -207,16 +235,20 @@ rnr_spends c state e (inl w) = record {
   training = λ t. cc;
   never_more = inl (omega arith);
   block = λ t. cc;
+  first = λ s t. cc;
   no_block = λ t. rw (e, w) (omega arith);
   asking = λ t. inr (tt, refl);
+  not_asking = λ n. absurd (n refl);
   dcn = λ t. cc;
 }
 rnr_spends c state e (inr w) = record {
   training = λ t. cc;
   never_more = inl (omega arith);
   block = λ t. cc;
+  first = λ s t. cc;
   no_block = λ t. rw (e, w) (omega arith);
   asking = λ t. inr (tt, refl);
+  not_asking = λ n. absurd (n refl);
   dcn = λ t. cc;
 }
 
@@ -225,8 +257,10 @@ leaves_spends c = record {
   training = λ e. cc;
   never_more = (ends_spends c (hears dcn) c.place PeerLeft).never_more;
   block = λ e. cc;
+  first = λ s e. cc;
   no_block = λ e. (ends_spends c (hears dcn) c.place PeerLeft).no_block refl;
   asking = λ e. cc;
+  not_asking = λ n. (ends_spends c (hears dcn) c.place PeerLeft).not_asking (λ r. cc);
   dcn = λ e. cc;
 }
 

@@ -1,8 +1,8 @@
 -- What a caller has left, as numbers of its tuple alone, and what each step spends.
-use Rattle.std.specs.Prelude.{◌≡◌, ℕ, ◌+◌, ◌-◌, ◌*◌, ◌≤◌, ◌<◌, ◌⊎◌, Bool, true, false, IsSome, Result, Ok, Err}
+use Rattle.std.specs.Prelude.{◌≡◌, ◌≢◌, ℕ, ◌+◌, ◌-◌, ◌*◌, ◌≤◌, ◌<◌, ◌⊎◌, Bool, true, false, IsSome, Result, Ok, Err}
 use Rattle.signals.specs.Signals.{cfr, mcf, rnr}
 use Rattle.stations.specs.Layers.{speeds_left}
-use Rattle.stations.specs.CallerStep.{Caller, CallerAnswer, caller_step}
+use Rattle.stations.specs.CallerStep.{Caller, CallerAnswer, caller_step, all_frames}
 use Rattle.stations.specs.Inputs.{CallerInput, hears}
 use Rattle.stations.specs.CallerFields.{CallerFields, Represents}
 use Rattle.stations.specs.declared.turn.CallerState.{CallerState}
@@ -65,13 +65,16 @@ abbrev pub EndsGroup : CallerInput → Type 0
 EndsGroup (hears mcf) = Unit {0}
 EndsGroup _ = ⊥
 
--- what a step spends; only an MCF that leads back to WaitDis raises the turns with a DCS that are left
+-- what a step spends; only an MCF that leads back to WaitDis raises the turns with a DCS that are left, only the whole burst that a CFR
+-- or an MCF is answered by those with a PPS, and only an RNR those with an RR
 pub record Spends (c : Caller) (input : CallerInput) (answer : CallerAnswer) : Type 0 where
   pub training : answer.turn ≡ SendTraining → dcs_left answer.next < dcs_left c
   pub never_more : (dcs_left answer.next ≤ dcs_left c) ⊎ (EndsGroup input × (answer.next.state ≡ WaitDis))
   pub block : is_block_turn answer.turn ≡ true → (pps_left answer.next < pps_left c) ⊎ (StartsBlock input × (pps_left answer.next ≡ 11))
+  pub first : StartsBlock input → is_block_turn answer.turn ≡ true → answer.turn ≡ Burst all_frames
   pub no_block : is_block_turn answer.turn ≡ false → pps_left answer.next ≤ pps_left c
   pub asking : answer.turn ≡ SendRr → (rr_left answer.next < rr_left c) ⊎ (IsRnr input × (rr_left answer.next ≡ 2))
+  pub not_asking : answer.turn ≢ SendRr → rr_left answer.next ≤ rr_left c
   pub dcn : answer.turn ≡ SendDcn → IsSome answer.next.ending
 
 -- each step of any caller spends so, whatever it hears

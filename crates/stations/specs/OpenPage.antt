@@ -11,7 +11,7 @@ pub record OpenOctets : Type 0 where
   pub params : Params
   pub octets : List ℕ
 
--- the reader reads the code, the order of bits, the width and the lines that were agreed, and stands for a beginning of the octets
+-- the reader reads the code, the order of bits, the width and the lines that were agreed, and has read a beginning of the octets
 pub record IsReaderOf (params : Params) (octets : List ℕ) (reader : PageReading) : Type 0 where
   pub coding : reader.coding ≡ params.coding
   pub order : reader.order ≡ LsbFirst

@@ -2,7 +2,11 @@
 
 ghost use Rattle.partial_page.specs.Store.{no_frames, joined_frames, IsMissingMap};
 ghost use Rattle.std.specs.Prelude.{◌≡◌, ◌≢◌, ◌+◌, ◌++◌, ℕ, true, Some, None, Ok, IsOk, IsSome, IsTrue, ◌↔◌, ◌⊎◌, false};
-ghost use Rattle.stations.specs.AnswererStep.{Answerer as AnswererTuple, new_answerer, same_mark, is_repeated, last_counted, all_there, ppr_map, confirms, first_dcs, later_dcs, keeps_frame, judges_training, answers_pps, takes_block, Steps, StepsOrRefuses, AnswererTakesNoMemory, answers_rr, answers_repeated, leaves, end_after, answerer_ends, answerer_table, answerer_step, answerer_items, is_clear, Frames, state_after, stores};
+ghost use Rattle.stations.specs.AnswererStep.{Answerer as AnswererTuple, new_answerer, same_mark, is_repeated, last_counted, all_there};
+ghost use Rattle.stations.specs.AnswererStep.{ppr_map, confirms, first_dcs, later_dcs, keeps_frame, judges_training, answers_pps};
+ghost use Rattle.stations.specs.AnswererStep.{takes_block, Steps, StepsOrRefuses, AnswererTakesNoMemory, answers_rr, answers_repeated};
+ghost use Rattle.stations.specs.AnswererStep.{leaves, end_after, answerer_ends, answerer_table, answerer_step, answerer_items, is_clear};
+ghost use Rattle.stations.specs.AnswererStep.{Frames, state_after, stores};
 ghost use Rattle.stations.specs.declared.turn.End.TheVariants.{BadPage, NoAnswer};
 ghost use Rattle.stations.specs.Layers.{page_read, is_good_training, within_frame_size};
 ghost use Rattle.stations.specs.declared.turn.AnswererState.TheVariants.{PhaseB, WaitTraining, Message};
@@ -22,7 +26,6 @@ use raster::Page;
 use signals::{Caps, PageEnd, Params, Signal, allows, training_good};
 use std::alloc::{AllocError, Global};
 use std::marker::Model;
-
 
 /// The answering station of a call (ITU-T T.30, phases B to E and Annex A).
 #[derive(Debug, Drop)]
@@ -93,7 +96,8 @@ impl Answerer {
     /// nothing. The open frames and the open page stay within their limits.
     pub fn step(&mut self, input: AnswererIn<'_>) -> Result<Turn, AllocError>
         ensures answers { StepsOrRefuses self.old self.new result (answerer_step self.old (answerer_input input.entry)) }
-        ensures lasts { (self.old.ending ≢ None) ⊎ AnswererTakesNoMemory self.old.state (answerer_input input.entry) self.old → IsOk result }
+        ensures lasts { (self.old.ending ≢ None) ⊎ AnswererTakesNoMemory self.old.state (answerer_input input.entry) self.old →
+            IsOk result }
         ensures ended { IsSome self.old.ending → (self.new ≡ self.old) × (result ≡ Ok Turn.Silent) }
         ensures limits { IsLimited self.old → IsLimited self.new }
     {
@@ -128,14 +132,14 @@ impl Answerer {
     pub fn into_pages(self) -> Vec<Page>
         ensures { result.items ≡ self.pages }
     {
-        self.pages // all that were stored
+        self.pages
     }
 
     /// Why the call ended, if it has.
     pub fn end(&self) -> Option<End>
         ensures { result ≡ self.now.ending }
     {
-        self.end // once the call is over
+        self.end
     }
 
     /// Whether the station is in phase B, in which it waits for a DCS.
@@ -151,7 +155,8 @@ impl Answerer {
     /// Answers an input; an ended call answers silently.
     fn advance(&mut self, input: AnswererIn<'_>) -> Result<Turn, AllocError>
         ensures answers { StepsOrRefuses self.old self.new result (answerer_step self.old (answerer_input input.entry)) }
-        ensures lasts { (self.old.ending ≢ None) ⊎ AnswererTakesNoMemory self.old.state (answerer_input input.entry) self.old → IsOk result }
+        ensures lasts { (self.old.ending ≢ None) ⊎ AnswererTakesNoMemory self.old.state (answerer_input input.entry) self.old →
+            IsOk result }
         ensures ended { IsSome self.old.ending → (self.new ≡ self.old) × (result ≡ Ok Turn.Silent) }
     {
         if self.end.is_some() {
@@ -386,7 +391,8 @@ impl Answerer {
     fn hear_pps(&mut self, ends: PageEnd, mark: Mark, last: u8) -> Result<Turn, AllocError>
         requires state { self.old.state ≡ Message }
         ensures answers { StepsOrRefuses self.old self.new result (answers_pps self.old ends mark last) }
-        ensures lasts { (is_repeated self.old.accepted mark ≡ true) ⊎ (all_there self.old.frames (last_counted self.old.asked mark last) ≡ false) → IsOk result }
+        ensures lasts { (is_repeated self.old.accepted mark ≡ true) ⊎
+            (all_there self.old.frames (last_counted self.old.asked mark last) ≡ false) → IsOk result }
     {
         if self.has_accepted(mark) {
             return Ok(self.confirm());
@@ -435,7 +441,8 @@ impl Answerer {
     /// Takes a block whose frames are all there. Errs where memory is refused, which changes nothing.
     fn take_block(&mut self, ends: PageEnd, mark: Mark, last: u8) -> Result<Turn, AllocError>
         requires whole { all_there self.old.frames last ≡ true }
-        ensures { StepsOrRefuses self.old self.new result (takes_block self.old ends mark (self.old.octets ++ joined_frames self.old.frames (last + 1))) }
+        ensures { StepsOrRefuses self.old self.new result
+            (takes_block self.old ends mark (self.old.octets ++ joined_frames self.old.frames (last + 1))) }
     {
         match ends {
             PageEnd::Null => self.take_open(mark, last),
@@ -446,7 +453,8 @@ impl Answerer {
     /// Takes a block that isn't its page's last. Errs where memory is refused, which changes nothing.
     fn take_open(&mut self, mark: Mark, last: u8) -> Result<Turn, AllocError>
         requires whole { all_there self.old.frames last ≡ true }
-        ensures { StepsOrRefuses self.old self.new result (takes_block self.old PageEnd.Null mark (self.old.octets ++ joined_frames self.old.frames (last + 1))) }
+        ensures { StepsOrRefuses self.old self.new result
+            (takes_block self.old PageEnd.Null mark (self.old.octets ++ joined_frames self.old.frames (last + 1))) }
     {
         if !self.open_page.take(&self.store, last)? {
             return Ok(self.refuse_page());
@@ -457,7 +465,8 @@ impl Answerer {
     /// Takes a block that is its page's last. Errs where memory is refused, which changes nothing.
     fn take_page(&mut self, ends: PageEnd, mark: Mark, last: u8) -> Result<Turn, AllocError>
         requires whole { all_there self.old.frames last ≡ true }
-        ensures { StepsOrRefuses self.old self.new result (stores self.old ends mark (page_read self.old.params (self.old.octets ++ joined_frames self.old.frames (last + 1)))) }
+        ensures { StepsOrRefuses self.old self.new result
+            (stores self.old ends mark (page_read self.old.params (self.old.octets ++ joined_frames self.old.frames (last + 1)))) }
     {
         let Some(page) = self.open_page.finish(&self.store, last)? else {
             return Ok(self.refuse_page());
@@ -478,7 +487,12 @@ impl Answerer {
 
     /// Accepts a block.
     fn accept(&mut self, ends: PageEnd, mark: Mark) -> Turn
-        ensures next { self.new ≡ record self.old { state = state_after ends; accepted = Some (record { mark = mark; ends = ends }); asked = None; frames = no_frames } }
+        ensures next { self.new ≡ record self.old {
+          state = state_after ends;
+          accepted = Some (record { mark = mark; ends = ends });
+          asked = None;
+          frames = no_frames;
+        } }
         ensures turn { result ≡ confirms self.old }
     {
         self.accepted = Some(Accepted { mark, ends });

@@ -1,16 +1,21 @@
 //! The calling station: ITU-T T.30, phases B to E and Annex A.
 
+ghost use Rattle.partial_page.specs.Frames.{cut};
 ghost use Rattle.raster.specs.Packed.{FillsOctets};
 ghost use Rattle.raster.specs.declared.packed.Order.TheVariants.{LsbFirst};
-ghost use Rattle.std.specs.Prelude.{◌≡◌, ◌<◌, ◌+◌, cond, nat_lt, List, Bool, drop, length, slice_get, Some, None, Ok, IfOk, IsOk, IsSome, IsTrue, ◌↔◌, ◌⊎◌, ◌≢◌};
-ghost use Rattle.stations.specs.CallerStep.{Caller as CallerTuple, no_params, all_frames, caller_gives_up, tries_again, answers_dis, answers_ftt, answers_ppr, answers_rnr, answers_mcf, goes_on, caller_step, caller_table, confirmed, blocks_of, present_block, burst_of, pps_items, training_items, caller_items};
+ghost use Rattle.std.specs.Prelude.{◌≡◌, ◌<◌, ◌+◌, cond, nat_lt, List, Bool, drop, length, slice_get, Some, None, Ok, IfOk, IsOk, IsSome};
+ghost use Rattle.std.specs.Prelude.{IsTrue, ◌↔◌, ◌⊎◌, ◌≢◌};
+ghost use Rattle.stations.specs.CallerStep.{Caller as CallerTuple, no_params, all_frames, caller_gives_up, tries_again, answers_dis};
+ghost use Rattle.stations.specs.CallerStep.{answers_ftt, answers_ppr, answers_rnr, answers_mcf, goes_on, caller_step, caller_table};
+ghost use Rattle.stations.specs.CallerStep.{confirmed, blocks_of, present_block, burst_of, pps_items, training_items, caller_items};
 ghost use Rattle.stations.specs.Inputs.{caller_input};
 ghost use Rattle.raster.specs.Octets.{packed};
 ghost use Rattle.signals.specs.Agreement.{width_of_pixels};
-ghost use Rattle.page_code.specs.Codings.{code_of};
-ghost use Rattle.stations.specs.Layers.{agreed_for, lowered, in_one_group, code_blocks, code_blocks_within_limit, code_blocks_at};
+ghost use Rattle.stations.specs.Layers.{agreed_for, lowered, in_one_group, code_octets, within_page_limit, code_blocks_within_limit};
+ghost use Rattle.stations.specs.Layers.{code_blocks_at};
 ghost use Rattle.stations.specs.Left.{SpendsOrRefuses};
-ghost use Rattle.stations.specs.CallerFields.{NewCaller, AreCallable, Represents, Answers, AnswersOrRefuses, IsSending, HasBlock, GivesPresent, end_of_fields, next_in_page, end_of_first, NoPageStarts, CallerTakesNoMemory};
+ghost use Rattle.stations.specs.CallerFields.{NewCaller, AreCallable, Represents, Answers, AnswersOrRefuses, IsSending, HasBlock};
+ghost use Rattle.stations.specs.CallerFields.{GivesPresent, end_of_fields, next_in_page, end_of_first, NoPageStarts, CallerTakesNoMemory};
 ghost use Rattle.stations.specs.declared.turn.CallerState.TheVariants.{WaitDis, WaitCfr, WaitBlock, WaitReady};
 ghost use Rattle.stations.specs.declared.turn.End.TheVariants.{PeerLeft};
 ghost use Rattle.stations.specs.declared.turn.Turn.TheVariants.{Silent};
@@ -29,7 +34,6 @@ use raster::{Document, Page};
 use signals::{Caps, Modems, PageEnd, PageWidth, Params, Signal, Speed, Wish, agree, lower};
 use std::alloc::{AllocError, Global};
 use std::marker::Model;
-
 
 /// The calling station of a call (ITU-T T.30, phases B to E and Annex A).
 #[derive(Debug, Drop)]
@@ -146,7 +150,7 @@ impl Caller {
     pub fn end(&self) -> Option<End>
         ensures { (t : CallerTuple) → Represents self.now t → result ≡ t.ending }
     {
-        self.end // once the call is over
+        self.end
     }
 }
 
@@ -621,13 +625,25 @@ fn every_frame() -> Turn
 }
 
 /// The blocks of a page's code, if a call can carry it.
-#[tactic(auto, unfolding(crate::specs::Layers::code_blocks, crate::specs::Layers::code_within_limit, crate::specs::Layers::within_page_limit, crate::specs::Layers::code_octets))]
+#[tactic(auto, unfolding(crate::specs::Layers::code_blocks, crate::specs::Layers::code_within_limit))]
 fn code_blocks(alloc: Global, params: Params, page: &Page) -> Result<Option<Blocks>, AllocError>
     requires { 0 < length page.now.rows }
     ensures { IfOk result (λ blocks. blocks ≡ code_blocks_within_limit params page.now) }
 {
-    let octets = encoded(alloc, params.coding, page)?;
-    match Blocks::cut(alloc, octets, params.small) {
+    let octets = encoded(alloc, params, page)?;
+    cut_within_limit(alloc, octets, params.small)
+}
+
+/// Octets cut into blocks, if a call can carry so many for a page.
+#[tactic(auto, unfolding(crate::specs::Layers::within_page_limit))]
+fn cut_within_limit(
+    alloc: Global,
+    octets: Vec<u8>,
+    small: bool,
+) -> Result<Option<Blocks>, AllocError>
+    ensures { IfOk result (λ blocks. blocks ≡ cond (within_page_limit octets.items) (Some (cut small octets.items)) None) }
+{
+    match Blocks::cut(alloc, octets, small) {
         Ok(blocks) => Ok(Some(blocks)),
         Err(BlockFault::PageTooLong) => Ok(None),
         Err(BlockFault::NoMemory) => Err(AllocError),
@@ -636,12 +652,15 @@ fn code_blocks(alloc: Global, params: Params, page: &Page) -> Result<Option<Bloc
 }
 
 /// The octets of a page's code.
-fn encoded(alloc: Global, coding: Coding, page: &Page) -> Result<Vec<u8>, AllocError>
+#[tactic(auto, unfolding(crate::specs::Layers::code_octets))]
+fn encoded(alloc: Global, params: Params, page: &Page) -> Result<Vec<u8>, AllocError>
     requires { 0 < length page.now.rows }
-    ensures { IfOk result (λ octets. octets.items ≡ packed (code_of coding page.now.width page.now.rows)) }
+    ensures { IfOk result (λ octets. octets.items ≡ code_octets params page.now) }
 {
     let mut octets = Vec::new(alloc);
-    coding.encode(alloc, page, Order::LsbFirst, &mut octets)?;
+    params
+        .coding
+        .encode(alloc, page, Order::LsbFirst, &mut octets)?;
     are_packed(&octets);
     Ok(octets)
 }

@@ -121,7 +121,13 @@ impl<'a> Items<'a> {
         page: usize,
     ) -> Items<'a>
         requires { block < length blocks.now }
-        ensures { (params : Params) → result ≡ burst_of map (Some (record { page = page; place = block; ends = ends; params = params; frames = slice_index_or blocks.now block [] })) }
+        ensures { (params : Params) → result ≡ burst_of map (Some (record {
+          page = page;
+          place = block;
+          ends = ends;
+          params = params;
+          frames = slice_index_or blocks.now block [];
+        })) }
     {
         Items {
             marked: Some(Marked {
@@ -155,7 +161,13 @@ impl<'a> Iterator for Items<'a> {
 /// The PPS of a block.
 pub(crate) fn pps<'a>(blocks: &Blocks, block: usize, ends: PageEnd, page: usize) -> Signal<'a>
     requires { block < length blocks.now }
-    ensures { (params : Params) → framed (plain result) ≡ pps_of (record { page = page; place = block; ends = ends; params = params; frames = slice_index_or blocks.now block [] }) }
+    ensures { (params : Params) → framed (plain result) ≡ pps_of (record {
+      page = page;
+      place = block;
+      ends = ends;
+      params = params;
+      frames = slice_index_or blocks.now block [];
+    }) }
 {
     Signal::Pps {
         ends,

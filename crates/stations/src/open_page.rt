@@ -114,7 +114,8 @@ impl OpenPage {
     ) -> Result<Option<Page>, AllocError>
         requires whole { all_there store.now.frames last ≡ true }
         ensures same { self.new ≡ self.old }
-        ensures page { IfOk result (λ page. page ≡ page_read self.old.params (self.old.octets ++ joined_frames store.now.frames (last + 1))) }
+        ensures page { IfOk result (λ page.
+            page ≡ page_read self.old.params (self.old.octets ++ joined_frames store.now.frames (last + 1))) }
     {
         let start = self.octets.len();
         store.append_joined(last, &mut self.octets)?;
