@@ -3,6 +3,7 @@
 
     bench/fuzz_stream.py SECONDS [SEED]     builds the program of bench/stream, or takes the one that STREAM names
     bench/fuzz_stream.py --dry              tries the deframer, the reader and the answerer here on worked streams
+    bench/fuzz_stream.py --check            proves the program of bench/stream, over what the repository's checks kept
 
 A stream has frames of DCS, FCD, RCP, PPS, RR, DCN and others, right or wrong: bits changed before or after the stuffing, a wrong
 check sequence, a stuffed bit left out or added, cut short, repeated, lost, out of order, of 257 to 300 octets of data, with one flag,
@@ -29,6 +30,8 @@ from reference_call import Answerer
 from reference_pages import code_of, digest, random_rows, read_page
 
 TOP = os.path.dirname(os.path.dirname(os.path.abspath(__file__)))
+# A command that the check is run by, if there is one.
+QUEUE = os.environ.get("QUEUE", "").split()
 FLAG = "01111110"
 EOL = "000000000001"
 # The text of a white row in one dimension: a make-up code, and the code of no pixels more.
@@ -456,10 +459,10 @@ def fuzz(seconds, seed, program):
     return 0
 
 
-def build(folder):
-    """The program of bench/stream, unproved, in a copy of the repository."""
-    copy, program = os.path.join(folder, "copy"), os.path.join(folder, "stream")
-    shutil.copytree(os.path.join(TOP, "crates"), os.path.join(copy, "crates"), ignore=shutil.ignore_patterns("out"))
+def with_stream(folder, left_out):
+    """The crate of the program of bench/stream, in a copy of the repository without such files."""
+    copy = os.path.join(folder, "copy")
+    shutil.copytree(os.path.join(TOP, "crates"), os.path.join(copy, "crates"), ignore=shutil.ignore_patterns(*left_out))
     shutil.copy(os.path.join(TOP, "HANDLES"), copy)
     os.makedirs(os.path.join(copy, "crates", "stream", "src"))
     shutil.copy(os.path.join(TOP, "bench", "stream", "main.txt"), os.path.join(copy, "crates", "stream", "src", "main.rt"))
@@ -467,8 +470,19 @@ def build(folder):
         lines = file.read() + "stream: " + libraries.read()
     with open(os.path.join(copy, "crates.txt"), "w") as file:
         file.write(lines)
-    subprocess.run([os.path.join(TOP, "bench", "build_unproved.sh"), os.path.join(copy, "crates", "stream"), program], check=True)
+    return os.path.join(copy, "crates", "stream")
+
+
+def build(folder):
+    """The program of bench/stream, unproved."""
+    program = os.path.join(folder, "stream")
+    subprocess.run([os.path.join(TOP, "bench", "build_unproved.sh"), with_stream(folder, ["out"]), program], check=True)
     return program
+
+
+def check(folder):
+    """Proves the program of bench/stream; the status of its check."""
+    return subprocess.run(QUEUE + ["rt", "check"], cwd=with_stream(folder, [])).returncode
 
 
 DCS = b"\xff\x13\x83\x00\x22\xf8\x44"
@@ -517,6 +531,9 @@ def dry():
 def main():
     if sys.argv[1:] == ["--dry"]:
         return dry()
+    if sys.argv[1:] == ["--check"]:
+        with tempfile.TemporaryDirectory() as folder:
+            return check(folder)
     if not 2 <= len(sys.argv) <= 3 or not sys.argv[1].isdigit():
         print(__doc__, file=sys.stderr)
         return 2

@@ -1,7 +1,7 @@
 #!/bin/sh
 # Times a part: `frames`, the deframer on 16 MiB of frames in pieces of 1, 7 and 4,096 octets; `blocks`, cutting a coded page of
 # 1, 2, 4 and 8 MiB into blocks and joining their frames again; `call`, whole calls of a page of 65, 129 and 257 blocks, with the
-# greatest memory taken. Builds the program of bench/NAME, which stands on the libraries that its libraries.txt names, in a copy of
+# greatest memory taken. Builds the program of bench/NAME, which uses the libraries that its libraries.txt names, in a copy of
 # the repository, over what its checks kept, and runs it.
 set -e
 root=$(cd "$(dirname "$0")/.." && pwd)

@@ -7,7 +7,7 @@ Code and definition that are wrong alike meet their contracts, so only a theorem
 such a body. Of each wrong body (or of those whose name has the WORD) this tells, from copies of the
 repository, where all edits of the body are made:
 
-  alike      whether the code still meets its contracts, by a check of the crate that it stands in, or of
+  alike      whether the code still meets its contracts, by a check of the crate that it is in, or of
              the one function of the line;
   headline   which proofs refuse it, by a check of `line_sim` cut down to its definitions, the headline and
              its proofs, over the wrong station; and which clauses of the headline have no proof then;
@@ -27,6 +27,13 @@ LOWER = ["raster", "run_tables", "page_code", "hdlc", "signals", "partial_page"]
 SPECS = ["Line", "Entries", "LineFacts", "PageMachine", "InStep", "Headline"]
 PROOFS = ["Lists", "Groups", "Marks", "MovesOf", "Stores", "CallerKeeps", "AnswererKeeps", "LineKeeps",
           "WholeRuns", "WholeBlocks", "InSteps", "Maps", "Writable"]
+RUNS = """//! The runs.
+#![tactic(auto)]
+
+#[cfg(test)]
+mod tests;
+"""
+RUNS_USE = "runs: raster page_code signals stations line_sim"
 LIBRARY = """//! The headline alone.
 #![tactic(auto)]
 
@@ -41,7 +48,7 @@ ROWS, SPENDING = "stations/proofs/CallerRows.antt", "stations/proofs/Spending.an
 LIMITS, RUN_LAWS = "stations/proofs/Limits.antt", "stations/proofs/RunLaws.antt"
 LINE, CALL, SENT = "line_sim/specs/Line.antt", "line_sim/src/call.rt", "line_sim/proofs/Sent.antt"
 SENDS, MARKS = "line_sim/proofs/call/Call/caller_sends/Answers.antt", "line_sim/proofs/Marks.antt"
-# Of each wrong body its edits: the file, its text and what stands in its place. Those of a proof keep what is true of
+# Of each wrong body its edits: the file, its text and what takes its place. Those of a proof keep what is true of
 # the wrong body too, so that the first refusal is that of a false goal.
 WRONG = {
     "repeat stored twice": [
@@ -68,7 +75,8 @@ WRONG = {
          "        self.state = match ends {\n            PageEnd::Eom => {\n                self.store.clear();\n"
          "                AnswererState::PhaseB\n            }"),
         # the station's own laws
-        (LIMITS, "(pages : List PagePixels) → length octets ≤ 8388608 →", "(pages : List PagePixels) → IsLimited s → length octets ≤ 8388608 →"),
+        (LIMITS, "(pages : List PagePixels) → length octets ≤ 8388608 →",
+         "(pages : List PagePixels) → IsLimited s → length octets ≤ 8388608 →"),
         (LIMITS, "accepts_limited s ends mark octets pages few = record { places = none_open.0; short = none_open.1; page = few }",
          "".join(f"accepts_limited s {ends} mark octets pages h few = record {{ places = h.places; short = h.short; page = few }}\n"
                  for ends in ["Null", "Mps", "Eop"]) +
@@ -86,9 +94,11 @@ WRONG = {
     ],
     "last frame not awaited": [
         (STEP, "last_counted None mark last = last\n", "last_counted None mark last = last - 1\n"),
-        (STEP, "cond (same_mark asked.mark mark) (max asked.last last) last", "cond (same_mark asked.mark mark) (max asked.last (last - 1)) (last - 1)"),
+        (STEP, "cond (same_mark asked.mark mark) (max asked.last last) last",
+         "cond (same_mark asked.mark mark) (max asked.last (last - 1)) (last - 1)"),
         (STEP, "suc, ◌+◌, Bool", "suc, ◌+◌, ◌-◌, Bool"),
-        (ANSWERER, "    fn counted(&self, mark: Mark, last: u8) -> u8\n        ensures { result ≡ last_counted self.now.asked mark last }\n    {\n",
+        (ANSWERER,
+         "    fn counted(&self, mark: Mark, last: u8) -> u8\n        ensures { result ≡ last_counted self.now.asked mark last }\n    {\n",
          "    fn counted(&self, mark: Mark, last: u8) -> u8\n        ensures { result ≡ last_counted self.now.asked mark last }\n    {\n"
          "        let last = last.saturating_sub(1);\n"),
     ],
@@ -127,7 +137,8 @@ WRONG = {
         (CALL, "        self.to_caller.clear();\n", ""),
         # the lemmas that join the two
         (SENT, "to_answerer = w.to_answerer ++ items; to_caller = [] }", "to_answerer = w.to_answerer ++ items; to_caller = w.to_caller }"),
-        (SENT, "(new ≡ v.to_answerer ++ take made items)) → cleared ≡ [] →", "(new ≡ v.to_answerer ++ take made items)) → cleared ≡ v.to_caller →"),
+        (SENT, "(new ≡ v.to_answerer ++ take made items)) → cleared ≡ [] →",
+         "(new ≡ v.to_answerer ++ take made items)) → cleared ≡ v.to_caller →"),
         (SENT, "to_answerer = sym e; to_caller = sym gone }", "to_answerer = sym e; to_caller = shows.to_caller ∙ sym gone }"),
         (SENDS, "c.clear.new.self", "c.args.self.now.to_caller"),
         (SENDS, "c.clear.ensures", "refl"),
@@ -151,12 +162,12 @@ def copied(root, crates, kept):
     """A copy of the crates up to `line_sim`, with what their checks kept where it is asked for."""
     os.makedirs(crates)
     for name in LOWER + ["stations", "line_sim"]:
-        leave = None if kept and name != "line_sim" else shutil.ignore_patterns("out")
+        leave = None if kept else shutil.ignore_patterns("out")
         shutil.copytree(f"{root}/crates/{name}", f"{crates}/{name}", symlinks=True, ignore=leave)
     top = os.path.dirname(crates)
     shutil.copy(f"{root}/HANDLES", top)
-    rows = [row for row in read(f"{root}/crates.txt").split("\n") if not row.startswith(("engines", "faxtool"))]
-    write(f"{top}/crates.txt", "\n".join(rows) + "\n")
+    rows = [row for row in read(f"{root}/crates.txt").split("\n") if row.split(":")[0] in LOWER + ["stations", "line_sim"]]
+    write(f"{top}/crates.txt", "\n".join(rows + ([] if kept else [RUNS_USE])) + "\n")
     subprocess.run(["git", "init", "-q", top], check=True)
 
 
@@ -230,8 +241,9 @@ def judged(root, top, edits):
     print(f"  headline: {'proved' if safe else refusals(lines)}", flush=True)
     print(f"  clauses: {'none falls' if safe else fallen(lines)}", flush=True)
     planted(root, runs, edits)
-    shutil.copy(f"{root}/bench/wrong/runs.txt", f"{runs}/line_sim/src/tests.rt")
-    _, lines = ran(["rt", "try", "--test"], f"{runs}/line_sim")
+    write(f"{runs}/runs/src/lib.rt", RUNS)
+    write(f"{runs}/runs/src/tests.rt", read(f"{root}/bench/wrong/runs.txt"))
+    _, lines = ran(["rt", "try", "--test"], f"{runs}/runs")
     broken = re.findall(r"test tests::(\S+) \.\.\. FAILED", "\n".join(lines))
     ended = any(line.startswith("test result: ") for line in lines)
     print(f"  run: {', '.join(broken) if broken else 'all are safe' if ended else refusals(lines)}", flush=True)

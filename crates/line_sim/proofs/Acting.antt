@@ -122,9 +122,9 @@ first_to_answerer t s (framed signal ∷ items) others =
 caller_heard : (E : Type 0) (items : List PlainItem) (old new : CallerFields) (turn : Turn) →
     HearsFirst {E = E} CallerHears items old new (Ok turn) → (t : Caller) → Represents old t →
     Represents new (caller_to_first items t).next × (turn ≡ (caller_to_first items t).turn)
-caller_heard E [] old new turn h t stands = (subst (λ v. Represents v t) (sym h.0) stands, h.1)
-caller_heard E (framed signal ∷ items) old new turn h t stands = h t stands
-caller_heard E (checked octets ∷ items) old new turn h t stands = (subst (λ v. Represents v t) (sym h.0) stands, h.1)
+caller_heard E [] old new turn h t fits = (subst (λ v. Represents v t) (sym h.0) fits, h.1)
+caller_heard E (framed signal ∷ items) old new turn h t fits = h t fits
+caller_heard E (checked octets ∷ items) old new turn h t fits = (subst (λ v. Represents v t) (sym h.0) fits, h.1)
 
 caller_deaf : {E : Type 0} (items : List PlainItem) (old new : CallerFields) (refusal : E) →
     HearsFirst CallerHears items old new (Err refusal) → new ≡ old
@@ -163,31 +163,31 @@ caller_did : (mid new : Call) (event : Event) (item : Option Kind) (turn : Turn)
     ((v : World) → Shows mid v → Shows new (caller_sends turn v v.caller (sent outcome (caller_items v.caller turn)))) →
     entry ≡ entry_with event item (caller_said turn (caller_items answer.next turn)) entry.refused →
     Shows new (happens w event outcome) × (entry_of w event outcome ≡ Some entry)
-caller_did mid new event item turn entry false w answer marked stands is s o turns named Done sent_so sends noted =
+caller_did mid new event item turn entry false w answer marked fits is s o turns named Done sent_so sends noted =
     let v : World = record { caller = answer.next; answerer = w.answerer; to_answerer = w.to_answerer; to_caller = mid.to_caller } in
     let shown : Shows new (caller_sends turn v answer.next (caller_items answer.next turn)) =
-    sends v (record { caller = stands; answerer = s; to_answerer = o; to_caller = refl }) in (
+    sends v (record { caller = fits; answerer = s; to_answerer = o; to_caller = refl }) in (
       subst (Shows new) (ap (λ x. caller_sends x v answer.next (caller_items answer.next x)) is ∙ sym turns.done) shown,
       entry_is w event (caller_said answer.turn (caller_items answer.next answer.turn)) item entry Done refl named turns.said_done
           (noted ∙ (ap (λ x. entry_with event item (caller_said x (caller_items answer.next x)) entry.refused) is ∙
           ap (entry_with event item (caller_said answer.turn (caller_items answer.next answer.turn))) marked)),
     )
-caller_did mid new event item turn entry true w answer marked stands is s o turns named (Cut made) sent_so sends noted =
+caller_did mid new event item turn entry true w answer marked fits is s o turns named (Cut made) sent_so sends noted =
     let v : World = record { caller = answer.next; answerer = w.answerer; to_answerer = w.to_answerer; to_caller = mid.to_caller } in
     let shown : Shows new (caller_sends turn v answer.next (take made (caller_items answer.next turn))) =
-    sends v (record { caller = stands; answerer = s; to_answerer = o; to_caller = refl }) in (
+    sends v (record { caller = fits; answerer = s; to_answerer = o; to_caller = refl }) in (
       subst (Shows new) (ap (λ x. caller_sends x v answer.next (take made (caller_items answer.next x))) is ∙ sym (turns.cut made)) shown,
       entry_is w event (caller_said answer.turn (caller_items answer.next answer.turn)) item entry (Cut made) refl named
           (turns.said_cut made)
           (noted ∙ (ap (λ x. entry_with event item (caller_said x (caller_items answer.next x)) entry.refused) is ∙
           ap (entry_with event item (caller_said answer.turn (caller_items answer.next answer.turn))) marked)),
     )
-caller_did mid new event item turn entry false w answer marked stands is s o turns named Nothing sent_so sends noted = absurd sent_so
-caller_did mid new event item turn entry false w answer marked stands is s o turns named InputLost sent_so sends noted = absurd sent_so
-caller_did mid new event item turn entry false w answer marked stands is s o turns named (Cut made) sent_so sends noted = absurd sent_so
-caller_did mid new event item turn entry true w answer marked stands is s o turns named Done sent_so sends noted = absurd sent_so
-caller_did mid new event item turn entry true w answer marked stands is s o turns named Nothing sent_so sends noted = absurd sent_so
-caller_did mid new event item turn entry true w answer marked stands is s o turns named InputLost sent_so sends noted = absurd sent_so
+caller_did mid new event item turn entry false w answer marked fits is s o turns named Nothing sent_so sends noted = absurd sent_so
+caller_did mid new event item turn entry false w answer marked fits is s o turns named InputLost sent_so sends noted = absurd sent_so
+caller_did mid new event item turn entry false w answer marked fits is s o turns named (Cut made) sent_so sends noted = absurd sent_so
+caller_did mid new event item turn entry true w answer marked fits is s o turns named Done sent_so sends noted = absurd sent_so
+caller_did mid new event item turn entry true w answer marked fits is s o turns named Nothing sent_so sends noted = absurd sent_so
+caller_did mid new event item turn entry true w answer marked fits is s o turns named InputLost sent_so sends noted = absurd sent_so
 
 answerer_did : (mid new : Call) (event : Event) (item : Option Kind) (turn : Turn) (entry : Entry) (refused : Bool) (w : World)
     (answer : AnswererAnswer) → entry.refused ≡ refused →
@@ -197,29 +197,29 @@ answerer_did : (mid new : Call) (event : Event) (item : Option Kind) (turn : Tur
     ((v : World) → Shows mid v → Shows new (answerer_sends turn v v.answerer (sent outcome (answerer_items v.answerer turn)))) →
     entry ≡ entry_with event item (says turn) entry.refused →
     Shows new (happens w event outcome) × (entry_of w event outcome ≡ Some entry)
-answerer_did mid new event item turn entry false w answer marked stands s is o turns named Done sent_so sends noted =
+answerer_did mid new event item turn entry false w answer marked fits s is o turns named Done sent_so sends noted =
     let v : World = record { caller = w.caller; answerer = answer.next; to_answerer = mid.to_answerer; to_caller = w.to_caller } in
     let shown : Shows new (answerer_sends turn v answer.next (answerer_items answer.next turn)) =
-    sends v (record { caller = stands; answerer = sym s; to_answerer = refl; to_caller = o }) in (
+    sends v (record { caller = fits; answerer = sym s; to_answerer = refl; to_caller = o }) in (
       subst (Shows new) (ap (λ x. answerer_sends x v answer.next (answerer_items answer.next x)) is ∙ sym turns.done) shown,
       entry_is w event (says answer.turn) item entry Done refl named turns.said_done
           (noted ∙ (ap (λ x. entry_with event item (says x) entry.refused) is ∙ ap (entry_with event item (says answer.turn)) marked)),
     )
-answerer_did mid new event item turn entry true w answer marked stands s is o turns named (Cut made) sent_so sends noted =
+answerer_did mid new event item turn entry true w answer marked fits s is o turns named (Cut made) sent_so sends noted =
     let v : World = record { caller = w.caller; answerer = answer.next; to_answerer = mid.to_answerer; to_caller = w.to_caller } in
     let shown : Shows new (answerer_sends turn v answer.next (take made (answerer_items answer.next turn))) =
-    sends v (record { caller = stands; answerer = sym s; to_answerer = refl; to_caller = o }) in (
+    sends v (record { caller = fits; answerer = sym s; to_answerer = refl; to_caller = o }) in (
       subst (Shows new) (ap (λ x. answerer_sends x v answer.next (take made (answerer_items answer.next x))) is ∙
           sym (turns.cut made)) shown,
       entry_is w event (says answer.turn) item entry (Cut made) refl named (turns.said_cut made)
           (noted ∙ (ap (λ x. entry_with event item (says x) entry.refused) is ∙ ap (entry_with event item (says answer.turn)) marked)),
     )
-answerer_did mid new event item turn entry false w answer marked stands s is o turns named Nothing sent_so sends noted = absurd sent_so
-answerer_did mid new event item turn entry false w answer marked stands s is o turns named InputLost sent_so sends noted = absurd sent_so
-answerer_did mid new event item turn entry false w answer marked stands s is o turns named (Cut made) sent_so sends noted = absurd sent_so
-answerer_did mid new event item turn entry true w answer marked stands s is o turns named Done sent_so sends noted = absurd sent_so
-answerer_did mid new event item turn entry true w answer marked stands s is o turns named Nothing sent_so sends noted = absurd sent_so
-answerer_did mid new event item turn entry true w answer marked stands s is o turns named InputLost sent_so sends noted = absurd sent_so
+answerer_did mid new event item turn entry false w answer marked fits s is o turns named Nothing sent_so sends noted = absurd sent_so
+answerer_did mid new event item turn entry false w answer marked fits s is o turns named InputLost sent_so sends noted = absurd sent_so
+answerer_did mid new event item turn entry false w answer marked fits s is o turns named (Cut made) sent_so sends noted = absurd sent_so
+answerer_did mid new event item turn entry true w answer marked fits s is o turns named Done sent_so sends noted = absurd sent_so
+answerer_did mid new event item turn entry true w answer marked fits s is o turns named Nothing sent_so sends noted = absurd sent_so
+answerer_did mid new event item turn entry true w answer marked fits s is o turns named InputLost sent_so sends noted = absurd sent_so
 
 -- what the caller takes an event for, and the fields after it before it transmits
 pub record CallerTakes {E : Type 0} (old mid : Call) (event : Event) (item : Option Kind) (result : Result Turn E) : Type 0 where
@@ -488,9 +488,9 @@ answerer_timed CallerT5 input w is = absurd is
 caller_answered : {E : Type 0} (old new : CallerFields) (input : CallerInput) (turn : Turn) (result : Result Turn E) →
     AnswersOrRefuses old new result (λ t. caller_step t input) → result ≡ Ok turn → (t : Caller) → Represents old t →
     Represents new (caller_step t input).next × (turn ≡ (caller_step t input).turn)
-caller_answered {E} old new input turn result h e t stands =
+caller_answered {E} old new input turn result h e t fits =
     (let now : AnswersOrRefuses {E = E} old new (Ok turn) (λ x. caller_step x input) = subst
-    (λ r. AnswersOrRefuses old new r (λ x. caller_step x input)) e h in now) t stands
+    (λ r. AnswersOrRefuses old new r (λ x. caller_step x input)) e h in now) t fits
 
 pub caller_timer : {E : Type 0} (old : Call) (caller : CallerFields) (event : Event) (input : CallerInput) (result : Result Turn E) →
     CallerTimer event input → AnswersOrRefuses old.caller caller result (λ t. caller_step t input) →

@@ -1,5 +1,5 @@
 -- A new world.
-use Rattle.std.proofs.Common.{◌≡◌, List, [], ◌∷◌, ◌++◌, refl, ap, sym, subst, ◌∙◌}
+use Rattle.std.proofs.Common.{◌≡◌, List, [], ◌∷◌, ◌++◌, refl, ap, sym, ◌∙◌}
 use Rattle.signals.specs.Signals.{dis}
 use Rattle.signals.specs.declared.params.Caps.{Caps}
 use Rattle.signals.specs.declared.params.Wish.{Wish}
@@ -11,7 +11,6 @@ use Rattle.stations.specs.Laws.{Each}
 use Rattle.stations.specs.Layers.{Document, IsFullPage}
 use Rattle.stations.specs.declared.turn.Turn.{Turn}
 use Rattle.stations.specs.declared.turn.Turn.TheVariants.{Dis}
-use Rattle.line_sim.specs.Headline.{CanBeWritten}
 use Rattle.line_sim.specs.Line.{new_world}
 use Rattle.line_sim.specs.Standing.{Shows, IsReached}
 use Rattle.line_sim.specs.declared.call.Call.{Call}
@@ -24,10 +23,6 @@ pub shows_new : (document : Document) (wish : Wish) (caps : Caps) (caller : Call
 shows_new document wish caps caller answerer turn to_answerer to_caller start items represents is says none begins all sent =
     let e : items ≡ framed (dis caps) ∷ [] = all ∙ (ap (answerer_items answerer) says ∙ ap (λ s. answerer_items s Dis) is) in
     record { caller = represents; answerer = sym is; to_answerer = sym none; to_caller = sym (sent ∙ (ap (λ l. l ++ items) begins ∙ e)) }
-
-pub dis_written : (caps : Caps) (answerer : Answerer) (turn : Turn) (items : List PlainItem) → turn ≡ Dis →
-    items ≡ answerer_items answerer turn → Each CanBeWritten items
-dis_written caps answerer turn items says all = subst (Each CanBeWritten) (sym (all ∙ ap (answerer_items answerer) says)) (tt, tt)
 
 pub reached_new : (document : Document) (wish : Wish) (caps : Caps) (call : Call) → Each IsFullPage document →
     Shows call (new_world document wish caps) → IsReached (record { call = call; entries = [] })

@@ -80,16 +80,6 @@ phase_is PhaseB false h = (let fails : false ≡ true = h.1 refl in cc)
 phase_is WaitTraining false h = refl
 phase_is Message false h = refl
 
--- the five tests, one after the other
-test_1 : (a b c d e : Bool) → a ≡ true → false ≡ (not a && not b && c && d && e)
-test_1 true b c d e h = refl
-test_1 false b c d e h = cc
-
-test_2 : (a b c d e : Bool) → b ≡ true → false ≡ (not a && not b && c && d && e)
-test_2 true b c d e h = refl
-test_2 false true c d e h = refl
-test_2 false false c d e h = cc
-
 test_3 : (a b c d e : Bool) → (c && d) ≡ false → false ≡ (not a && not b && c && d && e)
 test_3 true b c d e h = refl
 test_3 false true c d e h = refl
@@ -103,14 +93,6 @@ test_4 false true c d e h i k = cc
 test_4 false false false d e h i k = cc
 test_4 false false true false e h i k = cc
 test_4 false false true true e h i k = refl
-
-pub caller_ended : (w : World) → is_some w.caller.ending ≡ true → false ≡ is_between_groups w
-caller_ended w = test_1 (is_some w.caller.ending) (is_some w.answerer.ending) (waits_for_dis w.caller.state) (nat_lt 0 w.caller.place)
-    (waits_for_dcs w.answerer.state)
-
-pub answerer_ended : (w : World) → is_some w.answerer.ending ≡ true → false ≡ is_between_groups w
-answerer_ended w = test_2 (is_some w.caller.ending) (is_some w.answerer.ending) (waits_for_dis w.caller.state) (nat_lt 0 w.caller.place)
-    (waits_for_dcs w.answerer.state)
 
 none_is : {A : Type 0} (o : Option A) → is_some o ≡ false → o ≡ None
 none_is None e = refl

@@ -1,9 +1,12 @@
 -- What the caller transmits in a run, counted over its entries.
-use Rattle.std.proofs.Common.{◌≡◌, ◌≢◌, ℕ, suc, ◌+◌, ◌*◌, ◌≤◌, Bool, true, false, cond, List, [], ◌∷◌, length, Option, Some, None, refl}
+use Rattle.std.proofs.Common.{◌≡◌, ◌≢◌, ℕ, suc, ◌+◌, ◌*◌, ◌≤◌, Bool, true, false, cond, List, [], ◌∷◌, ◌++◌, length, Option, Some, None, refl}
 use Rattle.std.proofs.Common.{sym, ap, subst, ◌∙◌, arith}
 use Rattle.std.specs.Prelude.{◌&&◌}
 use Rattle.stations.specs.Inputs.{CallerInput, hears, timeout, t5, AnswererInput, listens, trains, t2, t1, is_busy, PlainItem, framed}
+use Rattle.signals.specs.declared.params.Caps.{Caps}
+use Rattle.signals.specs.declared.params.Wish.{Wish}
 use Rattle.stations.specs.Inputs.{checked}
+use Rattle.stations.specs.Layers.{Document}
 use Rattle.stations.specs.Left.{dcs_left, pps_left, rr_left, is_block_turn, StepsSpend}
 use Rattle.stations.specs.CallerStep.{Caller, caller_step, caller_items}
 use Rattle.stations.specs.AnswererStep.{Answerer, answerer_step, answerer_items}
@@ -23,8 +26,10 @@ use Rattle.line_sim.specs.Line.Outcome.{Done, Nothing, InputLost, Cut}
 use Rattle.line_sim.specs.Entries.{signal_kind, item_of, head_kind, heard, unless_lost, station_says, event_says, is_refused, entry_of}
 use Rattle.line_sim.specs.Entries.{and_entries, entries}
 use Rattle.line_sim.specs.Counted.{count, is_callers, is_delivery_to_caller, is_training, is_dcn, is_rr, shows_dcs, RunsAreCounted}
-use Rattle.line_sim.specs.Counted.{DcsBetweenGroups}
+use Rattle.line_sim.specs.Counted.{DcsBetweenGroups, shows_group_end}
 use Rattle.line_sim.proofs.CallerCounts.{IsBegunIn, step_adds, refilled, Fee, no_refill, dcs_credit, dcs_fee, few_left, group_refill}
+use Rattle.line_sim.proofs.Lists.{append_assoc_lem}
+use Rattle.line_sim.proofs.Transcripts.{entries_split}
 use Rattle.line_sim.proofs.CallerCounts.{told_fee, calls_left, no_credit, dcn_fee, rr_refill, rr_fee, block_refill, block_fee}
 
 -- a station's answer leaves the other one
@@ -268,23 +273,6 @@ groups_pay WaitCfr c turns e b h = omega (arith, h, b)
 groups_pay WaitBlock c turns e b h = omega (arith, h, b)
 groups_pay WaitReady c turns e b h = omega (arith, h, b)
 
-pub runs_are_counted : StepsSpend → RunsAreCounted
-runs_are_counted law document wish caps steps =
-    let first = new_world document wish caps in
-    let w = run steps first in
-    let dcn = sums is_dcn no_refill calls_left no_credit (λ n. 0) refl (λ m n. refl) (λ c input b. dcn_fee law c input) steps first refl in
-    let told = sums is_training group_refill dcs_left no_credit (λ n. 18 * n) refl (λ m n. omega arith) (told_fee law) steps first refl in
-    let rr = sums is_rr rr_refill rr_left no_credit (λ n. 3 * n) refl (λ m n. omega arith) (rr_fee law) steps first refl in
-    let blocks = sums is_block_turn block_refill pps_left no_credit (λ n. 12 * n) refl (λ m n. omega arith)
-    (block_fee law) steps first refl in
-    record {
-      dcs = groups_pay w.caller.state w.caller _ refl (run_begun law steps first refl) (dcs_sums law steps first refl);
-      dcs_told = omega (arith, told);
-      dcn = omega (arith, dcn);
-      rr = omega (arith, rr);
-      blocks = omega (arith, blocks);
-    }
-
 -- at most 18 are left at any time of a run
 few_in_delivery :
     StepsSpend → (w : World) (outcome : Outcome) (items : List PlainItem) → dcs_left w.caller ≤ 18 →
@@ -354,3 +342,35 @@ dcs_between_groups law document wish caps before steps same =
     let few = few_in_run law before first (omega arith) in
     let turns = dcs_sums law steps w (run_begun law before first refl) in
     omega (arith, few, turns, same)
+
+-- any part of a transcript is the entries of some steps of the run
+parts_are_counted :
+    StepsSpend → (document : Document) (wish : Wish) (caps : Caps) (steps : List (Event × Outcome)) (before part after : List Entry) →
+    entries steps (new_world document wish caps) ≡ before ++ part ++ after → count shows_dcs part ≤ 18 * suc (count shows_group_end part)
+parts_are_counted law document wish caps steps before part after e =
+    let start = new_world document wish caps in
+    let one = entries_split steps start before (part ++ after) (e ∙ append_assoc_lem before part after) in
+    let w = run one.first start in
+    let two = entries_split one.second w part after one.rest_is in
+    let few = few_in_run law one.first start (omega arith) in
+    let told = sums is_training group_refill dcs_left no_credit (λ n. 18 * n) refl (λ m n. omega arith) (told_fee law) two.first w
+    (run_begun law one.first start refl) in
+    subst (λ es. count shows_dcs es ≤ 18 * suc (count shows_group_end es)) two.first_is (omega (arith, few, told))
+
+pub runs_are_counted : StepsSpend → RunsAreCounted
+runs_are_counted law document wish caps steps =
+    let first = new_world document wish caps in
+    let w = run steps first in
+    let dcn = sums is_dcn no_refill calls_left no_credit (λ n. 0) refl (λ m n. refl) (λ c input b. dcn_fee law c input) steps first refl in
+    let told = sums is_training group_refill dcs_left no_credit (λ n. 18 * n) refl (λ m n. omega arith) (told_fee law) steps first refl in
+    let rr = sums is_rr rr_refill rr_left no_credit (λ n. 3 * n) refl (λ m n. omega arith) (rr_fee law) steps first refl in
+    let blocks = sums is_block_turn block_refill pps_left no_credit (λ n. 12 * n) refl (λ m n. omega arith)
+    (block_fee law) steps first refl in
+    record {
+      dcs = groups_pay w.caller.state w.caller _ refl (run_begun law steps first refl) (dcs_sums law steps first refl);
+      dcs_told = omega (arith, told);
+      dcs_part = parts_are_counted law document wish caps steps;
+      dcn = omega (arith, dcn);
+      rr = omega (arith, rr);
+      blocks = omega (arith, blocks);
+    }

@@ -20,25 +20,25 @@ bit_past map n size past =
     let none : slice_index map (n / 8) ≡ 0 = get_or_past map (n / 8) 0 (omega arith) in
     ap (λ x. nat_eq (bit_at x (n % 8)) 1) none ∙ ap (λ x. nat_eq x 1) (bit_at-zero (n % 8))
 
-none_past : (map : List ℕ) (number : ℕ) (frames : List (List ℕ)) (behind : List PlainItem) → length map ≡ 32 → count_fcds behind ≡ 0 →
-    256 ≤ number → count_fcds (fcds map number frames ++ behind) ≡ 0
-none_past map number [] behind size none past = none
-none_past map number (octets ∷ frames) behind size none past =
-    rw (bit_past map number size past) (none_past map (suc number) frames behind size none (omega arith))
+none_past : (map : List ℕ) (number : ℕ) (frames : List (List ℕ)) (after : List PlainItem) → length map ≡ 32 → count_fcds after ≡ 0 →
+    256 ≤ number → count_fcds (fcds map number frames ++ after) ≡ 0
+none_past map number [] after size none past = none
+none_past map number (octets ∷ frames) after size none past =
+    rw (bit_past map number size past) (none_past map (suc number) frames after size none (omega arith))
 
-one_more : (b : Bool) (number left : ℕ) (octets : List ℕ) (items behind : List PlainItem) → count_fcds (items ++ behind) ≤ left →
-    count_fcds (cond b (framed (fcd number octets) ∷ items) items ++ behind) ≤ suc left
-one_more false number left octets items behind h = omega arith
-one_more true number left octets items behind h = omega arith
+one_more : (b : Bool) (number left : ℕ) (octets : List ℕ) (items after : List PlainItem) → count_fcds (items ++ after) ≤ left →
+    count_fcds (cond b (framed (fcd number octets) ∷ items) items ++ after) ≤ suc left
+one_more false number left octets items after h = omega arith
+one_more true number left octets items after h = omega arith
 
-few_fcds : (left : ℕ) (map : List ℕ) (number : ℕ) (frames : List (List ℕ)) (behind : List PlainItem) → length map ≡ 32 →
-    count_fcds behind ≡ 0 → number + left ≡ 256 → count_fcds (fcds map number frames ++ behind) ≤ left
-few_fcds zero map number frames behind size none e =
-    let h : count_fcds (fcds map number frames ++ behind) ≡ 0 = none_past map number frames behind size none (omega arith) in omega arith
-few_fcds (suc left) map number [] behind size none e = omega arith
-few_fcds (suc left) map number (octets ∷ frames) behind size none e =
-    one_more (bit_of map number) number left octets (fcds map (suc number) frames) behind
-    (few_fcds left map (suc number) frames behind size none (omega arith))
+few_fcds : (left : ℕ) (map : List ℕ) (number : ℕ) (frames : List (List ℕ)) (after : List PlainItem) → length map ≡ 32 →
+    count_fcds after ≡ 0 → number + left ≡ 256 → count_fcds (fcds map number frames ++ after) ≤ left
+few_fcds zero map number frames after size none e =
+    let h : count_fcds (fcds map number frames ++ after) ≡ 0 = none_past map number frames after size none (omega arith) in omega arith
+few_fcds (suc left) map number [] after size none e = omega arith
+few_fcds (suc left) map number (octets ∷ frames) after size none e =
+    one_more (bit_of map number) number left octets (fcds map (suc number) frames) after
+    (few_fcds left map (suc number) frames after size none (omega arith))
 
 few_in_burst : (map : List ℕ) (block : Option Block) → length map ≡ 32 → count_fcds (burst_of map block) ≤ 256
 few_in_burst map None size = omega arith

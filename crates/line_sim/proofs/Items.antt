@@ -34,21 +34,6 @@ carried Rnr octets differs h = h
 carried Rr octets differs h = h
 carried Dcn octets differs h = h
 
-pub is_item : (kind : Kind) (octets : List ℕ) → kind ≢ Training → CarriesKind kind octets → IsItem kind octets
-is_item Training octets differs h = absurd (differs refl)
-is_item Dis octets differs h = h
-is_item Dcs octets differs h = h
-is_item Cfr octets differs h = h
-is_item Ftt octets differs h = h
-is_item (Fcd number) octets differs h = h
-is_item Rcp octets differs h = h
-is_item Pps octets differs h = h
-is_item Mcf octets differs h = h
-is_item Ppr octets differs h = h
-is_item Rnr octets differs h = h
-is_item Rr octets differs h = h
-is_item Dcn octets differs h = h
-
 pub said_frame : (kind : Kind) (octets : List ℕ) → kind ≢ Training → item_said kind octets ≡ framed (signal_said octets)
 said_frame Training octets differs = absurd (differs refl)
 said_frame Dis octets differs = refl
@@ -142,6 +127,3 @@ pub check_spoiled : (kind : Kind) (octets new : List ℕ) → kind ≡ Training 
 check_spoiled kind octets new is e =
     subst (λ k. item_said k new ∷ [] ≡ spoiled (item_said k octets ∷ [])) (sym is)
     (ap (λ l. checked l ∷ []) (e ∙ sym (map_constant octets)))
-
-pub frame_unspoiled : (kind : Kind) (octets : List ℕ) → kind ≢ Training → item_said kind octets ∷ [] ≡ spoiled (item_said kind octets ∷ [])
-frame_unspoiled kind octets differs = rw (said_frame kind octets differs) refl

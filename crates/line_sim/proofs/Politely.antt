@@ -1,5 +1,5 @@
 -- Deliveries one after the other.
-use Rattle.std.proofs.Common.{◌≡◌, ◌≢◌, ℕ, zero, suc, ◌+◌, ◌-◌, ◌≤◌, ◌<◌, Bool, true, false, cond, List, [], ◌∷◌, ◌++◌, refl, ap, sym}
+use Rattle.std.proofs.Common.{◌≡◌, ◌≢◌, ℕ, zero, suc, ◌+◌, ◌-◌, ◌<◌, Bool, true, false, cond, List, [], ◌∷◌, ◌++◌, refl, ap, sym}
 use Rattle.std.proofs.Common.{subst, ◌∙◌, arith}
 use Rattle.stations.specs.Inputs.{PlainItem}
 use Rattle.line_sim.specs.Delivering.{Made, Stopped}
@@ -44,38 +44,17 @@ made_both old now new w xs ys first second = (
 pub none_made : (v : WorldFields) (w : World) → Shows v.call w → Made v v w []
 none_made v w shows = (shows, sym (append_nil v.entries))
 
--- one event was made, or two; or one was refused
-one_made : (old new : WorldFields) (event : Event) (w : World) → Shows old.call w →
-    next_steps w w.to_answerer w.to_caller ≡ (event, Done) ∷ [] → is_delivery event ≡ true → Becomes old new event Done →
-    Made old new w (next_steps w w.to_answerer w.to_caller) × (count_deliveries (next_steps w w.to_answerer w.to_caller) ≡ 1)
-one_made old new event w shows next counts becomes =
-    (subst (Made old new w) (sym next) (becomes w shows), ap count_deliveries next ∙ ap (λ b. cond b 1 0) counts)
-
 one_stopped : (old new : WorldFields) (event : Event) (rest : Steps) (w : World) → Shows old.call w →
     next_steps w w.to_answerer w.to_caller ≡ (event, Done) ∷ rest → BecomesSome old new event →
     Stopped old new w (next_steps w w.to_answerer w.to_caller)
 one_stopped old new event rest w shows next some =
     record { before = []; event = event; following = rest; outcome = some.0; refused = some.1; steps_are = next; made = some.2 w shows }
 
-pub answerer_comes : (old new : WorldFields) → old.call.to_answerer ≢ [] → Becomes old new DeliverToAnswerer Done → (w : World) →
-    Shows old.call w →
-    Made old new w (next_steps w w.to_answerer w.to_caller) × (count_deliveries (next_steps w w.to_answerer w.to_caller) ≡ 1)
-answerer_comes old new some becomes w shows =
-    one_made old new DeliverToAnswerer w shows
-    (to_answerer_next w w.to_answerer w.to_caller (λ e. some (sym shows.to_answerer ∙ e))) refl becomes
-
 pub answerer_stops : (old new : WorldFields) → old.call.to_answerer ≢ [] → BecomesSome old new DeliverToAnswerer → (w : World) →
     Shows old.call w → Stopped old new w (next_steps w w.to_answerer w.to_caller)
 answerer_stops old new some became w shows =
     one_stopped old new DeliverToAnswerer [] w shows
     (to_answerer_next w w.to_answerer w.to_caller (λ e. some (sym shows.to_answerer ∙ e))) became
-
-pub caller_comes : (old new : WorldFields) → old.call.to_answerer ≡ [] → old.call.to_caller ≢ [] → Becomes old new DeliverToCaller Done →
-    (w : World) → Shows old.call w →
-    Made old new w (next_steps w w.to_answerer w.to_caller) × (count_deliveries (next_steps w w.to_answerer w.to_caller) ≡ 1)
-caller_comes old new none some becomes w shows =
-    one_made old new DeliverToCaller w shows
-    (to_caller_next w w.to_answerer w.to_caller (shows.to_answerer ∙ none) (λ e. some (sym shows.to_caller ∙ e))) refl becomes
 
 pub caller_stops : (old new : WorldFields) → old.call.to_answerer ≡ [] → old.call.to_caller ≢ [] → BecomesSome old new DeliverToCaller →
     (w : World) → Shows old.call w → Stopped old new w (next_steps w w.to_answerer w.to_caller)
@@ -88,15 +67,6 @@ between_is : (old : WorldFields) (b : Bool) (w : World) → old.call.to_answerer
     next_steps w w.to_answerer w.to_caller ≡ cond b ((AnswererT2, Done) ∷ (DeliverToCaller, Done) ∷ []) []
 between_is old b w none nothing is shows =
     between_next w w.to_answerer w.to_caller b (shows.to_answerer ∙ none) (shows.to_caller ∙ nothing) (sym is)
-
-pub nothing_comes : (old : WorldFields) (b : Bool) → old.call.to_answerer ≡ [] → old.call.to_caller ≡ [] →
-    ((w : World) → Shows old.call w → b ≡ is_between_groups w) → b ≡ false → (w : World) → Shows old.call w →
-    (old ≡ old) × (next_steps w w.to_answerer w.to_caller ≡ [])
-nothing_comes old b none nothing is fails w shows = (
-  refl,
-  between_is old b w none nothing (is w shows) shows ∙
-      ap (λ x. cond x ((AnswererT2, Done) ∷ (DeliverToCaller, Done) ∷ []) []) fails,
-)
 
 between_steps : (old : WorldFields) (b : Bool) (w : World) → old.call.to_answerer ≡ [] → old.call.to_caller ≡ [] →
     b ≡ is_between_groups w → b ≡ true → Shows old.call w →
@@ -210,12 +180,6 @@ ends_at : (old now : WorldFields) (w : World) (most delivered : ℕ) → (along 
 ends_at old now w most delivered along none =
     let is : polite_steps most w ≡ along.steps = along.rest ∙ (ap (λ l. along.steps ++ l) none ∙ append_nil along.steps) in
     (subst (Made old now w) (sym is) along.made, sym along.counted ∙ ap count_deliveries (sym is))
-
-pub all_on : (old now : WorldFields) (w : World) (most delivered : ℕ) → most ≤ delivered → Along old now w most delivered →
-    Made old now w (polite_steps most w) × (delivered ≡ count_deliveries (polite_steps most w))
-all_on old now w most delivered past along =
-    let none : most - delivered ≡ 0 = omega arith in
-    ends_at old now w most delivered along (ap (λ n. polite_steps n (run along.steps w)) none)
 
 pub none_on : (old now new : WorldFields) (w : World) (most delivered : ℕ) → Along old now w most delivered →
     ((v : World) → Shows now.call v → (new ≡ now) × (next_steps v v.to_answerer v.to_caller ≡ [])) →

@@ -36,15 +36,6 @@ reached_more old new event outcome r becomes =
           sym (entries_one_more r.steps event outcome start));
     }
 
--- nothing at all has happened
-append_none : (xs : List Entry) → xs ≡ xs ++ []
-append_none [] = refl
-append_none (x ∷ xs) = ap (λ l. x ∷ l) (append_none xs)
-
-pub becomes_same : (v : WorldFields) (noted : List Entry) (event : Event) → noted ≡ v.entries →
-    Becomes v (record { call = v.call; entries = noted }) event Nothing
-becomes_same v noted event is w shows = (shows, is ∙ append_none v.entries)
-
 -- an event with its entry
 pub acts_become : (v : WorldFields) (call : Call) (noted : List Entry) (event : Event) (entry : Entry)
     (h : Acts v.call call event entry) → noted ≡ v.entries ++ entry ∷ [] → Becomes v (record { call = call; entries = noted }) event h.0
@@ -63,19 +54,6 @@ entry_refused w event Done entry e = ap refused_in e
 entry_refused w event Nothing entry e = cc
 entry_refused w event InputLost entry e = ap refused_in e
 entry_refused w event (Cut made) entry e = ap refused_in e
-
-none_refused : (outcome : Outcome) → is_refused outcome ≡ false → outcome ≡ Done
-none_refused Done e = refl
-none_refused Nothing e = cc
-none_refused InputLost e = cc
-none_refused (Cut made) e = cc
-
--- its outcome by the mark of its entry
-pub was_done : (v : WorldFields) (call : Call) (event : Event) (entry : Entry) (h : Acts v.call call event entry) → IsReached v →
-    entry.refused ≡ false → h.0 ≡ Done
-was_done v call event entry h r whole =
-    let w : World = run r.steps (new_world r.document r.wish r.caps) in
-    none_refused h.0 (entry_refused w event h.0 entry (h.1 w r.shows).1 ∙ whole)
 
 pub was_refused : (v : WorldFields) (call : Call) (event : Event) (entry : Entry) (h : Acts v.call call event entry) → IsReached v →
     entry.refused ≡ true → h.0 ≢ Done

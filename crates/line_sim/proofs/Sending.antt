@@ -12,13 +12,6 @@ pub record HasSent (start now all left : List PlainItem) : Type 0 where
   pub left_is : left ≡ drop made all
   pub can : Each CanBeWritten left
 
-pub none_sent : (start all : List PlainItem) → Each CanBeWritten all → HasSent start start all all
-none_sent start all can = record { made = 0; now_is = sym (append_nil start); left_is = refl; can = can }
-  where
-    append_nil : (xs : List PlainItem) → xs ++ [] ≡ xs
-    append_nil [] = refl
-    append_nil (x ∷ xs) = ap (λ ys. x ∷ ys) (append_nil xs)
-
 take_more : (k : ℕ) (all left : List PlainItem) (item : PlainItem) → item ∷ left ≡ drop k all →
     (take (suc k) all ≡ take k all ++ item ∷ []) × (left ≡ drop (suc k) all)
 take_more zero [] left item e = absurd (cc)

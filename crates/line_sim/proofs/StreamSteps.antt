@@ -1,6 +1,6 @@
 -- The loops that go over contents and feeds.
-use Rattle.std.proofs.Common.{◌≡◌, ◌+◌, ◌<◌, ℕ, zero, suc, Bool, List, [], ◌∷◌, ◌++◌, Some, None, length, drop, take, map, get_or}
-use Rattle.std.proofs.Common.{slice_get, refl, ap, sym, ◌∙◌, subst, arith, append_assoc}
+use Rattle.std.proofs.Common.{◌≡◌, ◌+◌, ◌<◌, ℕ, zero, suc, Bool, List, [], ◌∷◌, ◌++◌, length, take, map, get_or}
+use Rattle.std.proofs.Common.{refl, ap, sym, ◌∙◌, subst, arith, append_assoc}
 use Rattle.std.proofs.lemmas.List.{append-nil, drop_all}
 use Rattle.std.proofs.Math.Nat.{le_refl}
 use Rattle.std.specs.Prelude.{Result, Ok, Err, OnOk}
@@ -10,7 +10,6 @@ use Rattle.raster.specs.declared.packed.Order.TheVariants.{LsbFirst}
 use Rattle.raster.proofs.OctetBits.{bits_of-append}
 use Rattle.hdlc.specs.Flags.{flags, gaps}
 use Rattle.hdlc.specs.DeframerState.{DeframerState, IsAfter}
-use Rattle.signals.specs.Reading.{read_content}
 use Rattle.signals.specs.declared.params.Caps.{Caps}
 use Rattle.stations.specs.AnswererStep.{Answerer, answerer_step}
 use Rattle.stations.specs.Inputs.{AnswererInput}
@@ -18,7 +17,7 @@ use Rattle.stations.specs.Runs.{answerer_after, answerer_turns}
 use Rattle.stations.specs.declared.turn.Turn.{Turn}
 use Rattle.stations.specs.declared.turn.Turn.TheVariants.{Dis}
 use Rattle.line_sim.specs.declared.stream.Feed.{Feed}
-use Rattle.line_sim.specs.Streams.{PlainFeed, line, plain_feed, octets_in, line_octets, contents, new_contents, heard_if, heard}
+use Rattle.line_sim.specs.Streams.{PlainFeed, line, plain_feed, octets_in, line_octets, contents, new_contents, heard}
 use Rattle.line_sim.specs.Streams.{feed_inputs, inputs_of, starts, Hears, HasHeard, TakesFeed}
 use Rattle.line_sim.proofs.Streams.{line_octets-append, inputs-append}
 
@@ -32,9 +31,6 @@ turns-append : (xs ys : List AnswererInput) (s : Answerer) →
     answerer_turns (xs ++ ys) s ≡ answerer_turns xs s ++ answerer_turns ys (answerer_after xs s)
 turns-append [] ys s = refl
 turns-append (x ∷ xs) ys s = ap (λ l. (answerer_step s x).turn ∷ l) (turns-append xs ys (answerer_step s x).next)
-
-pub hears_none : (s : Answerer) (turns : List Turn) → Hears [] s s turns turns
-hears_none s turns = record { station = refl; turns_are = sym (append-nil turns) }
 
 pub hears_both : (xs ys : List AnswererInput) (a b c : Answerer) (ta tb tc : List Turn) →
     Hears xs a b ta tb → Hears ys b c tb tc → Hears (xs ++ ys) a c ta tc
@@ -54,45 +50,6 @@ pub record HearsLeft (start framing : DeframerState) (old now : Answerer) (befor
       Hears (heard framing.queue) now new turns all → Hears (heard start.queue) old new before all
   pub rest : framing ≡ record start { queue = framing.queue }
 
-pub all_left : (start : DeframerState) (s : Answerer) (turns : List Turn) → HearsLeft start start s s turns turns
-all_left start s turns = record { left = λ new all h. h; rest = refl }
-
-pub one_heard : (start framing after : DeframerState) (old now next : Answerer) (before turns more : List Turn) (content : List ℕ) →
-    HearsLeft start framing old now before turns → slice_get framing.queue 0 ≡ Some content →
-    Hears (heard_if (read_content content)) now next turns more → after ≡ record framing { queue = drop 1 framing.queue } →
-    HearsLeft start after old next before more
-one_heard start framing after old now next before turns more content so waits hears is =
-    let frames : framing.queue ≡ content ∷ drop 1 framing.queue = front framing.queue waits in
-    let gone : after.queue ≡ drop 1 framing.queue = ap (λ (f : DeframerState). f.queue) is in
-    record {
-      left = λ new all h. so.left new all (subst (λ q. Hears (heard q) now new turns all) (sym frames)
-          (hears_both (heard_if (read_content content)) (heard (drop 1 framing.queue)) now next new turns more all hears
-          (subst (λ q. Hears (heard q) next new more all) gone h)));
-      rest =
-          is ∙ (ap (λ (f : DeframerState). record f { queue = drop 1 framing.queue }) so.rest ∙
-          ap (λ q. record start { queue = q }) (sym gone));
-    }
-  where
-    front : (queue : List (List ℕ)) → slice_get queue 0 ≡ Some content → queue ≡ content ∷ drop 1 queue
-    front [] e = cc
-    front (x ∷ xs) e = let same : x ≡ content = cc in ap (λ c. c ∷ xs) same
-
-no_content : (queue : List (List ℕ)) → slice_get queue 0 ≡ None → queue ≡ []
-no_content [] e = refl
-no_content (x ∷ xs) e = cc
-
-pub all_heard : (start framing : DeframerState) (old now : Answerer) (before turns : List Turn) →
-    HearsLeft start framing old now before turns → slice_get framing.queue 0 ≡ None → Hears (heard start.queue) old now before turns
-all_heard start framing old now before turns so none =
-    so.left now turns (subst (λ q. Hears (heard q) now now turns turns) (sym (no_content framing.queue none)) (hears_none now turns))
-
-pub none_waits : (start framing after : DeframerState) (old now : Answerer) (before turns : List Turn) →
-    HearsLeft start framing old now before turns → slice_get framing.queue 0 ≡ None →
-    after ≡ record framing { queue = drop 1 framing.queue } → after ≡ record start { queue = [] }
-none_waits start framing after old now before turns so none is =
-    is ∙ (ap (λ (f : DeframerState). record f { queue = drop 1 framing.queue }) so.rest ∙
-    ap (λ q. record start { queue = drop 1 q }) (no_content framing.queue none))
-
 -- ---- a feed
 
 pub on_ok_both : {T E : Type 0} (r : Result T E) (P Q : Type 0) → OnOk r P → OnOk r Q → OnOk r (P × Q)
@@ -106,29 +63,20 @@ pub octets_taken : (octets piece : List ℕ) (framing fed after : DeframerState)
     TakesFeed octets (line piece) after old new before turns
 unfolding contents new_contents
 octets_taken octets piece framing fed after old new before turns has feeds hears is =
-    let stands : IsAfter fed (bits_of LsbFirst (octets ++ piece)) (length (contents octets)) =
+    let is_after : IsAfter fed (bits_of LsbFirst (octets ++ piece)) (length (contents octets)) =
     subst (λ b. IsAfter fed b (length (contents octets))) (sym (bits_of-append octets piece))
     (feeds (bits_of LsbFirst octets) (length (contents octets)) has) in
-    let queue : fed.queue ≡ new_contents octets piece = stands.queued in
+    let queue : fed.queue ≡ new_contents octets piece = is_after.queued in
     let every = contents (octets ++ piece) in
     record {
       taken = subst (λ f. HasHeard f (octets ++ piece)) (sym is) (record {
-        kept = stands.kept;
-        counted = stands.counted;
+        kept = is_after.kept;
+        counted = is_after.counted;
         within = le_refl (length every);
         queued = sym (drop_all (length every) every (le_refl (length every)));
       });
       heard = subst (λ q. Hears (heard q) old new before turns) queue hears;
     }
-
--- a feed that is no octets of the line
-pub other_taken : (octets : List ℕ) (feed : PlainFeed) (framing : DeframerState) (old new : Answerer) (before turns : List Turn) →
-    octets_in feed ≡ [] → HasHeard framing octets → Hears (feed_inputs octets feed) old new before turns →
-    TakesFeed octets feed framing old new before turns
-other_taken octets feed framing old new before turns none has hears = record {
-  taken = subst (HasHeard framing) (sym (ap (λ l. octets ++ l) none ∙ append-nil octets)) has;
-  heard = hears;
-}
 
 -- ---- feeds
 

@@ -49,7 +49,7 @@ inputs-append before (x ∷ xs) ys =
 
 -- ---- good contents of octets that come one after the other
 
--- the contents that more octets bring stand behind those that there are
+-- the contents that more octets bring come after those that there are
 record Grown (before more : List ℕ) : Type 0 where
   new : List (List ℕ)
   is : contents (before ++ more) ≡ contents before ++ new

@@ -1,5 +1,5 @@
 -- How often the caller transmits what, counted in the transcript of a run.
-use Rattle.std.specs.Prelude.{◌≡◌, ℕ, suc, ◌+◌, ◌*◌, ◌≤◌, Bool, true, false, cond, ◌&&◌, List, [], ◌∷◌, length, Option, Some}
+use Rattle.std.specs.Prelude.{◌≡◌, ℕ, suc, ◌+◌, ◌*◌, ◌≤◌, Bool, true, false, cond, ◌&&◌, List, [], ◌∷◌, ◌++◌, length, Option, Some}
 use Rattle.signals.specs.declared.params.Caps.{Caps}
 use Rattle.signals.specs.declared.params.Wish.{Wish}
 use Rattle.stations.specs.Layers.{Document}
@@ -114,6 +114,10 @@ pub record IsCounted (groups : ℕ) (transcript : List Entry) : Type 0 where
   pub dcs : count shows_dcs transcript ≤ 18 * groups
   -- at most 18 DCS before the first MCF that is answered in silence, and after each
   pub dcs_told : count shows_dcs transcript ≤ 18 * suc (count shows_group_end transcript)
+  -- so it is in any part of it: between one entry into the wait for DIS and the next the caller transmits at most 18 DCS
+  pub dcs_part :
+      (before part after : List Entry) → transcript ≡ before ++ part ++ after →
+      count shows_dcs part ≤ 18 * suc (count shows_group_end part)
   -- at most one DCN
   pub dcn : count shows_dcn transcript ≤ 1
   -- at most 3 RR for each RNR that is answered so

@@ -1,5 +1,5 @@
 -- A polite run: whatever is under way is delivered, in order; where a group is through, the answerer's T2 begins the next one.
-use Rattle.std.specs.Prelude.{◌≡◌, ℕ, zero, suc, ◌+◌, ◌*◌, ◌≤◌, ◌<◌, ◌≢◌, min, Bool, true, false, cond, ◌&&◌, not, is_some, nat_lt, List}
+use Rattle.std.specs.Prelude.{◌≡◌, ℕ, zero, suc, ◌+◌, ◌*◌, ◌≤◌, ◌<◌, min, Bool, true, false, cond, ◌&&◌, not, is_some, nat_lt, List}
 use Rattle.std.specs.Prelude.{[], ◌∷◌, ◌++◌, length, Some}
 use Rattle.raster.specs.Pages.{PagePixels}
 use Rattle.signals.specs.declared.params.Caps.{Caps}
@@ -82,16 +82,6 @@ IsPoliteEvent _ = ⊥
 -- a polite run makes such events alone, each of them whole
 abbrev pub PoliteEvents : Type 0
 PoliteEvents = (most : ℕ) (w : World) → Each (λ (step : Event × Outcome). IsPoliteEvent step.0 × (step.1 ≡ Done)) (polite_steps most w)
-
--- a polite run stopped at a refused event: the steps before it were made, and it became what its outcome says
-pub record StopsAt (most : ℕ) (old new : World) : Type 0 where
-  pub before : List (Event × Outcome)
-  pub event : Event
-  pub following : List (Event × Outcome)
-  pub outcome : Outcome
-  pub refused : outcome ≢ Done
-  pub steps_are : polite_steps most old ≡ before ++ (event, Done) ∷ following
-  pub new_is : new ≡ run (before ++ (event, outcome) ∷ []) old
 
 -- the groups' parameters are those that are agreed on for each page of theirs, and each page's code is short
 abbrev pub AreAgreed : Caps → Wish → List Params → List PagePixels → Type 0

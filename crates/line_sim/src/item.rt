@@ -82,7 +82,8 @@ fn training_octets(alloc: Global, count: u32) -> Result<Vec<u8>, AllocError>
 /// The caller hears the signal whose frame came last.
 fn caller_hears(deframer: &mut Deframer, caller: &mut Caller) -> Result<Turn, AllocError>
     ensures rest { deframer.new ≡ record deframer.old { queue = drop 1 deframer.old.queue } }
-    ensures heard { (content : List ℕ) (signal : PlainSignal) → deframer.old.queue ≡ content ∷ [] → read_content content ≡ Ok signal → AnswersOrRefuses caller.old caller.new result (λ t. caller_step t (hears signal)) }
+    ensures heard { (content : List ℕ) (signal : PlainSignal) → deframer.old.queue ≡ content ∷ [] → read_content content ≡ Ok signal →
+        AnswersOrRefuses caller.old caller.new result (λ t. caller_step t (hears signal)) }
 {
     let Some(content) = deframer.next() else {
         return Ok(Turn::Silent);
@@ -96,7 +97,8 @@ fn caller_hears(deframer: &mut Deframer, caller: &mut Caller) -> Result<Turn, Al
 /// The answerer hears the signal whose frame came last.
 fn answerer_hears(deframer: &mut Deframer, answerer: &mut Answerer) -> Result<Turn, AllocError>
     ensures rest { deframer.new ≡ record deframer.old { queue = drop 1 deframer.old.queue } }
-    ensures heard { (content : List ℕ) (signal : PlainSignal) → deframer.old.queue ≡ content ∷ [] → read_content content ≡ Ok signal → StepsOrRefuses answerer.old answerer.new result (answerer_step answerer.old (listens signal)) }
+    ensures heard { (content : List ℕ) (signal : PlainSignal) → deframer.old.queue ≡ content ∷ [] → read_content content ≡ Ok signal →
+        StepsOrRefuses answerer.old answerer.new result (answerer_step answerer.old (listens signal)) }
 {
     let Some(content) = deframer.next() else {
         return Ok(Turn::Silent);

@@ -2,7 +2,8 @@
 
 ghost use Rattle.line_sim.specs.Counted.{DcsBetweenGroups, RunsAreCounted};
 ghost use Rattle.line_sim.specs.Polite.{GroupsAreAgreed, PoliteCalls, PoliteEvents};
-ghost use Rattle.line_sim.specs.Headline.{EventsMove, LineHolds, LinesCanBeWritten, RunsAreSafe, RunsMove, StationsInStep, WholeBlocksAccepted};
+ghost use Rattle.line_sim.specs.Headline.{EventsMove, LineHolds, LinesCanBeWritten, RunsAreSafe, RunsMove, StationsInStep};
+ghost use Rattle.line_sim.specs.Headline.{WholeBlocksAccepted};
 ghost use Rattle.line_sim.specs.Streams.{CutsChangeNothing, StoredIsSaid};
 
 /// What holds over every schedule of losses, spoiled training checks, time-outs, waits and refused

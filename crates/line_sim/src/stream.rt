@@ -1,6 +1,7 @@
 //! An answerer over the octets of a line, whoever sends them.
 
-ghost use Rattle.line_sim.specs.Streams.{Hears, HasHeard, IsStored, TakesFeed, answers, contents, heard, heard_if, line_octets, plain_answered, plain_feed};
+ghost use Rattle.line_sim.specs.Streams.{Hears, HasHeard, IsStored, TakesFeed, answers, contents, heard, heard_if};
+ghost use Rattle.line_sim.specs.Streams.{line_octets, plain_answered, plain_feed};
 ghost use Rattle.signals.specs.Reading.{read_content};
 ghost use Rattle.stations.specs.Inputs.{answerer_input};
 ghost use Rattle.stations.specs.Laws.{Each};
@@ -12,7 +13,6 @@ use raster::Page;
 use signals::Caps;
 use stations::{Answerer, AnswererIn, End, Turn};
 use std::alloc::{AllocError, Global};
-
 
 /// What an answerer is given next.
 #[derive(Clone, Copy, Debug, PartialEq, Eq)]
@@ -91,7 +91,8 @@ fn take_feed(
     turns: &mut Vec<Turn>,
     feed: Feed<'_>,
 ) -> Result<(), AllocError>
-    ensures { OnOk result ((octets : List ℕ) → HasHeard deframer.old octets → TakesFeed octets (plain_feed feed.entry) deframer.new answerer.old answerer.new turns.old.items turns.new.items) }
+    ensures { OnOk result ((octets : List ℕ) → HasHeard deframer.old octets →
+        TakesFeed octets (plain_feed feed.entry) deframer.new answerer.old answerer.new turns.old.items turns.new.items) }
 {
     match feed {
         Feed::Octets(octets) => {
@@ -114,7 +115,8 @@ pub fn answer_stream(alloc: Global, caps: Caps, feeds: &[Feed<'_>]) -> Result<An
     requires receiver { caps.receiver ≡ true }
     requires ecm { caps.ecm ≡ true }
     ensures answers { IfOk result (λ answered. plain_answered answered ≡ answers caps (map plain_feed feeds.now)) }
-    ensures stored { IfOk result (λ answered. Each (IsStored caps (contents (line_octets (map plain_feed feeds.now)))) answered.pages.items) }
+    ensures stored { IfOk result (λ answered.
+        Each (IsStored caps (contents (line_octets (map plain_feed feeds.now)))) answered.pages.items) }
 {
     foreign_peers();
     let mut deframer = Deframer::new(alloc);
