@@ -53,6 +53,12 @@ color_of-is Black false is = absurd (false≢true (is.1 refl))
 
 pub ruleset lengths = (length-colored, length-colors, colors-none)
 
+pub other_from_ne : (a b : Color) → (a ≡ b → ⊥) → a ≡ other b
+other_from_ne White White h = absurd (h refl)
+other_from_ne White Black h = refl
+other_from_ne Black White h = refl
+other_from_ne Black Black h = absurd (h refl)
+
 pub take_next : (row : List Color) (at : ℕ) (color : Color) → at < length row → slice_get row at ≡ Some color
     → take (at + 1) row ≡ take at row ++ color ∷ []
 take_next row at color h e = take_more row at color h ∙ ap (λ c. take at row ++ c ∷ []) (get_or_from_slice_get row at color color e)
