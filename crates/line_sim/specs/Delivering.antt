@@ -3,8 +3,7 @@ use Rattle.std.specs.Prelude.{ℕ, ◌≡◌, ◌≢◌, ◌<◌, ◌≤◌, min
 use Rattle.signals.specs.declared.params.Caps.{Caps}
 use Rattle.signals.specs.declared.params.Params.{Params}
 use Rattle.signals.specs.declared.params.Wish.{Wish}
-use Rattle.stations.specs.Laws.{Each}
-use Rattle.stations.specs.Layers.{Document, IsFullPage}
+use Rattle.stations.specs.Layers.{Document}
 use Rattle.line_sim.specs.Entries.{entries}
 use Rattle.line_sim.specs.Line.{World, Outcome, Done, run, new_world}
 use Rattle.line_sim.specs.Polite.{next_steps, polite_steps, count_deliveries, AreAgreed, call_length, IsThrough}
@@ -42,12 +41,10 @@ DeliversAll old new w most (Ok number) = Made old new w (polite_steps most w) ×
 DeliversAll old new w most (Err refusal) = Stopped old new w (polite_steps most w)
 
 -- a call from its start that nobody disturbs: where both stations agree on each page and each page's code fits a call, the number of
--- deliveries is the
--- lesser of the call's and those that may be made, and after all of the call's it is through
+-- deliveries is the lesser of the call's and those that may be made, and after all of the call's it is through
 abbrev pub GoesThrough : WorldFields → WorldFields → ℕ → ℕ → Type 0
 GoesThrough old new most number =
     (document : Document) (wish : Wish) (caps : Caps) (groups : List Params) → Shows old.call (new_world document wish caps) →
-    0 < length document → Each IsFullPage document →
-    AreAgreed caps wish groups document →
+    0 < length document → AreAgreed caps wish groups document →
     (number ≡ min (call_length groups document) most) ×
     (call_length groups document ≤ most → (w : World) × Shows new.call w × IsThrough document w)

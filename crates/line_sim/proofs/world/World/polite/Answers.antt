@@ -6,7 +6,8 @@ use Rattle.line_sim.proofs.world.World.polite.Goals as goal
 
 pub returns-clause-through : goal.returns-clause-through
 returns-clause-through c =
-    goes_through c.polite_calls.ensures.calls c.args.self.now c.deliver.new.self c.args.most c.deliver.result c.deliver.ensures
+    goes_through (c.layers_hold.ensures, c.signals_hold.ensures) c.polite_calls.ensures.calls c.args.self.now c.deliver.new.self
+    c.args.most c.deliver.result (subst IsReached c.self.view_is c.self.invariant.0) c.deliver.ensures
 
 pub returns-clause-moves : goal.returns-clause-moves
 returns-clause-moves c =
