@@ -29,11 +29,13 @@ pub record LinesLeft (most : Option ℕ) (before now : Option (List ℕ)) (first
   pub count : number + length framing.queue ≡ first + length start.queue
   pub rest : framing ≡ record start { queue = framing.queue }
 
-pub all_left : (most : Option ℕ) (held : Option (List ℕ)) (first : ℕ) (start : DeframerState) → LinesLeft most held held first first start start
+pub all_left : (most : Option ℕ) (held : Option (List ℕ)) (first : ℕ) (start : DeframerState)
+    → LinesLeft most held held first first start start
 all_left most held first start = record { lines = λ done all. all; count = refl; rest = refl }
 
 -- one line more
-pub line_done : (most : Option ℕ) (before now new : Option (List ℕ)) (first number next : ℕ) (content : List ℕ) (start framing left : DeframerState)
+pub line_done : (most : Option ℕ) (before now new : Option (List ℕ)) (first number next : ℕ) (content : List ℕ)
+    (start framing left : DeframerState)
     → LinesLeft most before now first number start framing → slice_get framing.queue 0 ≡ Some content
     → Appends now new (frame_line most number content) → next ≡ number + 1 → left ≡ record framing { queue = drop 1 framing.queue }
     → LinesLeft most before new first next start left
@@ -81,7 +83,8 @@ lines_after : (most : Option ℕ) (first : ℕ) (xs ys : List (List ℕ))
 lines_after most first [] ys = ap (λ n. frame_lines most n ys) (sym (add-zero first))
 lines_after most first (x ∷ xs) ys =
     let next : first + 1 + length xs ≡ first + length (x ∷ xs) = omega arith in
-    ap (λ l. frame_line most first x ++ l) (lines_after most (first + 1) xs ys ∙ ap (λ n. frame_lines most (first + 1) xs ++ frame_lines most n ys) next)
+    ap (λ l. frame_line most first x ++ l) (lines_after most (first + 1) xs ys
+    ∙ ap (λ n. frame_lines most (first + 1) xs ++ frame_lines most n ys) next)
     ∙ sym (append_assoc (frame_line most first x) (frame_lines most (first + 1) xs) _)
 
 -- the bits of these octets came, and the lines of their good contents are written
@@ -104,7 +107,8 @@ none_listed most start before framing fresh = record {
 }
 
 -- one piece more
-pub piece_listed : (most : Option ℕ) (start left rest before now new : Option (List ℕ)) (framing fed after : DeframerState) (number next : ℕ) (piece : List ℕ)
+pub piece_listed : (most : Option ℕ) (start left rest before now new : Option (List ℕ)) (framing fed after : DeframerState)
+    (number next : ℕ) (piece : List ℕ)
     → ListedSo most start left before now framing number → Consumes left rest piece
     → ((bits : List Bool) (handed : ℕ) → IsAfter framing bits handed → IsAfter fed (bits ++ bits_of LsbFirst piece) handed)
     → Appends now new (frame_lines most number fed.queue) → next ≡ number + length fed.queue → after ≡ record fed { queue = [] }
@@ -158,7 +162,8 @@ counts_are counts bits each =
     ∙ ap (λ n. of a b c d e n) (each Damaged)))))
 
 -- all octets came
-pub all_listed : (most : Option ℕ) (start left rest before now new : Option (List ℕ)) (framing : DeframerState) (number : ℕ) (counts : Counts)
+pub all_listed : (most : Option ℕ) (start left rest before now new : Option (List ℕ)) (framing : DeframerState) (number : ℕ)
+    (counts : Counts)
     → ListedSo most start left before now framing number → Consumes left rest [] → IsAtEnd rest
     → ((bits : List Bool) (handed : ℕ) → IsAfter framing bits handed → (class : Class)
     → count_in counts class ≡ min (2 ^ 64 - 1) (count_of class bits))

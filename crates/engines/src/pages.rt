@@ -138,7 +138,8 @@ pub fn salvage_engine<R: Read, W: Write>(
 /// Writes a page as an image where it has rows, and answers how many.
 fn write_some<W: Write>(page: Page, writer: &mut W) -> Result<usize, ToolFault>
     ensures rows { IfOk result (λ rows. rows ≡ length page.rows) }
-    ensures written { OnOk result (0 < length page.rows → AppendsSome (ArePagesText (page ∷ [])) (W.contents writer.old) (W.contents writer.new)) }
+    ensures written { OnOk result (0 < length page.rows →
+        AppendsSome (ArePagesText (page ∷ [])) (W.contents writer.old) (W.contents writer.new)) }
     ensures none { OnOk result (length page.rows ≡ 0 → W.contents writer.new ≡ W.contents writer.old) }
     ensures fault { IfErr result IsOutside }
 {

@@ -526,7 +526,8 @@ fn flagged_command<'a>(
     codings: ValueParser<'a>,
     orders: ValueParser<'a>,
 ) -> Result<Command<'a>, AllocError>
-    ensures app { IfOk result (λ command. app_of command ≡ with_flags (with_page_options (new_app (codes "decode")) codings.entry orders.entry)) }
+    ensures app { IfOk result (λ command. app_of command
+        ≡ with_flags (with_page_options (new_app (codes "decode")) codings.entry orders.entry)) }
     ensures local { IfOk result (λ command. (fields_of command).has_globals ≡ false) }
 {
     let salvage =

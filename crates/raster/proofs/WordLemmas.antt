@@ -284,7 +284,8 @@ ored_octets LsbFirst old added new at a b k ors h =
     lowest_as_highest new (8 * at + k) ∙
     (ap (bit_in MsbFirst new) there ∙
     (ored_highest old added new at a b (8 * (k / 8) + (7 - k % 8)) ors (omega arith) ∙
-    (ap (λ x. x || bit_in MsbFirst added (8 * (k / 8) + (7 - k % 8))) (sym (lowest_as_highest old (8 * at + k) ∙ ap (bit_in MsbFirst old) there)) ∙
+    (ap (λ x. x || bit_in MsbFirst added (8 * (k / 8) + (7 - k % 8)))
+    (sym (lowest_as_highest old (8 * at + k) ∙ ap (bit_in MsbFirst old) there)) ∙
     ap (λ y. bit_in LsbFirst old (8 * at + k) || y) (sym (lowest_as_highest added k)))))
 
 -- the octets of a number, each turned: the first bit of each is its lowest

@@ -118,7 +118,8 @@ fn push_number(
     requires packed { IsPacked order octets.old.items count }
     requires more { more ≤ 32 }
     ensures packed { OnOk result (IsPacked order octets.new.items (count + more)) }
-    ensures ok { OnOk result (bits_in order octets.new.items (count + more) ≡ bits_in order octets.old.items count ++ number_bits more value) }
+    ensures ok { OnOk result (bits_in order octets.new.items (count + more)
+        ≡ bits_in order octets.old.items count ++ number_bits more value) }
     ensures err { OnErr result (octets.new.items ≡ octets.old.items) }
 {
     make_room(octets, count, more)?;

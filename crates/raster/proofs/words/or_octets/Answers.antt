@@ -6,7 +6,8 @@ use Rattle.raster.proofs.words.or_octets.Goals as goal
 pub returns : goal.returns
 returns c =
     let long : length c.put_octets.new.octets ≡ c.args.octets.now.len = c.put_octets.ensures.length ∙ c.deref_mut.ensures.len in
-    let ors : Ors c.args.octets.now.items c.args.added c.put_octets.new.octets c.args.at c.whole_word.result c.whole_word-2.result = record {
+    let ors : Ors c.args.octets.now.items c.args.added c.put_octets.new.octets c.args.at c.whole_word.result
+    c.whole_word-2.result = record {
       held = rw c.deref.ensures.value at c.whole_word.ensures;
       more = c.whole_word-2.ensures;
       put = λ j h. c.put_octets.ensures.inside j h ∙ ap (λ (xs : List ℕ). get_or xs j 0) c.to_be_bytes.ensures;
