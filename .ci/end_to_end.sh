@@ -482,6 +482,25 @@ try_calls() {
     refuses call --script "$work/script" --frame 128 "$input"
 }
 
+# The commands of the README, as they are written there, from the top of a repository with its examples.
+try_readme() {
+    mkdir -p "$work/readme"
+    cp -r "$top/docs" "$work/readme"
+    (
+        cd "$work/readme"
+        head -c 500 docs/examples/page.mmr > cut.mmr
+        sed -n 's/^    faxtool \([a-z]\)/\1/p' "$top/README.md" | sed 's/  .*//' > commands
+        [ "$(wc -l < commands)" -ge 7 ] || fails "the README has no commands"
+        while read -r words; do
+            case $words in *--salvage*) gives 1 $words ;; *) works $words ;; esac
+        done < commands
+        is_same page.mmr docs/examples/page.mmr "the README's code"
+        is_same page.pbm docs/examples/page.pbm "the README's decode"
+        head -c 9 rest.pbm | grep -q '^P4' || fails "the README's decode --salvage"
+    )
+    rm -r "$work/readme"
+}
+
 if [ $# = 0 ]; then
     out=$top/crates/faxtool/out
     if [ ! -x "$out/faxtool" ]; then
@@ -513,5 +532,6 @@ for program in "$@"; do
     try_outputs
     try_scripts
     try_calls
+    try_readme
     echo "end to end: ${program##*/} passed $count runs"
 done
