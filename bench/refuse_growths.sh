@@ -1,7 +1,7 @@
 #!/bin/sh
 # Refuses each growth of memory in turn, one a run, until a run meets none, and tells how the runs ended:
 #
-#     bench/refuse_growths.sh [CRATE.. | calls]       with no word all crates, and then the calls
+#     bench/refuse_growths.sh [CRATE.. | calls | words]       with no word all crates of tests, the calls and the words
 #
 # Of a crate: each of its tests alone. A run has to end with an error that says that memory was refused, or by a stop of
 # the test's own. Ends with status 1 where one ends by another error or a signal, or takes more than a minute. To be looked at are
@@ -15,6 +15,10 @@
 # polite deliveries bring the call to its normal end. A station whose step was refused is as it was: the same input again
 # brings its call to its normal end.
 #
+# Of `words`: commands of the program that read one file. Where a growth is refused, it ends with fault 9, after lines that are a
+# beginning of those that it prints else; with fault 8 where the growth was that of an image in memory, which is a writer like others;
+# or it does all that it does else.
+#
 # Not covered: what a test doesn't call, two refusals in one run, and growths of the C library itself.
 # The tests are those that `rt ci` or `rt test` left, where no source is newer, or are built with no proof. Needs gcc.
 set -e
@@ -25,9 +29,11 @@ ulimit -c 0
 bad=0
 gcc -O2 -Wall -shared -fPIC -o "$work/refuse.so" "$root/bench/refuse_growths.c"
 
-# refuse K PROGRAM WORD: one run whose growth K is refused, 0 for none. Leaves what it said, and answers its status.
+# refuse K PROGRAM WORDS: one run whose growth K is refused, 0 for none. Leaves what it said, and answers its status.
 refuse() {
-    timeout 60 env REFUSE="$1" GROWTHS="$work/growths" LD_PRELOAD="$work/refuse.so" "$2" "$3" > "$work/said" 2>&1
+    k=$1
+    shift
+    timeout 60 env REFUSE="$k" GROWTHS="$work/growths" LD_PRELOAD="$work/refuse.so" "$@" > "$work/said" 2>&1
 }
 
 memory='\(NoMemory\|AllocError\|AllocFailed\|No(9)\)'
@@ -146,9 +152,46 @@ try_calls() {
     unset FROM
 }
 
-for name in ${*:-$(sed -n 's/^\([a-z_]*\).*:.*/\1/p' "$root/crates.txt") calls}; do
+# try_command WORDS: refuses each growth of a command of the program.
+try_command() {
+    refuse 0 "$work/faxtool" "$@" || { echo "words $*: FAILS with no growth refused"; bad=1; return; }
+    growths=$(cat "$work/growths") none=0 writer=0 all=0
+    cp "$work/said" "$work/whole"
+    for growth in $(seq "$growths"); do
+        status=0
+        refuse "$growth" "$work/faxtool" "$@" || status=$?
+        sed '$d' "$work/said" > "$work/front"
+        head -c "$(wc -c < "$work/front")" "$work/whole" | cmp -s - "$work/front" || status=other
+        case "$status $(tail -1 "$work/said")" in
+        "1 fault 9") none=$((none + 1)) ;;
+        "1 fault 8") writer=$((writer + 1)) ;;
+        *)
+            if [ $status = 0 ] && cmp -s "$work/said" "$work/whole"; then
+                all=$((all + 1))
+            else
+                echo "BAD: words $1, growth $growth, status $status: $(head -1 "$work/said")"
+                bad=1
+            fi
+            ;;
+        esac
+    done
+    echo "words $1: $growths growths, refused in turn: $none fault 9, $writer fault 8, $all with no other end"
+}
+
+try_words() {
+    "$root/bench/build_unproved.sh" "$root/crates/faxtool" "$work/faxtool"
+    examples=$root/docs/examples
+    try_command show --code mh --width 315 "$examples/page.mh"
+    try_command code --code mmr "$examples/page.pbm" "$work/made"
+    try_command decode --salvage --code mmr --width 315 "$examples/page.mmr" "$work/made"
+    try_command frames --data 8 "$examples/line.bits"
+}
+
+for name in ${*:-$(sed -n 's/^\([a-z_]*_tests\):.*/\1/p' "$root/crates.txt") calls words}; do
     if [ "$name" = calls ]; then
         try_calls
+    elif [ "$name" = words ]; then
+        try_words
     elif [ -d "$root/crates/$name/src" ]; then
         try_crate "$name"
     else
