@@ -1,10 +1,11 @@
 //! What a run and the octets on the line show beyond the contracts. Worked calls of a world are scripts of the program, in .ci/calls.
 
-use line_sim::{Event, run};
+use hdlc::Deframer;
+use line_sim::{Event, World, run};
 use page_code::Coding;
 use raster::{Document, Page, Row};
-use signals::{Caps, Modems, PageWidth, Side, Signal, Wish, write};
-use stations::{Answerer, Caller, CallerIn, End, Item, Items, Turn};
+use signals::{Caps, Modems, PageWidth, Side, Wish};
+use stations::End;
 use std::alloc::Global;
 use std::test::Fail;
 
@@ -30,47 +31,48 @@ fn white_page(alloc: Global) -> Result<Document, Fail> {
     Ok(Document::new(alloc, page)?)
 }
 
-/// Whether the item at a place of a turn is the frame of a content: these octets, and then 00 alone.
-fn is_frame(turn: Items<'_>, side: Side, place: usize, head: &[u8]) -> bool {
-    let mut items = turn;
-    for _item in 0..place {
-        let _passed = items.take_next();
-    }
-    let Some(Item::Frame { signal, last }) = items.take_next() else {
-        return false;
+/// Whether what comes next to a station is the frame of a content: these octets, and then 00 alone.
+fn comes(alloc: Global, world: &World, to: Side, head: &[u8]) -> Result<bool, Fail> {
+    let Some(octets) = world.next_octets(to) else {
+        return Ok(false);
     };
-    match signal {
-        Signal::Other(_) => return false,
-        Signal::Fcd { octets, .. } if octets.is_empty() || octets.len() > 256 => return false,
-        _ => {}
+    let mut deframer = Deframer::new(alloc);
+    deframer.feed(octets)?;
+    let Some(content) = deframer.next() else {
+        return Ok(false);
+    };
+    if content.len() < head.len() {
+        return Ok(false);
     }
-    let content = write(&signal, side, last);
-    let octets = content.as_slice();
-    if octets.len() < head.len() {
-        return false;
-    }
-    let (front, rest) = octets.split_at(head.len());
-    front == head && rest.iter().all(|octet| *octet == 0)
+    let (front, rest) = content.split_at(head.len());
+    Ok(front == head && rest.iter().all(|octet| *octet == 0))
 }
 
 #[test]
 fn frames_as_each_station_sends_them(rt: HostRuntime) -> Result<(), Fail> {
     let alloc = rt.alloc();
-    let (answerer, turn) = Answerer::new(alloc, CAPS);
+    let mut world = World::new(alloc, white_page(alloc)?, WISH, CAPS)?;
+    assert!(rt; world.next_octets(Side::Answerer).is_none());
     let dis = b"\xFF\x13\x80\x00\x6E\xFA\x44";
-    assert!(rt; is_frame(answerer.frames(&turn), Side::Answerer, 0, dis));
-    let cfr = b"\xFF\x13\x84";
-    assert!(rt; is_frame(answerer.frames(&Turn::Cfr), Side::Answerer, 0, cfr));
-    let mut caller = Caller::new(alloc, white_page(alloc)?, WISH)?;
-    let turn = caller.step(CallerIn::Heard(Signal::Dis(CAPS)))?;
+    assert!(rt; comes(alloc, &world, Side::Caller, dis)?);
+    assert_eq!(rt; world.polite(1)?, 1);
     let dcs = b"\xFF\x13\x83\x00\x22\xF8\x44";
-    assert!(rt; is_frame(caller.frames(&turn), Side::Caller, 0, dcs));
-    let turn = caller.step(CallerIn::Heard(Signal::Cfr))?;
+    assert!(rt; comes(alloc, &world, Side::Answerer, dcs)?);
+    assert_eq!(rt; world.polite(1)?, 1);
+    match world.next_octets(Side::Answerer) {
+        Some(check) => assert!(rt; check.len() == 2700 && check.iter().all(|octet| *octet == 0)),
+        None => assert!(rt; false),
+    }
+    assert_eq!(rt; world.polite(1)?, 1);
+    assert!(rt; comes(alloc, &world, Side::Caller, b"\xFF\x13\x84")?);
+    assert_eq!(rt; world.polite(1)?, 1);
     let fcd = b"\xFF\x03\x06\x00\x01\x10\x00\x01";
-    assert!(rt; is_frame(caller.frames(&turn), Side::Caller, 0, fcd));
-    assert!(rt; is_frame(caller.frames(&turn), Side::Caller, 3, b"\xFF\x03\x86"));
+    assert!(rt; comes(alloc, &world, Side::Answerer, fcd)?);
+    assert_eq!(rt; world.polite(1)?, 1);
+    assert!(rt; comes(alloc, &world, Side::Answerer, b"\xFF\x03\x86")?);
+    assert_eq!(rt; world.polite(3)?, 3);
     let pps = b"\xFF\x13\xBF\x2F\x00\x00\x00";
-    assert!(rt; is_frame(caller.frames(&turn), Side::Caller, 4, pps));
+    assert!(rt; comes(alloc, &world, Side::Answerer, pps)?);
     Ok(())
 }
 

@@ -13,7 +13,7 @@ pub enum Source {
     /// A file.
     File(fs::File),
     /// Standard input.
-    Standard(io::StdinLock),
+    Standard(<HostRuntime as io::Input>::Reader),
 }
 
 impl Read for Source {

@@ -10,7 +10,7 @@ use Rattle.signals.specs.Writing.{content_of, ReadsWhatIsWritten}
 use Rattle.stations.specs.Inputs.{framed, checked}
 use Rattle.line_sim.specs.Entries.{kind_of, signal_kind}
 use Rattle.line_sim.specs.Line.{spoiled}
-use Rattle.line_sim.specs.Octets.{Carries, signal_said, item_said, IsItem}
+use Rattle.line_sim.specs.Octets.{AreOctetsOf, Carries, signal_said, item_said, IsItem}
 use Rattle.line_sim.specs.declared.event.Kind.{Kind}
 use Rattle.line_sim.specs.declared.event.Kind.TheVariants.{Dis, Dcs, Training, Cfr, Ftt, Fcd, Rcp, Pps, Mcf, Ppr, Rnr, Rr, Dcn}
 use Rattle.line_sim.proofs.Frames.{said}
@@ -89,6 +89,26 @@ kind_said Ppr octets grows reads h = kind_by Ppr octets grows reads (λ e. cc) h
 kind_said Rnr octets grows reads h = kind_by Rnr octets grows reads (λ e. cc) h
 kind_said Rr octets grows reads h = kind_by Rr octets grows reads (λ e. cc) h
 kind_said Dcn octets grows reads h = kind_by Dcn octets grows reads (λ e. cc) h
+
+octets_by : (kind : Kind) (octets : List ℕ) → FrameOctetsGrow → ReadsWhatIsWritten → CarriesKind kind octets
+    → AreOctetsOf octets (item_said kind octets)
+octets_by kind octets grows reads h = subst (AreOctetsOf octets) (sym (says_carried kind octets h.0 grows reads h.1 h.2)) h.1
+
+pub octets_said : (kind : Kind) (octets : List ℕ) → FrameOctetsGrow → ReadsWhatIsWritten → IsItem kind octets
+    → AreOctetsOf octets (item_said kind octets)
+octets_said Training octets grows reads h = refl
+octets_said Dis octets grows reads h = octets_by Dis octets grows reads h
+octets_said Dcs octets grows reads h = octets_by Dcs octets grows reads h
+octets_said Cfr octets grows reads h = octets_by Cfr octets grows reads h
+octets_said Ftt octets grows reads h = octets_by Ftt octets grows reads h
+octets_said (Fcd number) octets grows reads h = octets_by (Fcd number) octets grows reads h
+octets_said Rcp octets grows reads h = octets_by Rcp octets grows reads h
+octets_said Pps octets grows reads h = octets_by Pps octets grows reads h
+octets_said Mcf octets grows reads h = octets_by Mcf octets grows reads h
+octets_said Ppr octets grows reads h = octets_by Ppr octets grows reads h
+octets_said Rnr octets grows reads h = octets_by Rnr octets grows reads h
+octets_said Rr octets grows reads h = octets_by Rr octets grows reads h
+octets_said Dcn octets grows reads h = octets_by Dcn octets grows reads h
 
 -- the content that a frame's octets have waits alone, and is read as the signal that they say; once it is handed out the receiver is idle
 pub record Heard (kind : Kind) (octets : List ℕ) (fed : DeframerState) : Type 0 where

@@ -1,5 +1,5 @@
 -- The octets that travel, and the signals that they say.
-use Rattle.std.specs.Prelude.{ℕ, ◌≡◌, Bool, List, [], slice_index_or, Some, Result, Ok, Err}
+use Rattle.std.specs.Prelude.{ℕ, ◌≡◌, Bool, List, [], ◌∷◌, slice_index_or, Option, Some, None, Result, Ok, Err}
 use Rattle.raster.specs.Packed.{bits_of, FillsOctets}
 use Rattle.raster.specs.declared.packed.Order.TheVariants.{LsbFirst}
 use Rattle.hdlc.specs.Frames.{IsFrame}
@@ -9,8 +9,10 @@ use Rattle.signals.specs.Signals.{PlainSignal, dcn}
 use Rattle.signals.specs.Writing.{IsWritable, content_of}
 use Rattle.signals.specs.declared.fault.SignalFault.{SignalFault}
 use Rattle.signals.specs.declared.signal.Side.{Side}
+use Rattle.signals.specs.declared.signal.Side.TheVariants.{Caller, Answerer}
 use Rattle.stations.specs.Inputs.{PlainItem, framed, checked}
 use Rattle.line_sim.specs.Entries.{signal_kind}
+use Rattle.line_sim.specs.declared.call.Call.{Call}
 use Rattle.line_sim.specs.declared.event.Kind.{Kind}
 use Rattle.line_sim.specs.declared.event.Kind.TheVariants.{Training}
 
@@ -45,3 +47,19 @@ item_said _ octets = framed (signal_said octets)
 abbrev pub IsItem : Kind → List ℕ → Type 0
 IsItem Training octets = Unit {0}
 IsItem kind octets = (signal : PlainSignal) × Carries octets signal × (signal_kind signal ≡ Some kind)
+
+-- octets as they are on the line: the frame of what a station writes of the signal, or those of the training check
+abbrev pub AreOctetsOf : List ℕ → PlainItem → Type 0
+AreOctetsOf octets (framed signal) = Carries octets signal
+AreOctetsOf octets (checked sent) = octets ≡ sent
+
+-- the octets of the item that comes next, and none where nothing is under way
+abbrev pub ComeNext : Option (List ℕ) → List PlainItem → Type 0
+ComeNext None items = items ≡ []
+ComeNext (Some octets) [] = ⊥
+ComeNext (Some octets) (item ∷ items) = AreOctetsOf octets item
+
+-- what is under way to a station
+abbrev pub under_way_to : Side → Call → List PlainItem
+under_way_to Caller call = call.to_caller
+under_way_to Answerer call = call.to_answerer

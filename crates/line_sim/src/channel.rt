@@ -4,10 +4,11 @@ ghost use Rattle.line_sim.specs.Entries.{count_fcds, head_kind};
 ghost use Rattle.line_sim.specs.Headline.{CanBeWritten};
 ghost use Rattle.line_sim.specs.Hearing.{AnswererHears, CallerHears, HearsFirst};
 ghost use Rattle.line_sim.specs.Line.{after_first, spoiled};
+ghost use Rattle.line_sim.specs.Octets.{ComeNext};
 ghost use Rattle.stations.specs.Inputs.{PlainItem};
 ghost use Rattle.stations.specs.Laws.{Each};
 ghost use Rattle.stations.specs.Lending.{plain_item};
-ghost use Rattle.std.specs.Prelude.{◌≡◌, ◌+◌, [], ◌∷◌, ◌++◌, cond, ℕ, List, take, min, IsTrue, ◌↔◌, OnOk, OnErr};
+ghost use Rattle.std.specs.Prelude.{◌≡◌, ◌+◌, [], ◌∷◌, ◌++◌, cond, ℕ, List, take, min, option_map, IsTrue, ◌↔◌, OnOk, OnErr};
 
 use crate::event::Kind;
 use crate::item::UnderWay;
@@ -49,7 +50,7 @@ pub(crate) fn fcd_count(mut items: Items<'_>) -> u16
 pub(crate) struct Channel {
     alloc: Global,
     sender: Side,
-    pub(crate) items: VecDeque<UnderWay>,
+    items: VecDeque<UnderWay>,
     deframer: Deframer,
 }
 
@@ -92,6 +93,14 @@ impl Channel {
     {
         let first = self.items.front()?;
         Some(first.kind())
+    }
+
+    /// The octets of the first item.
+    pub(crate) fn next_octets(&self) -> Option<&[u8]>
+        ensures { ComeNext (option_map (λ octets. octets.now) result) self.now }
+    {
+        let first = self.items.front()?;
+        Some(first.octets())
     }
 
     /// Nothing is under way any more.

@@ -5,7 +5,7 @@ ghost use Rattle.line_sim.specs.Entries.{kind_of, signal_kind};
 ghost use Rattle.line_sim.specs.Headline.{CanBeWritten};
 ghost use Rattle.line_sim.specs.Hearing.{AnswererHears, CallerHears};
 ghost use Rattle.line_sim.specs.Line.{spoiled};
-ghost use Rattle.line_sim.specs.Octets.{Carries, IsFrameOf};
+ghost use Rattle.line_sim.specs.Octets.{AreOctetsOf, Carries, IsFrameOf};
 ghost use Rattle.signals.specs.Reading.{read_content};
 ghost use Rattle.signals.specs.Signals.{PlainSignal, plain};
 ghost use Rattle.signals.specs.Writing.{IsWritable, content_of};
@@ -113,7 +113,7 @@ fn answerer_hears(deframer: &mut Deframer, answerer: &mut Answerer) -> Result<Tu
 #[derive(Drop)]
 pub(crate) struct UnderWay {
     kind: Kind,
-    pub(crate) octets: Vec<u8>,
+    octets: Vec<u8>,
 }
 
 impl Model for UnderWay {
@@ -156,6 +156,15 @@ impl UnderWay {
         hdlc::laws::frame_octets_grow();
         signals::laws::reads_what_is_written();
         self.kind
+    }
+
+    /// Its octets, as they are on the line.
+    pub(crate) fn octets(&self) -> &[u8]
+        ensures { AreOctetsOf result.now self.now }
+    {
+        hdlc::laws::frame_octets_grow();
+        signals::laws::reads_what_is_written();
+        &self.octets
     }
 
     /// Comes to the caller. Errs where memory is refused: the caller has not heard it.
