@@ -95,7 +95,7 @@ fn other<W: fmt::Write>(octet: u8, f: &mut fmt::Formatter<W>) -> fmt::Result
 }
 
 /// A signal's name and what it says.
-#[derive(Drop)]
+#[derive(Debug, Drop)]
 pub struct SignalText<'a>(pub &'a Signal<'a>);
 
 impl fmt::Display for SignalText<'_> {
@@ -151,7 +151,7 @@ impl fmt::Display for SignalText<'_> {
 }
 
 /// What a frame's content says, or the fault for which it is refused.
-#[derive(Drop)]
+#[derive(Debug, Drop)]
 pub struct ContentText<'a>(pub &'a [u8]);
 
 impl fmt::Display for ContentText<'_> {

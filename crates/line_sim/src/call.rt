@@ -40,7 +40,7 @@ fn has_32_octets(map: &[u8; 32])
 {}
 
 /// Both stations, and what is under way to each.
-#[derive(Drop)]
+#[derive(Debug, Drop)]
 pub struct Call {
     pub(crate) caller: Caller,
     pub(crate) answerer: Answerer,

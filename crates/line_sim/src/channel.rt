@@ -46,7 +46,7 @@ pub(crate) fn fcd_count(mut items: Items<'_>) -> u16
 }
 
 /// What is under way to a station, the first item first, and the deframer by which it hears frames.
-#[derive(Drop)]
+#[derive(Debug, Drop)]
 pub(crate) struct Channel {
     alloc: Global,
     sender: Side,

@@ -110,7 +110,7 @@ fn answerer_hears(deframer: &mut Deframer, answerer: &mut Answerer) -> Result<Tu
 }
 
 /// An item under way: the octets of a frame or of a training check.
-#[derive(Drop)]
+#[derive(Debug, Drop)]
 pub(crate) struct UnderWay {
     kind: Kind,
     octets: Vec<u8>,

@@ -25,7 +25,7 @@ use std::marker::Model;
 
 /// A caller and an answerer, what is under way between them, and a transcript of all events. Of each
 /// event it is told what happens, so every schedule can be run.
-#[derive(Drop)]
+#[derive(Debug, Drop)]
 pub struct World {
     pub(crate) call: Call,
     transcript: Vec<Entry>,
