@@ -1,9 +1,9 @@
 -- One bit more of a stuffed text, and its end.
-use Rattle.std.proofs.Common.{◌≡◌, ℕ, zero, suc, ◌+◌, ◌-◌, ◌<◌, ◌≤◌, Bool, true, false, ◌||◌, List, [], ◌∷◌, ◌++◌, length, take, drop, cond}
+use Rattle.std.proofs.Common.{◌≡◌, ℕ, zero, suc, ◌+◌, ◌-◌, ◌≤◌, Bool, true, false, ◌||◌, List, [], ◌∷◌, ◌++◌, length, take, drop, cond}
 use Rattle.std.proofs.Common.{refl, ap, sym, ◌∙◌, arith, inl, inr, nat_lt, append_assoc, replicate, reverse}
 use Rattle.std.specs.List.{prefix_len}
 use Rattle.std.proofs.lemmas.List.{append-nil, length-append, take_at, take-take, reverse-append, reverse-reverse, length-reverse}
-use Rattle.std.proofs.lemmas.Bool.{cases_Bool, false≢true, le-ltb, lt-ltb}
+use Rattle.std.proofs.lemmas.Bool.{cases_Bool, le-ltb, lt-ltb}
 use Rattle.run_tables.specs.Texts.{begins}
 use Rattle.hdlc.specs.Flags.{flag, flags, gaps}
 use Rattle.hdlc.specs.Gaps.{unstuffed, has_six}
@@ -174,30 +174,3 @@ writes_fifth old new start bits w is = record {
 
 pub writes_none : (old new : List Bool) → new ≡ old ++ flag → IsWriting new old [] 0
 writes_none old new is = record { pre = []; text = written_none; is = is ∙ sym (append-nil (old ++ flag)); few = omega arith }
-
-pub writes_zero : (old new start bits : List Bool) (count : ℕ) (b : Bool) → b ≡ false → IsWriting old start bits count → new ≡ old ++ b ∷ []
-    → IsWriting new start (bits ++ b ∷ []) 0
-writes_zero old new start bits count b e w is = go b e is
-  where
-    go : (b : Bool) → b ≡ false → new ≡ old ++ b ∷ [] → IsWriting new start (bits ++ b ∷ []) 0
-    go true e is = absurd (false≢true (sym e))
-    go false e is = writes_plain old new start bits count false w is (omega arith)
-
-pub writes_one : (old new start bits : List Bool) (count : ℕ) (b : Bool) → b ≡ true → count < 4 → IsWriting old start bits count
-    → new ≡ old ++ b ∷ [] → IsWriting new start (bits ++ b ∷ []) (count + 1)
-writes_one old new start bits count b e few w is = go b e is
-  where
-    next : 1 + count ≡ count + 1
-    next = omega arith
-
-    go : (b : Bool) → b ≡ true → new ≡ old ++ b ∷ [] → IsWriting new start (bits ++ b ∷ []) (count + 1)
-    go false e is = absurd (false≢true e)
-    go true e is = rw next at (writes_plain old new start bits count true w is (omega arith))
-
-pub writes_five : (old new start bits : List Bool) (count : ℕ) (b : Bool) → b ≡ true → 4 ≤ count → IsWriting old start bits count
-    → new ≡ (old ++ b ∷ []) ++ false ∷ [] → IsWriting new start (bits ++ b ∷ []) 0
-writes_five old new start bits count b e many w is =
-    let few : count ≤ 4 = w.few in
-    let four : count ≡ 4 = omega arith in
-    let old_ : IsWriting old start bits 4 = rw four at w in
-    rw e (writes_fifth old new start bits old_ (is ∙ ap (λ x. (old ++ x ∷ []) ++ false ∷ []) e))

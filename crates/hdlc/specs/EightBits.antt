@@ -44,11 +44,6 @@ kept_counts = map (λ place. length (unstuffed_at place)) (range_with_len 0 1536
 abbrev pub unstuffed_numbers : List ℕ
 unstuffed_numbers = map (λ place. number (unstuffed_at place)) (range_with_len 0 1536)
 
--- there are never five 1 bits in a row, with these bits after so many
-abbrev pub has_no_five : ℕ → List Bool → Bool
-has_no_five ones [] = nat_lt ones 5
-has_no_five ones (b ∷ bits) = nat_lt ones 5 && has_no_five (cond b (1 + ones) 0) bits
-
 -- how many 1 bits in a row there are at the end, with these bits after so many
 abbrev pub ones_at_end : ℕ → List Bool → ℕ
 ones_at_end ones [] = ones

@@ -13,4 +13,5 @@ pub mod Collects
 pub mod EightBits
 pub mod Contents
 pub mod Writing
+pub mod Stuffing
 pub mod Examples

@@ -12,7 +12,9 @@ mod deframer;
 mod frame;
 pub mod laws;
 mod remainders;
+mod stuffing;
 mod unstuffing;
+mod waiting;
 
 pub use crate::check_sequence::fcs;
 pub use crate::counts::{Class, Counts};
