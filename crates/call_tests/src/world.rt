@@ -48,31 +48,27 @@ fn comes(alloc: Global, world: &World, to: Side, head: &[u8]) -> Result<bool, Fa
     Ok(front == head && rest.iter().all(|octet| *octet == 0))
 }
 
+/// A world of the white page after so many deliveries.
+fn after(alloc: Global, deliveries: u64) -> Result<World, Fail> {
+    let mut world = World::new(alloc, white_page(alloc)?, WISH, CAPS)?;
+    world.polite(deliveries)?;
+    Ok(world)
+}
+
 #[test]
 fn frames_as_each_station_sends_them(rt: HostRuntime) -> Result<(), Fail> {
     let alloc = rt.alloc();
-    let mut world = World::new(alloc, white_page(alloc)?, WISH, CAPS)?;
-    assert!(rt; world.next_octets(Side::Answerer).is_none());
-    let dis = b"\xFF\x13\x80\x00\x6E\xFA\x44";
-    assert!(rt; comes(alloc, &world, Side::Caller, dis)?);
-    assert_eq!(rt; world.polite(1)?, 1);
-    let dcs = b"\xFF\x13\x83\x00\x22\xF8\x44";
-    assert!(rt; comes(alloc, &world, Side::Answerer, dcs)?);
-    assert_eq!(rt; world.polite(1)?, 1);
-    match world.next_octets(Side::Answerer) {
-        Some(check) => assert!(rt; check.len() == 2700 && check.iter().all(|octet| *octet == 0)),
-        None => assert!(rt; false),
+    for (deliveries, to, head) in [
+        (0, Side::Caller, b"\xFF\x13\x80\x00\x6E\xFA\x44".as_slice()),
+        (1, Side::Answerer, b"\xFF\x13\x83\x00\x22\xF8\x44"),
+        (3, Side::Caller, b"\xFF\x13\x84"),
+        (4, Side::Answerer, b"\xFF\x03\x06\x00\x01\x10\x00\x01"),
+        (5, Side::Answerer, b"\xFF\x03\x86"),
+        (8, Side::Answerer, b"\xFF\x13\xBF\x2F\x00\x00\x00"),
+    ] {
+        let world = after(alloc, deliveries)?;
+        assert!(rt; comes(alloc, &world, to, head)?, "after {deliveries}");
     }
-    assert_eq!(rt; world.polite(1)?, 1);
-    assert!(rt; comes(alloc, &world, Side::Caller, b"\xFF\x13\x84")?);
-    assert_eq!(rt; world.polite(1)?, 1);
-    let fcd = b"\xFF\x03\x06\x00\x01\x10\x00\x01";
-    assert!(rt; comes(alloc, &world, Side::Answerer, fcd)?);
-    assert_eq!(rt; world.polite(1)?, 1);
-    assert!(rt; comes(alloc, &world, Side::Answerer, b"\xFF\x03\x86")?);
-    assert_eq!(rt; world.polite(3)?, 3);
-    let pps = b"\xFF\x13\xBF\x2F\x00\x00\x00";
-    assert!(rt; comes(alloc, &world, Side::Answerer, pps)?);
     Ok(())
 }
 
