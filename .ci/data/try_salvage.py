@@ -31,8 +31,8 @@ for code in "mh", "mmr":
             count = int(got[len(header) : end])
             if got[:end] != header + b"%d\n" % count or got[end:] != image[start : start + 304 * count]:
                 sys.exit(f"{code} cut to {len(piece)} octets: other rows")
-        # a row of the page has 18 octets of code at the least, and 1,000 at most
-        least = min(rows, len(piece) // 1000)
+        # no row has more than 2,000 octets of code: of 2,432 pixels two have at most 12 bits
+        least = min(rows, max(len(piece) - 2000, 0) // 2000)
         if count < max(before, least) or (status == 0) != (count == rows and k == 60) and code == "mmr":
             sys.exit(f"{code} cut to {len(piece)} octets: {count} rows, status {status}")
         before = count

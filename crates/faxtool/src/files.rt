@@ -1,11 +1,14 @@
 //! Files by their names, of which `-` is standard input or output.
 
+ghost use Rattle.engines.specs.Faults.{IsOutside};
+ghost use Rattle.std.specs.Prelude.{IfErr};
+
 use engines::ToolFault;
 use std::io::{Read, Write};
 use std::{fs, io};
 
 /// The name of standard input and of standard output.
-const STANDARD: &str = "-";
+pub const STANDARD: &str = "-";
 
 /// A file or standard input.
 #[derive(Drop)]
@@ -25,8 +28,10 @@ impl Read for Source {
     }
 }
 
-/// A file or standard input, opened for reading.
-pub fn open(rt: &HostRuntime, name: &str) -> Result<Source, ToolFault> {
+/// A file or standard input, opened for reading. Errs with 8 where it can't be opened.
+pub fn open(rt: &HostRuntime, name: &str) -> Result<Source, ToolFault>
+    ensures { IfErr result IsOutside }
+{
     if name == STANDARD {
         return Ok(Source::Standard(rt.reader()));
     }
@@ -36,7 +41,10 @@ pub fn open(rt: &HostRuntime, name: &str) -> Result<Source, ToolFault> {
 /// Writes these octets as the whole content of a file, or on standard output. A regular file is written beside its
 /// place and then renamed, so that what was there stays where a write fails; any other file, such as a device
 /// or a link, is written itself.
-pub fn write(rt: &HostRuntime, name: &str, octets: &[u8]) -> Result<(), ToolFault> {
+/// Errs with 8 where it can't be written, and with 9.
+pub fn write(rt: &HostRuntime, name: &str, octets: &[u8]) -> Result<(), ToolFault>
+    ensures { IfErr result IsOutside }
+{
     if name == STANDARD {
         let mut writer = io::writer(rt);
         writer.write_all(octets)?;

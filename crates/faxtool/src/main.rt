@@ -223,7 +223,7 @@ fn call_file(
     out: Option<&str>,
     input: &str,
 ) -> Result<(), ToolFault> {
-    if script == "-" && input == "-" {
+    if script == files::STANDARD && input == files::STANDARD {
         return Err(FAILED);
     }
     let mut script = files::open(rt, script)?;

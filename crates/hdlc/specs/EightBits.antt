@@ -1,4 +1,5 @@
--- Eight bits that come at once: whether each of them may be taken as it is. The clauses of private functions name this.
+-- Eight bits that come at once: whether one of them ends a flag, and what they are without the stuffed ones. The clauses of private
+-- functions name this.
 use Rattle.std.specs.Prelude.{ℕ, ◌+◌, ◌/◌, ◌%◌, Bool, true, false, not, ◌&&◌, ◌||◌, List, [], ◌∷◌, ◌++◌}
 use Rattle.std.specs.Prelude.{cond, nat_eq, nat_lt, length, map, min}
 use Rattle.std.specs.Int.{bit_at}

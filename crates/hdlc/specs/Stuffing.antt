@@ -16,11 +16,12 @@ stuffed_bit ones b = b ∷ cond (b && not (nat_lt ones 4)) (false ∷ []) []
 abbrev pub run_sent : ℕ → Bool → ℕ
 run_sent ones b = cond (b && nat_lt ones 4) (1 + ones) 0
 
--- the same of more bits
+-- bits as they are sent after so many 1 bits in a row
 abbrev pub stuffed_from : ℕ → List Bool → List Bool
 stuffed_from ones [] = []
 stuffed_from ones (b ∷ bits) = stuffed_bit ones b ++ stuffed_from (run_sent ones b) bits
 
+-- how many 1 bits in a row end what was sent, where more bits come
 abbrev pub run_after_all : ℕ → List Bool → ℕ
 run_after_all ones [] = ones
 run_after_all ones (b ∷ bits) = run_after_all (run_sent ones b) bits

@@ -1,5 +1,5 @@
 //! What no clause of `raster`, `run_tables` and `page_code` says: vectors of other programs, pages at size, refused memory, and readers
-//! and writers that fail. They stand apart so that proving a test does not prove the crate that it calls anew.
+//! and writers that fail. They are apart so that proving a test does not prove the crate that it calls anew.
 #![tactic(auto)]
 
 #[cfg(test)]

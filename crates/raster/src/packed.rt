@@ -73,7 +73,7 @@ fn clear_bit(order: Order, octets: &mut Vec<u8>, place: u128)
 #[cold]
 fn grow(octets: &mut Vec<u8>, needed: usize) -> Result<(), AllocError>
     requires { length octets.old.items ≤ needed }
-    ensures room { OnOk result (needed ≤ length octets.new.items) }
+    ensures room { OnOk result (length octets.new.items ≡ needed) }
     ensures same { (order : Order) (k : ℕ) → bit_in order octets.new.items k ≡ bit_in order octets.old.items k }
     ensures err { OnErr result (octets.new.items ≡ octets.old.items) }
 {
