@@ -1,8 +1,9 @@
 -- Looking at a run code finds exactly the code that may be there, whatever automaton the code is an item of.
-use Rattle.std.proofs.Common.{ltb, ℕ, ◌≡◌, ◌+◌, ◌<◌, Bool, true, false, List, ◌++◌, map, length, drop, replicate, Some, None, refl, ap, sym}
+use Rattle.std.proofs.Common.{ltb, [], ◌∷◌, ℕ, ◌≡◌, ◌+◌, ◌<◌, Bool, true, false, List, ◌++◌, map, length, drop, replicate, Some, None, refl, ap, sym}
 use Rattle.std.proofs.Common.{◌∙◌, arith, cond, nat_eq}
 use Rattle.std.specs.Prelude.{Option, Contains, Result, Ok, Err}
-use Rattle.std.specs.List.{list_all}
+use Rattle.std.specs.List.{list_all, range_with_len}
+use Rattle.std.specs.Option.{option_map}
 use Rattle.std.proofs.lemmas.Bool.{ltb-true}
 use Rattle.std.proofs.lemmas.List.FromFn.{get_or-map-range_with_len, length-map-range_with_len}
 use Rattle.raster.specs.declared.row.Color.{Color}
@@ -11,10 +12,11 @@ use Rattle.raster.specs.Pixels.{other}
 use Rattle.run_tables.specs.declared.fault.CodeFaultKind.{CodeFaultKind}
 use Rattle.run_tables.specs.declared.fault.CodeFaultKind.TheVariants.{BadCode, Truncated, RunTooLong}
 use Rattle.run_tables.specs.Codes.{code_word, run_at}
-use Rattle.run_tables.specs.Texts.{apart, pick, is_cut}
+use Rattle.run_tables.specs.CodeReading.{first_runs}
+use Rattle.run_tables.specs.Texts.{begins, apart, pick, is_cut}
 use Rattle.run_tables.specs.Fronts.Look.{go, stop, refuse}
 use Rattle.run_tables.specs.RowFronts.{RunItem, run_of, item_word, run_items, allowed, amount, after_code, CodeStep, judged, found_code}
-use Rattle.run_tables.specs.RowFronts.{look_code, RowState}
+use Rattle.run_tables.specs.RowFronts.{codes_after, look_code, RowState}
 use Rattle.run_tables.specs.RowFronts.RunItem.{run_item}
 use Rattle.run_tables.specs.RowFronts.RowState.{inside, whole}
 use Rattle.run_tables.proofs.BeginsLemmas.{all_test, pick_found, pick_sound}
@@ -73,6 +75,62 @@ listed_at color count k h = (
       (λ k. run_item color (run_at k)) 0 count k k (run_item color (run_at k)) h (omega arith),
 )
 
+-- of the color
+pub item_color : (color : Color) (count : ℕ) (other : Color) (run : ℕ) → Contains (run_items color count) (run_item other run)
+    → other ≡ color
+item_color color count other run c =
+    let at = listed color count (run_item other run) c in
+    let same : run_item other run ≡ run_item color (run_at at.0) = at.2 in
+    cc
+
+-- the same by their runs
+pub item_run : (color : Color) (count run : ℕ) → Contains (run_items color count) (run_item color run) → Contains (first_runs count) run
+unfolding first_runs
+item_run color count run c =
+    let at = listed color count (run_item color run) c in
+    let same : run ≡ run_at at.0 = ap run_of at.2 in
+    rw same (
+      at.0,
+      omega (arith, at.1, length-map-range_with_len run_at 0 count),
+      get_or-map-range_with_len run_at 0 count at.0 at.0 (run_at at.0) at.1 (omega arith),
+    )
+
+pub run_item_at : (color : Color) (count run : ℕ) → Contains (first_runs count) run → Contains (run_items color count) (run_item color run)
+unfolding first_runs
+run_item_at color count run c =
+    let within : c.0 < count = omega (arith, c.1, length-map-range_with_len run_at 0 count) in
+    let same : run ≡ run_at c.0 = sym c.2 ∙ get_or-map-range_with_len run_at 0 count c.0 c.0 run within (omega arith) in
+    rw same (listed_at color count c.0 within)
+
+-- picking a code among items is picking its run among runs
+pick_codes : (color : Color) (places : List ℕ) (x : List Bool)
+    → pick item_word (map (λ place. run_item color (run_at place)) places) x ≡ option_map (run_item color) (pick (code_word color) (map
+    run_at places) x)
+pick_codes color [] x = refl
+pick_codes color (k ∷ places) x = seen (begins (code_word color (run_at k)) x) (pick_codes color places x)
+  where
+    seen : (b : Bool) → pick item_word (map (λ place. run_item color (run_at place)) places) x ≡ option_map (run_item color) (pick
+        (code_word color) (map run_at places) x)
+        → cond b (Some (run_item color (run_at k))) (pick item_word (map (λ place. run_item color (run_at place)) places) x) ≡ option_map
+        (run_item color) (cond b (Some (run_at k)) (pick (code_word color) (map run_at places) x))
+    seen true later = refl
+    seen false later = later
+
+cut_codes : (color : Color) (places : List ℕ) (x : List Bool)
+    → is_cut item_word (map (λ place. run_item color (run_at place)) places) x ≡ is_cut (code_word color) (map run_at places) x
+cut_codes color [] x = refl
+cut_codes color (k ∷ places) x = rw (cut_codes color places x) refl
+
+pub pick_items : (color : Color) (count : ℕ) (x : List Bool)
+    → pick item_word (run_items color count) x ≡ option_map (run_item color) (pick (code_word color) (first_runs count) x)
+unfolding run_items first_runs
+pick_items color count x = pick_codes color (range_with_len 0 count) x
+
+pub cut_items : (color : Color) (count : ℕ) (x : List Bool)
+    → is_cut item_word (run_items color count) x ≡ is_cut (code_word color) (first_runs count) x
+unfolding run_items first_runs
+cut_items color count x = cut_codes color (range_with_len 0 count) x
+
 module _ {State Item Answer : Type 0} (item : RunItem → Item) (full : List Color → State) (next : List Color → Color → Option ℕ
     → State) (width : ℕ) (pixels : List Color) (color : Color) (makeup : Option ℕ) where
   pub code_complete : (code : RunItem) (t : State) (rest : List Bool) → CodeStep full next width pixels color makeup code t
@@ -116,6 +174,27 @@ module _ {State Item Answer : Type 0} (item : RunItem → Item) (full : List Col
   pub code_goes : (x : List Bool) (a : Answer) (n : ℕ) → look_code item full next width pixels color makeup x ≡ stop a n → ⊥
   unfolding look_code
   code_goes x a n e = found_goes x (pick item_word (allowed color makeup) x) a n e
+
+-- why no code is there, by cutting
+abbrev pub kind_by_cut : Color → ℕ → List Bool → CodeFaultKind
+kind_by_cut color count x = cond (is_cut (code_word color) (first_runs count) x) Truncated BadCode
+
+module _ {State Item Answer : Type 0} (item : RunItem → Item) (full : List Color → State) (next : List Color → Color → Option ℕ
+    → State) (width : ℕ) (pixels : List Color) (color : Color) (makeup : Option ℕ) where
+  -- what is seen where this run was picked, or none
+  pub sees_picked : (x : List Bool) (o : Option ℕ) → pick (code_word color) (first_runs (codes_after makeup)) x ≡ o
+      → look_code {Answer = Answer} item full next width pixels color makeup x ≡ found_code item full next width pixels color makeup x
+      (option_map (run_item color) o)
+  unfolding look_code
+  sees_picked x o e =
+      ap (found_code {Answer = Answer} item full next width pixels color makeup x) (pick_items color (codes_after makeup) x ∙
+      ap (option_map (run_item color)) e)
+
+  -- what is seen where no code is
+  pub sees_none : (x : List Bool) → pick (code_word color) (first_runs (codes_after makeup)) x ≡ None
+      → look_code {Answer = Answer} item full next width pixels color makeup x ≡ refuse (kind_by_cut color (codes_after makeup) x)
+  sees_none x none = sees_picked x None none ∙
+      ap (λ (b : Bool). refuse (cond b Truncated BadCode)) (cut_items color (codes_after makeup) x)
 
 -- the same, of a row inside an automaton of more than a row
 abbrev pub put_ok : {S : Type 0} → (RowState → S) → Result RowState CodeFaultKind → Result S CodeFaultKind

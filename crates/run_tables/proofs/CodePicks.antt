@@ -49,7 +49,7 @@ next_entry color among x run next =
           color run listed).1 next.1,
     ))
 
-none_picked : (color : Color) (among : Among) (x : List Bool) → ((run : ℕ) → ¬ IsNext color among x run)
+pub none_picked : (color : Color) (among : Among) (x : List Bool) → ((run : ℕ) → ¬ IsNext color among x run)
     → pick (code_word color) (runs_among among) x ≡ None
 none_picked color among x none = at (pick (code_word color) (runs_among among) x) refl
   where

@@ -13,7 +13,12 @@ pub mod CodeLooks
 pub mod RowSpelling
 pub mod RowWays
 pub mod RowReadings
+pub mod CodeKinds
+pub mod RowKinds
+pub mod RowParts
+pub mod RowRefusals
+pub mod RowsGoOn
 pub mod RowReads
-mod RowWorkedRows
+pub mod RowWorkedRows
 pub mod CodeLaws
 pub mod RowWriting

@@ -1,8 +1,7 @@
 -- Reading a row run by run.
-use Rattle.std.proofs.Common.{◌≢◌, subst, length-append, ltb, ℕ, ◌≡◌, ◌+◌, ◌-◌, ◌<◌, ◌≤◌, Bool, true, false, List, [], ◌∷◌, ◌++◌, map}
-use Rattle.std.proofs.Common.{length, drop, replicate, Some, None, refl, ap, sym, ◌∙◌, arith, cond, inl, inr}
-use Rattle.std.specs.Prelude.{Option, Result, Ok, Err, if◌then◌else◌, Vec}
-use Rattle.std.specs.List.{range_with_len}
+use Rattle.std.proofs.Common.{◌≢◌, subst, length-append, ℕ, ◌≡◌, ◌+◌, ◌-◌, ◌<◌, ◌≤◌, Bool, List, ◌++◌}
+use Rattle.std.proofs.Common.{length, drop, replicate, Some, None, refl, ap, sym, ◌∙◌, arith, inl, inr}
+use Rattle.std.specs.Prelude.{Option, Result, Ok, Err, Vec}
 use Rattle.std.specs.Option.{option_map}
 use Rattle.std.proofs.lemmas.Bool.{lt-ltb, le-ltb, ne_eqb, eq-eqb}
 use Rattle.std.proofs.lemmas.List.{drop-drop, length-drop}
@@ -11,67 +10,33 @@ use Rattle.raster.specs.declared.row.Color.TheVariants.{White}
 use Rattle.raster.specs.Runs.{colored}
 use Rattle.raster.specs.Pixels.{other}
 use Rattle.run_tables.specs.declared.fault.CodeFaultKind.{CodeFaultKind}
-use Rattle.run_tables.specs.declared.fault.CodeFaultKind.TheVariants.{BadCode, Truncated, RunTooLong, NoMemory}
-use Rattle.run_tables.specs.Codes.{code_word, run_at}
+use Rattle.run_tables.specs.declared.fault.CodeFaultKind.TheVariants.{RunTooLong, NoMemory}
+use Rattle.run_tables.specs.Codes.{code_word}
 use Rattle.run_tables.specs.CodeReading.{first_runs, PicksCode, BeginsRun, RefusesCodeWithin, ReadsRunWithin}
 use Rattle.run_tables.specs.Reading.{Reading, rest_of}
 use Rattle.run_tables.specs.RowReading.{ReadsRow, RefusesRow, RowRuns, RunWithin}
 use Rattle.run_tables.specs.declared.fault.CodeFault.{CodeFault}
 use Rattle.run_tables.specs.declared.reader.Among.TheVariants.{AllCodes, TerminatingCodes}
-use Rattle.run_tables.specs.Texts.{begins, pick, is_cut}
+use Rattle.run_tables.specs.Texts.{begins, pick}
 use Rattle.run_tables.specs.Faults.{BegunAt}
-use Rattle.run_tables.specs.Fronts.{Look}
 use Rattle.run_tables.specs.Fronts.Look.{refuse}
-use Rattle.run_tables.specs.RowFronts.{RunItem, run_of, item_word, run_items, codes_after, allowed, amount, run_ended, after_code}
-use Rattle.run_tables.specs.RowFronts.{look_code, found_code, judged, look, reading, read_row, row_begin, moved, RowState}
+use Rattle.run_tables.specs.RowFronts.{item_word, codes_after, allowed, amount, run_ended, after_code}
+use Rattle.run_tables.specs.RowFronts.{look_code, found_code, look, reading, read_row, row_begin, moved, RowState}
 use Rattle.run_tables.specs.RowFronts.RunItem.{run_item}
 use Rattle.run_tables.specs.RowFronts.RowState.{inside, whole}
 use Rattle.run_tables.proofs.BeginsLemmas.{pick_sound}
-use Rattle.run_tables.proofs.CodeLooks.{code_positive}
+use Rattle.run_tables.proofs.CodeLooks.{code_positive, pick_items, kind_by_cut, sees_none}
 use Rattle.run_tables.proofs.RowReadings.{reading_go, reading_stop, reading_refuse, reading_moved, refuses_at_longest, refuses_no_row}
 use Rattle.run_tables.proofs.RowReadings.{reads_rows_exactly}
+use Rattle.run_tables.proofs.RowRefusals.{refused_row}
 use Rattle.run_tables.specs.RowLaws.{ReadsAsRow}
 use Rattle.raster.specs.Pixels.{IsWidth}
-
--- picking a code among items is picking its run among runs
-pick_codes : (color : Color) (places : List ℕ) (x : List Bool)
-    → pick item_word (map (λ place. run_item color (run_at place)) places) x ≡ option_map (run_item color) (pick (code_word color) (map
-    run_at places) x)
-pick_codes color [] x = refl
-pick_codes color (k ∷ places) x = seen (begins (code_word color (run_at k)) x) (pick_codes color places x)
-  where
-    seen : (b : Bool) → pick item_word (map (λ place. run_item color (run_at place)) places) x ≡ option_map (run_item color) (pick
-        (code_word color) (map run_at places) x)
-        → cond b (Some (run_item color (run_at k))) (pick item_word (map (λ place. run_item color (run_at place)) places) x) ≡ option_map
-        (run_item color) (cond b (Some (run_at k)) (pick (code_word color) (map run_at places) x))
-    seen true later = refl
-    seen false later = later
-
-cut_codes : (color : Color) (places : List ℕ) (x : List Bool)
-    → is_cut item_word (map (λ place. run_item color (run_at place)) places) x ≡ is_cut (code_word color) (map run_at places) x
-cut_codes color [] x = refl
-cut_codes color (k ∷ places) x = rw (cut_codes color places x) refl
-
-pub pick_items : (color : Color) (count : ℕ) (x : List Bool)
-    → pick item_word (run_items color count) x ≡ option_map (run_item color) (pick (code_word color) (first_runs count) x)
-unfolding run_items first_runs
-pick_items color count x = pick_codes color (range_with_len 0 count) x
-
-pub cut_items : (color : Color) (count : ℕ) (x : List Bool)
-    → is_cut item_word (run_items color count) x ≡ is_cut (code_word color) (first_runs count) x
-unfolding run_items first_runs
-cut_items color count x = cut_codes color (range_with_len 0 count) x
 
 -- no code that may come begins the bits
 pub code_refused : (width : ℕ) (pixels : List Color) (color : Color) (makeup : Option ℕ) (x : List Bool)
     → pick (code_word color) (first_runs (codes_after makeup)) x ≡ None
-    → look width (inside pixels color makeup) x ≡ refuse (if is_cut (code_word color) (first_runs (codes_after makeup)) x then Truncated
-    else BadCode)
-unfolding look_code
-code_refused width pixels color makeup x none =
-    ap (found_code (λ code. code) whole inside width pixels color makeup x) (pick_items color (codes_after makeup) x ∙
-    ap (option_map (run_item color)) none) ∙
-    ap (λ (b : Bool). refuse (cond b Truncated BadCode)) (cut_items color (codes_after makeup) x)
+    → look width (inside pixels color makeup) x ≡ refuse (kind_by_cut color (codes_after makeup) x)
+code_refused width pixels color makeup x none = sees_none (λ code. code) whole inside width pixels color makeup x none
 
 -- a code that is there takes the row past its width
 pub code_long : (width : ℕ) (pixels : List Color) (color : Color) (makeup : Option ℕ) (x : List Bool) (run : ℕ)
@@ -284,41 +249,6 @@ row_read width pixels color reader full =
     ap (λ (s : RowState). reading width s reader.place (rest_of reader)) (full_row width pixels color full) ∙
     reading_stop width pixels reader.place (rest_of reader)
 
--- no bits are refused for want of memory
-after_seen : {State : Type 0} (a b : Bool) (s t : State)
-    → ◌≡◌ {A = Result State CodeFaultKind} (cond a (Err RunTooLong) (cond b (Ok s) (Ok t))) (Err NoMemory) → ⊥
-after_seen true b s t e = cc
-after_seen false true s t e = cc
-after_seen false false s t e = cc
-
-after_memory : {State : Type 0} (full : List Color → State) (next : List Color → Color → Option ℕ
-    → State) (width : ℕ) (pixels : List Color) (color : Color) (makeup : Option ℕ) (run : ℕ)
-    → after_code full next width pixels color makeup run ≡ Err NoMemory → ⊥
-unfolding after_code
-after_memory full next width pixels color makeup run e = after_seen (ltb width (length pixels + (amount makeup + run))) (ltb run 64)
-    (run_ended full next width (pixels ++ replicate (amount makeup + run) color) (other color)) (next pixels color (Some run)) e
-
-module _ {State Item Answer : Type 0} (item : RunItem → Item) (full : List Color → State) (next : List Color → Color → Option ℕ
-    → State) (width : ℕ) (pixels : List Color) (color : Color) (makeup : Option ℕ) where
-  cut_memory : (b : Bool) → ◌≡◌ {A = Look State Item Answer CodeFaultKind} (refuse (cond b Truncated BadCode)) (refuse NoMemory) → ⊥
-  cut_memory true e = cc
-  cut_memory false e = cc
-
-  judged_memory : (code : RunItem) (r : Result State CodeFaultKind) → after_code full next width pixels color makeup (run_of code) ≡ r
-      → judged {Answer = Answer} (item code) r ≡ refuse NoMemory → ⊥
-  judged_memory code (Ok t) is e = cc
-  judged_memory code (Err k) is e = let same : k ≡ NoMemory = cc in after_memory full next width pixels color makeup (run_of code) (is ∙
-      ap (λ (j : CodeFaultKind). Err j) same)
-
-  found_memory : (x : List Bool) (o : Option RunItem)
-      → found_code {Answer = Answer} item full next width pixels color makeup x o ≡ refuse NoMemory → ⊥
-  found_memory x None e = cut_memory (is_cut item_word (allowed color makeup) x) e
-  found_memory x (Some code) e = judged_memory code (after_code full next width pixels color makeup (run_of code)) refl e
-
-  pub code_memory : (x : List Bool) → look_code {Answer = Answer} item full next width pixels color makeup x ≡ refuse NoMemory → ⊥
-  unfolding look_code
-  code_memory x e = found_memory x (pick item_word (allowed color makeup) x) e
-
 -- what reading refuses from a place on is refused after the longest front there
 pub refuses_there : (width : ℕ) (old : Reading) (fault : CodeFault) → IsWidth width
     → reading width row_begin old.place (rest_of old) ≡ Err (fault.place, fault.kind) → RefusesRow width old fault
@@ -344,6 +274,7 @@ refuses_there width old fault wide e = seen (read_row width (rest_of old)) refl 
           place = sym (ap (λ (p : ℕ
               × CodeFaultKind). p.0) pair);
           longest = longest;
+          refused = refused_row width (rest_of old) refused.0 fault.kind wide refuses;
           none = λ row used reads. refuses_no_row width (rest_of old) refused.0
               fault.kind row used wide refuses reads;
         }

@@ -29,12 +29,12 @@ low_leads : (width : ℕ) (pixels : List Color) (color : Color) (makeup : Option
 unfolding after_code
 low_leads width pixels color makeup n low fits = rw (le-ltb width (length pixels + (amount makeup + n)) fits, lt-ltb n 64 low) refl
 
-high_leads : (width : ℕ) (pixels : List Color) (color : Color) (n : ℕ) → 64 ≤ n → length pixels + (0 + n) ≤ width
+pub high_leads : (width : ℕ) (pixels : List Color) (color : Color) (n : ℕ) → 64 ≤ n → length pixels + (0 + n) ≤ width
     → after_code whole inside width pixels color None n ≡ Ok (inside pixels color (Some n))
 unfolding after_code
 high_leads width pixels color n high fits = rw (le-ltb width (length pixels + (0 + n)) fits, le-ltb n 64 high) refl
 
-run_way : (width : ℕ) (pixels : List Color) (color : Color) (n : ℕ) → width ≤ 2432 → length pixels + n ≤ width
+pub run_way : (width : ℕ) (pixels : List Color) (color : Color) (n : ℕ) → width ≤ 2432 → length pixels + n ≤ width
     → RowWay width (inside pixels color None) (run_ended whole inside width (pixels ++ replicate n color) (other color)) (run_words color n)
 run_way width pixels color n wide fits = elim (cases_lt n 64) [
   | inl low ↦

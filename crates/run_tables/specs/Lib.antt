@@ -13,5 +13,7 @@ pub mod Fronts
 pub mod Longest
 pub mod RowFronts
 pub mod RowLaws
+pub mod Kinds
+pub mod KindLaws
 pub mod RowReading
 pub mod Laws

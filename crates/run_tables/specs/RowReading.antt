@@ -6,6 +6,7 @@ use Rattle.raster.specs.Runs.{colored}
 use Rattle.raster.specs.Pixels.{other}
 use Rattle.run_tables.specs.declared.fault.CodeFault.{CodeFault}
 use Rattle.run_tables.specs.declared.fault.CodeFaultKind.TheVariants.{NoMemory}
+use Rattle.run_tables.specs.Kinds.{IsRefusedRow}
 use Rattle.run_tables.specs.Reading.{Reading, rest_of}
 use Rattle.run_tables.specs.RowFronts.{run_ended, reading, row_begin}
 use Rattle.run_tables.specs.RowFronts.RowState.{inside, whole}
@@ -18,11 +19,12 @@ pub record ReadsRow (width : ℕ) (old new : Reading) (row : List Color) : Type 
   pub after : new ≡ record old { place = old.place + used }
 
 -- a refusal that isn't one of memory: the bits that are left begin with no row's code words, the place is after their longest front, and
--- the kind is that of the bits from there
+-- the kind is that of the bits from there; so the row goes no further after these whole codes, for that reason
 pub record RefusesRow (width : ℕ) (old : Reading) (fault : CodeFault) : Type 0 where
   pub front : ℕ
   pub place : fault.place ≡ old.place + front
   pub longest : IsLongestFront width (rest_of old) front fault.kind
+  pub refused : IsRefusedRow width (rest_of old) front fault.kind
   pub none : (row : List Color) (used : ℕ) → ¬ ReadsAsRow width (rest_of old) row used
 
 -- one run of a row was read, at most so many pixels: reading the row from before it is reading on after it; or it is refused there

@@ -1,6 +1,7 @@
 //! Laws of the run codes and of rows in one dimension: what their contracts say is proved, and
 //! nothing runs.
 
+ghost use Rattle.run_tables.specs.KindLaws.{AreRefusedRows, FrontsGoOn, OneKind, RefusesCodesExactly, RefusesRowsExactly};
 ghost use Rattle.run_tables.specs.Laws.{CodesCover, OneCode};
 ghost use Rattle.run_tables.specs.RowLaws.{OneFront, ReadsExactly, RefusesAtLongest, RefusesNoRow, RoundTrip, TableWords};
 
@@ -42,4 +43,32 @@ pub fn one_front()
 /// The code words of a row's own runs, followed by any bits, read as the row.
 pub fn round_trip()
     ensures { RoundTrip }
+{}
+
+/// One place of a row has one kind of refusal.
+pub fn one_kind()
+    ensures { OneKind }
+{}
+
+/// What is answered of codes and of runs is a refusal exactly where no code is, for the reason that
+/// the bits there give by the table.
+pub fn refuses_codes_exactly()
+    ensures { RefusesCodesExactly }
+{}
+
+/// A row is refused exactly where it goes no further after whole codes, for the reason that the bits
+/// there give by the table: bits begin with a row or have one refusal, and not both.
+pub fn refuses_rows_exactly()
+    ensures { RefusesRowsExactly }
+{}
+
+/// After whole codes of a row are bits with which they spell a row; with a code that passes the width,
+/// or with bits that are no code's, none does.
+pub fn fronts_go_on()
+    ensures { FrontsGoOn }
+{}
+
+/// Refused rows that were coded by hand.
+pub fn refused_rows()
+    ensures { AreRefusedRows }
 {}

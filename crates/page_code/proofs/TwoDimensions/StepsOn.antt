@@ -22,8 +22,7 @@ use Rattle.run_tables.specs.RowFronts.{codes_after, allowed, amount, judged}
 use Rattle.run_tables.specs.RowFronts.{item_word as run_item_word}
 use Rattle.run_tables.specs.RowFronts.RunItem.{run_item as run_code}
 use Rattle.run_tables.proofs.BeginsLemmas.{pick_sound, begins_split}
-use Rattle.run_tables.proofs.CodeLooks.{code_positive}
-use Rattle.run_tables.proofs.RowReads.{pick_items, cut_items}
+use Rattle.run_tables.proofs.CodeLooks.{code_positive, pick_items, cut_items}
 use Rattle.page_code.specs.declared.t6.a0.A0.{A0}
 use Rattle.page_code.specs.declared.t6.mode.Shift.{Shift}
 use Rattle.page_code.specs.declared.t6.mode.Shift.TheVariants.{V0, VR1, VR2, VR3, VL1, VL2, VL3}
