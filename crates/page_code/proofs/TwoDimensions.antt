@@ -16,3 +16,11 @@ pub mod ModeTable
 pub mod RowsOn
 pub mod ReadsItsCode
 pub mod ZeroBits
+pub mod Standing
+pub mod GoesOn
+pub mod ModeKinds
+pub mod RunKinds
+pub mod PageKinds
+pub mod Parts
+pub mod PartWays
+pub mod KindLaws

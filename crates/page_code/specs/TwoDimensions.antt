@@ -4,7 +4,9 @@ pub mod Modes
 pub mod Code
 pub mod Fronts
 pub mod ModeTable
+pub mod Kinds
 pub mod Laws
+pub mod KindLaws
 pub mod Changes
 pub mod Writing
 pub mod Reading

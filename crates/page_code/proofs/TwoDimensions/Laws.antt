@@ -13,7 +13,7 @@ use Rattle.page_code.proofs.TwoDimensions.PageLook.{finds}
 use Rattle.page_code.proofs.TwoDimensions.ReadsOnly.{reads_only}
 use Rattle.page_code.proofs.TwoDimensions.ReadsAll.{reads_all}
 
-right_bound : (line : CodingLine) → right_of_a0 line ≤ length line.pixels + 1
+pub right_bound : (line : CodingLine) → right_of_a0 line ≤ length line.pixels + 1
 right_bound line = seen line.begun
   where
     seen : (b : Bool) → length line.pixels + cond b 1 0 ≤ length line.pixels + 1

@@ -32,7 +32,7 @@ use Rattle.page_code.specs.TwoDimensions.Fronts.PageState.{between, inside, runn
 use Rattle.page_code.proofs.TwoDimensions.PageLook.{finds}
 use Rattle.page_code.proofs.TwoDimensions.Positions.{b1_is, b2_is}
 
-abbrev PageWay : ℕ → PageState → PageState → List Bool → Type 0
+abbrev pub PageWay : ℕ → PageState → PageState → List Bool → Type 0
 PageWay width s t bits = Way page_item_word (PageStep width) s t bits
 
 -- Runs
@@ -50,7 +50,7 @@ low_step width page line first makeup run t low fits e = record {
   leads = rw (le-ltb width (length line.pixels + amount first + (amount makeup + run)) fits, lt-ltb run 64 low) e;
 }
 
-high_step : (width : ℕ) (page : PageSoFar) (line : CodingLine) (first : Option ℕ) (q : ℕ) → 0 < q → q < 41
+pub high_step : (width : ℕ) (page : PageSoFar) (line : CodingLine) (first : Option ℕ) (q : ℕ) → 0 < q → q < 41
     → length line.pixels + amount first + (0 + 64 * q) ≤ width
     → PageStep width (running page line first None) (run_item (run_code (run_color line first) (64 * q))) (running page line first (Some (64
     * q)))
@@ -63,7 +63,7 @@ high_step width page line first q some few fits =
       leads = rw (le-ltb width (length line.pixels + amount first + (0 + 64 * q)) fits, le-ltb (64 * q) 64 (omega arith)) refl;
     }
 
-run_way : (width : ℕ) (page : PageSoFar) (line : CodingLine) (first : Option ℕ) (n : ℕ) (t : PageState) → n < 2624
+pub run_way : (width : ℕ) (page : PageSoFar) (line : CodingLine) (first : Option ℕ) (n : ℕ) (t : PageState) → n < 2624
     → length line.pixels + amount first + n ≤ width → run_ended width page line first n ≡ Ok t
     → PageWay width (running page line first None) t (run_words (run_color line first) n)
 run_way width page line first n t small fits e = elim (cases_lt n 64) [
@@ -85,10 +85,10 @@ run_way width page line first n t small fits e = elim (cases_lt n 64) [
 -- Modes
 
 -- a state where a mode code may come
-record TakesMode (width : ℕ) (page : PageSoFar) (line : CodingLine) (s : PageState) : Type 0 where
-  takes : (code : ModeCode) (t : PageState) → ModeStep width page line code t → PageStep width s (mode_item code) t
+pub record TakesMode (width : ℕ) (page : PageSoFar) (line : CodingLine) (s : PageState) : Type 0 where
+  pub takes : (code : ModeCode) (t : PageState) → ModeStep width page line code t → PageStep width s (mode_item code) t
 
-by_mode : (width : ℕ) (page : PageSoFar) (line : CodingLine) (s t : PageState) (code : ModeCode) → TakesMode width page line s
+pub by_mode : (width : ℕ) (page : PageSoFar) (line : CodingLine) (s t : PageState) (code : ModeCode) → TakesMode width page line s
     → Contains mode_codes code → after_mode width page line code ≡ Ok t → PageWay width s t (mode_word code)
 by_mode width page line s t code at stands e = way_by page_item_word (PageStep width) s t (mode_item code) (at.takes code t (record {
   stands
@@ -105,7 +105,7 @@ vertical_stands VL1 = (6, omega arith, refl)
 vertical_stands VL2 = (7, omega arith, refl)
 vertical_stands VL3 = (8, omega arith, refl)
 
-mode_way : (width : ℕ) (page : PageSoFar) (line next : CodingLine) (mode : Mode) (s : PageState) → width ≤ 2432
+pub mode_way : (width : ℕ) (page : PageSoFar) (line next : CodingLine) (mode : Mode) (s : PageState) → width ≤ 2432
     → TakesMode width page line s → IsStep width page.reference line mode next
     → PageWay width s (mode_ended width page next) (mode_words line.color mode)
 unfolding after_mode
@@ -151,14 +151,14 @@ mode_way width page line next (horizontal a0a1 a1a2) s wide at step =
 
 -- Rows
 
-begun_after : (width : ℕ) (reference : List Color) (line next : CodingLine) (mode : Mode) → IsStep width reference line mode next
+pub begun_after : (width : ℕ) (reference : List Color) (line next : CodingLine) (mode : Mode) → IsStep width reference line mode next
     → next.begun ≡ true
 begun_after width reference line next pass step = rw step.6 refl
 begun_after width reference line next (vertical shift) step = rw step.6 refl
 begun_after width reference line next (horizontal a0a1 a1a2) step = rw step.2 refl
 
 -- no mode leads on from a row's end
-full_stuck : (width : ℕ) (reference : List Color) (line next : CodingLine) (mode : Mode) → IsStep width reference line mode next
+pub full_stuck : (width : ℕ) (reference : List Color) (line next : CodingLine) (mode : Mode) → IsStep width reference line mode next
     → line.begun ≡ true → length line.pixels ≡ width → ⊥
 full_stuck width reference line next pass step begun full =
     let from : length line.pixels + 1 ≤ step.1 = rw begun at step.4 in omega (arith, step.5, from)
@@ -166,10 +166,10 @@ full_stuck width reference line next (vertical shift) step begun full =
     let from : length line.pixels + 1 ≤ step.1 = rw begun at step.4 in omega (arith, step.5, from)
 full_stuck width reference line next (horizontal a0a1 a1a2) step begun full = omega (arith, step.0, step.1)
 
-inside_takes : (width : ℕ) (page : PageSoFar) (line : CodingLine) → TakesMode width page line (inside page line)
+pub inside_takes : (width : ℕ) (page : PageSoFar) (line : CodingLine) → TakesMode width page line (inside page line)
 inside_takes width page line = record { takes = λ code t step. step }
 
-between_takes : (width : ℕ) (page : PageSoFar) → length page.rows < 20000 → TakesMode width page line_begin (between page)
+pub between_takes : (width : ℕ) (page : PageSoFar) → length page.rows < 20000 → TakesMode width page line_begin (between page)
 between_takes width page h = record { takes = λ code t step. (h, step) }
 
 line_way : (width : ℕ) (page : PageSoFar) (modes : List Mode) (line : CodingLine) (s : PageState) (row : List Color) (bits : List Bool)
@@ -196,7 +196,7 @@ line_way width page (mode ∷ modes) line s row bits wide at short spells =
         rw (end.0, end.1) (way_none page_item_word (PageStep width) (between (row_added page row)))
     after false is again = again (eqb-false (length spells.0.pixels) width is)
 
-row_way : (width : ℕ) (page : PageSoFar) (row : List Color) (bits : List Bool) → 0 < width → width ≤ 2432 → length page.rows < 20000
+pub row_way : (width : ℕ) (page : PageSoFar) (row : List Color) (bits : List Bool) → 0 < width → width ≤ 2432 → length page.rows < 20000
     → SpellsRow width page.reference row bits → PageWay width (between page) (between (row_added page row)) bits
 row_way width page row bits some wide room spells = line_way width page spells.0 line_begin (between page) row bits wide (between_takes
     width page room) (λ e. absurd (omega arith)) spells.1

@@ -1,5 +1,6 @@
 //! Laws of the two-dimensional code: what their contracts say is proved, and nothing runs.
 
+ghost use Rattle.page_code.specs.TwoDimensions.KindLaws.{FrontsAreParts, FrontsGoOn, OneKind, RefusesPagesExactly};
 ghost use Rattle.page_code.specs.TwoDimensions.Laws.{FindsPositions, OneFront, PassLeadsOn, ReadsExactly};
 ghost use Rattle.page_code.specs.TwoDimensions.Laws.{RefusesAtLongest, RefusesNoPage, RoundTrip};
 
@@ -31,6 +32,27 @@ pub fn refuses_at_longest()
 /// Of two fronts of the same bits one begins the other.
 pub fn one_front()
     ensures { OneFront }
+{}
+
+/// Pages are refused exactly where they go no further after whole codes, and each for the reason that is
+/// there.
+pub fn refuses_pages_exactly()
+    ensures { RefusesPagesExactly }
+{}
+
+/// One place has one kind.
+pub fn one_kind()
+    ensures { OneKind }
+{}
+
+/// The fronts that a reader goes over are whole codes of a page, and no others are.
+pub fn fronts_are_parts()
+    ensures { FrontsAreParts }
+{}
+
+/// After whole codes some bits complete a page, and after what is refused none do.
+pub fn fronts_go_on()
+    ensures { FrontsGoOn }
 {}
 
 /// The code of a page, followed by any bits, reads as the page.
