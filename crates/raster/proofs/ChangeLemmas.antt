@@ -6,8 +6,9 @@ use Rattle.std.specs.Int.{bit_at, bit_not}
 use Rattle.std.proofs.lemmas.List.{append-nil, get_or_append_left, get_or-append_right}
 use Rattle.std.proofs.lemmas.List.Elements.{Contains-append_left, Contains-append_right}
 use Rattle.std.proofs.lemmas.Nat.Bits.{bit_at-lt, bit_at_above, bit_at_and, bit_at_or, bit_at_xor, bit_at_not, bit_at_ones}
-use Rattle.std.proofs.lemmas.Nat.Bits.{bit_at_ones_above, ones_shr}
-use Rattle.std.proofs.lemmas.Bool.{cases_lt, and_parts, lt-ltb, le-ltb}
+use Rattle.std.proofs.lemmas.Nat.Bits.{bit_at_ones_above, ones_shr, same_from_bits_below, bit_at-zero}
+use Rattle.std.proofs.lemmas.Bool.{cases_lt, and_parts, lt-ltb, le-ltb, true≢false}
+use Rattle.std.proofs.lemmas.Nat.{shr-shr, and_le_l, and_le_r, pow_pos}
 use Rattle.raster.specs.Packed.{bit_in, bits_in}
 use Rattle.raster.specs.Pixels.{color_of, colors}
 use Rattle.raster.specs.Words.{IsWordAt, IsFirstInWord, bit_of_word}
@@ -133,6 +134,127 @@ lists_more word base at place old xs few inside first lists =
       first.low,
     )) lists (lists_gap word base at place xs first))
     (lists_one (λ k. bit_of_word word (k - base)) xs (base + place) found))
+
+-- the places of the 1 bits up to one were appended, and what is left of the word are the bits from there on
+pub record Pushed (word base rest : ℕ) (old out : List ℕ) : Type 0 where
+  pub at : ℕ
+  pub few : at ≤ 64
+  pub fits : rest < 2 ^ 64
+  pub none : (k : ℕ) → k < at → bit_of_word rest k ≡ false
+  pub same : (k : ℕ) → at ≤ k → k < 64 → bit_of_word rest k ≡ bit_of_word word k
+  pub listed : Lists (λ k. bit_of_word word (k - base)) old out base (base + at)
+
+pub pushed_none : (word base : ℕ) (old : List ℕ) → word < 2 ^ 64 → Pushed word base word old old
+pushed_none word base old fits = record {
+  at = 0;
+  few = omega arith;
+  fits = fits;
+  none = λ k h. absurd (omega arith);
+  same = λ k low h. refl;
+  listed = lists_none (λ k. bit_of_word word (k - base)) old base (base + 0) (λ k low h. absurd (omega arith));
+}
+
+-- the bits of a word after a place
+abbrev pub after_place : ℕ → ℕ → ℕ
+after_place rest place = bit_and rest ((2 ^ 64 - 1) / 2 ^ place / 2 ^ 1)
+
+after_mask : (place : ℕ) → place < 64 → (2 ^ 64 - 1) / 2 ^ place / 2 ^ 1 ≡ 2 ^ (63 - place) - 1
+after_mask place h =
+    let e : 64 - (place + 1) ≡ 63 - place = omega arith in
+    shr-shr (2 ^ 64 - 1) place 1 ∙ (ones_shr 64 (place + 1) (omega arith) ∙ ap (λ m. 2 ^ m - 1) e)
+
+after_none : (rest place k : ℕ) → place < 64 → k ≤ place → bit_of_word (after_place rest place) k ≡ false
+after_none rest place k h low =
+    let none : bit_at ((2 ^ 64 - 1) / 2 ^ place / 2 ^ 1) (63 - k) ≡ 0 = ap (λ m. bit_at m (63 - k)) (after_mask place h)
+    ∙ bit_at_ones_above (63 - place) (63 - k) (omega arith) in
+    let both : bit_at (after_place rest place) (63 - k) ≡ 0 = omega (
+      arith,
+      bit_at_and rest ((2 ^ 64 - 1) / 2 ^ place / 2 ^ 1) (63 - k),
+      none,
+    ) in
+    ap (λ b. nat_eq b 1) both
+
+after_same : (rest place k : ℕ) → place < k → k < 64 → bit_of_word (after_place rest place) k ≡ bit_of_word rest k
+after_same rest place k low h =
+    let one : bit_at ((2 ^ 64 - 1) / 2 ^ place / 2 ^ 1) (63 - k) ≡ 1 = ap (λ m. bit_at m (63 - k)) (after_mask place (omega arith))
+    ∙ bit_at_ones (63 - place) (63 - k) (omega arith) in
+    let both : bit_at (after_place rest place) (63 - k) ≡ bit_at rest (63 - k) = omega (
+      arith,
+      bit_at_and rest ((2 ^ 64 - 1) / 2 ^ place / 2 ^ 1) (63 - k),
+      one,
+      bit_at-lt rest (63 - k),
+    ) in
+    ap (λ b. nat_eq b 1) both
+
+-- a word with no 1 bit is 0
+no_ones : (rest : ℕ) → rest < 2 ^ 64 → ((k : ℕ) → k < 64 → bit_of_word rest k ≡ false) → rest ≡ 0
+no_ones rest fits none =
+    same_from_bits_below 64 rest 0 fits (omega arith) (λ i h. zero_bit i h ∙ sym (bit_at-zero i))
+  where
+    is_zero : (b : ℕ) → b < 2 → nat_eq b 1 ≡ false → b ≡ 0
+    is_zero zero lt e = refl
+    is_zero (suc zero) lt e = absurd (true≢false e)
+    is_zero (suc (suc b)) lt e = absurd (omega arith)
+
+    zero_bit : (i : ℕ) → i < 64 → bit_at rest i ≡ 0
+    zero_bit i h =
+        let back : 63 - (63 - i) ≡ i = omega arith in
+        is_zero (bit_at rest i) (bit_at-lt rest i) (ap (λ j. nat_eq (bit_at rest j) 1) (sym back) ∙ none (63 - i) (omega arith))
+
+pub found_one : (rest place : ℕ) → rest < 2 ^ 64 → 0 < rest → IsFirstInWord rest 0 false place → place < 64
+found_one rest place fits some first =
+    elim (cases_lt place 64) [
+      | inl lt ↦ lt
+      | inr le ↦ absurd (omega (arith, some, no_ones rest fits (λ k h. first.before k (omega arith) (omega arith))))
+    ]
+
+pub fewer : (rest place : ℕ) → place < 64 → IsFirstInWord rest 0 false place → after_place rest place < rest
+fewer rest place inside first =
+    elim (cases_lt rest (2 ^ (63 - place))) [
+      | inl lt ↦ absurd (true≢false (sym (first.hit inside) ∙ ap (λ b. nat_eq b 1) (bit_at_above rest (63 - place) (63 - place) lt (omega
+          arith))))
+      | inr le ↦ omega (
+        arith,
+        le,
+        after_mask place inside,
+        pow_pos (63 - place),
+        and_le_r rest ((2 ^ 64 - 1) / 2 ^ place / 2 ^ 1),
+      )
+    ]
+
+first_of_rest : (word base rest place : ℕ) (old out : List ℕ) (pushed : Pushed word base rest old out) → place < 64
+    → IsFirstInWord rest 0 false place → IsFirstInWord word pushed.at false place
+first_of_rest word base rest place old out pushed inside first =
+    elim (cases_lt place pushed.at) [
+      | inl lt ↦ absurd (true≢false (sym (first.hit inside) ∙ pushed.none place lt))
+      | inr le ↦ record {
+        low = le;
+        high = first.high;
+        before = λ k low h. sym (pushed.same k low (omega arith)) ∙ first.before k (omega arith) h;
+        hit = λ h. sym (pushed.same place le h) ∙ first.hit h;
+      }
+    ]
+
+pub pushed_more : (word base rest place : ℕ) (old out : List ℕ) → Pushed word base rest old out → place < 64
+    → IsFirstInWord rest 0 false place → Pushed word base (after_place rest place) old (out ++ (base + place) ∷ [])
+pushed_more word base rest place old out pushed inside first =
+    let in_word = first_of_rest word base rest place old out pushed inside first in
+    record {
+      at = place + 1;
+      few = omega arith;
+      fits = omega (arith, and_le_l rest ((2 ^ 64 - 1) / 2 ^ place / 2 ^ 1), pushed.fits);
+      none = λ k h. after_none rest place k inside (omega arith);
+      same = λ k low h. after_same rest place k (omega arith) h ∙ pushed.same k (omega (arith, in_word.low)) h;
+      listed = lists_more word base pushed.at place old out pushed.few inside in_word pushed.listed;
+    }
+
+pub pushed_all : (word base : ℕ) (old out : List ℕ) → Pushed word base 0 old out → Lists (λ k. bit_of_word word (k - base)) old out base
+    (base + 64)
+pushed_all word base old out pushed =
+    lists_join (λ k. bit_of_word word (k - base)) old out out base (base + pushed.at) (base + 64) (omega arith) (omega (arith, pushed.few))
+    pushed.listed
+    (lists_none (λ k. bit_of_word word (k - base)) out (base + pushed.at) (base + 64) (λ k low h. sym (pushed.same (k - base) (omega arith)
+    (omega arith)) ∙ ap (λ b. nat_eq b 1) (bit_at-zero (63 - (k - base)))))
 
 -- ---- bits that differ from the one before
 

@@ -7,7 +7,7 @@ use Rattle.std.proofs.lemmas.List.{append-nil, get_or_past}
 use Rattle.std.proofs.lemmas.List.FromFn.{map-range_with_len_more}
 use Rattle.std.proofs.lemmas.Bool.{cases_lt}
 use Rattle.raster.specs.Packed.{bit_in, bits_in, place_in, IsPacked}
-use Rattle.raster.specs.Words.{IsWordAt, bit_of_word, number_bits, AreOred}
+use Rattle.raster.specs.Words.{bit_of_word, number_bits, AreOred}
 use Rattle.raster.proofs.PackedLemmas.{bits_in-same, bits_in_more}
 use Rattle.raster.specs.declared.packed.Order.{Order}
 
@@ -53,11 +53,11 @@ bits_in_run order xs ys n m bit same new =
     ap (λ (bits : List Bool). bits_in order xs n ++ bits) (all_alike bit 0 m)
 
 -- a bit of octets that others were or'ed to
-ored_bit : (order : Order) (old added new : List ℕ) (at k : ℕ) → AreOred old added new at → 8 * at ≤ k → k - 8 * at < 64
-    → bit_in order new k ≡ (bit_in order old k || bit_in order added (k - 8 * at))
-ored_bit order old added new at k ors low h =
+ored_bit : (order : Order) (old : List ℕ) (word : ℕ) (new : List ℕ) (at k : ℕ) → AreOred order old word new at → 8 * at ≤ k
+    → k - 8 * at < 64 → bit_in order new k ≡ (bit_in order old k || bit_of_word word (k - 8 * at))
+ored_bit order old word new at k ors low h =
     let e : 8 * at + (k - 8 * at) ≡ k = omega arith in
-    rw e at (ors.inside order (k - 8 * at) h)
+    rw e at (ors.inside (k - 8 * at) h)
 
 -- a bit of an octet that is the same
 same_octet : (order : Order) (old new : List ℕ) (k : ℕ) → get_or {A = ℕ} new (k / 8) 0 ≡ get_or old (k / 8) 0
@@ -71,13 +71,12 @@ record IsAdded (order : Order) (old new : List ℕ) (count more value : ℕ) : T
   pub after : (k : ℕ) → count + more ≤ k → bit_in order new k ≡ false
 
 -- what is known before
-pub record Adds (order : Order) (old mid new added : List ℕ) (count more value word : ℕ) : Type 0 where
+pub record Adds (order : Order) (old mid new : List ℕ) (count more value word : ℕ) : Type 0 where
   pub packed : IsPacked order old count
   pub few : more ≤ 32
   pub room : count + more + 64 ≤ 8 * length mid
   pub same : (k : ℕ) → bit_in order mid k ≡ bit_in order old k
-  pub ors : AreOred mid added new (count / 8)
-  pub holds : IsWordAt order added 0 word
+  pub ors : AreOred order mid word new (count / 8)
   pub front : (k : ℕ) → k < count % 8 → bit_of_word word k ≡ false
   pub number : (k : ℕ) → count % 8 ≤ k → k < count % 8 + more → bit_of_word word k ≡ nat_eq (bit_at value (count % 8 + more - 1 - k)) 1
   pub rest : (k : ℕ) → count % 8 + more ≤ k → k < 64 → bit_of_word word k ≡ false
@@ -90,16 +89,9 @@ false_or : (a b : Bool) → a ≡ false → (a || b) ≡ b
 false_or true b e = absurd (cc)
 false_or false b e = refl
 
--- the bit that is added at a place
-added_bit : (order : Order) (old mid new added : List ℕ) (count more value word k : ℕ) → Adds order old mid new added count more value word
-    → 8 * (count / 8) ≤ k → k - 8 * (count / 8) < 64 → bit_in order added (k - 8 * (count / 8)) ≡ bit_of_word word (k - 8 * (count / 8))
-added_bit order old mid new added count more value word k adds low h =
-    let e : 0 + (k - 8 * (count / 8)) ≡ k - 8 * (count / 8) = omega arith in
-    sym (adds.holds (k - 8 * (count / 8)) h ∙ ap (bit_in order added) e)
-
-is_added : (order : Order) (old mid new added : List ℕ) (count more value word : ℕ) → Adds order old mid new added count more value word
+is_added : (order : Order) (old mid new : List ℕ) (count more value word : ℕ) → Adds order old mid new count more value word
     → IsAdded order old new count more value
-is_added order old mid new added count more value word adds = record { before = before; inside = inside; after = after }
+is_added order old mid new count more value word adds = record { before = before; inside = inside; after = after }
   where
     at : ℕ
     at = count / 8
@@ -110,10 +102,8 @@ is_added order old mid new added count more value word adds = record { before = 
           | inl lt ↦ same_octet order mid new k (adds.ors.before (k / 8) lt) ∙ adds.same k
           | inr le ↦
               let low : 8 * (count / 8) ≤ k = omega arith in
-              ored_bit order mid added new (count / 8) k adds.ors low (omega arith) ∙
-              (or_false (bit_in order mid k) (bit_in order added (k - 8 * (count / 8)))
-              (added_bit order old mid new added count more value word k adds low (omega arith)
-              ∙ adds.front (k - 8 * (count / 8)) (omega arith)) ∙
+              ored_bit order mid word new (count / 8) k adds.ors low (omega arith) ∙
+              (or_false (bit_in order mid k) (bit_of_word word (k - 8 * (count / 8))) (adds.front (k - 8 * (count / 8)) (omega arith)) ∙
               adds.same k)
         ]
 
@@ -122,11 +112,10 @@ is_added order old mid new added count more value word adds = record { before = 
         let k : ℕ = count + j in
         let low : 8 * (count / 8) ≤ count + j = omega arith in
         let place : count % 8 + more - 1 - (count + j - 8 * (count / 8)) ≡ more - 1 - j = omega arith in
-        ored_bit order mid added new (count / 8) (count + j) adds.ors low (omega (arith, adds.few)) ∙
-        (false_or (bit_in order mid (count + j)) (bit_in order added (count + j - 8 * (count / 8))) (adds.same (count + j)
+        ored_bit order mid word new (count / 8) (count + j) adds.ors low (omega (arith, adds.few)) ∙
+        (false_or (bit_in order mid (count + j)) (bit_of_word word (count + j - 8 * (count / 8))) (adds.same (count + j)
         ∙ adds.packed.clear (count + j) (omega arith)) ∙
-        (added_bit order old mid new added count more value word (count + j) adds low (omega (arith, adds.few)) ∙
-        (adds.number (count + j - 8 * (count / 8)) (omega arith) (omega arith) ∙ ap (λ (p : ℕ). nat_eq (bit_at value p) 1) place)))
+        (adds.number (count + j - 8 * (count / 8)) (omega arith) (omega arith) ∙ ap (λ (p : ℕ). nat_eq (bit_at value p) 1) place))
 
     after : (k : ℕ) → count + more ≤ k → bit_in order new k ≡ false
     after k h =
@@ -134,26 +123,26 @@ is_added order old mid new added count more value word adds = record { before = 
           | inl lt ↦
               let low : 8 * (count / 8) ≤ k = omega arith in
               let few : k - 8 * (count / 8) < 64 = omega arith in
-              ored_bit order mid added new (count / 8) k adds.ors low few ∙
-              (false_or (bit_in order mid k) (bit_in order added (k - 8 * (count / 8))) (adds.same k ∙ adds.packed.clear k (omega arith)) ∙
-              (added_bit order old mid new added count more value word k adds low few ∙ adds.rest (k - 8 * (count / 8)) (omega arith) few))
+              ored_bit order mid word new (count / 8) k adds.ors low few ∙
+              (false_or (bit_in order mid k) (bit_of_word word (k - 8 * (count / 8))) (adds.same k ∙ adds.packed.clear k (omega arith)) ∙
+              adds.rest (k - 8 * (count / 8)) (omega arith) few)
           | inr le ↦
               same_octet order mid new k (adds.ors.after (k / 8) (omega arith)) ∙ (adds.same k ∙ adds.packed.clear k (omega arith))
         ]
 
 -- the bits after it
-pub number_added : (order : Order) (old mid new added : List ℕ) (count more value word : ℕ)
-    → Adds order old mid new added count more value word → bits_in order new (count + more) ≡ bits_in order old count ++ number_bits more
+pub number_added : (order : Order) (old mid new : List ℕ) (count more value word : ℕ)
+    → Adds order old mid new count more value word → bits_in order new (count + more) ≡ bits_in order old count ++ number_bits more
     value
-number_added order old mid new added count more value word adds =
-    let is : IsAdded order old new count more value = is_added order old mid new added count more value word adds in
+number_added order old mid new count more value word adds =
+    let is : IsAdded order old new count more value = is_added order old mid new count more value word adds in
     bits_in_grow order old new count more (λ (place : ℕ). nat_eq (bit_at value (more - 1 - place)) 1) is.before is.inside
 
-pub number_packed : (order : Order) (old mid new added : List ℕ) (count more value word : ℕ)
-    → Adds order old mid new added count more value word → IsPacked order new (count + more)
-number_packed order old mid new added count more value word adds = record {
+pub number_packed : (order : Order) (old mid new : List ℕ) (count more value word : ℕ)
+    → Adds order old mid new count more value word → IsPacked order new (count + more)
+number_packed order old mid new count more value word adds = record {
   room = omega (arith, adds.room, adds.ors.same_length);
-  clear = (is_added order old mid new added count more value word adds).after;
+  clear = (is_added order old mid new count more value word adds).after;
 }
 
 -- ---- a run of ones
@@ -163,45 +152,34 @@ or_true true b e = refl
 or_true false b e = e
 
 -- octets after a word of ones was or'ed to them
-pub record Sets (order : Order) (old added new : List ℕ) (from end word : ℕ) : Type 0 where
-  pub ors : AreOred old added new (from / 8)
-  pub holds : IsWordAt order added 0 word
-  pub front : (k : ℕ) → k < from % 8 → bit_of_word word k ≡ false
-  pub ones : (k : ℕ) → from % 8 ≤ k → k < from % 8 + (end - from) → bit_of_word word k ≡ true
-  pub rest : (k : ℕ) → from % 8 + (end - from) ≤ k → k < 64 → bit_of_word word k ≡ false
+pub record Sets (order : Order) (old new : List ℕ) (at within count word : ℕ) : Type 0 where
+  pub ors : AreOred order old word new at
+  pub front : (k : ℕ) → k < within → bit_of_word word k ≡ false
+  pub ones : (k : ℕ) → within ≤ k → k < within + count → bit_of_word word k ≡ true
+  pub rest : (k : ℕ) → within + count ≤ k → k < 64 → bit_of_word word k ≡ false
 
--- the bit that is or'ed at a place
-set_bit_at : (order : Order) (old added new : List ℕ) (from end word k : ℕ) → Sets order old added new from end word
-    → k - 8 * (from / 8) < 64 → bit_in order added (k - 8 * (from / 8)) ≡ bit_of_word word (k - 8 * (from / 8))
-set_bit_at order old added new from end word k sets h =
-    let e : 0 + (k - 8 * (from / 8)) ≡ k - 8 * (from / 8) = omega arith in
-    sym (sets.holds (k - 8 * (from / 8)) h ∙ ap (bit_in order added) e)
-
-pub set_before : (order : Order) (old added new : List ℕ) (from end word k : ℕ) → Sets order old added new from end word → k < from
-    → bit_in order new k ≡ bit_in order old k
-set_before order old added new from end word k sets h =
-    elim (cases_lt (k / 8) (from / 8)) [
+pub set_before : (order : Order) (old new : List ℕ) (at within count word k : ℕ) → Sets order old new at within count word → within < 8
+    → k < 8 * at + within → bit_in order new k ≡ bit_in order old k
+set_before order old new at within count word k sets few h =
+    elim (cases_lt (k / 8) at) [
       | inl lt ↦ same_octet order old new k (sets.ors.before (k / 8) lt)
       | inr le ↦
-          ored_bit order old added new (from / 8) k sets.ors (omega arith) (omega arith) ∙
-          or_false (bit_in order old k) (bit_in order added (k - 8 * (from / 8)))
-          (set_bit_at order old added new from end word k sets (omega arith) ∙ sets.front (k - 8 * (from / 8)) (omega arith))
+          ored_bit order old word new at k sets.ors (omega arith) (omega arith) ∙
+          or_false (bit_in order old k) (bit_of_word word (k - 8 * at)) (sets.front (k - 8 * at) (omega arith))
     ]
 
-pub set_inside : (order : Order) (old added new : List ℕ) (from end word k : ℕ) → Sets order old added new from end word
-    → end ≤ 8 * (from / 8) + 64 → from ≤ k → k < end → bit_in order new k ≡ true
-set_inside order old added new from end word k sets within low h =
-    ored_bit order old added new (from / 8) k sets.ors (omega arith) (omega arith) ∙
-    or_true (bit_in order old k) (bit_in order added (k - 8 * (from / 8)))
-    (set_bit_at order old added new from end word k sets (omega arith) ∙ sets.ones (k - 8 * (from / 8)) (omega arith) (omega arith))
+pub set_inside : (order : Order) (old new : List ℕ) (at within count word k : ℕ) → Sets order old new at within count word
+    → within + count ≤ 64 → 8 * at + within ≤ k → k < 8 * at + within + count → bit_in order new k ≡ true
+set_inside order old new at within count word k sets fits low h =
+    ored_bit order old word new at k sets.ors (omega arith) (omega arith) ∙
+    or_true (bit_in order old k) (bit_of_word word (k - 8 * at)) (sets.ones (k - 8 * at) (omega arith) (omega arith))
 
-pub set_after : (order : Order) (old added new : List ℕ) (from end word k : ℕ) → Sets order old added new from end word → from < end
-    → end ≤ k → bit_in order new k ≡ bit_in order old k
-set_after order old added new from end word k sets some low =
-    elim (cases_lt k (8 * (from / 8) + 64)) [
+pub set_after : (order : Order) (old new : List ℕ) (at within count word k : ℕ) → Sets order old new at within count word
+    → 8 * at + within + count ≤ k → bit_in order new k ≡ bit_in order old k
+set_after order old new at within count word k sets low =
+    elim (cases_lt k (8 * at + 64)) [
       | inl lt ↦
-          ored_bit order old added new (from / 8) k sets.ors (omega arith) (omega arith) ∙
-          or_false (bit_in order old k) (bit_in order added (k - 8 * (from / 8)))
-          (set_bit_at order old added new from end word k sets (omega arith) ∙ sets.rest (k - 8 * (from / 8)) (omega arith) (omega arith))
+          ored_bit order old word new at k sets.ors (omega arith) (omega arith) ∙
+          or_false (bit_in order old k) (bit_of_word word (k - 8 * at)) (sets.rest (k - 8 * at) (omega arith) (omega arith))
       | inr le ↦ same_octet order old new k (sets.ors.after (k / 8) (omega arith))
     ]

@@ -1,14 +1,14 @@
 -- Bits of octets as numbers of 64 bits.
 use Rattle.std.proofs.Common.{◌≡◌, ℕ, ◌+◌, ◌-◌, ◌*◌, ◌/◌, ◌%◌, ◌^◌, ◌<◌, ◌≤◌, ◌||◌, true, false, List, [], ◌∷◌, refl, sym, ap, ◌∙◌}
 use Rattle.std.proofs.Common.{get_or, nat_eq, arith, bit_or, zero, suc, w8, w64, inl, inr, max, length}
-use Rattle.std.specs.Int.{bit_at, reverse_bits, reverse_bits_onto, from_be_bytes, to_be_bytes}
+use Rattle.std.specs.Int.{bit_at, reverse_bits, reverse_bits_onto, from_be_bytes, to_be_bytes, to_le_bytes, swap_bytes}
 use Rattle.std.proofs.lemmas.Nat.{shr-shr, or_shifted, shl_whole, pow_pos, pow-add}
 use Rattle.std.proofs.lemmas.Nat.Bits.{bit_at_lowest, bit_at-suc, bit_at-zero, bit_at_or, bit_at_cat_low, bit_at_cat_high, bit_at_above}
 use Rattle.std.proofs.lemmas.Nat.Bits.{bit_at-lt, bit_at_mask_inside}
 use Rattle.std.proofs.lemmas.Bool.{cases_lt}
-use Rattle.std.specs.Prelude.{slice_index}
+use Rattle.std.proofs.lemmas.List.{get_or_past}
 use Rattle.raster.specs.Packed.{bit_in, place_in}
-use Rattle.raster.specs.Words.{IsWordAt, bit_of_word, turned_octet}
+use Rattle.raster.specs.Words.{IsWordAt, bit_of_word}
 use Rattle.raster.proofs.PackedLemmas.{place_in-same, bit_in-past}
 use Rattle.raster.specs.declared.packed.Order.{Order}
 use Rattle.raster.specs.declared.packed.Order.TheVariants.{LsbFirst, MsbFirst}
@@ -256,44 +256,90 @@ lowest_as_highest octets p =
     ap (λ m. nat_eq (bit_at (get_or octets m 0) (p % 8)) 1) which ∙
     ap (λ q. nat_eq (bit_at (get_or octets ((8 * (p / 8) + (7 - p % 8)) / 8) 0) q) 1) place
 
--- eight octets were written: a word of the old ones or'ed to a word of others
-pub record Ors (old added new : List ℕ) (at a b : ℕ) : Type 0 where
+-- the octets of a number, the lowest first
+le_at : (n q : ℕ) → q < 8 → get_or (to_le_bytes w64 n) q 0 ≡ n / 2 ^ (8 * q) % 2 ^ 8
+le_at n zero h = omega arith
+le_at n (suc zero) h = refl
+le_at n (suc (suc zero)) h = refl
+le_at n (suc (suc (suc zero))) h = refl
+le_at n (suc (suc (suc (suc zero)))) h = refl
+le_at n (suc (suc (suc (suc (suc zero))))) h = refl
+le_at n (suc (suc (suc (suc (suc (suc zero)))))) h = refl
+le_at n (suc (suc (suc (suc (suc (suc (suc zero))))))) h = refl
+le_at n (suc (suc (suc (suc (suc (suc (suc (suc q)))))))) h = absurd (omega arith)
+
+le_small : (n i : ℕ) → get_or (to_le_bytes w64 n) i 0 < 256
+le_small n i =
+    elim (cases_lt i 8) [
+      | inl lt ↦ omega (arith, le_at n i lt)
+      | inr le ↦ omega (arith, get_or_past (to_le_bytes w64 n) i 0 le)
+    ]
+
+-- the octets of a number in the other order
+swapped : (n k : ℕ) → k < 64 → bit_of_word (swap_bytes w64 n) k ≡ nat_eq (bit_at n (8 * (k / 8) + (7 - k % 8))) 1
+swapped n k h =
+    let e : 8 * 0 + k ≡ k = omega arith in
+    be_word (to_le_bytes w64 n) 0 (le_small n) k h ∙
+    (ap (bit_in MsbFirst (to_le_bytes w64 n)) e ∙ ap (λ b. nat_eq b 1)
+    (ap (λ x. bit_at x (7 - k % 8)) (le_at n (k / 8) (omega arith)) ∙ octet_bit n (8 * (k / 8)) (7 - k % 8) (omega arith)))
+
+bit_at_turned64 : (n i : ℕ) → i < 64 → bit_at (reverse_bits w64 n) i ≡ bit_at n (63 - i)
+bit_at_turned64 n i h = onto_new 64 n 0 i h
+
+-- a word whose octets are in an order of bits
+abbrev pub IsInOrder : Order → ℕ → ℕ → Type 0
+IsInOrder order word turned = (k : ℕ) → k < 64 → bit_of_word turned k ≡ bit_of_word word (8 * (k / 8) + (7 - place_in order k))
+
+pub turned_in_order : (word : ℕ) → IsInOrder LsbFirst word (swap_bytes w64 (reverse_bits w64 word))
+turned_in_order word k h =
+    swapped (reverse_bits w64 word) k h ∙ ap (λ b. nat_eq b 1) (bit_at_turned64 word (8 * (k / 8) + (7 - k % 8)) (omega arith))
+
+pub kept_in_order : (word : ℕ) → IsInOrder MsbFirst word word
+kept_in_order word k h =
+    let there : k ≡ 8 * (k / 8) + (7 - (7 - k % 8)) = omega arith in
+    ap (bit_of_word word) there
+
+-- the bits of eight octets, in either order
+pub in_order_word : (order : Order) (octets : List ℕ) (at word turned : ℕ) → IsWordAt MsbFirst octets (8 * at) word
+    → IsInOrder order word turned → IsWordAt order octets (8 * at) turned
+in_order_word MsbFirst octets at word turned is same k h =
+    let there : 8 * (k / 8) + (7 - (7 - k % 8)) ≡ k = omega arith in
+    same k h ∙ (ap (bit_of_word word) there ∙ is k h)
+in_order_word LsbFirst octets at word turned is same k h =
+    let there : 8 * at + (8 * (k / 8) + (7 - k % 8)) ≡ 8 * ((8 * at + k) / 8) + (7 - (8 * at + k) % 8) = omega arith in
+    same k h ∙ (is (8 * (k / 8) + (7 - k % 8)) (omega arith) ∙ (ap (bit_in MsbFirst octets) there ∙ sym (lowest_as_highest octets (8 * at +
+    k))))
+
+-- eight octets were written: a word of the old ones or'ed to one in their order of bits
+pub record Ors (order : Order) (old : List ℕ) (word : ℕ) (new : List ℕ) (at a b : ℕ) : Type 0 where
   pub held : IsWordAt MsbFirst old (8 * at) a
-  pub more : IsWordAt MsbFirst added 0 b
+  pub more : IsInOrder order word b
   pub put : (j : ℕ) → j < 8 → get_or new (at + j) 0 ≡ get_or (to_be_bytes w64 (bit_or a b)) j 0
 
-ored_highest : (old added new : List ℕ) (at a b k : ℕ) → Ors old added new at a b → k < 64
-    → bit_in MsbFirst new (8 * at + k) ≡ (bit_in MsbFirst old (8 * at + k) || bit_in MsbFirst added k)
-ored_highest old added new at a b k ors h =
+ored_highest : (order : Order) (old : List ℕ) (word : ℕ) (new : List ℕ) (at a b k : ℕ) → Ors order old word new at a b → k < 64
+    → bit_in MsbFirst new (8 * at + k) ≡ (bit_in MsbFirst old (8 * at + k) || bit_of_word b k)
+ored_highest order old word new at a b k ors h =
     let which : (8 * at + k) / 8 ≡ at + k / 8 = omega arith in
     let place : 7 - (8 * at + k) % 8 ≡ 7 - k % 8 = omega arith in
-    let e : 0 + k ≡ k = omega arith in
     ap (λ q. nat_eq (bit_at (get_or new ((8 * at + k) / 8) 0) q) 1) place ∙
     (ap (λ m. nat_eq (bit_at (get_or new m 0) (7 - k % 8)) 1) which ∙
     (ap (λ octet. nat_eq (bit_at octet (7 - k % 8)) 1) (ors.put (k / 8) (omega arith)) ∙
     (sym (be_octets (bit_or a b) k h) ∙
-    (ored a b (63 - k) ∙
-    (ap (λ x. x || bit_of_word b k) (ors.held k h) ∙
-    ap (λ y. bit_in MsbFirst old (8 * at + k) || y) (ors.more k h ∙ ap (bit_in MsbFirst added) e))))))
+    (ored a b (63 - k) ∙ ap (λ x. x || bit_of_word b k) (ors.held k h)))))
 
-pub ored_octets : (order : Order) (old added new : List ℕ) (at a b k : ℕ) → Ors old added new at a b → k < 64
-    → bit_in order new (8 * at + k) ≡ (bit_in order old (8 * at + k) || bit_in order added k)
-ored_octets MsbFirst old added new at a b k ors h = ored_highest old added new at a b k ors h
-ored_octets LsbFirst old added new at a b k ors h =
+pub ored_octets : (order : Order) (old : List ℕ) (word : ℕ) (new : List ℕ) (at a b k : ℕ) → Ors order old word new at a b → k < 64
+    → bit_in order new (8 * at + k) ≡ (bit_in order old (8 * at + k) || bit_of_word word k)
+ored_octets MsbFirst old word new at a b k ors h =
+    let there : 8 * (k / 8) + (7 - (7 - k % 8)) ≡ k = omega arith in
+    ored_highest MsbFirst old word new at a b k ors h ∙
+    ap (λ y. bit_in MsbFirst old (8 * at + k) || y) (ors.more k h ∙ ap (bit_of_word word) there)
+ored_octets LsbFirst old word new at a b k ors h =
+    let t : ℕ = 8 * (k / 8) + (7 - k % 8) in
     let there : 8 * ((8 * at + k) / 8) + (7 - (8 * at + k) % 8) ≡ 8 * at + (8 * (k / 8) + (7 - k % 8)) = omega arith in
+    let back : 8 * ((8 * (k / 8) + (7 - k % 8)) / 8) + (7 - (8 * (k / 8) + (7 - k % 8)) % 8) ≡ k = omega arith in
     lowest_as_highest new (8 * at + k) ∙
     (ap (bit_in MsbFirst new) there ∙
-    (ored_highest old added new at a b (8 * (k / 8) + (7 - k % 8)) ors (omega arith) ∙
-    (ap (λ x. x || bit_in MsbFirst added (8 * (k / 8) + (7 - k % 8)))
+    (ored_highest LsbFirst old word new at a b (8 * (k / 8) + (7 - k % 8)) ors (omega arith) ∙
+    (ap (λ x. x || bit_of_word b (8 * (k / 8) + (7 - k % 8)))
     (sym (lowest_as_highest old (8 * at + k) ∙ ap (bit_in MsbFirst old) there)) ∙
-    ap (λ y. bit_in LsbFirst old (8 * at + k) || y) (sym (lowest_as_highest added k)))))
-
--- the octets of a number, each turned: the first bit of each is its lowest
-pub turned_octets_are : (word : ℕ) (octets : List ℕ) → ((i : ℕ) → i < 8 → slice_index octets i ≡ turned_octet (slice_index (to_be_bytes w64
-    word) i)) → (k : ℕ) → k < 64 → bit_of_word word k ≡ bit_in LsbFirst octets k
-turned_octets_are word octets turned k h =
-    let octet : ℕ = slice_index (to_be_bytes w64 word) (k / 8) in
-    let back : 7 - (7 - k % 8) ≡ k % 8 = omega arith in
-    be_octets word k h ∙ sym (ap (λ b. nat_eq b 1)
-    (ap (λ x. bit_at x (k % 8)) (turned (k / 8) (omega arith)) ∙
-    (ap (bit_at (turned_octet octet)) (sym back) ∙ bit_at_turned8 octet (7 - k % 8) (omega arith))))
+    ap (λ y. bit_in LsbFirst old (8 * at + k) || y) (ors.more (8 * (k / 8) + (7 - k % 8)) (omega arith) ∙ ap (bit_of_word word) back))))

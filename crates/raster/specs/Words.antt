@@ -28,11 +28,11 @@ turned_octets = map turned_octet (range_with_len 0 256)
 abbrev pub number_bits : ℕ → ℕ → List Bool
 number_bits count value = map (λ place. nat_eq (bit_at value (count - 1 - place)) 1) (range_with_len 0 count)
 
--- the octets after eight others were or'ed to them, from one of them on
-pub record AreOred (old added new : List ℕ) (at : ℕ) : Type 0 where
+-- the octets after a word was or'ed to the eight from one of them on
+pub record AreOred (order : Order) (old : List ℕ) (word : ℕ) (new : List ℕ) (at : ℕ) : Type 0 where
   pub same_length : length new ≡ length old
   pub before : (j : ℕ) → j < at → slice_index new j ≡ slice_index old j
-  pub inside : (order : Order) (k : ℕ) → k < 64 → bit_in order new (8 * at + k) ≡ (bit_in order old (8 * at + k) || bit_in order added k)
+  pub inside : (k : ℕ) → k < 64 → bit_in order new (8 * at + k) ≡ (bit_in order old (8 * at + k) || bit_of_word word k)
   pub after : (j : ℕ) → at + 8 ≤ j → slice_index new j ≡ slice_index old j
 
 -- the first place of a number of 64 bits, from a place on, whose bit is another, or 64

@@ -48,14 +48,11 @@ fn push_places(word: u64, base: u32, out: &mut Vec<u32>) -> Result<(), AllocErro
     requires { base ≤ 2432 }
     ensures { OnOk result (Lists (λ place. bit_of_word word (place - base)) out.old.items out.new.items base (base + 64)) }
 {
-    let mut at: u32 = 0;
-    while at < 64 {
-        let place = first_in_word(word, at, false);
-        if place == 64 {
-            return Ok(());
-        }
+    let mut rest = word;
+    while rest != 0 {
+        let place = first_in_word(rest, 0, false);
         out.push(base + place)?;
-        at = place + 1;
+        rest &= u64::MAX >> place >> 1;
     }
     Ok(())
 }
@@ -81,7 +78,7 @@ pub(crate) fn changes(alloc: Global, octets: &[u8], width: u32) -> Result<Vec<u3
     requires small { width ≤ 2432 }
     ensures { IfOk result (λ places. AreChanges (colors (bits_in Order.MsbFirst octets.now width)) places.items) }
 {
-    let mut places = Vec::new(alloc);
+    let mut places = Vec::with_capacity(alloc, 128)?;
     push_turns(octets, width, &mut places)?;
     Ok(places)
 }

@@ -3,12 +3,14 @@
 ghost use Rattle.raster.specs.Changes.{AreChanges};
 ghost use Rattle.raster.specs.Pixels.{colors};
 ghost use Rattle.raster.specs.Packed.{bit_in, bits_in, bits_of, place_in, IsPacked, Bits, FillsOctets};
+ghost use Rattle.raster.specs.Runs.{colored};
 ghost use Rattle.raster.specs.Words.{IsWordAt, IsFirstOtherBit, number_bits};
+ghost use Rattle.raster.specs.declared.row.Color.{Color};
 ghost use Rattle.std.specs.Prelude.{false, ◌≢◌, ℕ, ◌≡◌, ◌≤◌, ◌<◌, ◌+◌, ◌-◌, ◌*◌, ◌^◌, ◌||◌, ◌/◌, ◌++◌, ◌∷◌, [], nat_eq, length};
-ghost use Rattle.std.specs.Prelude.{replicate, take, slice_get, IfOk, OnOk, OnErr};
+ghost use Rattle.std.specs.Prelude.{replicate, sum, take, slice_get, IfOk, OnOk, OnErr};
 
 use crate::changes::changes;
-use crate::words::{first_other, number_word, or_octets, set_run, shifted_word, word_octets};
+use crate::words::{first_other, number_word, or_word, set_run, shifted_word};
 use std::alloc::{AllocError, Global};
 use std::marker::Model;
 
@@ -124,7 +126,7 @@ fn push_number(
 {
     make_room(octets, count, more)?;
     let word = number_word(value, more, (count % 8) as u32);
-    or_octets(octets, (count / 8) as usize, word_octets(order, word));
+    or_word(order, octets, (count / 8) as usize, word);
     Ok(())
 }
 
@@ -142,9 +144,29 @@ fn push_same(
 {
     make_room(octets, count, more)?;
     if bit {
-        set_run(order, octets, count, count + more as u128);
+        set_run(
+            order,
+            octets,
+            (count / 8) as usize,
+            (count % 8) as u32,
+            more,
+        );
     }
     Ok(())
+}
+
+/// Appends bits that are all the same, where there is room for them and for the 64 after them.
+fn set_same(order: Order, octets: &mut Vec<u8>, count: u32, bit: bool, more: u32)
+    requires packed { IsPacked order octets.old.items count }
+    requires small { count + more ≤ 2432 }
+    requires room { count + more + 64 ≤ 8 * length octets.old.items }
+    ensures packed { IsPacked order octets.new.items (count + more) }
+    ensures length { length octets.new.items ≡ length octets.old.items }
+    ensures bits { bits_in order octets.new.items (count + more) ≡ bits_in order octets.old.items count ++ replicate more bit }
+{
+    if bit {
+        set_run(order, octets, (count / 8) as usize, count % 8, more);
+    }
 }
 
 /// The number of octets that so many bits fill, the last of them in part.
@@ -199,17 +221,32 @@ impl PackedBits {
         }
     }
 
-    /// No bits, and room for so many.
+    /// The bits of alternating runs that add up to a width, 0 bits first.
     #[tactic(auto, using(crate::proofs::PackedLemmas::views))]
-    pub(crate) fn with_room(alloc: Global, order: Order, bits: u32) -> Result<Self, AllocError>
-        ensures { IfOk result (λ p. p ≡ record { order = order; bits = [] }) }
+    pub(crate) fn of_runs(
+        alloc: Global,
+        order: Order,
+        runs: &[u32],
+        width: u32,
+    ) -> Result<Self, AllocError>
+        requires sum { sum runs.now ≡ width }
+        requires small { width ≤ 2432 }
+        ensures colors { IfOk result (λ p. colors p.bits ≡ colored Color.White runs.now) }
+        ensures order { IfOk result (λ p. p.order ≡ order) }
     {
         let mut octets = Vec::new(alloc);
-        grow(&mut octets, bits as usize / 8 + 9)?;
+        grow(&mut octets, width as usize / 8 + 9)?;
+        let mut count: u32 = 0;
+        let mut bit = false;
+        for run in runs {
+            set_same(order, &mut octets, count, bit, *run);
+            count += *run;
+            bit = !bit;
+        }
         Ok(PackedBits {
             octets,
             order,
-            count: 0,
+            count: count as u128,
         })
     }
 

@@ -1,6 +1,6 @@
 //! Rows of pixels.
 
-ghost use Rattle.raster.specs.Changes.{AppendsChanges, IsNextChange};
+ghost use Rattle.raster.specs.Changes.{AppendsChanges, AreChanges, IsNextChange};
 ghost use Rattle.raster.specs.Pbm.{row_pixels};
 ghost use Rattle.raster.specs.PbmText.{HoldsRow};
 ghost use Rattle.raster.specs.Pixels.{other, color_of, colors, IsWidth};
@@ -64,29 +64,6 @@ fn total_width(runs: &[u32]) -> Option<u32>
     if width == 0 { None } else { Some(width) }
 }
 
-/// Appends a run of one color.
-fn push_run(pixels: &mut PackedBits, color: Color, run: u32) -> Result<(), AllocError>
-    ensures ok { OnOk result (colors pixels.new.bits ≡ colors pixels.old.bits ++ replicate run color) }
-    ensures order { pixels.new.order ≡ pixels.old.order }
-{
-    pixels.push_run(color.is(Color::Black), run)?;
-    Ok(())
-}
-
-/// The pixels that alternating runs spell, white first, with room for a width from the start.
-fn painted(alloc: Global, runs: &[u32], width: u32) -> Result<PackedBits, AllocError>
-    ensures pixels { IfOk result (λ pixels. colors pixels.bits ≡ colored Color.White runs.now) }
-    ensures order { IfOk result (λ pixels. pixels.order ≡ Order.MsbFirst) }
-{
-    let mut pixels = PackedBits::with_room(alloc, Order::MsbFirst, width)?;
-    let mut color = Color::White;
-    for run in runs {
-        push_run(&mut pixels, color, *run)?;
-        color = color.other();
-    }
-    Ok(pixels)
-}
-
 /// A row of 1 to 2,432 pixels, seen as their list, leftmost first. It is kept packed, eight pixels
 /// an octet, the leftmost in the highest bit.
 #[derive(Debug, Drop)]
@@ -117,7 +94,7 @@ impl Row {
         let Some(width) = total_width(runs) else {
             return Err(RasterFault::BadWidth);
         };
-        let pixels = painted(alloc, runs, width)?;
+        let pixels = PackedBits::of_runs(alloc, Order::MsbFirst, runs, width)?;
         Ok(Row { pixels })
     }
 
@@ -175,6 +152,17 @@ impl Row {
         self.pixels.first_other(from, before)
     }
 
+    /// All changing positions of the row.
+    #[tactic(auto, using(crate::proofs::RowLemmas::lengths))]
+    fn collected_changes(&self, alloc: Global) -> Result<Vec<u32>, AllocError>
+        ensures { IfOk result (λ places. AreChanges self.now places.items) }
+    {
+        if self.next_change(0) >= self.width() {
+            return Ok(Vec::new(alloc)); // a white row has none
+        }
+        self.pixels.changes(alloc)
+    }
+
     /// Appends all changing positions of the row, in rising order (ITU-T T.6, 2.2.1). Errs where memory
     /// is refused, which changes nothing.
     #[tactic(auto, using(crate::proofs::RowLemmas::lengths))]
@@ -182,10 +170,12 @@ impl Row {
         ensures ok { OnOk result (AppendsChanges self.now out.old.items out.new.items) }
         ensures err { OnErr result (out.new.items ≡ out.old.items) }
     {
-        let _width = self.width();
-        let places = self.pixels.changes(alloc)?;
-        out.extend_from_slice(&places)?;
-        Ok(())
+        let places = self.collected_changes(alloc)?;
+        if out.is_empty() {
+            *out = places;
+            return Ok(());
+        }
+        out.extend_from_slice(&places)
     }
 
     /// The end of the run of a color that goes on at a place: the first place from there on with the

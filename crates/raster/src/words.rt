@@ -1,7 +1,7 @@
 //! Bits of octets, up to 64 at a time.
 
 ghost use Rattle.raster.specs.Packed.{bit_in, place_in};
-ghost use Rattle.raster.specs.Words.{bit_of_word, turned_octet, IsWordAt, IsFirstInWord, IsFirstOther, AreOred};
+ghost use Rattle.raster.specs.Words.{bit_of_word, IsWordAt, IsFirstInWord, IsFirstOther, AreOred};
 ghost use Rattle.std.specs.Int.{bit_at};
 ghost use Rattle.std.specs.Prelude.{ℕ, true, false, ◌≡◌, ◌≤◌, ◌<◌, ◌+◌, ◌-◌, ◌*◌, ◌/◌, length, nat_eq, slice_index};
 
@@ -37,6 +37,17 @@ fn whole_word(octets: &[u8], at: usize) -> u64
     ])
 }
 
+/// The word with each of its eight octets in an order of bits: turned where its least significant bit is
+/// to be the first.
+fn in_order(order: Order, word: u64) -> u64
+    ensures { (k : ℕ) → k < 64 → bit_of_word result k ≡ bit_of_word word (8 * (k / 8) + (7 - place_in order k)) }
+{
+    match order {
+        Order::LsbFirst => word.reverse_bits().swap_bytes(),
+        Order::MsbFirst => word,
+    }
+}
+
 /// The octet, or 0 past the octets, with its first bit the most significant.
 fn octet_or_zero(order: Order, octets: &[u8], at: usize) -> u8
     ensures { (k : ℕ) → k < 8 → nat_eq (bit_at result (7 - k)) 1 ≡ bit_in order octets.now (8 * at + k) }
@@ -68,10 +79,7 @@ pub(crate) fn octet_word(order: Order, octets: &[u8], at: usize) -> u64
     if octets.len() - at < 8 {
         return last_word(order, octets, at);
     }
-    match order {
-        Order::LsbFirst => last_word(order, octets, at),
-        Order::MsbFirst => whole_word(octets, at),
-    }
+    in_order(order, whole_word(octets, at))
 }
 
 /// The 64 bits that begin within an octet.
@@ -83,32 +91,6 @@ pub(crate) fn shifted_word(order: Order, octets: &[u8], at: usize, within: u32) 
     let word = octet_word(order, octets, at);
     let next = octet_or_zero(order, octets, at + 8);
     word << within | next as u64 >> (8 - within)
-}
-
-/// The octets, each with its bits in the other order.
-fn turned_eight(octets: [u8; 8]) -> [u8; 8]
-    ensures { (i : ℕ) → i < 8 → slice_index result i ≡ turned_octet (slice_index octets i) }
-{
-    [
-        turned(octets[0]),
-        turned(octets[1]),
-        turned(octets[2]),
-        turned(octets[3]),
-        turned(octets[4]),
-        turned(octets[5]),
-        turned(octets[6]),
-        turned(octets[7]),
-    ]
-}
-
-/// The eight octets whose bits are those of a word.
-pub(crate) fn word_octets(order: Order, word: u64) -> [u8; 8]
-    ensures { IsWordAt order result 0 word }
-{
-    match order {
-        Order::LsbFirst => turned_eight(word.to_be_bytes()),
-        Order::MsbFirst => word.to_be_bytes(),
-    }
 }
 
 /// The word whose bits from a place below 8 on are so many of the lowest bits of a number, and else 0.
@@ -136,12 +118,12 @@ fn put_octets(octets: &mut [u8], at: usize, eight: [u8; 8])
     octets[at..at + 8].copy_from_slice(&eight);
 }
 
-/// Ors eight octets to those from a place on.
-pub(crate) fn or_octets(octets: &mut Vec<u8>, at: usize, added: [u8; 8])
+/// Ors the bits of a word to those of eight octets from one of them on.
+pub(crate) fn or_word(order: Order, octets: &mut Vec<u8>, at: usize, word: u64)
     requires { at + 8 ≤ length octets.old.items }
-    ensures { AreOred octets.old.items added octets.new.items at }
+    ensures { AreOred order octets.old.items word octets.new.items at }
 {
-    let both = whole_word(octets, at) | whole_word(&added, 0);
+    let both = whole_word(octets, at) | in_order(order, word);
     put_octets(octets, at, both.to_be_bytes());
 }
 
@@ -156,34 +138,39 @@ fn ones_word(count: u32, within: u32) -> u64
     u64::MAX << (64 - count) >> within
 }
 
-/// Sets the bits from one place up to another, all of them in the eight octets from the first one's on.
-fn set_within(order: Order, octets: &mut Vec<u8>, from: u128, end: u128)
-    requires order { from < end }
-    requires within { end ≤ 8 * (from / 8) + 64 }
-    requires inside { end + 64 ≤ 8 * length octets.old.items }
+/// Sets so many bits from a place within an octet on, all of them in the eight octets from there on.
+fn set_within(order: Order, octets: &mut Vec<u8>, at: usize, within: u32, count: u32)
+    requires some { 0 < count }
+    requires within { within < 8 }
+    requires fits { within + count ≤ 64 }
+    requires inside { at + 8 ≤ length octets.old.items }
     ensures length { length octets.new.items ≡ length octets.old.items }
-    ensures before { (k : ℕ) → k < from → bit_in order octets.new.items k ≡ bit_in order octets.old.items k }
-    ensures set { (k : ℕ) → from ≤ k → k < end → bit_in order octets.new.items k ≡ true }
-    ensures after { (k : ℕ) → end ≤ k → bit_in order octets.new.items k ≡ bit_in order octets.old.items k }
+    ensures before { (k : ℕ) → k < 8 * at + within → bit_in order octets.new.items k ≡ bit_in order octets.old.items k }
+    ensures set { (k : ℕ) → 8 * at + within ≤ k → k < 8 * at + within + count → bit_in order octets.new.items k ≡ true }
+    ensures after { (k : ℕ) → 8 * at + within + count ≤ k → bit_in order octets.new.items k ≡ bit_in order octets.old.items k }
 {
-    let word = ones_word((end - from) as u32, (from % 8) as u32);
-    or_octets(octets, (from / 8) as usize, word_octets(order, word));
+    let word = ones_word(count, within);
+    or_word(order, octets, at, word);
 }
 
-/// Sets the bits from one place up to another.
-pub(crate) fn set_run(order: Order, octets: &mut Vec<u8>, from: u128, end: u128)
-    requires order { from ≤ end }
-    requires inside { end + 64 ≤ 8 * length octets.old.items }
+/// Sets so many bits from a place within an octet on.
+pub(crate) fn set_run(order: Order, octets: &mut Vec<u8>, at: usize, within: u32, count: u32)
+    requires within { within < 8 }
+    requires inside { 8 * at + within + count + 64 ≤ 8 * length octets.old.items }
     ensures length { length octets.new.items ≡ length octets.old.items }
-    ensures before { (k : ℕ) → k < from → bit_in order octets.new.items k ≡ bit_in order octets.old.items k }
-    ensures set { (k : ℕ) → from ≤ k → k < end → bit_in order octets.new.items k ≡ true }
-    ensures after { (k : ℕ) → end ≤ k → bit_in order octets.new.items k ≡ bit_in order octets.old.items k }
+    ensures before { (k : ℕ) → k < 8 * at + within → bit_in order octets.new.items k ≡ bit_in order octets.old.items k }
+    ensures set { (k : ℕ) → 8 * at + within ≤ k → k < 8 * at + within + count → bit_in order octets.new.items k ≡ true }
+    ensures after { (k : ℕ) → 8 * at + within + count ≤ k → bit_in order octets.new.items k ≡ bit_in order octets.old.items k }
 {
-    let mut at = from;
-    while at < end {
-        let next = (8 * (at / 8) + 64).min(end);
-        set_within(order, octets, at, next);
-        at = next;
+    let mut next = at;
+    let mut from = within;
+    let mut left = count;
+    while left > 0 {
+        let some = (64 - from).min(left);
+        set_within(order, octets, next, from, some);
+        next += 8;
+        from = 0;
+        left -= some;
     }
 }
 

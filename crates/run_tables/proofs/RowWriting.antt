@@ -7,7 +7,9 @@ use Rattle.std.proofs.lemmas.Option.{slice_get-get_or}
 use Rattle.std.proofs.Common.{zero, suc}
 use Rattle.raster.specs.declared.row.Color.{Color}
 use Rattle.raster.specs.declared.row.Color.TheVariants.{White, Black}
-use Rattle.raster.specs.Changes.{color_at, color_before, IsNextChange}
+use Rattle.raster.specs.Changes.{color_at, color_before, AreChanges, IsNextChange}
+use Rattle.std.specs.Prelude.{slice_index_or}
+use Rattle.std.proofs.lemmas.List.{get_or_default, get_or_past}
 use Rattle.raster.specs.Packed.{Bits}
 use Rattle.raster.specs.Pixels.{other}
 use Rattle.raster.specs.Words.{EndsRun}
@@ -94,6 +96,75 @@ run_from row at end color h begins next =
       ];
       hit = ends.hit;
     }
+
+-- in a list in rising order, what is after another index isn't less
+not_less : (row : List Color) (places : List ℕ) (i j : ℕ) → AreChanges row places → i ≤ j → j < length places
+    → slice_index_or places i 0 ≤ slice_index_or places j 0
+not_less row places i j all up h = elim (cases_lt i j) [
+  | inl l ↦ omega (arith, all.rising i j l h)
+  | inr g ↦ let same : i ≡ j = omega arith in rw same (omega arith)
+]
+
+-- of a row's changing positions, the one at an index, or the row's end where there is none, is the first from a place on that is after
+-- all those before the index
+pub change_at : (row : List Color) (places : List ℕ) (from index place : ℕ) → AreChanges row places → index ≤ length places
+    → ((i : ℕ) → i < index → slice_index_or places i 0 < from) → (index < length places → from ≤ slice_index_or places index 0)
+    → place ≡ slice_index_or places index (length row) → IsNextChange row from place
+change_at row places from index place all within left reached is = record {
+  bound = elim (cases_lt index (length places)) [
+    | inl l ↦ omega (arith, is, get_or_default places index (length row) 0 l, (all.changing index l).0)
+    | inr g ↦ omega (arith, is, get_or_past places index (length row) g)
+  ];
+  changing = λ h. elim (cases_lt index (length places)) [
+    | inl l ↦
+        let here : place ≡ slice_index_or places index 0 = omega (arith, is, get_or_default places index (length row) 0 l) in
+        rw here (reached l, all.changing index l)
+    | inr g ↦ absurd (omega (arith, h, is, get_or_past places index (length row) g))
+  ];
+  least = λ k low below changing. none_before k low below (all.all k changing);
+}
+  where
+    none_before : (k : ℕ) → from ≤ k → k < place → (i : ℕ) × (i < length places) × (slice_index_or places i k ≡ k) → ⊥
+    none_before k low below there =
+        let i = there.0 in
+        let here : slice_index_or places i 0 ≡ k = omega (arith, there.2, get_or_default places i k 0 there.1) in
+        elim (cases_lt i index) [
+          | inl early ↦ omega (arith, here, low, left i early)
+          | inr late ↦ omega (
+            arith,
+            here,
+            below,
+            is,
+            not_less row places index i all late there.1,
+            get_or_default places index (length row) 0 (omega (arith, late, there.1)),
+          )
+        ]
+
+-- the first changing position, or the row's end
+pub first_change : (row : List Color) (places : List ℕ) (place : ℕ) → AreChanges row places
+    → place ≡ slice_index_or places 0 (length row) → IsNextChange row 0 place
+first_change row places place all is =
+    change_at row places 0 0 place all (omega arith) (λ i h. absurd (omega arith)) (λ h. omega arith) is
+
+-- the one after another
+pub change_after : (row : List Color) (places : List ℕ) (index at place : ℕ) → AreChanges row places → 0 < index
+    → at ≡ slice_index_or places (index - 1) (length row) → at < length row → place ≡ slice_index_or places index (length row)
+    → IsNextChange row (at + 1) place
+change_after row places index at place all some before h is =
+    let there : index - 1 < length places = elim (cases_lt (index - 1) (length places)) [
+      | inl l ↦ l
+      | inr g ↦ absurd (omega (arith, h, before, get_or_past places (index - 1) (length row) g))
+    ] in
+    let last : at ≡ slice_index_or places (index - 1) 0 = before ∙ get_or_default places (index - 1) (length row) 0 there in
+    change_at row places (at + 1) index place all (omega (arith, some, there))
+    (λ i early. omega (arith, last, not_less row places i (index - 1) all (omega (arith, early)) there))
+    (λ l. omega (arith, last, all.rising (index - 1) index (omega (arith, some)) l)) is
+
+pub is_after : (row : List Color) (at end : ℕ) → at < length row → IsNextChange row (at + 1) end → at < end
+is_after row at end h next = elim (cases_lt end (length row)) [
+  | inl l ↦ omega (arith, (next.changing l).0)
+  | inr g ↦ omega (arith, h, g)
+]
 
 -- the color of the run that follows runs, by their code words
 abbrev pub WordsFollow : List ℕ → Color → Type 0

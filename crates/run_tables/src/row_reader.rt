@@ -29,7 +29,7 @@ impl<'a> BitReader<'a> {
         ensures { RowRuns width self.old self.new result }
     {
         let _place = self.place(); // tells the proof that it is within the bits
-        let mut runs = Vec::new(alloc);
+        let mut runs = Vec::with_capacity(alloc, 128)?;
         let mut color = Color::White;
         let mut sum = 0;
         while sum < width {

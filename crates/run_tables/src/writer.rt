@@ -1,11 +1,12 @@
 //! Writing of bits, and of runs and rows by their code words (ITU-T T.4, 4.1.1 and 4.1.2).
 
-ghost use Rattle.raster.specs.Changes.{IsNextChange};
+ghost use Rattle.raster.specs.Changes.{AreChanges, IsNextChange};
 ghost use Rattle.raster.specs.Packed.{FillsOctets};
 ghost use Rattle.raster.specs.Words.{number_bits};
 ghost use Rattle.run_tables.specs.Codes.{run_words, text};
 ghost use Rattle.run_tables.specs.Written.{Appends, AppendsRow, eol};
-ghost use Rattle.std.specs.Prelude.{◌≡◌, ◌≤◌, ◌<◌, ◌+◌, ◌++◌, ◌∷◌, [], length, replicate, take, OnOk, OnErr};
+ghost use Rattle.raster.specs.declared.row.Color.{Color};
+ghost use Rattle.std.specs.Prelude.{List, ◌≡◌, ◌≤◌, ◌<◌, ◌+◌, ◌-◌, ◌++◌, ◌∷◌, [], length, replicate, slice_index_or, take, OnOk, OnErr};
 
 use crate::write_table::run_word;
 use raster::packed::{Order, PackedBits};
@@ -13,15 +14,26 @@ use raster::{Color, Row};
 use std::alloc::{AllocError, Global};
 use std::marker::Model;
 
-/// The end of the run that begins at a place: the next changing position.
-fn end_of_run(row: &Row, at: u32) -> u32
-    requires { at < length row.now }
-    ensures next { IsNextChange row.now (at + 1) result }
-    ensures above { at < result }
-    ensures within { result ≤ length row.now }
+/// The place at an index, or the width where there is none.
+fn place_at(places: &[u32], index: usize, width: u32) -> u32
+    ensures { result ≡ slice_index_or places.now index width }
 {
-    let _width = row.width(); // tells the proof that it is at most 2,432
-    row.next_change(at + 1)
+    if index < places.len() {
+        places[index]
+    } else {
+        width
+    }
+}
+
+/// The end of the run that begins at the changing position before an index: the next one, or the width.
+fn end_of_run(changes: &[u32], index: usize, at: u32, width: u32) -> u32
+    requires some { 0 < index }
+    requires place { at ≡ slice_index_or changes.now (index - 1) width }
+    requires within { at < width }
+    ensures next { (row : List Color) → AreChanges row changes.now → length row ≡ width → IsNextChange row (at + 1) result }
+    ensures place { result ≡ slice_index_or changes.now index width }
+{
+    place_at(changes, index, width)
 }
 
 /// A list of bits that grows at its end, and the order in which octets are to hold them.
@@ -136,23 +148,27 @@ impl BitWriter {
 
     /// Appends the code words of the row's own runs, white first (ITU-T T.4, 4.1.1). Errs where memory
     /// is refused, which changes nothing.
-    pub fn write_row_1d(&mut self, _alloc: Global, row: &Row) -> Result<(), AllocError>
+    pub fn write_row_1d(&mut self, alloc: Global, row: &Row) -> Result<(), AllocError>
         ensures ok { OnOk result (AppendsRow row.now self.old self.new) }
         ensures err { OnErr result (self.new ≡ self.old) }
     {
         let start = self.bits();
         let width = row.width();
+        let mut changes = Vec::new(alloc);
+        row.changes(alloc, &mut changes)?;
         let mut color = Color::White;
-        let mut at = row.next_change(0);
+        let mut index = 1;
+        let mut at = place_at(&changes, 0, width);
         self.write_run(color, at)?;
         while at < width {
             color = color.other();
-            let end = end_of_run(row, at);
+            let end = end_of_run(&changes, index, at, width);
             if let Err(refused) = self.write_run(color, end - at) {
                 self.truncate(start);
                 return Err(refused);
             }
             at = end;
+            index += 1;
         }
         Ok(())
     }

@@ -14,9 +14,14 @@ use Rattle.run_tables.specs.RowFronts.RowState.{inside, whole}
 use Rattle.run_tables.proofs.RowReads.{within_row, run_on, run_refused, row_read}
 use Rattle.run_tables.proofs.reader.BitReader.row_runs.Goals as goal
 
+pub returns-in_err-runs : goal.returns-in_err-runs
+returns-in_err-runs c =
+    let p = err_from_is_err_and c.from_residual.result c.from_residual.ensures.1 in
+    rw (p.1, p.2) (inl refl)
+
 pub returns-in_err-run : goal.returns-in_err-run
 returns-in_err-run c =
-    let p = err_from_is_err_and c.from_residual.result c.from_residual.ensures.1 in
+    let p = err_from_is_err_and c.from_residual-in_err-run.result c.from_residual-in_err-run.ensures.1 in
     let pixels : List Color = colored White c.loop-sum.runs.items in
     let room : length pixels + (c.args.width - c.loop-sum.sum) ≡ c.args.width = omega (arith, c.loop-sum.invariant.sum) in
     let within = within_row c.loop-sum.color (c.args.width - c.loop-sum.sum) c.loop-sum.self c.read_run_within.new.self (Err
