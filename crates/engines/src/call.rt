@@ -113,7 +113,8 @@ fn read_commands<S: Read>(alloc: Global, script: &mut S) -> Result<Vec<Command>,
 /// become of the call, and answers the pages that the answerer has stored. Errs with 30 at the line of
 /// the script that is refused, before it reads images; with the first fault of the images; with 26
 /// where the width of a page is none that a call can have; with 8 where a reader or the writer fails;
-/// and with 9. A growth that is refused while the call runs is no fault: the transcript shows it.
+/// and with 9. With any fault but these two nothing is written. A growth that is refused while the call
+/// runs is no fault: the transcript shows it.
 pub fn call_engine<S: Read, R: Read, W: Write>(
     alloc: Global,
     script: &mut S,
@@ -127,6 +128,7 @@ pub fn call_engine<S: Read, R: Read, W: Write>(
         RefusesCall options.now.fine said images fault))) }
     ensures rows { IfOk result (λ pages. HaveRows pages.items) }
     ensures early { IfErr result (λ fault. IsAtLine fault → (input.new ≡ input.old) × (writer.new ≡ writer.old)) }
+    ensures unwritten { IfErr result (λ fault. IsOutside fault ⊎ (writer.new ≡ writer.old)) }
 {
     let commands = read_commands(alloc, script)?;
     let document = read_pbm(alloc, input, options.fine)?;

@@ -3,7 +3,7 @@ ghost use Rattle.engines.specs.CodedPages.{CodesImage, DecodesPage, RefusesImage
 ghost use Rattle.engines.specs.Faults.{IsOutside};
 ghost use Rattle.raster.specs.PbmText.{AppendsSome, ArePagesText};
 ghost use Rattle.raster.specs.Pixels.{IsWidth};
-ghost use Rattle.std.specs.Prelude.{◌≡◌, ◌<◌, ◌∷◌, [], IfErr, IfOk, IfSome, OnOk, length};
+ghost use Rattle.std.specs.Prelude.{◌≡◌, ◌<◌, ◌⊎◌, ◌∷◌, [], IfErr, IfOk, IfSome, OnOk, length};
 
 use crate::fault::{NO_MEMORY, ToolFault};
 use page_code::Coding;
@@ -25,8 +25,8 @@ pub struct Salvage {
 const SEVERAL_PAGES: ToolFault = ToolFault::No(27);
 
 /// Reads a PBM file of one image and writes the image's code, its last octet filled with 0 bits.
-/// Errs with the first fault of the file, with 27 where it has several images, with 8 where the
-/// reader or the writer fails, and with 9.
+/// Errs with the first fault of the file or with 27 where it has several images, and then nothing is
+/// written; with 8 where the reader or the writer fails, and with 9.
 pub fn code_engine<R: Read, W: Write>(
     alloc: Global,
     reader: &mut R,
@@ -37,6 +37,7 @@ pub fn code_engine<R: Read, W: Write>(
     ensures coded { OnOk result (IfSome (R.remaining reader.old)
         (CodesImage coding order (W.contents writer.old) (W.contents writer.new))) }
     ensures refused { IfErr result (λ fault. IfSome (R.remaining reader.old) (λ octets. RefusesImage octets fault)) }
+    ensures unwritten { IfErr result (λ fault. IsOutside fault ⊎ (writer.new ≡ writer.old)) }
 {
     let document = read_pbm(alloc, reader, false)?;
     let [page] = document.pages() else {
@@ -49,8 +50,8 @@ pub fn code_engine<R: Read, W: Write>(
 }
 
 /// Reads octets that begin with the code of a page of this width in pixels, 1 to 2,432, and writes the
-/// page as text. Errs at the bit where they are refused, with 8 where the reader or the writer fails,
-/// and with 9.
+/// page as text. Errs at the bit where they are refused, and then nothing is written; with 8 where the
+/// reader or the writer fails, and with 9.
 pub fn show_engine<R: Read, W: Write>(
     alloc: Global,
     reader: &mut R,
@@ -63,6 +64,7 @@ pub fn show_engine<R: Read, W: Write>(
     ensures shown { OnOk result (IfSome (R.remaining reader.old)
         (ShowsPage coding order width (W.contents writer.old) (W.contents writer.new))) }
     ensures refused { IfErr result (λ fault. IfSome (R.remaining reader.old) (λ octets. RefusesShow coding order width octets fault)) }
+    ensures unwritten { IfErr result (λ fault. IsOutside fault ⊎ (writer.new ≡ writer.old)) }
 {
     let mut octets = Vec::new(alloc);
     reader.read_to_end(&mut octets)?;
@@ -73,8 +75,8 @@ pub fn show_engine<R: Read, W: Write>(
 
 /// Reads octets that begin with the code of a page of this width in pixels, 1 to 2,432, and writes the
 /// page as an image of Netpbm's raw PBM format. Answers how many rows the page has and how many bits
-/// its code has. Errs at the bit where they are refused, with 8 where the reader or the writer fails,
-/// and with 9.
+/// its code has. Errs at the bit where they are refused, and then nothing is written; with 8 where the
+/// reader or the writer fails, and with 9.
 pub fn decode_engine<R: Read, W: Write>(
     alloc: Global,
     reader: &mut R,
@@ -88,6 +90,7 @@ pub fn decode_engine<R: Read, W: Write>(
     ensures decoded { IfOk result (λ told. IfSome (R.remaining reader.old)
         (DecodesPage coding order width fine (W.contents writer.old) (W.contents writer.new) told.0 told.1)) }
     ensures refused { IfErr result (λ fault. IfSome (R.remaining reader.old) (λ octets. RefusesShow coding order width octets fault)) }
+    ensures unwritten { IfErr result (λ fault. IsOutside fault ⊎ (writer.new ≡ writer.old)) }
 {
     let mut octets = Vec::new(alloc);
     reader.read_to_end(&mut octets)?;

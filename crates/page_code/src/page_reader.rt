@@ -160,12 +160,13 @@ impl PageReader {
     }
 
     /// Reads the whole rows of octets that begin with those that the reader stands for; it stands for
-    /// all of them then. Tells no fault of the code. Errs where memory is refused; the reader stands
-    /// for what it stood for then.
+    /// all of them then, and keeps those rows. Tells no fault of the code. Errs where memory is refused;
+    /// the reader stands for what it stood for then.
     pub fn read_on(&mut self, all: &[u8]) -> Result<(), AllocError>
         requires { GoesOnTo self.old all.now }
         ensures like { IsLike self.old self.new }
         ensures ok { OnOk result (StandsFor self.new all.now) }
+        ensures kept { OnOk result (length self.new.page.rows ≡ self.new.count) }
         ensures err { OnErr result (StandsAsBefore self.old self.new) }
     {
         let width = self.progress.page.width();
