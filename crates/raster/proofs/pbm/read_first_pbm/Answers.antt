@@ -20,16 +20,16 @@ pub returns-clause-found : goal.returns-clause-found
 returns-clause-found g c = first_found c.args.fine (g.R.Read.remaining c.args.reader.now) (
   c.in_ok-document.document,
   c.in_ok-document.count,
-) c.into_first.result (c.in_ok-document.ensures.ok, c.into_first.ensures)
+) c.into_first.result (c.in_ok-document.ensures.ok, c.into_first.ensures.page)
 
 pub returns-clause-only : goal.returns-clause-only
 returns-clause-only g c = first_only c.args.fine (g.R.Read.remaining c.args.reader.now) (
   c.in_ok-document.document,
   c.in_ok-document.count,
-) c.into_first.result (c.in_ok-document.ensures.ok, c.into_first.ensures)
+) c.into_first.result (c.in_ok-document.ensures.ok, c.into_first.ensures.page)
 
 pub returns-clause-first : goal.returns-clause-first
 returns-clause-first g c = first_faultless c.args.fine (g.R.Read.remaining c.args.reader.now) (
   c.in_ok-document.document,
   c.in_ok-document.count,
-) c.into_first.result (c.in_ok-document.ensures.ok, c.into_first.ensures)
+) c.into_first.result (c.in_ok-document.ensures.ok, c.into_first.ensures.page)
