@@ -7,7 +7,7 @@ ghost use Rattle.std.specs.Prelude.{◌≡◌, ◌<◌, ◌⊎◌, ◌∷◌, []
 
 use crate::fault::{NO_MEMORY, ToolFault};
 use page_code::Coding;
-use raster::{Page, read_pbm, write_pbm, write_text};
+use raster::{Page, read_first_pbm, write_pbm, write_text};
 use run_tables::{CodeFaultKind, Order};
 use std::alloc::Global;
 use std::io::{Read, Write};
@@ -24,7 +24,8 @@ pub struct Salvage {
 /// The fault of an input of more than one image.
 const SEVERAL_PAGES: ToolFault = ToolFault::No(27);
 
-/// Reads a PBM file of one image and writes the image's code, its last octet filled with 0 bits.
+/// Reads a PBM file of one image and writes the image's code, its last octet filled with 0 bits. Of a file of
+/// several images it keeps the first alone.
 /// Errs with the first fault of the file or with 27 where it has several images, and then nothing is
 /// written; with 8 where the reader or the writer fails, and with 9.
 pub fn code_engine<R: Read, W: Write>(
@@ -39,12 +40,12 @@ pub fn code_engine<R: Read, W: Write>(
     ensures refused { IfErr result (λ fault. IfSome (R.remaining reader.old) (λ octets. RefusesImage octets fault)) }
     ensures unwritten { IfErr result (λ fault. IsOutside fault ⊎ (writer.new ≡ writer.old)) }
 {
-    let document = read_pbm(alloc, reader, false)?;
-    let [page] = document.pages() else {
+    let (page, count) = read_first_pbm(alloc, reader, false)?;
+    if count != 1 {
         return Err(SEVERAL_PAGES);
-    };
+    }
     let mut octets = Vec::new(alloc);
-    coding.encode(alloc, page, order, &mut octets)?;
+    coding.encode(alloc, &page, order, &mut octets)?;
     writer.write_all(&octets)?;
     Ok(())
 }

@@ -14,4 +14,5 @@ pub mod PbmReading
 pub mod PbmWriting
 pub mod PbmFaultParts
 pub mod PbmFaults
+pub mod PbmCalls
 pub mod PbmFaultExamples

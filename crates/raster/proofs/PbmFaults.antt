@@ -6,7 +6,7 @@ use Rattle.std.proofs.lemmas.List.{length-append}
 use Rattle.raster.specs.declared.fault.RasterFault.{RasterFault}
 use Rattle.raster.specs.declared.fault.RasterFault.TheVariants.{NoPages, Io, NoMemory}
 use Rattle.raster.specs.Pages.{PagePixels}
-use Rattle.raster.specs.Pbm.{Follow, AreImages, image_at, images_at, read_images, Gives, ◌>>=◌}
+use Rattle.raster.specs.Pbm.{FailsOrIo, Follow, AreImages, image_at, images_at, read_images, ◌>>=◌}
 use Rattle.raster.specs.PbmFaults.{BreaksOff, IsOneImage, AfterImages, IsFirstFault, AnswersFirstFault, NamesFirstFault}
 use Rattle.raster.proofs.PbmImages.{image_takes, image_again, image_less, image_length, reads_images}
 use Rattle.raster.proofs.PbmReading.{images_of, images_next_of}
@@ -139,12 +139,15 @@ names_first_fault = record {
   one = λ octets a b is also. fault_is a b (read_images true octets) (reads_fault true octets a is) (reads_fault true octets b also);
 }
 
--- ---- what the public call says
+-- ---- what the public calls say
 
-pub answers_first : (fine : Bool) (octets : List ℕ) (result : Result (List PagePixels) RasterFault)
-    → Gives (λ document. document) result (read_images fine octets) → AnswersFirstFault octets result
-answers_first fine octets (Ok pages) given =
-    λ fault is. no_fault fault pages (read_images fine octets) given (reads_fault fine octets fault is)
-answers_first fine octets (Err Io) given = tt
-answers_first fine octets (Err NoMemory) given = tt
-answers_first fine octets (Err fault) given = fault_first fine octets fault given
+pub no_first_fault : (fine : Bool) (octets : List ℕ) (pages : List PagePixels) → AreImages fine octets pages → (fault : RasterFault)
+    → ¬ IsFirstFault fault octets
+no_first_fault fine octets pages are fault is =
+    no_fault fault pages (read_images fine octets) ((reads_images fine octets pages).1 are) (reads_fault fine octets fault is)
+
+pub answers_fault : (X : Type 0) (fine : Bool) (octets : List ℕ) (fault : RasterFault) → FailsOrIo fault (read_images fine octets)
+    → AnswersFirstFault {X = X} octets (Err fault)
+answers_fault X fine octets Io h = tt
+answers_fault X fine octets NoMemory h = tt
+answers_fault X fine octets fault h = fault_first fine octets fault h

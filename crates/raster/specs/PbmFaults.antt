@@ -83,9 +83,9 @@ abbrev pub IsFirstFault : RasterFault → List ℕ → Type 0
 IsFirstFault NoPages octets = octets ≡ []
 IsFirstFault fault octets = AfterImages fault octets
 
--- what reading answers, the reader's own errors and memory aside: pages of octets that have no fault, or their first fault
-abbrev pub AnswersFirstFault : List ℕ → Result (List PagePixels) RasterFault → Type 0
-AnswersFirstFault octets (Ok pages) = (fault : RasterFault) → ¬ IsFirstFault fault octets
+-- what reading answers, the reader's own errors and memory aside: an answer for octets that have no fault, or their first fault
+abbrev pub AnswersFirstFault : {X : Type 0} → List ℕ → Result X RasterFault → Type 0
+AnswersFirstFault octets (Ok found) = (fault : RasterFault) → ¬ IsFirstFault fault octets
 AnswersFirstFault octets (Err Io) = Unit {0}
 AnswersFirstFault octets (Err NoMemory) = Unit {0}
 AnswersFirstFault octets (Err fault) = IsFirstFault fault octets

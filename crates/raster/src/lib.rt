@@ -18,7 +18,7 @@ mod words;
 pub use crate::blocks::block_change;
 pub use crate::fault::RasterFault;
 pub use crate::page::{Document, MAX_ROWS, Page};
-pub use crate::pbm::read_pbm;
+pub use crate::pbm::{read_first_pbm, read_pbm};
 pub use crate::pbm_writer::write_pbm;
 pub use crate::row::{Color, MAX_WIDTH, Row};
 pub use crate::text::write_text;
