@@ -1,6 +1,7 @@
 -- The bits of octets, least significant first, place by place.
-use Rattle.std.proofs.Common.{◌≡◌, ℕ, ◌+◌, ◌/◌, ◌%◌, ◌^◌, ◌<◌, ◌≤◌, Bool, List, [], ◌∷◌, ◌++◌, refl, ap, sym, ◌∙◌, arith, length, take}
+use Rattle.std.proofs.Common.{◌≡◌, ℕ, ◌+◌, ◌/◌, ◌%◌, ◌^◌, ◌<◌, ◌≤◌, Bool, List, [], ◌∷◌, ◌++◌, refl, ap, sym, ◌∙◌, arith, length, take, drop}
 use Rattle.std.proofs.Common.{get_or, nat_eq, append_assoc}
+use Rattle.std.proofs.Math.Seq.{take-add}
 use Rattle.std.proofs.lemmas.List.{append-nil, take_more, take_all}
 use Rattle.raster.specs.Packed.{bits_in, bit_in, bits_of}
 use Rattle.raster.specs.declared.packed.Order.TheVariants.{LsbFirst}
@@ -34,6 +35,14 @@ octets-next bits octets i d h =
     ap (λ xs. bits ++ bits_of LsbFirst xs) (take_more octets i d h)
     ∙ (ap (λ xs. bits ++ xs) (bits_of-append LsbFirst (take i octets) (get_or octets i d ∷ []))
     ∙ sym (append_assoc bits (bits_of LsbFirst (take i octets)) (bits_of LsbFirst (get_or octets i d ∷ []))))
+
+-- the same up to several octets more
+pub octets-more : (bits : List Bool) (octets : List ℕ) (i n : ℕ)
+    → bits ++ bits_of LsbFirst (take (i + n) octets) ≡ (bits ++ bits_of LsbFirst (take i octets)) ++ bits_of LsbFirst (take n (drop i octets))
+octets-more bits octets i n =
+    ap (λ xs. bits ++ bits_of LsbFirst xs) (take-add i n octets)
+    ∙ (ap (λ xs. bits ++ xs) (bits_of-append LsbFirst (take i octets) (take n (drop i octets)))
+    ∙ sym (append_assoc bits (bits_of LsbFirst (take i octets)) (bits_of LsbFirst (take n (drop i octets)))))
 
 pub octets-none : (bits : List Bool) → bits ++ bits_of LsbFirst [] ≡ bits
 octets-none bits = ap (λ xs. bits ++ xs) (bits_in-none LsbFirst []) ∙ append-nil bits

@@ -1,20 +1,18 @@
--- Eight bits more in a collector, by the tables of unstuffed bits.
-use Rattle.std.proofs.Common.{◌≡◌, ℕ, suc, zero, ◌+◌, ◌*◌, ◌/◌, ◌%◌, ◌<◌, ◌≤◌, Bool, true, false, not, ◌||◌, ◌&&◌, List, [], ◌∷◌, ◌++◌}
-use Rattle.std.proofs.Common.{length, cond, min, refl, ap, sym, ◌∙◌, arith, nat_eq, nat_lt, append_assoc, get_or, inl, inr, w8}
-use Rattle.std.specs.Int.{leading_ones}
-use Rattle.std.specs.Prelude.{count_ones}
-use lib.Count.{count_leading_zeros, ones as set_bits}
+-- Eight bits more in a collector, by the table of unstuffed bits.
+use Rattle.std.proofs.Common.{◌≡◌, ℕ, ◌+◌, ◌*◌, ◌/◌, ◌%◌, ◌<◌, ◌≤◌, Bool, true, false, not, ◌||◌, ◌&&◌, List, [], ◌∷◌, ◌++◌}
+use Rattle.std.proofs.Common.{length, cond, min, refl, ap, sym, ◌∙◌, arith, nat_eq, nat_lt, append_assoc, get_or, inl, inr}
 use Rattle.std.proofs.lemmas.List.{append-nil, length-append}
 use Rattle.std.proofs.lemmas.List.FromFn.{get_or-map-range_with_len}
-use Rattle.std.proofs.lemmas.Bool.{lt-ltb, le-ltb, cases_lt, eqb-true, agree_below_at}
+use Rattle.std.proofs.lemmas.Bool.{lt-ltb, le-ltb, cases_lt, eq-eqb, ne_eqb}
+use Rattle.hdlc.specs.declared.assembler.Ending.{Ending}
 use Rattle.hdlc.specs.declared.collector.Collector.{Collector}
 use Rattle.raster.specs.Octets.{number}
 use Rattle.hdlc.specs.Gaps.{unstuffed, has_six}
 use Rattle.hdlc.specs.Assembles.{Assembles}
 use Rattle.hdlc.specs.Collects.{Collects}
-use Rattle.hdlc.specs.EightBits.{run_after, unstuffed_from, six_from, ones_at_end, unstuffed_at, kept_counts, unstuffed_numbers}
+use Rattle.hdlc.specs.EightBits.{run_after, unstuffed_from, six_from, ones_at_end, unstuffed_entry, unstuffed_entries}
 use Rattle.raster.proofs.OctetBits.{octet_bits}
-use Rattle.hdlc.proofs.UnstuffedLemmas.{ones, ones-more, has_six-more, unstuffed-more}
+use Rattle.hdlc.proofs.UnstuffedLemmas.{ones, ones-more, has_six-more, unstuffed-more, number_fits}
 
 -- what a run of at most five tells of one that may be longer
 few_same : (m n : ℕ) → n ≡ min 5 m → nat_lt m 5 ≡ nat_lt n 5
@@ -37,7 +35,7 @@ unstuffed_run gap (b ∷ more) n h =
     (unstuffed_run (gap ++ b ∷ []) more (run_after n b) (run_more gap b n h) ∙
     (ap (λ xs. xs ++ rest) one ∙ append_assoc (unstuffed gap) (cond (nat_lt n 5) (b ∷ []) []) rest))
 
-pub or_false : (x : Bool) → (x || false) ≡ x
+or_false : (x : Bool) → (x || false) ≡ x
 or_false true = refl
 or_false false = refl
 
@@ -77,22 +75,17 @@ end_same m n (false ∷ more) h = refl
 
 -- ---- the tables, by computing
 
-pub unstuffed_entry : (n octet : ℕ) → n ≤ 5 → octet < 256
-    → get_or unstuffed_numbers (n * 256 + octet) 0 ≡ number (unstuffed_from n (octet_bits octet))
-unstuffed_entry n octet few small =
+pub entry_is : (n octet d : ℕ) → n ≤ 6 → octet < 256 → get_or unstuffed_entries (n * 256 + octet) d
+    ≡ number (unstuffed_from (min 5 n) (octet_bits octet)) + 256 * length (unstuffed_from (min 5 n) (octet_bits octet))
+    + 4096 * min 6 (ones_at_end n (octet_bits octet)) + cond (six_from (min 5 n) (octet_bits octet)) 32768 0
+entry_is n octet d few small =
     let place : ℕ = n * 256 + octet in
     let row : place / 256 ≡ n = omega arith in
     let column : place % 256 ≡ octet = omega arith in
-    get_or-map-range_with_len (λ place. number (unstuffed_at place)) 0 1536 place place 0 (omega arith) (omega arith)
-    ∙ (ap (λ r. number (unstuffed_from r (octet_bits (place % 256)))) row ∙ ap (λ o. number (unstuffed_from n (octet_bits o))) column)
-
-pub kept_entry : (n octet : ℕ) → n ≤ 5 → octet < 256 → get_or kept_counts (n * 256 + octet) 0 ≡ length (unstuffed_from n (octet_bits octet))
-kept_entry n octet few small =
-    let place : ℕ = n * 256 + octet in
-    let row : place / 256 ≡ n = omega arith in
-    let column : place % 256 ≡ octet = omega arith in
-    get_or-map-range_with_len (λ place. length (unstuffed_at place)) 0 1536 place place 0 (omega arith) (omega arith)
-    ∙ (ap (λ r. length (unstuffed_from r (octet_bits (place % 256)))) row ∙ ap (λ o. length (unstuffed_from n (octet_bits o))) column)
+    let one : ℕ → ℕ → ℕ = λ r o. number (unstuffed_from (min 5 r) (octet_bits o)) + 256 * length (unstuffed_from (min 5 r) (octet_bits o))
+    + 4096 * min 6 (ones_at_end r (octet_bits o)) + cond (six_from (min 5 r) (octet_bits o)) 32768 0 in
+    get_or-map-range_with_len unstuffed_entry 0 1792 place place d (omega arith) (omega arith)
+    ∙ (ap (λ r. one r (place % 256)) row ∙ ap (λ o. one n o) column)
 
 -- of eight bits at most eight are unstuffed
 pub unstuffed_few : (n : ℕ) (bits : List Bool) → length (unstuffed_from n bits) ≤ length bits
@@ -106,60 +99,28 @@ unstuffed_few n (b ∷ bits) =
     go true h = omega arith
     go false h = omega arith
 
--- where all are unstuffed they are the bits, and none is the sixth 1 bit
-pub whole_same : (n : ℕ) (bits : List Bool) → length (unstuffed_from n bits) ≡ length bits
-    → (unstuffed_from n bits ≡ bits) × (six_from n bits ≡ false)
-whole_same n [] h = (refl, refl)
-whole_same n (b ∷ bits) h = go (nat_lt n 5) (whole_same (run_after n b) bits) h
-  where
-    rest : List Bool
-    rest = unstuffed_from (run_after n b) bits
+-- the parts of an entry
+parts_of : (v c o e : ℕ) (six : Bool) → v < 256 → c ≤ 8 → o ≤ 6 → e ≡ v + 256 * c + 4096 * o + cond six 32768 0
+    → (e % 256 ≡ v) × (e / 256 % 16 ≡ c) × (e / 4096 % 8 ≡ o) × (nat_eq (e / 32768) 1 ≡ six)
+parts_of v c o e true small few most is =
+    let one : e / 32768 ≡ 1 = omega arith in (omega arith, omega arith, omega arith, eq-eqb (e / 32768) 1 one)
+parts_of v c o e false small few most is =
+    let none : e / 32768 ≡ 0 = omega arith in (omega arith, omega arith, omega arith, ne_eqb (e / 32768) 1 (λ h. omega arith))
 
-    go : (t : Bool) → (length rest ≡ length bits → (rest ≡ bits) × (six_from (run_after n b) bits ≡ false))
-        → length (cond t (b ∷ []) [] ++ rest) ≡ length (b ∷ bits)
-        → (cond t (b ∷ []) [] ++ rest ≡ b ∷ bits) × (((not t && b) || six_from (run_after n b) bits) ≡ false)
-    go true others h =
-        let same : length rest ≡ length bits = omega arith in
-        let both = others same in (ap (λ xs. b ∷ xs) both.0, both.1)
-    go false others h = let few : length rest ≤ length bits = unstuffed_few (run_after n b) bits in absurd (omega arith)
-
--- a stuffed bit that is 1 is the sixth, and then the others have fewer 1 bits than the octet
-abbrev fewer : ℕ → ℕ → Bool
-fewer n octet = nat_lt (count_ones (number (unstuffed_from n (octet_bits octet)))) (count_ones octet)
-
-abbrev sixth_in : ℕ → ℕ → Bool
-sixth_in n octet = six_from n (octet_bits octet)
-
-pub six_is : (n octet : ℕ) → n ≤ 5 → octet < 256 → fewer n octet ≡ six_from n (octet_bits octet)
-unfolding set_bits
-six_is zero octet few small = agree_below_at (fewer 0) (sixth_in 0) 256 octet refl small
-six_is (suc zero) octet few small = agree_below_at (fewer 1) (sixth_in 1) 256 octet refl small
-six_is (suc (suc zero)) octet few small = agree_below_at (fewer 2) (sixth_in 2) 256 octet refl small
-six_is (suc (suc (suc zero))) octet few small = agree_below_at (fewer 3) (sixth_in 3) 256 octet refl small
-six_is (suc (suc (suc (suc zero)))) octet few small = agree_below_at (fewer 4) (sixth_in 4) 256 octet refl small
-six_is (suc (suc (suc (suc (suc zero))))) octet few small = agree_below_at (fewer 5) (sixth_in 5) 256 octet refl small
-six_is (suc (suc (suc (suc (suc (suc n)))))) octet few small = absurd (omega arith)
-
--- the highest bits of an octet tell how many 1 bits end it, six where there are more
-abbrev end_of : ℕ → ℕ → Bool
-end_of n octet = nat_eq (min 6 (leading_ones w8 octet)) (min 6 (ones_at_end n (octet_bits octet)))
-
-abbrev always : ℕ → Bool
-always octet = true
-
-ends : (n octet : ℕ) → n ≤ 6 → octet < 256 → end_of n octet ≡ true
-unfolding count_leading_zeros
-ends zero octet few small = agree_below_at (end_of 0) always 256 octet refl small
-ends (suc zero) octet few small = agree_below_at (end_of 1) always 256 octet refl small
-ends (suc (suc zero)) octet few small = agree_below_at (end_of 2) always 256 octet refl small
-ends (suc (suc (suc zero))) octet few small = agree_below_at (end_of 3) always 256 octet refl small
-ends (suc (suc (suc (suc zero)))) octet few small = agree_below_at (end_of 4) always 256 octet refl small
-ends (suc (suc (suc (suc (suc zero))))) octet few small = agree_below_at (end_of 5) always 256 octet refl small
-ends (suc (suc (suc (suc (suc (suc zero)))))) octet few small = agree_below_at (end_of 6) always 256 octet refl small
-ends (suc (suc (suc (suc (suc (suc (suc n))))))) octet few small = absurd (omega arith)
+-- what the entry of an octet says
+pub entry_parts : (n octet d e : ℕ) → n ≤ 6 → octet < 256 → e ≡ get_or unstuffed_entries (n * 256 + octet) d
+    → (e % 256 ≡ number (unstuffed_from (min 5 n) (octet_bits octet)))
+    × (e / 256 % 16 ≡ length (unstuffed_from (min 5 n) (octet_bits octet)))
+    × (e / 4096 % 8 ≡ min 6 (ones_at_end n (octet_bits octet)))
+    × (nat_eq (e / 32768) 1 ≡ six_from (min 5 n) (octet_bits octet))
+entry_parts n octet d e few small is =
+    let left : List Bool = unstuffed_from (min 5 n) (octet_bits octet) in
+    let most : length left ≤ 8 = unstuffed_few (min 5 n) (octet_bits octet) in
+    parts_of (number left) (length left) (min 6 (ones_at_end n (octet_bits octet))) e (six_from (min 5 n) (octet_bits octet))
+    (number_fits left 8 most) most (omega arith) (is ∙ entry_is n octet d few small)
 
 pub collects_octet : (c new : Collector) (gap : List Bool) (octet : ℕ) → Collects c gap → octet < 256 → new.seen ≡ 8
-    → new.ones ≡ min 6 (leading_ones w8 octet)
+    → new.ones ≡ min 6 (ones_at_end c.ones (octet_bits octet))
     → new.aborted ≡ (c.aborted || six_from (min 5 c.ones) (octet_bits octet))
     → Assembles new.unstuffed (unstuffed gap ++ unstuffed_from (min 5 c.ones) (octet_bits octet)) → Collects new (gap ++ octet_bits octet)
 collects_octet c new gap octet old small seen last aborted more =
@@ -167,13 +128,21 @@ collects_octet c new gap octet old small seen last aborted more =
     let is : c.ones ≡ min 6 (ones gap) = old.ones in
     let n : min 5 c.ones ≡ min 5 (ones gap) = omega arith in
     let size : length (gap ++ eight) ≡ length gap + 8 = length-append gap eight in
-    let end : min 6 (leading_ones w8 octet) ≡ min 6 (ones_at_end c.ones eight) =
-    eqb-true (min 6 (leading_ones w8 octet)) (min 6 (ones_at_end c.ones eight)) (ends c.ones octet (omega arith) small) in
     record {
       seen = omega arith;
       ones =
-          last ∙ (end ∙ (end_same c.ones (ones gap) eight (omega arith) ∙ ap (min 6) (sym (ones_run gap eight))));
+          last ∙ (end_same c.ones (ones gap) eight (omega arith) ∙ ap (min 6) (sym (ones_run gap eight)));
       aborted =
           aborted ∙ (ap (λ x. x || six_from (min 5 c.ones) eight) old.aborted ∙ sym (six_run gap eight (min 5 c.ones) n));
       unstuffed = rw (unstuffed_run gap eight (min 5 c.ones) n) more;
+    }
+
+-- a collector with other counts and other bits after the whole octets
+abbrev pub with_ending : Collector → ℕ → ℕ → Bool → Ending → Collector
+with_ending c seen ones aborted ending =
+    record c {
+      seen = seen;
+      ones = ones;
+      aborted = aborted;
+      unstuffed = record c.unstuffed { part = ending.part; window = ending.window };
     }

@@ -12,6 +12,7 @@ pub mod CollectingOctets
 pub mod DeframerPartsLemmas
 pub mod KeptLemmas
 pub mod QuietOctets
+pub mod QuietRuns
 pub mod FlagRuns
 pub mod FrameGrowsLemmas
 pub mod Hearing

@@ -34,12 +34,12 @@ not_false true h = sym h
 not_false false h = refl
 
 -- bits that end no flag add no gap
-record Unflagged (bits more : List Bool) : Type 0 where
-  last : last_flag (bits ++ more) ≡ last_flag bits
-  good_same : good (bits ++ more) ≡ good bits
-  counts : (class : Class) → count_of class (bits ++ more) ≡ count_of class bits
+pub record Unflagged (bits more : List Bool) : Type 0 where
+  pub last : last_flag (bits ++ more) ≡ last_flag bits
+  pub good_same : good (bits ++ more) ≡ good bits
+  pub counts : (class : Class) → count_of class (bits ++ more) ≡ count_of class bits
 
-unflagged : (bits more : List Bool) → ends_no_flag (number (recent true bits)) more ≡ true → Unflagged bits more
+pub unflagged : (bits more : List Bool) → ends_no_flag (number (recent true bits)) more ≡ true → Unflagged bits more
 unflagged bits [] h = record {
   last = ap last_flag (append-nil bits);
   good_same = ap good (append-nil bits);
@@ -102,16 +102,16 @@ module _ (bits eight : List Bool) (size : length eight ≡ 8) where
   same_begun : Unflagged bits eight → begun (bits ++ eight) ≡ begun bits
   same_begun u = ap is_some u.last
 
-  next_held : Unflagged bits eight → held (bits ++ eight) ≡ cond (begun bits) 8 0
+  pub next_held : Unflagged bits eight → held (bits ++ eight) ≡ cond (begun bits) 8 0
   next_held u = ap (held_after (bits ++ eight)) u.last ∙ held_with (last_flag bits) refl
 
-  next_full : Unflagged bits eight → held bits ≡ 8 → unclosed (bits ++ eight) ≡ unclosed bits ++ recent true bits
+  pub next_full : Unflagged bits eight → held bits ≡ 8 → unclosed (bits ++ eight) ≡ unclosed bits ++ recent true bits
   next_full u h = ap (unclosed_after (bits ++ eight)) u.last ∙ unclosed_full (last_flag bits) refl h
 
-  next_empty : Unflagged bits eight → held bits ≡ 0 → unclosed (bits ++ eight) ≡ unclosed bits
+  pub next_empty : Unflagged bits eight → held bits ≡ 0 → unclosed (bits ++ eight) ≡ unclosed bits
   next_empty u h = ap (unclosed_after (bits ++ eight)) u.last ∙ unclosed_empty (last_flag bits) refl h
 
-begun_if_full : (bits : List Bool) → held bits ≡ 8 → begun bits ≡ true
+pub begun_if_full : (bits : List Bool) → held bits ≡ 8 → begun bits ≡ true
 begun_if_full bits h = go (last_flag bits) h
   where
     go : (o : Option ℕ) → held_after bits o ≡ 8 → is_some o ≡ true
@@ -187,11 +187,11 @@ parts_quiet cutter new counts queue bits eight handed old quiet cuts =
 -- ---- the test of an octet, by its sixteen bits
 
 -- of a number, shifted one bit after the other, no lowest octet is a flag
-abbrev no_flag_below : ℕ → ℕ → Bool
+abbrev pub no_flag_below : ℕ → ℕ → Bool
 no_flag_below zero both = true
 no_flag_below (suc n) both = not (nat_eq (both / 2 % 256) 126) && no_flag_below n (both / 2)
 
-shifted_test : (bits : List Bool) (w : ℕ) → w < 256 → no_flag_below (length bits) (w + 256 * number bits) ≡ ends_no_flag w bits
+pub shifted_test : (bits : List Bool) (w : ℕ) → w < 256 → no_flag_below (length bits) (w + 256 * number bits) ≡ ends_no_flag w bits
 shifted_test [] w h = refl
 shifted_test (b ∷ bits) w h = go b (shifted_test bits)
   where
@@ -219,7 +219,7 @@ no_flag_in x =
     differs (x / 2) && (differs (x / 4) && (differs (x / 8) && (differs (x / 16) && (differs (x / 32)
     && (differs (x / 64) && (differs (x / 128) && differs (x / 256)))))))
 
-and_assoc : (x y z : Bool) → ((x && y) && z) ≡ (x && (y && z))
+pub and_assoc : (x y z : Bool) → ((x && y) && z) ≡ (x && (y && z))
 and_assoc true y z = refl
 and_assoc false y z = refl
 
@@ -244,7 +244,7 @@ six_at x k a b c d e f =
     let four : bit_at (bit_and pairs (pairs / 4)) k ≡ 1 = bit_at_and pairs (pairs / 4) k ∙ (rw (p0, p2) refl) in
     bit_at_and (bit_and pairs (pairs / 4)) (pairs / 16) k ∙ (rw (four, p4) refl)
 
-none_1 : (x : ℕ) → sixes x / 4 % 256 ≡ 0 → differs (x / 2) ≡ true
+pub none_1 : (x : ℕ) → sixes x / 4 % 256 ≡ 0 → differs (x / 2) ≡ true
 none_1 x h = elim (cases_eq (x / 2 % 256) 126) [
   | inl e ↦
       let six : sixes x / 4 % 2 ≡ 1 =

@@ -1,6 +1,6 @@
 -- Eight bits that come at once: whether one of them ends a flag, and what they are without the stuffed ones. The clauses of private
 -- functions name this.
-use Rattle.std.specs.Prelude.{ℕ, ◌+◌, ◌/◌, ◌%◌, Bool, true, false, not, ◌&&◌, ◌||◌, List, [], ◌∷◌, ◌++◌}
+use Rattle.std.specs.Prelude.{ℕ, ◌+◌, ◌*◌, ◌/◌, ◌%◌, Bool, true, false, not, ◌&&◌, ◌||◌, List, [], ◌∷◌, ◌++◌}
 use Rattle.std.specs.Prelude.{cond, nat_eq, nat_lt, length, map, min}
 use Rattle.std.specs.Int.{bit_at}
 use Rattle.std.specs.List.{range_with_len}
@@ -33,22 +33,29 @@ abbrev pub six_from : ℕ → List Bool → Bool
 six_from ones [] = false
 six_from ones (b ∷ bits) = (not (nat_lt ones 5) && b) || six_from (run_after ones b) bits
 
--- the unstuffed bits of an octet, by the 1 bits in a row before it, none to five, and the octet
-abbrev pub unstuffed_at : ℕ → List Bool
-unstuffed_at place = unstuffed_from (place / 256) (map (λ bit. nat_eq (bit_at (place % 256) bit) 1) (range_with_len 0 8))
-
--- how many they are
-abbrev pub kept_counts : List ℕ
-kept_counts = map (λ place. length (unstuffed_at place)) (range_with_len 0 1536)
-
--- the numbers that they are
-abbrev pub unstuffed_numbers : List ℕ
-unstuffed_numbers = map (λ place. number (unstuffed_at place)) (range_with_len 0 1536)
-
 -- how many 1 bits in a row there are at the end, with these bits after so many
 abbrev pub ones_at_end : ℕ → List Bool → ℕ
 ones_at_end ones [] = ones
 ones_at_end ones (b ∷ bits) = ones_at_end (cond b (1 + ones) 0) bits
+
+-- the eight bits of an octet, by a place of a table whose rows are 256 octets each
+abbrev pub bits_at : ℕ → List Bool
+bits_at place = map (λ bit. nat_eq (bit_at (place % 256) bit) 1) (range_with_len 0 8)
+
+-- the unstuffed bits of an octet, by the 1 bits in a row before it, none to six, and the octet
+abbrev pub unstuffed_at : ℕ → List Bool
+unstuffed_at place = unstuffed_from (min 5 (place / 256)) (bits_at place)
+
+-- The number that they are; from bit 8 on how many they are; from bit 12 on how many 1 bits in a row end the octet, six where
+-- there are more; bit 15 where one of its bits is the sixth.
+abbrev pub unstuffed_entry : ℕ → ℕ
+unstuffed_entry place =
+    number (unstuffed_at place) + 256 * length (unstuffed_at place) + 4096 * min 6 (ones_at_end (place / 256) (bits_at place))
+    + cond (six_from (min 5 (place / 256)) (bits_at place)) 32768 0
+
+-- all entries
+abbrev pub unstuffed_entries : List ℕ
+unstuffed_entries = map unstuffed_entry (range_with_len 0 1792)
 
 -- From so many bits after a flag, at most seven, and a register of the last eight bits, these bits lead to so many after a
 -- flag and such a register, with at most seven bits between two flags.

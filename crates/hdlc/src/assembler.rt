@@ -17,6 +17,15 @@ pub fn shifted(register: u8, bit: bool) -> u8
     }
 }
 
+/// The bits after the whole octets.
+#[derive(Clone, Copy)]
+pub struct Ending {
+    /// How many they are, below eight.
+    pub(crate) part: u8,
+    /// The last eight bits, the newest the most significant.
+    pub(crate) window: u8,
+}
+
 /// Puts bits together to octets, the least significant bit first, and keeps the first 302 of them:
 /// as many as a frame may have with its check sequence.
 #[derive(Debug, Drop)]
@@ -76,24 +85,50 @@ impl Assembler {
         self.whole.push(self.window);
     }
 
-    /// Up to eight bits more: so many of a number's, the least significant first.
-    pub fn push_bits(&mut self, value: u8, count: u8)
+    /// The bits after the whole octets.
+    pub fn ending(&self) -> Ending
+        ensures { result ≡ record { part = self.now.part; window = self.now.window } }
+    {
+        Ending {
+            part: self.part,
+            window: self.window,
+        }
+    }
+
+    /// Has these bits after the whole octets.
+    pub fn end(&mut self, ending: Ending)
+        ensures { self.new ≡ record self.old { part = ending.part; window = ending.window } }
+    {
+        self.part = ending.part;
+        self.window = ending.window;
+    }
+
+    /// Up to eight bits more, with other bits after the whole octets: so many of a number's, the least
+    /// significant first. Answers the bits that are then after the whole octets.
+    pub fn push_after(&mut self, ending: Ending, value: u8, count: u8) -> Ending
         requires { count ≤ 8 }
         ensures { (bits more : List Bool) → length more ≡ count → number more ≡ value
-            → Assembles self.old bits → Assembles self.new (bits ++ more) }
+            → Assembles (record self.old { part = ending.part; window = ending.window }) bits
+            → Assembles (record self.new { part = result.part; window = result.window }) (bits ++ more) }
     {
-        let part = self.part % 8;
-        let both = u16::from(value) * 256 + u16::from(self.window);
-        self.window = ((both >> count) % 256) as u8;
+        let part = ending.part % 8;
+        let both = u16::from(value) * 256 + u16::from(ending.window);
+        let window = ((both >> count) % 256) as u8;
         if part + count < 8 {
-            self.part = part + count;
-            return;
+            return Ending {
+                part: part + count,
+                window,
+            };
         }
-        self.part = part + count - 8;
+        let next = Ending {
+            part: part + count - 8,
+            window,
+        };
         if self.whole.is_full() {
             self.long = true;
-            return;
+            return next;
         }
         self.whole.push(((both >> (8 - part)) % 256) as u8);
+        next
     }
 }

@@ -93,19 +93,25 @@ impl Collector {
         self.unstuffed.push(bit);
     }
 
-    /// The eight bits of an octet more, the least significant first.
-    pub fn push_octet(&mut self, octet: u8)
-        ensures { (gap : List Bool) → Collects self.old gap → Collects self.new (gap ++ bits_of LsbFirst (octet ∷ [])) }
+    /// The bits of octets more, the least significant of each first.
+    pub fn push_octets(&mut self, octets: &[u8])
+        ensures { (gap : List Bool) → Collects self.old gap → Collects self.new (gap ++ bits_of LsbFirst octets.now) }
     {
-        let (value, count) = unstuffed(self.ones.min(5), octet);
-        self.seen = 8;
-        self.ones = octet.leading_ones().min(6) as u8;
-        if count == 8 {
-            self.unstuffed.push_bits(octet, 8);
-            return;
+        let mut seen = self.seen;
+        let mut ones = self.ones.min(6);
+        let mut aborted = self.aborted;
+        let mut ending = self.unstuffed.ending();
+        for octet in octets {
+            let left = unstuffed(ones, *octet);
+            seen = 8;
+            ones = left.ones;
+            aborted |= left.sixth;
+            ending = self.unstuffed.push_after(ending, left.value, left.count);
         }
-        self.aborted |= value.count_ones() < octet.count_ones(); // a stuffed 1 bit is the sixth
-        self.unstuffed.push_bits(value, count);
+        self.seen = seen;
+        self.ones = ones;
+        self.aborted = aborted;
+        self.unstuffed.end(ending);
     }
 
     /// The class of the gap, if it ends here.

@@ -10,8 +10,8 @@ ghost use Rattle.hdlc.specs.DeframerParts.{Cuts, PartsAfter, Grows, count_in};
 ghost use Rattle.hdlc.specs.EightBits.{ends_no_flag, end_no_flag, repeated};
 ghost use Rattle.hdlc.specs.declared.counts.Class.{Class as AnyClass};
 ghost use Rattle.hdlc.specs.declared.counts.Counts.{Counts as AnyCounts};
-ghost use Rattle.std.specs.Prelude.{ℕ, ◌≡◌, ◌+◌, ◌/◌, ◌%◌, ◌≤◌, ◌++◌, ◌∷◌, ◌&&◌, []};
-ghost use Rattle.std.specs.Prelude.{List, Bool, true, false, cond, min, nat_lt, length, OnOk};
+ghost use Rattle.std.specs.Prelude.{ℕ, ◌≡◌, ◌+◌, ◌/◌, ◌%◌, ◌<◌, ◌≤◌, ◌++◌, ◌∷◌, ◌&&◌, []};
+ghost use Rattle.std.specs.Prelude.{List, Bool, true, false, cond, min, nat_lt, length, take, drop, IfOk, OnOk};
 
 use crate::assembler::shifted;
 use crate::collector::{Collector, bit_at};
@@ -73,25 +73,61 @@ fn ends_no_flag(window: u8, octet: u8) -> bool
         & (both / 256 % 256 != 0x7E)
 }
 
-/// Whether no bit of octets, after these last eight bits, ends a flag.
-fn end_no_flag(window: u8, octets: &[u8]) -> bool
-    ensures { result ≡ end_no_flag window octets.now }
+/// Whether seven octets from a place on, after these last eight bits, hold no six 1 bits in a row that
+/// end in them or directly before, so that none of their bits ends a flag; the octet after them is there.
+fn are_calm(last: u8, octets: &[u8], at: usize) -> bool
+    requires { at + 8 ≤ length octets.now }
+    ensures { result ≡ true → end_no_flag last (take 7 (drop at octets.now)) ≡ true }
 {
-    let mut last = window;
-    for octet in octets {
-        if !ends_no_flag(last, *octet) {
-            return false;
-        }
-        last = *octet;
-    }
-    true
+    let next = u64::from_le_bytes([
+        octets[at],
+        octets[at + 1],
+        octets[at + 2],
+        octets[at + 3],
+        octets[at + 4],
+        octets[at + 5],
+        octets[at + 6],
+        octets[at + 7],
+    ]);
+    let all = next % 0x0100_0000_0000_0000 * 256 + u64::from(last);
+    let pairs = all & (all / 2);
+    let fours = pairs & (pairs / 4);
+    fours & (pairs / 16) == 0
 }
 
-/// Eight where a flag has come, else none.
-fn full(begun: bool) -> u8
-    ensures { result ≡ cond begun 8 0 }
+/// How many of the octets from a place on, seven, one or none, end no flag, after these last eight bits.
+fn quiet_step(last: u8, octets: &[u8], at: usize) -> usize
+    requires { at < length octets.now }
+    ensures within { at + result ≤ length octets.now }
+    ensures quiet { end_no_flag last (take result (drop at octets.now)) ≡ true }
 {
-    if begun { 8 } else { 0 }
+    if octets.len() - at >= 8 {
+        if are_calm(last, octets, at) {
+            return 7;
+        }
+    }
+    if ends_no_flag(last, octets[at]) {
+        return 1;
+    }
+    0
+}
+
+/// How many octets from the front end no flag, after these last eight bits.
+fn quiet_front(window: u8, octets: &[u8]) -> usize
+    ensures within { result ≤ length octets.now }
+    ensures quiet { end_no_flag window (take result octets.now) ≡ true }
+{
+    let mut count = 0;
+    let mut last = window;
+    while count < octets.len() {
+        let step = quiet_step(last, octets, count);
+        if step == 0 {
+            return count;
+        }
+        count += step;
+        last = octets[count - 1];
+    }
+    count
 }
 
 impl Cutter {
@@ -134,11 +170,11 @@ impl Cutter {
         self.gap.push(oldest);
     }
 
-    /// Whether an octet repeats flags, which changes nothing: flags alone came, and go on.
-    fn repeats_flags(&self, octet: u8) -> bool
+    /// Whether flags alone came, so that the last octet once more repeats them, which changes nothing.
+    fn repeats_flags(&self) -> bool
         ensures { result ≡ true → (counts : AnyCounts) (queue : List (List ℕ)) (bits : List Bool) (handed : ℕ)
             → PartsAfter self.now counts queue bits handed
-            → PartsAfter self.now counts queue (bits ++ bits_of LsbFirst (octet ∷ [])) handed }
+            → PartsAfter self.now counts queue (bits ++ bits_of LsbFirst (self.now.window ∷ [])) handed }
     {
         if !self.begun {
             return false;
@@ -146,77 +182,53 @@ impl Cutter {
         if self.held > 7 {
             return false;
         }
-        if octet != self.window {
-            return false;
-        }
-        octet == repeated()[self.held as usize]
+        self.window == repeated()[self.held as usize]
     }
 
-    /// Takes an octet none of whose bits ends a flag, where none or all of the last eight bits came
-    /// after the last flag.
-    fn take_quiet(&mut self, octet: u8)
-        requires whole { self.old.held % 8 ≡ 0 }
-        requires quiet { ends_no_flag self.old.window (bits_of LsbFirst (octet ∷ [])) ≡ true }
-        ensures whole { self.new.held % 8 ≡ 0 }
-        ensures window { self.new.window ≡ octet }
-        ensures cuts { (bits : List Bool) → Cuts self.old bits → Cuts self.new (bits ++ bits_of LsbFirst (octet ∷ [])) }
+    /// How many octets from the front repeat flags, which changes nothing.
+    fn repeated_front(&self, octets: &[u8]) -> usize
+        ensures within { result ≤ length octets.now }
+        ensures same { (counts : AnyCounts) (queue : List (List ℕ)) (bits : List Bool) (handed : ℕ)
+            → PartsAfter self.now counts queue bits handed
+            → PartsAfter self.now counts queue (bits ++ bits_of LsbFirst (take result octets.now)) handed }
     {
-        if self.held == 8 {
-            self.gap.push_octet(self.window);
-            self.window = octet;
-            return;
+        if !self.repeats_flags() {
+            return 0;
         }
-        self.held = full(self.begun);
-        self.window = octet;
-    }
-
-    /// Takes an octet that ends no flag, where none or all of the last eight bits came after the last
-    /// flag, and answers whether it did; else nothing is changed.
-    fn take_unless_flag(&mut self, octet: u8) -> bool
-        requires { self.old.held % 8 ≡ 0 }
-        ensures taken { result ≡ true → (counts : AnyCounts) (queue : List (List ℕ)) (bits : List Bool) (handed : ℕ)
-            → PartsAfter self.old counts queue bits handed
-            → PartsAfter self.new counts queue (bits ++ bits_of LsbFirst (octet ∷ [])) handed }
-        ensures left { result ≡ false → self.new ≡ self.old }
-    {
-        if !ends_no_flag(self.window, octet) {
-            return false;
+        let mut count = 0;
+        while count < octets.len() {
+            if octets[count] != self.window {
+                return count;
+            }
+            count += 1;
         }
-        self.take_quiet(octet);
-        true
+        count
     }
 
     /// Takes octets none of whose bits ends a flag, where none or all of the last eight bits came after
     /// the last flag.
-    fn take_quiet_octets(&mut self, octets: &[u8])
+    fn take_quiet(&mut self, octets: &[u8])
         requires whole { self.old.held % 8 ≡ 0 }
         requires quiet { end_no_flag self.old.window octets.now ≡ true }
         ensures { (counts : AnyCounts) (queue : List (List ℕ)) (bits : List Bool) (handed : ℕ)
             → PartsAfter self.old counts queue bits handed → PartsAfter self.new counts queue (bits ++ bits_of LsbFirst octets.now) handed }
     {
-        for octet in octets {
-            self.take_quiet(*octet);
+        let count = octets.len();
+        if count == 0 {
+            return;
         }
-    }
-
-    /// Takes an octet that ends no flag or repeats flags, which changes no count and brings no
-    /// content, and answers whether it did; else nothing is changed.
-    fn take_at_once(&mut self, octet: u8) -> bool
-        ensures taken { result ≡ true → (counts : AnyCounts) (queue : List (List ℕ)) (bits : List Bool) (handed : ℕ)
-            → PartsAfter self.old counts queue bits handed
-            → PartsAfter self.new counts queue (bits ++ bits_of LsbFirst (octet ∷ [])) handed }
-        ensures left { result ≡ false → self.new ≡ self.old }
-    {
         if self.held == 8 {
-            return self.take_unless_flag(octet);
+            self.gap.push_octets(&[self.window]);
+            self.gap.push_octets(&octets[..count - 1]);
+            self.window = octets[count - 1];
+            return;
         }
-        if self.repeats_flags(octet) {
-            return true;
+        self.window = octets[count - 1];
+        if !self.begun {
+            return;
         }
-        if self.held != 0 {
-            return false;
-        }
-        self.take_unless_flag(octet)
+        self.held = 8;
+        self.gap.push_octets(&octets[..count - 1]);
     }
 
     /// Takes octets none of whose bits ends a flag, and answers whether it did; else nothing is changed.
@@ -229,25 +241,11 @@ impl Cutter {
         if self.held % 8 != 0 {
             return false;
         }
-        if !end_no_flag(self.window, octets) {
+        if quiet_front(self.window, octets) != octets.len() {
             return false;
         }
-        self.take_quiet_octets(octets);
+        self.take_quiet(octets);
         true
-    }
-
-    /// Takes a piece of one octet that changes no count and brings no content, and answers whether it
-    /// did; else nothing is changed.
-    fn take_one(&mut self, piece: &[u8]) -> bool
-        ensures taken { result ≡ true → (counts : AnyCounts) (queue : List (List ℕ)) (bits : List Bool) (handed : ℕ)
-            → PartsAfter self.old counts queue bits handed
-            → PartsAfter self.new counts queue (bits ++ bits_of LsbFirst piece.now) handed }
-        ensures left { result ≡ false → self.new ≡ self.old }
-    {
-        let [octet] = piece else {
-            return false;
-        };
-        self.take_at_once(*octet)
     }
 
     /// Takes a piece that changes no count and brings no content, and answers whether it did; else
@@ -258,10 +256,29 @@ impl Cutter {
             → PartsAfter self.new counts queue (bits ++ bits_of LsbFirst piece.now) handed }
         ensures left { result ≡ false → self.new ≡ self.old }
     {
-        if self.take_one(piece) {
+        if self.repeated_front(piece) == piece.len() {
             return true;
         }
         self.take_unless_flags(piece)
+    }
+
+    /// Takes octets from the front that change no count and bring no content, and answers how many.
+    fn take_front(&mut self, octets: &[u8]) -> usize
+        ensures within { result ≤ length octets.now }
+        ensures taken { (counts : AnyCounts) (queue : List (List ℕ)) (bits : List Bool) (handed : ℕ)
+            → PartsAfter self.old counts queue bits handed
+            → PartsAfter self.new counts queue (bits ++ bits_of LsbFirst (take result octets.now)) handed }
+    {
+        let repeated = self.repeated_front(octets);
+        if repeated != 0 {
+            return repeated;
+        }
+        if self.held % 8 != 0 {
+            return 0;
+        }
+        let count = quiet_front(self.window, octets);
+        self.take_quiet(&octets[..count]);
+        count
     }
 }
 
@@ -336,22 +353,28 @@ fn take_each(
     Ok(())
 }
 
-/// Takes the eight bits of an octet, the least significant first, all at once where none ends a flag
-/// or where flags alone come. An `Err` leaves the queue longer or as it was, and the rest in any
-/// state.
-pub fn take_octet(
+/// Takes the first of the octets, and those after it that come at once: none of their bits ends a flag,
+/// or flags alone come. Answers how many it took. An `Err` leaves the queue longer or as it was, and the
+/// rest in any state.
+pub fn take_octets(
     cutter: &mut Cutter,
     counts: &mut Counts,
     queue: &mut VecDeque<Vec<u8>>,
     alloc: Global,
-    octet: u8,
-) -> Result<(), AllocError>
-    ensures ok { OnOk result ((bits : List Bool) (handed : ℕ) → PartsAfter cutter.old counts.old (contents_of queue.old.items) bits handed
-        → PartsAfter cutter.new counts.new (contents_of queue.new.items) (bits ++ bits_of LsbFirst (octet ∷ [])) handed) }
+    octets: &[u8],
+) -> Result<usize, AllocError>
+    requires { 0 < length octets.now }
+    ensures least { IfOk result (λ count. 0 < count) }
+    ensures most { IfOk result (λ count. count ≤ length octets.now) }
+    ensures ok { IfOk result (λ count. (bits : List Bool) (handed : ℕ)
+        → PartsAfter cutter.old counts.old (contents_of queue.old.items) bits handed
+        → PartsAfter cutter.new counts.new (contents_of queue.new.items) (bits ++ bits_of LsbFirst (take count octets.now)) handed) }
     ensures keeps { Grows queue.old.items queue.new.items }
 {
-    if cutter.take_at_once(octet) {
-        return Ok(());
+    let count = cutter.take_front(octets);
+    if count != 0 {
+        return Ok(count);
     }
-    take_each(cutter, counts, queue, alloc, octet)
+    take_each(cutter, counts, queue, alloc, octets[0])?;
+    Ok(1)
 }

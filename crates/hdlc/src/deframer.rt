@@ -12,7 +12,7 @@ ghost use Rattle.std.specs.Io.BufRead.{Rests};
 ghost use Rattle.std.specs.Prelude.{ℕ, ◌≡◌, ◌++◌, [], List, Bool, true, false, min, length, OnOk, OnErr, IfSome, IfNone, slice_get, drop};
 
 use crate::counts::Counts;
-use crate::cutter::{Cutter, take_octet};
+use crate::cutter::{Cutter, take_octets};
 use std::alloc::{AllocError, Global};
 use std::collections::VecDeque;
 use std::marker::Model;
@@ -72,16 +72,20 @@ impl Deframer {
         let mut cutter = self.cutter.copy();
         let mut counts = self.counts;
         let before = self.queue.len();
-        for octet in piece {
-            if let Err(refused) = take_octet(
+        let mut at = 0;
+        while at < piece.len() {
+            match take_octets(
                 &mut cutter,
                 &mut counts,
                 &mut self.queue,
                 self.alloc,
-                *octet,
+                &piece[at..],
             ) {
-                self.queue.truncate(before);
-                return Err(refused);
+                Ok(count) => at += count,
+                Err(refused) => {
+                    self.queue.truncate(before);
+                    return Err(refused);
+                }
             }
         }
         self.cutter = cutter;

@@ -1,12 +1,20 @@
-use Rattle.std.proofs.Common.{arith}
+use Rattle.std.proofs.Common.{arith, refl}
 use Rattle.hdlc.proofs.BitPlaces.{bits_of-one}
-use Rattle.hdlc.proofs.CollectingOctets.{unstuffed_entry, kept_entry}
+use Rattle.hdlc.proofs.CollectingOctets.{entry_parts}
 use Rattle.hdlc.proofs.unstuffing.unstuffed.Goals as goal
 
 pub returns-clause-number : goal.returns-clause-number
 returns-clause-number c =
-    rw (c.unstuffed_numbers.ensures, bits_of-one c.args.octet) (unstuffed_entry c.args.ones c.args.octet c.requires (omega arith))
+    rw (c.unstuffed_entries.ensures, bits_of-one c.args.octet) (entry_parts c.args.ones c.args.octet 0 _ c.requires (omega arith) refl).0
 
 pub returns-clause-count : goal.returns-clause-count
 returns-clause-count c =
-    rw (c.kept_counts.ensures, bits_of-one c.args.octet) (kept_entry c.args.ones c.args.octet c.requires (omega arith))
+    rw (c.unstuffed_entries.ensures, bits_of-one c.args.octet) (entry_parts c.args.ones c.args.octet 0 _ c.requires (omega arith) refl).1
+
+pub returns-clause-ones : goal.returns-clause-ones
+returns-clause-ones c =
+    rw (c.unstuffed_entries.ensures, bits_of-one c.args.octet) (entry_parts c.args.ones c.args.octet 0 _ c.requires (omega arith) refl).2
+
+pub returns-clause-sixth : goal.returns-clause-sixth
+returns-clause-sixth c =
+    rw (c.unstuffed_entries.ensures, bits_of-one c.args.octet) (entry_parts c.args.ones c.args.octet 0 _ c.requires (omega arith) refl).3

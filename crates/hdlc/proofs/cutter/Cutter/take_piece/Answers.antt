@@ -1,5 +1,8 @@
+use Rattle.std.proofs.Common.{arith}
+use Rattle.hdlc.proofs.BitPlaces.{octets-all}
 use Rattle.hdlc.proofs.cutter.Cutter.take_piece.Goals as goal
 
-pub returns-clause-taken : goal.returns-clause-taken
-returns-clause-taken c e counts queue bits handed old =
-    c.take_unless_flags.ensures.taken e counts queue bits handed (rw (c.take_one.ensures.left c.if-take_one.false) old)
+pub returns-then-repeated_front-piece-clause-taken : goal.returns-then-repeated_front-piece-clause-taken
+returns-then-repeated_front-piece-clause-taken c e counts queue bits handed old =
+    rw (← octets-all bits c.args.piece.now c.repeated_front.result (omega arith))
+    (c.repeated_front.ensures.same counts queue bits handed old)

@@ -1,12 +1,12 @@
-use Rattle.std.proofs.Common.{◌≡◌, ◌++◌, ◌≤◌, [], ap, sym, refl, ◌∙◌, arith, length, take}
+use Rattle.std.proofs.Common.{◌≡◌, ◌++◌, ◌≤◌, [], ap, sym, refl, ◌∙◌, arith, length, take, drop, ◌-◌, ℕ, List}
 use Rattle.raster.specs.Packed.{bits_of}
 use Rattle.raster.specs.declared.packed.Order.TheVariants.{LsbFirst}
 use Rattle.hdlc.specs.Contents.{contents_of}
-use Rattle.std.proofs.lemmas.List.{append-nil}
+use Rattle.std.proofs.lemmas.List.{append-nil, take_all, length-drop}
 use Rattle.hdlc.specs.DeframerParts.{kept_in}
 use Rattle.hdlc.proofs.KeptLemmas.{parts_seen, parts_inside}
 use Rattle.hdlc.proofs.DeframerPartsLemmas.{grows_twice, grows_cut, state_same}
-use Rattle.hdlc.proofs.BitPlaces.{octets-none, octets-next, octets-all}
+use Rattle.hdlc.proofs.BitPlaces.{octets-none, octets-more, octets-all}
 use Rattle.hdlc.proofs.deframer.Deframer.take_all.Goals as goal
 
 pub returns-in-Err-clause-err : goal.returns-in-Err-clause-err
@@ -14,11 +14,12 @@ returns-in-Err-clause-err c =
     let kept : c.truncate.new.self.items ≡ c.self.inside.queue.items =
     c.truncate.ensures.items
     ∙ grows_cut c.self.inside.queue.items _ c.len-before.result
-    (grows_twice _ _ _ c.loop-octet.invariant.keeps c.take_octet.ensures.keeps) (omega (arith, c.self.inside.queue.ok)) in
-    state_same _ _ (ap kept_in c.loop-octet.invariant.cutter) c.loop-octet.invariant.counts (ap contents_of kept) ∙ c.self.view_is
+    (grows_twice _ _ _ c.loop-at.invariant.keeps c.take_octets.ensures.keeps) (omega (arith, c.self.inside.queue.ok)) in
+    state_same _ _ (ap kept_in c.loop-at.invariant.cutter) c.loop-at.invariant.counts (ap contents_of kept) ∙ c.self.view_is
 
-pub loop-octet-init : goal.loop-octet-init
-loop-octet-init c = record {
+pub loop-at-init : goal.loop-at-init
+loop-at-init c = record {
+  within = omega arith;
   taken = λ bits handed old.
       rw (octets-none bits, c.copy-cutter.ensures)
       (parts_inside c.self.inside.cutter c.self.inside.counts
@@ -30,17 +31,23 @@ loop-octet-init c = record {
 
 pub returns-clause-ok : goal.returns-clause-ok
 returns-clause-ok c bits handed old =
-    let past : length c.args.piece.now ≤ c.loop-octet.octet-index = omega arith in
-    rw (← octets-all bits c.args.piece.now c.loop-octet.octet-index past)
-    (parts_seen c.loop-octet.cutter c.loop-octet.counts _ _ handed (c.loop-octet.invariant.taken bits handed old))
+    let past : length c.args.piece.now ≤ c.loop-at.at = omega arith in
+    rw (← octets-all bits c.args.piece.now c.loop-at.at past)
+    (parts_seen c.loop-at.cutter c.loop-at.counts _ _ handed (c.loop-at.invariant.taken bits handed old))
 
-pub loop-octet-preserved : goal.loop-octet-preserved
-loop-octet-preserved c = record {
-  taken = λ bits handed old.
-      rw (octets-next bits c.args.piece.now c.loop-octet.octet-index 0 (omega arith))
-      (c.in_default.ensures.ok (bits ++ bits_of LsbFirst (take c.loop-octet.octet-index c.args.piece.now)) handed
-      (c.loop-octet.invariant.taken bits handed old));
-  keeps = grows_twice _ _ _ c.loop-octet.invariant.keeps c.take_octet.ensures.keeps;
-  cutter = c.loop-octet.invariant.cutter;
-  counts = c.loop-octet.invariant.counts;
-}
+pub loop-at-preserved : goal.loop-at-preserved
+loop-at-preserved c =
+    let piece : List ℕ = c.args.piece.now in
+    let at : ℕ = c.loop-at.at in
+    let rest : take (length piece - at) (drop at piece) ≡ drop at piece = take_all (length piece - at) (drop at piece) (rw length-drop (omega
+    arith)) in
+    record {
+      within = omega (arith, c.in-Ok.ensures.most);
+      taken = λ bits handed old.
+          rw (octets-more bits piece at c.in-Ok.count, ← rest)
+          (c.in-Ok.ensures.ok (bits ++ bits_of LsbFirst (take c.loop-at.at c.args.piece.now)) handed
+          (c.loop-at.invariant.taken bits handed old));
+      keeps = grows_twice _ _ _ c.loop-at.invariant.keeps c.take_octets.ensures.keeps;
+      cutter = c.loop-at.invariant.cutter;
+      counts = c.loop-at.invariant.counts;
+    }

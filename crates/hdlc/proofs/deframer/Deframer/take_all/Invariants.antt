@@ -1,4 +1,4 @@
-use Rattle.std.proofs.Common.{◌≡◌, ◌++◌, ℕ, List, Bool, take}
+use Rattle.std.proofs.Common.{◌≡◌, ◌≤◌, ◌-◌, ◌++◌, ℕ, List, Bool, take, length}
 use Rattle.raster.specs.Packed.{bits_of}
 use Rattle.raster.specs.declared.packed.Order.TheVariants.{LsbFirst}
 use Rattle.hdlc.specs.Contents.{contents_of}
@@ -6,11 +6,15 @@ use Rattle.hdlc.specs.DeframerState.{IsAfter}
 use Rattle.hdlc.specs.DeframerParts.{PartsAfter, Grows}
 use Rattle.hdlc.proofs.deframer.Deframer.take_all.Given as goal
 
-abbrev pub invariant-loop-octet : goal.invariant-loop-octet
-invariant-loop-octet l = record {
+abbrev pub invariant-loop-at : goal.invariant-loop-at
+invariant-loop-at l = record {
+  within : l.at ≤ length l.piece;
   taken : (bits : List Bool) (handed : ℕ) → IsAfter l.fn.self bits handed
-      → PartsAfter l.cutter l.counts (contents_of l.self-inside.queue.items) (bits ++ bits_of LsbFirst (take l.octet-index l.piece)) handed;
+      → PartsAfter l.cutter l.counts (contents_of l.self-inside.queue.items) (bits ++ bits_of LsbFirst (take l.at l.piece)) handed;
   keeps : Grows l.initial.self-inside.queue.items l.self-inside.queue.items;
   cutter : l.self-inside.cutter ≡ l.initial.self-inside.cutter;
   counts : l.self-inside.counts ≡ l.initial.self-inside.counts;
 }
+
+abbrev pub decreases-loop-at : goal.decreases-loop-at
+decreases-loop-at l = length l.piece - l.at
