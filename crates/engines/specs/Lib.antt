@@ -1,5 +1,6 @@
 -- The definitions of the engines.
 pub mod Faults
+pub mod Explanations
 pub mod CodedPages
 pub mod Texts
 pub mod Frames

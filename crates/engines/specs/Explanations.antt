@@ -1,0 +1,137 @@
+-- What fault lines mean, in words.
+use Rattle.std.specs.Prelude.{ℕ, ◌≡◌, ◌++◌, ◌∷◌, [], Bool, true, List, Option, Some, None, codes, cond, if◌then◌else◌, nat_le, ◌==◌, ◌+◌, length}
+use Rattle.std.specs.Fmt.{decimal}
+use Rattle.std.specs.List.{list_all}
+use Rattle.std.specs.declared.io.ErrorKind.{ErrorKind}
+use Rattle.std.specs.declared.io.ErrorKind.TheVariants as kind
+use Rattle.raster.specs.declared.row.Color.{Color}
+use Rattle.raster.specs.declared.row.Color.TheVariants.{White, Black}
+use Rattle.page_code.specs.RowsSoFar.{AreWholeRows}
+use Rattle.page_code.specs.declared.Coding.{Coding}
+use Rattle.run_tables.specs.CodeReading.{RefusesRun}
+use Rattle.run_tables.specs.declared.fault.CodeFault.{CodeFault}
+use Rattle.engines.specs.declared.explain.Known.{Known}
+use Rattle.engines.specs.declared.fault.ToolFault.{ToolFault}
+use Rattle.engines.specs.declared.fault.ToolFault.TheVariants.{No, AtBit, AtLine}
+
+-- an octet is no control character below the space
+abbrev pub is_shown : ℕ → Bool
+is_shown octet = nat_le 32 octet
+
+-- the text has no control character below the space, LF among them
+abbrev pub IsOneLine : List ℕ → Type 0
+IsOneLine text = list_all is_shown text ≡ true
+
+-- the name of a file, where it is one line
+abbrev pub name_text : List ℕ → List ℕ
+name_text name = cond (list_all is_shown name) name (codes "a file")
+
+-- the words of a number in a table, or others
+abbrev pub words_in : List (ℕ × List ℕ) → List ℕ → ℕ → List ℕ
+words_in [] others number = others
+words_in (row ∷ rows) others number = if number == row.0 then row.1 else words_in rows others number
+
+-- the words of the faults of images, and of what is done with them, by their numbers
+abbrev pub image_table : List (ℕ × List ℕ)
+image_table = (1, codes "the width isn't 1 to 2432 pixels")
+    ∷ (2, codes "a row isn't as wide as its page")
+    ∷ (3, codes "the image has more than 20000 rows")
+    ∷ (4, codes "the image has no row")
+    ∷ (6, codes "the image is cut short: it has fewer octets than its width and height say")
+    ∷ (7, codes "there is no image: it has no octet")
+    ∷ (9, codes "memory was refused: try it with less input or more memory")
+    ∷ (26, codes "a page has a width that no call carries: 1728, 2048 or 2432 pixels")
+    ∷ (27, codes "several images: code takes one") ∷ []
+
+-- the words of a fault of images
+abbrev pub image_words : ℕ → List ℕ
+image_words number = words_in image_table (codes "it can't be used") number
+
+-- Netpbm's formats, by the digit after P
+abbrev pub netpbm_table : List (ℕ × List ℕ)
+netpbm_table = (49, codes "a plain PBM (P1): faxtool reads raw ones (P4)")
+    ∷ (50, codes "a plain PGM (P2): faxtool reads raw PBM (P4)")
+    ∷ (51, codes "a plain PPM (P3): faxtool reads raw PBM (P4)")
+    ∷ (52, codes "a header is wrong: after P4 come the width and the height, and after an image the next P4 or the end")
+    ∷ (53, codes "a raw PGM (P5): faxtool reads raw PBM (P4)")
+    ∷ (54, codes "a raw PPM (P6): faxtool reads raw PBM (P4)")
+    ∷ (55, codes "a PAM (P7): faxtool reads raw PBM (P4)") ∷ []
+
+-- a TIFF begins with II or MM
+abbrev pub tiff_table : ℕ → List (ℕ × List ℕ)
+tiff_table letter = (letter, codes "perhaps a TIFF: faxtool reads raw PBM (P4)") ∷ []
+
+-- why octets are no raw PBM, by the first two of them
+abbrev pub no_raw_pbm : List ℕ → List ℕ
+no_raw_pbm (first ∷ second ∷ rest) = if first == 80 then words_in netpbm_table (codes "no raw PBM: it doesn't begin with P4") second
+    else if first == 73 then words_in (tiff_table 73) (codes "no raw PBM: it doesn't begin with P4") second
+    else if first == 77 then words_in (tiff_table 77) (codes "no raw PBM: it doesn't begin with P4") second
+    else codes "no raw PBM: it doesn't begin with P4"
+no_raw_pbm octets = codes "no raw PBM: it doesn't begin with P4"
+
+-- why the system refuses a file
+abbrev pub reason_words : Option ErrorKind → List ℕ
+reason_words (Some kind.NotFound) = codes "no such file or folder"
+reason_words (Some kind.PermissionDenied) = codes "permission denied"
+reason_words (Some kind.IsADirectory) = codes "it is a folder"
+reason_words (Some kind.NotADirectory) = codes "a part of its path is no folder"
+reason_words (Some kind.StorageFull) = codes "no space left on the device"
+reason_words (Some kind.QuotaExceeded) = codes "the quota is used up"
+reason_words (Some kind.FileTooLarge) = codes "it would be larger than a file may be"
+reason_words (Some kind.ReadOnlyFilesystem) = codes "the file system is read-only"
+reason_words (Some kind.BrokenPipe) = codes "what reads the pipe has closed it"
+reason_words (Some kind.InvalidFilename) = codes "the name is too long"
+reason_words (Some kind.FilesystemLoop) = codes "its links lead in a circle"
+reason_words (Some kind.ExecutableFileBusy) = codes "it is a program that is running"
+reason_words reason = codes "it can't be read or written"
+
+-- what is wrong with a file as a whole, or with the system
+abbrev pub whole_words : ℕ → Known → List ℕ
+whole_words number known = if number == 5 then no_raw_pbm known.begins.now
+    else if number == 8 then reason_words known.reason else image_words number
+
+-- what was expected where no code word begins: that of a run of the color, or any code
+abbrev pub missing_code : Option Color → List ℕ
+missing_code (Some White) = codes "no code word of a white run begins here"
+missing_code (Some Black) = codes "no code word of a black run begins here"
+missing_code None = codes "no code begins here that may come"
+
+-- what was refused of a coded page, by the fault's number
+abbrev pub code_table : Option Color → List (ℕ × List ℕ)
+code_table color = (4, codes "the page ends before its first row")
+    ∷ (10, missing_code color)
+    ∷ (11, codes "the file ends inside a code or before the next one: it is cut short")
+    ∷ (12, codes "this run goes past the row's width: is --width right?")
+    ∷ (13, codes "this vertical mode doesn't move to the right")
+    ∷ (14, codes "this mode or run goes past the row's width: is --width right?")
+    ∷ (15, codes "a horizontal mode of two runs of 0 pixels")
+    ∷ (16, codes "an extension code, as of uncompressed mode, which faxtool doesn't read")
+    ∷ (17, codes "the page's end (EOFB) is missing: the file is cut short")
+    ∷ (18, codes "one row more than 20000, the most that a page has") ∷ []
+
+-- the words of a fault of a coded page
+abbrev pub code_words : ℕ → Option Color → List ℕ
+code_words number color = words_in (code_table color) (codes "no page can go on here") number
+
+-- the row, counted from 1, where it is known
+abbrev pub row_text : Option ℕ → List ℕ
+row_text (Some row) = codes "row " ++ (decimal row ++ codes ": ")
+row_text None = []
+
+-- a fault in words: the file, the place in it, and what is wrong there
+abbrev pub explained : ToolFault → Known → List ℕ
+explained (No number) known = name_text known.file.now ++ (codes ": " ++ whole_words number known)
+explained (AtBit number place) known =
+    name_text known.file.now ++ (codes ": " ++ (row_text known.row ++ code_words number known.color))
+explained (AtLine number) known = name_text known.file.now
+    ++ (codes ": line " ++ (decimal number ++ codes ": no command of a script, or no count that it takes"))
+
+-- the row after all whole rows of the bits, counted from 1
+abbrev pub IsRefusedRow : Coding → ℕ → List Bool → ℕ → Type 0
+IsRefusedRow coding width bits row =
+    (rows : List (List Color)) × AreWholeRows coding width bits rows × (row ≡ length rows + 1)
+
+-- from some bit on, the bits are refused as no run of the color, at the place
+abbrev pub IsRefusedRun : List Bool → ℕ → Color → Type 0
+IsRefusedRun bits place color = (start : ℕ) × (fault : CodeFault) × (fault.place ≡ place)
+    × RefusesRun color (record { bits = bits; place = start }) fault

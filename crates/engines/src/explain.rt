@@ -1,0 +1,232 @@
+//! What a fault line means, in words: which file, where in it, and what is wrong there.
+
+ghost use Rattle.engines.specs.Explanations.{IsOneLine, code_words, explained, image_words, is_shown, missing_code, no_raw_pbm};
+ghost use Rattle.engines.specs.Explanations.{reason_words, whole_words};
+ghost use Rattle.std.specs.List.{list_all};
+ghost use Rattle.std.specs.Prelude.{◌≡◌, None, []};
+
+use crate::fault::ToolFault;
+use raster::Color;
+use run_tables::{BitReader, Order};
+use std::fmt;
+use std::io::ErrorKind;
+
+/// What is known of a fault beside the fault line.
+#[derive(Clone, Copy, Debug, PartialEq, Eq)]
+pub struct Known<'a> {
+    /// The name of the file that the fault is about.
+    pub file: &'a str,
+    /// Why the system refused to read or to write it, where it did.
+    pub reason: Option<ErrorKind>,
+    /// The first octets of the file, where it is an image.
+    pub begins: &'a [u8],
+    /// The row of a coded page in which the refused bit lies, counted from 1.
+    pub row: Option<usize>,
+    /// The color of the run whose code word was expected at the refused bit.
+    pub color: Option<Color>,
+}
+
+impl<'a> Known<'a> {
+    /// No more is known than the file's name.
+    pub fn file(file: &'a str) -> Known<'a>
+        ensures known { result ≡ record { file = file.entry; reason = None; begins = result.begins; row = None; color = None } }
+        ensures begins { result.begins.now ≡ [] }
+    {
+        Known {
+            file,
+            reason: None,
+            begins: &[],
+            row: None,
+            color: None,
+        }
+    }
+}
+
+/// A fault in words.
+#[derive(Clone, Copy, Debug, PartialEq, Eq)]
+pub struct Explained<'a> {
+    /// The fault.
+    pub fault: ToolFault,
+    /// What is known of it.
+    pub known: Known<'a>,
+}
+
+impl<'a> Explained<'a> {
+    /// A fault in words: one line, with no LF and no other control character, that depends on the fault and on
+    /// what is known of it alone.
+    pub fn new(fault: ToolFault, known: Known<'a>) -> Explained<'a>
+        ensures what { result ≡ record { fault = fault; known = known.entry } }
+        ensures line { IsOneLine (explained fault known.entry) }
+    {
+        Explained { fault, known }
+    }
+}
+
+impl fmt::Display for Explained<'_> {
+    ghost use Rattle.std.specs.Prelude.{Some};
+    ghost use Rattle.engines.specs.Explanations.{explained};
+
+    ghost output = { λ told. Some (explained told.fault told.known) };
+
+    fn fmt<W: fmt::Write>(&self, f: &mut fmt::Formatter<W>) -> fmt::Result {
+        let name = NameText(self.known.file);
+        match self.fault {
+            ToolFault::No(no) => write!(f, "{name}: {}", whole_words(no, self.known)),
+            ToolFault::AtBit { no, place: _ } => write!(
+                f,
+                "{name}: {}{}",
+                RowText(self.known.row),
+                code_words(no, self.known.color),
+            ),
+            ToolFault::AtLine(line) => {
+                write!(
+                    f,
+                    "{name}: line {line}: no command of a script, or no count that it takes"
+                )
+            }
+        }
+    }
+}
+
+/// The name of a file, where it has no control character.
+#[derive(Clone, Copy, Drop)]
+struct NameText<'a>(&'a str);
+
+impl fmt::Display for NameText<'_> {
+    ghost use Rattle.std.specs.Prelude.{Some};
+    ghost use Rattle.engines.specs.Explanations.{name_text};
+
+    ghost output = { λ text. Some (name_text text.0.now) };
+
+    fn fmt<W: fmt::Write>(&self, f: &mut fmt::Formatter<W>) -> fmt::Result {
+        if is_shown(self.0.as_bytes()) {
+            write!(f, "{}", self.0)
+        } else {
+            write!(f, "a file")
+        }
+    }
+}
+
+/// Whether octets have no control character of ASCII below the space.
+fn is_shown(octets: &[u8]) -> bool
+    ensures { result ≡ list_all is_shown octets.now }
+{
+    octets.iter().all(|octet| *octet >= 32)
+}
+
+/// The row in which a coded page is refused.
+#[derive(Clone, Copy, Drop)]
+struct RowText(Option<usize>);
+
+impl fmt::Display for RowText {
+    ghost use Rattle.std.specs.Prelude.{Some};
+    ghost use Rattle.engines.specs.Explanations.{row_text};
+
+    ghost output = { λ text. Some (row_text text.0) };
+
+    fn fmt<W: fmt::Write>(&self, f: &mut fmt::Formatter<W>) -> fmt::Result {
+        match self.0 {
+            Some(row) => write!(f, "row {row}: "),
+            None => write!(f, ""),
+        }
+    }
+}
+
+/// What is wrong with a file as a whole, or with the system.
+fn whole_words(no: u8, known: Known<'_>) -> &'static str
+    ensures { result.now ≡ whole_words no known.entry }
+{
+    match no {
+        5 => no_raw_pbm(known.begins),
+        8 => reason_words(known.reason),
+        _ => image_words(no),
+    }
+}
+
+/// What is wrong with images, or with what is done with them.
+fn image_words(no: u8) -> &'static str
+    ensures { result.now ≡ image_words no }
+{
+    match no {
+        1 => "the width isn't 1 to 2432 pixels",
+        2 => "a row isn't as wide as its page",
+        3 => "the image has more than 20000 rows",
+        4 => "the image has no row",
+        6 => "the image is cut short: it has fewer octets than its width and height say",
+        7 => "there is no image: it has no octet",
+        9 => "memory was refused: try it with less input or more memory",
+        26 => "a page has a width that no call carries: 1728, 2048 or 2432 pixels",
+        27 => "several images: code takes one",
+        _ => "it can't be used",
+    }
+}
+
+/// Why the octets of a file, of which these are the first ones, are no raw PBM.
+fn no_raw_pbm(begins: &[u8]) -> &'static str
+    ensures { result.now ≡ no_raw_pbm begins.now }
+{
+    match begins {
+        [80, 49, ..] => "a plain PBM (P1): faxtool reads raw ones (P4)",
+        [80, 50, ..] => "a plain PGM (P2): faxtool reads raw PBM (P4)",
+        [80, 51, ..] => "a plain PPM (P3): faxtool reads raw PBM (P4)",
+        [80, 52, ..] => {
+            "a header is wrong: after P4 come the width and the height, and after an image the next P4 or the end"
+        }
+        [80, 53, ..] => "a raw PGM (P5): faxtool reads raw PBM (P4)",
+        [80, 54, ..] => "a raw PPM (P6): faxtool reads raw PBM (P4)",
+        [80, 55, ..] => "a PAM (P7): faxtool reads raw PBM (P4)",
+        [73, 73, ..] | [77, 77, ..] => "perhaps a TIFF: faxtool reads raw PBM (P4)",
+        _ => "no raw PBM: it doesn't begin with P4",
+    }
+}
+
+/// Why the system refuses a file.
+fn reason_words(reason: Option<ErrorKind>) -> &'static str
+    ensures { result.now ≡ reason_words reason }
+{
+    match reason {
+        Some(ErrorKind::NotFound) => "no such file or folder",
+        Some(ErrorKind::PermissionDenied) => "permission denied",
+        Some(ErrorKind::IsADirectory) => "it is a folder",
+        Some(ErrorKind::NotADirectory) => "a part of its path is no folder",
+        Some(ErrorKind::StorageFull) => "no space left on the device",
+        Some(ErrorKind::QuotaExceeded) => "the quota is used up",
+        Some(ErrorKind::FileTooLarge) => "it would be larger than a file may be",
+        Some(ErrorKind::ReadOnlyFilesystem) => "the file system is read-only",
+        Some(ErrorKind::BrokenPipe) => "what reads the pipe has closed it",
+        Some(ErrorKind::InvalidFilename) => "the name is too long",
+        Some(ErrorKind::FilesystemLoop) => "its links lead in a circle",
+        Some(ErrorKind::ExecutableFileBusy) => "it is a program that is running",
+        _ => "it can't be read or written",
+    }
+}
+
+/// What was refused of a coded page.
+fn code_words(no: u8, color: Option<Color>) -> &'static str
+    ensures { result.now ≡ code_words no color }
+{
+    match no {
+        4 => "the page ends before its first row",
+        10 => missing_code(color),
+        11 => "the file ends inside a code or before the next one: it is cut short",
+        12 => "this run goes past the row's width: is --width right?",
+        13 => "this vertical mode doesn't move to the right",
+        14 => "this mode or run goes past the row's width: is --width right?",
+        15 => "a horizontal mode of two runs of 0 pixels",
+        16 => "an extension code, as of uncompressed mode, which faxtool doesn't read",
+        17 => "the page's end (EOFB) is missing: the file is cut short",
+        18 => "one row more than 20000, the most that a page has",
+        _ => "no page can go on here",
+    }
+}
+
+/// What was expected where no code word begins.
+fn missing_code(color: Option<Color>) -> &'static str
+    ensures { result.now ≡ missing_code color }
+{
+    match color {
+        Some(Color::White) => "no code word of a white run begins here",
+        Some(Color::Black) => "no code word of a black run begins here",
+        None => "no code begins here that may come",
+    }
+}
