@@ -1,4 +1,4 @@
-use Rattle.std.proofs.Common.{◌∙◌, ap, sym}
+use Rattle.std.proofs.Common.{◌∙◌, ap}
 use Rattle.raster.specs.Packed.{bits_of}
 use Rattle.page_code.specs.declared.page.Progress.{Progress}
 use Rattle.page_code.proofs.PageReaders.{read_none, salvaged}
