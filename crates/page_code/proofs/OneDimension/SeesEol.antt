@@ -1,12 +1,17 @@
 -- Reading an EOL, bit by bit.
 use Rattle.std.proofs.Common.{◌⊎◌, inl, inr, subst, ℕ, suc, ◌≡◌, ◌+◌, ◌-◌, ◌*◌, ◌<◌, ◌≤◌, Bool, true, false, List, ◌∷◌, length, drop, Some}
-use Rattle.std.proofs.Common.{None, refl, ap, sym, ◌∙◌, arith, drop-drop}
+use Rattle.std.proofs.Common.{None, refl, ap, sym, ◌∙◌, arith, drop-drop, ◌++◌, length-append}
 use Rattle.std.specs.Prelude.{Option}
 use Rattle.std.specs.Option.{option_map}
 use Rattle.std.proofs.lemmas.List.{drop_more, drop_all, length-drop}
 use Rattle.std.proofs.lemmas.Option.{get_or_from_slice_get}
 use Rattle.raster.specs.declared.packed.Order.{Order}
 use Rattle.raster.specs.Packed.{bit_in, bits_of}
+use Rattle.raster.specs.Words.{number_bits}
+use Rattle.run_tables.specs.Texts.{begins}
+use Rattle.run_tables.proofs.BeginsLemmas.{begins_split}
+use Rattle.page_code.specs.OneDimension.Pages.{eol_word}
+use Rattle.page_code.proofs.OneDimension.ZerosBefore.{zeros_eol}
 use Rattle.raster.proofs.PackedLemmas.{length-bits_in, slice_get-bits_in}
 use Rattle.page_code.specs.OneDimension.Fronts.{zeros_before, bits_of_eols, bits_of_five, CodeBegins}
 use Rattle.page_code.specs.OneDimension.Reading.{SeesEol}
@@ -103,3 +108,15 @@ eol_counted order octets all after counter bits few within sees before =
 pub eols_end : (most : ℕ) (x : List Bool) (eol : Eol) → SeesEol x eol → (eol ≡ Absent) ⊎ (eol ≡ OnlyZeros) → counted most x ≡ 0
 eols_end most x eol sees (inl e) = counted_other most x (subst (λ (seen : Eol). SeesEol x seen) e sees)
 eols_end most x eol sees (inr e) = counted_none most x (subst (λ (seen : Eol). SeesEol x seen) e sees)
+
+-- an EOL with no 0 bits before it is there
+pub eol_begun : (x : List Bool) → begins (number_bits 12 1) x ≡ true → SeesEol x (Present 12)
+eol_begun x e =
+    let split : x ≡ eol_word 11 ++ drop 12 x = begins_split (eol_word 11) x e in
+    let word : length (eol_word 11) ≡ 12 = refl in (
+      11,
+      ap zeros_before split ∙ zeros_eol 11 (drop 12 x),
+      omega arith,
+      refl,
+      omega (arith, ap length split, length-append (eol_word 11) (drop 12 x), word),
+    )

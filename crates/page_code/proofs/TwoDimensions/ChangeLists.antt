@@ -1,11 +1,18 @@
 -- A row's changing elements as a list: the next one from a place.
-use Rattle.std.proofs.Common.{ℕ, ◌≡◌, ◌-◌, ◌<◌, ◌≤◌, inl, inr, List, length, arith}
+use Rattle.std.proofs.Common.{ℕ, zero, suc, ◌≡◌, ◌≢◌, ◌+◌, ◌-◌, ◌%◌, ◌<◌, ◌≤◌, inl, inr, List, length, arith, refl, sym, ap, ◌∙◌}
 use Rattle.std.specs.Prelude.{slice_index_or}
-use Rattle.std.proofs.lemmas.Bool.{cases_lt}
+use Rattle.std.proofs.lemmas.Bool.{cases_lt, cases_eq}
 use Rattle.std.proofs.lemmas.List.{get_or_default, get_or_past}
 use Rattle.raster.specs.declared.row.Color.{Color}
-use Rattle.raster.specs.Changes.{AreChanges, IsNextChange}
-use Rattle.page_code.specs.TwoDimensions.Changes.{IsFirstFrom}
+use Rattle.raster.specs.declared.row.Color.TheVariants.{White, Black}
+use Rattle.raster.specs.Changes.{color_at, color_before, AreChanges, IsNextChange}
+use Rattle.raster.specs.Pixels.{other}
+use Rattle.raster.proofs.RowLemmas.{other_from_ne}
+use Rattle.run_tables.proofs.RowWriting.{change_after, first_change}
+use Rattle.page_code.proofs.TwoDimensions.Prescribed.{before_next, before_to}
+use Rattle.page_code.specs.TwoDimensions.Changes.{IsFirstFrom, IsIndexOf, turned}
+use Rattle.page_code.specs.TwoDimensions.Positions.{IsFirstTo}
+use Rattle.page_code.proofs.TwoDimensions.WritesMode.{first_to_next}
 
 -- in a list in rising order, what is after another index isn't less
 not_less : (row : List Color) (places : List ℕ) (i j : ℕ) → AreChanges row places → i ≤ j → j < length places
@@ -53,3 +60,120 @@ change_at row places from at place all index is = record {
             get_or_default places at (length row) 0 (omega (arith, there.1)),
           )
         ]
+
+-- ---- colors alternate
+
+-- the first changing element is black
+first_black : (row : List Color) (places : List ℕ) → AreChanges row places → 0 < length places → color_at row (slice_index_or places 0 0)
+    ≡ Black
+first_black row places all some =
+    let place : ℕ = slice_index_or places 0 0 in
+    let next : IsNextChange row 0 place = first_change row places place all (sym (get_or_default places 0 (length row) 0 some)) in
+    let before : color_before row place ≡ White = before_to row 0 place White next.bound next.least refl (omega arith) in
+    other_from_ne (color_at row place) White (λ e. (all.changing 0 some).1 (e ∙ sym before))
+
+-- the next one is of the other color
+next_other : (row : List Color) (places : List ℕ) (index : ℕ) → AreChanges row places → index + 1 < length places
+    → color_at row (slice_index_or places (index + 1) 0) ≡ other (color_at row (slice_index_or places index 0))
+next_other row places index all h =
+    let at : ℕ = slice_index_or places index 0 in
+    let place : ℕ = slice_index_or places (index + 1) 0 in
+    let here : index < length places = omega arith in
+    let back : index + 1 - 1 ≡ index = omega arith in
+    let next : IsNextChange row (at + 1) place = change_after row places (index + 1) at place all (omega arith)
+    (sym (get_or_default places index (length row) 0 here) ∙ ap (λ (i : ℕ). slice_index_or places i (length row)) (sym back))
+    (all.changing index here).0 (sym (get_or_default places (index + 1) (length row) 0 h)) in
+    let before : color_before row place ≡ color_at row at = before_to row (at + 1) place (color_at row at)
+    next.bound next.least (before_next row at) (omega (arith, all.rising index (index + 1) (omega arith) h)) in
+    other_from_ne (color_at row place) (color_at row at) (λ e. (all.changing (index + 1) h).1 (e ∙ sym before))
+
+pub turned_at : (row : List Color) (places : List ℕ) (index : ℕ) → AreChanges row places → index < length places
+    → color_at row (slice_index_or places index 0) ≡ turned index
+turned_at row places zero all h = first_black row places all h
+turned_at row places (suc index) all h =
+    let e : index + 1 ≡ suc index = omega arith in
+    ap (λ (i : ℕ). color_at row (slice_index_or places i 0)) (sym e) ∙
+    (next_other row places index all (omega arith) ∙ ap other (turned_at row places index all (omega arith)))
+
+other-is : (a b : Color) → a ≡ other b → a ≢ b
+other-is White White e f = cc
+other-is White Black e f = cc
+other-is Black White e f = cc
+other-is Black Black e f = cc
+
+-- the first changing element of a color
+pub first_to_at : (row : List Color) (places : List ℕ) (color : Color) (from at index place : ℕ) → AreChanges row places
+    → IsFirstFrom places from at → IsIndexOf color at index → place ≡ slice_index_or places index (length row)
+    → IsFirstTo row color from place
+first_to_at row places color from at index place all first (inl here) is =
+    let there : place ≡ slice_index_or places at (length row) = is ∙ ap (λ (i : ℕ). slice_index_or places i (length row)) here.1 in
+    let next : IsNextChange row from place = change_at row places from at place all first there in
+    record {
+      bound = next.bound;
+      changing = λ h. elim (cases_lt at (length places)) [
+        | inl l ↦ (
+          (next.changing h).0,
+          (
+            (next.changing h).1,
+            ap (color_at row) (there ∙ get_or_default places at (length row) 0 l) ∙ (turned_at row places at all l ∙ here.0),
+          ),
+        )
+        | inr g ↦ absurd (omega (arith, h, there, get_or_past places at (length row) g))
+      ];
+      least = λ k low below to. next.least k low below to.0;
+    }
+first_to_at row places color from at index place all first (inr other_one) is =
+    let there : place ≡ slice_index_or places (at + 1) (length row) = is ∙ ap (λ (i : ℕ). slice_index_or places i (length row)) other_one.1
+    in
+    elim (cases_lt at (length places)) [
+      | inl l ↦
+          let passed : ℕ = slice_index_or places at 0 in
+          let back : at + 1 - 1 ≡ at = omega arith in
+          let one : IsNextChange row from passed = change_at row places from at passed all first (sym (get_or_default places at (length row) 0
+          l)) in
+          let two : IsNextChange row (passed + 1) place = change_after row places (at + 1) passed place all (omega arith)
+          (sym (get_or_default places at (length row) 0 l) ∙ ap (λ (i : ℕ). slice_index_or places i (length row)) (sym back))
+          (all.changing at l).0 there in
+          first_to_next row color from passed place one (all.changing at l).0
+          (other-is (color_at row passed) color (turned_at row places at all l ∙ other_one.0)) two
+      | inr g ↦
+          let end : place ≡ length row = there ∙ get_or_past places (at + 1) (length row) (omega arith) in
+          let next : IsNextChange row from place = change_at row places from at place all first (end ∙ sym (get_or_past places at (length
+          row) g)) in
+          record {
+            bound = next.bound;
+            changing = λ h. absurd (omega (arith, h, end));
+            least = λ k low below to. next.least k low below to.0;
+          }
+    ]
+
+-- an index of an even number is that of a black one
+turned_even : (index : ℕ) → index % 2 ≡ 0 → turned index ≡ Black
+turned_even zero e = refl
+turned_even (suc zero) e = absurd (omega arith)
+turned_even (suc (suc index)) e = twice (turned index) ∙ turned_even index (omega arith)
+  where
+    twice : (color : Color) → other (other color) ≡ color
+    twice White = refl
+    twice Black = refl
+
+turned_odd : (index : ℕ) → index % 2 ≢ 0 → turned index ≡ White
+turned_odd zero ne = absurd (ne refl)
+turned_odd (suc zero) ne = refl
+turned_odd (suc (suc index)) ne = twice (turned index) ∙ turned_odd index (λ e. ne (omega arith))
+  where
+    twice : (color : Color) → other (other color) ≡ color
+    twice White = refl
+    twice Black = refl
+
+pub index_of_black : (at : ℕ) → IsIndexOf Black at (at + at % 2)
+index_of_black at = elim (cases_eq (at % 2) 0) [
+  | inl e ↦ inl (turned_even at e, omega arith)
+  | inr ne ↦ inr (turned_odd at ne, omega arith)
+]
+
+pub index_of_white : (at : ℕ) → IsIndexOf White at (at + (at + 1) % 2)
+index_of_white at = elim (cases_eq (at % 2) 0) [
+  | inl e ↦ inr (turned_even at e, omega arith)
+  | inr ne ↦ inl (turned_odd at ne, omega arith)
+]

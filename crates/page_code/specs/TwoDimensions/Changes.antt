@@ -1,5 +1,8 @@
 -- Places in rising order, such as those of a row's changing elements, and the first of them from a place on (ITU-T T.6, 2.2.1).
-use Rattle.std.specs.Prelude.{ℕ, ◌-◌, ◌<◌, ◌≤◌, List, length, slice_index_or}
+use Rattle.std.specs.Prelude.{ℕ, zero, suc, ◌≡◌, ◌+◌, ◌-◌, ◌<◌, ◌≤◌, ◌⊎◌, List, length, slice_index_or}
+use Rattle.raster.specs.declared.row.Color.{Color}
+use Rattle.raster.specs.declared.row.Color.TheVariants.{Black}
+use Rattle.raster.specs.Pixels.{other}
 
 -- of places in rising order, the one before an index is to the left of a place
 abbrev pub IsLeftBefore : List ℕ → ℕ → ℕ → Type 0
@@ -10,3 +13,12 @@ pub record IsFirstFrom (places : List ℕ) (from at : ℕ) : Type 0 where
   pub within : at ≤ length places
   pub left : IsLeftBefore places from at
   pub reached : at < length places → from ≤ slice_index_or places at 0
+
+-- the color of a row's changing element at an index: they alternate, black first, since a row begins after white
+abbrev pub turned : ℕ → Color
+turned zero = Black
+turned (suc index) = other (turned index)
+
+-- the index of the first changing element of a color, at or above an index
+abbrev pub IsIndexOf : Color → ℕ → ℕ → Type 0
+IsIndexOf color at index = ((turned at ≡ color) × (index ≡ at)) ⊎ ((turned at ≡ other color) × (index ≡ at + 1))

@@ -6,6 +6,7 @@ ghost use Rattle.raster.specs.Packed.{bits_of};
 ghost use Rattle.std.specs.Prelude.{◌≡◌, ◌≤◌, ◌<◌, ◌+◌, ◌*◌, drop, length, IfSome};
 
 use raster::packed::{Order, bit_of};
+use run_tables::BitReader;
 
 /// What is found where an end of line may come (ITU-T T.4, 4.1.2).
 #[derive(Clone, Copy, Debug, PartialEq, Eq)]
@@ -38,6 +39,9 @@ pub(crate) fn eol_at(octets: &[u8], order: Order, place: u128) -> Eol
     requires { place ≤ 8 * length octets.now }
     ensures { SeesEol (drop place (bits_of order octets.now)) result }
 {
+    if BitReader::at(octets, order, place).starts_with(1, 12) {
+        return Eol::Present(12); // with no 0 bits before it, as most are
+    }
     match zeros_from(octets, order, place) {
         None => Eol::OnlyZeros,
         Some(zeros) => {

@@ -58,21 +58,9 @@ impl A0 {
         ensures range { result ≤ max_width }
         ensures same { reference.new ≡ reference.old }
     {
-        next_change_to(reference, self.color.other(), self.right())
+        let _width = reference.width(); // tells the proof that it is at most 2,432
+        reference.next_change_to(self.color.other(), self.right())
     }
-}
-
-/// The first changing element of this color at or above a place, or the width where there is none.
-fn next_change_to(row: &mut Changes, color: Color, from: u32) -> u32
-    ensures first { IsFirstTo row.old color from result }
-    ensures range { result ≤ max_width }
-    ensures same { row.new ≡ row.old }
-{
-    let first = row.next_change(from);
-    if first >= row.width() || row.pixel(first).is(color) {
-        return first;
-    }
-    row.next_change(first + 1)
 }
 
 /// b2: the next changing element of the reference line to the right of b1, or the line's end where

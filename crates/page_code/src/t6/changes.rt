@@ -1,9 +1,10 @@
 //! The changing elements of a line as a list, in which a0 goes on (ITU-T T.6, 2.2.1).
 
-ghost use Rattle.page_code.specs.TwoDimensions.Changes.{IsFirstFrom, IsLeftBefore};
+ghost use Rattle.page_code.specs.TwoDimensions.Changes.{IsFirstFrom, IsIndexOf, IsLeftBefore};
+ghost use Rattle.page_code.specs.TwoDimensions.Positions.{IsFirstTo};
 ghost use Rattle.raster.specs.Changes.{AreChanges, IsNextChange};
 ghost use Rattle.raster.specs.Pixels.{IsWidth};
-ghost use Rattle.std.specs.Prelude.{◌≡◌, ◌≤◌, ◌<◌, IfOk, Some, length, slice_get};
+ghost use Rattle.std.specs.Prelude.{◌≡◌, ◌≤◌, ◌<◌, ◌^◌, IfOk, length};
 
 use raster::{Color, Row};
 use std::alloc::{AllocError, Global};
@@ -14,9 +15,6 @@ fn changes_of(alloc: Global, row: &Row, mut places: Vec<u32>) -> Result<Vec<u32>
     ensures { IfOk result (λ places. AreChanges row.now places.items) }
 {
     places.clear();
-    if row.next_change(0) >= row.width() {
-        return Ok(places); // a white row has none
-    }
     row.changes(alloc, &mut places)?;
     Ok(places)
 }
@@ -45,6 +43,17 @@ fn step_on(places: &[u32], from: u32, start: usize) -> usize
         at += 1;
     }
     at
+}
+
+/// The index of the first changing element of a color at or above an index: colors alternate, black first.
+fn index_of(at: usize, color: Color) -> usize
+    requires { at < 2 ^ 63 }
+    ensures { IsIndexOf color at result }
+{
+    match color {
+        Color::Black => at + at % 2,
+        Color::White => at + (at + 1) % 2,
+    }
 }
 
 /// A row, seen as its pixels. Its changing elements are listed once, and each is sought from the last
@@ -93,12 +102,19 @@ impl<'a> Changes<'a> {
         self.row.width()
     }
 
-    /// The pixel at a place.
-    pub(crate) fn pixel(&self, at: u32) -> Color
-        requires { at < length self.now }
-        ensures { slice_get self.now at ≡ Some result }
+    /// The first changing element of this color at or above a place, or the width where there is none.
+    pub(crate) fn next_change_to(&mut self, color: Color, from: u32) -> u32
+        ensures first { IsFirstTo self.old color from result }
+        ensures same { self.new ≡ self.old }
     {
-        self.row.pixel(at)
+        let back = step_back(&self.places, from, self.at);
+        let at = step_on(&self.places, from, back);
+        self.at = at;
+        let index = index_of(at, color);
+        if index >= self.places.len() {
+            return self.row.width();
+        }
+        self.places[index]
     }
 
     /// The first changing element at or above a place, or the width where there is none.
