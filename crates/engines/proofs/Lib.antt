@@ -9,3 +9,6 @@ mod CallEnds
 mod CallSteps
 mod EntryLines
 mod DecodedRows
+mod FirstImage
+mod CapturedSteps
+mod Capturing

@@ -3,6 +3,7 @@ pub mod Faults
 pub mod CodedPages
 pub mod Texts
 pub mod Frames
+pub mod Captured
 pub mod Scripts
 pub mod Transcripts
 pub mod Calls

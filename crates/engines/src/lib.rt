@@ -2,6 +2,7 @@
 #![tactic(auto)]
 
 mod call;
+mod captured;
 mod fault;
 mod frames;
 mod options;
@@ -11,6 +12,7 @@ mod texts;
 mod transcript;
 
 pub use crate::call::call_engine;
+pub use crate::captured::{Captured, captured_pages};
 pub use crate::fault::{FAILED, NO_MEMORY, ToolFault};
 pub use crate::frames::{frames_engine, list_frames};
 pub use crate::options::CallOptions;

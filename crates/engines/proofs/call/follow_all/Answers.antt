@@ -1,5 +1,5 @@
 -- What the check asks of `follow_all`.
-use Rattle.std.proofs.Common.{take, get_or, subst, sym}
+use Rattle.std.proofs.Common.{take, subst, sym}
 use Rattle.std.proofs.lemmas.List.{take_all}
 use Rattle.engines.specs.Calls.{FollowsAll}
 use Rattle.engines.proofs.CallSteps.{none_followed, one_followed}

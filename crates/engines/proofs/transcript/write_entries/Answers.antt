@@ -1,5 +1,4 @@
 -- What the check asks of `write_entries`.
-use Rattle.std.proofs.lemmas.List.{take_all}
 use Rattle.engines.proofs.EntryLines.{one_line}
 use Rattle.engines.proofs.transcript.write_entries.Goals as goal
 
