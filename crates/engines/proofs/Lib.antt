@@ -10,3 +10,6 @@ mod CallSteps
 mod EntryLines
 mod DecodedRows
 pub mod OneLine
+mod FirstImage
+mod CapturedSteps
+mod Capturing

@@ -4,6 +4,7 @@ pub mod Explanations
 pub mod CodedPages
 pub mod Texts
 pub mod Frames
+pub mod Captured
 pub mod Scripts
 pub mod Transcripts
 pub mod Calls

@@ -15,7 +15,7 @@ use std::io;
 use std::io::{Read, Write};
 
 /// How many octets are read at a time.
-const PIECE: usize = 4096;
+pub(crate) const PIECE: usize = 4096;
 
 /// Writes the line of a good frame: its number, its content in hex, of which at most so many octets are
 /// shown, and what it says.
@@ -75,7 +75,7 @@ fn write_counts<W: Write>(counts: Counts, writer: &mut W) -> Result<(), ToolFaul
 
 /// Reads octets into the front of a piece that has room, and answers how many: none at the reader's
 /// end alone. Reads again where it is interrupted.
-fn read_some<R: Read>(reader: &mut R, piece: &mut [u8]) -> Result<usize, ToolFault>
+pub(crate) fn read_some<R: Read>(reader: &mut R, piece: &mut [u8]) -> Result<usize, ToolFault>
     requires { 0 < length piece.old }
     ensures room { IfOk result (λ count. count ≤ length piece.new) }
     ensures came { IfOk result (λ count. Consumes (R.remaining reader.old) (R.remaining reader.new) (take count piece.new)) }

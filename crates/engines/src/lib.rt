@@ -2,6 +2,7 @@
 #![tactic(auto)]
 
 mod call;
+mod captured;
 mod explain;
 mod fault;
 mod frames;
@@ -13,6 +14,7 @@ mod texts;
 mod transcript;
 
 pub use crate::call::call_engine;
+pub use crate::captured::{Captured, captured_pages};
 pub use crate::explain::{Explained, Known};
 pub use crate::fault::{FAILED, NO_MEMORY, ToolFault};
 pub use crate::frames::{frames_engine, list_frames};

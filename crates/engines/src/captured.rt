@@ -1,0 +1,605 @@
+//! The pages in what is sent on a line, by its signals alone, over any reader.
+
+ghost use Rattle.engines.specs.Captured.{Takes, after_lack, at_end, captured, empty_capture, gathers, gives_up, hears, hears_all};
+ghost use Rattle.engines.specs.Captured.{hears_block, hears_fcd, hears_pps, hears_read, is_taken, is_waiting, judges, lacking, last_of};
+ghost use Rattle.engines.specs.Captured.{later_one, left_open, overlaid, page_in, takes_block, turns_from, turns_to, with_block};
+ghost use Rattle.engines.specs.Faults.{IsOutside};
+ghost use Rattle.hdlc.specs.Gaps.{good};
+ghost use Rattle.partial_page.specs.Store.{frame_of, is_missing, joined_frames, no_frames};
+ghost use Rattle.raster.specs.Packed.{bits_of};
+ghost use Rattle.raster.specs.declared.packed.Order.TheVariants.{LsbFirst};
+ghost use Rattle.signals.specs.Reading.{read_content};
+ghost use Rattle.signals.specs.Signals.{plain};
+ghost use Rattle.std.specs.Prelude.{◌≡◌, ◌↔◌, ◌+◌, ◌++◌, ◌∷◌, [], ℕ, IfErr, IfOk, IfSome, IsTrue, None, OnOk, Some, cond, false, map, nat_eq, true};
+ghost use Rattle.stations.specs.AnswererStep.{all_there, same_mark};
+
+use crate::fault::{FAILED, NO_MEMORY, ToolFault};
+use crate::frames::{PIECE, read_some};
+use hdlc::Deframer;
+use partial_page::{BlockFault, BlockStore};
+use raster::Page;
+use run_tables::{CodeFault, CodeFaultKind, Order};
+use signals::{PageEnd, Params, Signal};
+use stations::Mark;
+use std::alloc::Global;
+use std::io::Read;
+use std::marker::Model;
+
+/// What is found in the signals of a line.
+#[derive(Debug, Drop)]
+pub enum Captured {
+    /// A page.
+    Page(Page),
+    /// A page that can't be read.
+    Unread {
+        /// The mark of its last block.
+        mark: Mark,
+        /// Why it can't be read, at a bit of its code.
+        fault: CodeFault,
+    },
+    /// A frame that lacks.
+    Lacks {
+        /// The mark of its block.
+        mark: Mark,
+        /// Its number in the block.
+        frame: u8,
+    },
+    /// Blocks before this one lack.
+    Skipped(Mark),
+    /// A page, or a block of it, has no end.
+    Unended,
+    /// A block before any DCS.
+    NoDcs(Mark),
+}
+
+/// A block of which frames lack.
+#[derive(Clone, Copy, Debug, PartialEq, Eq)]
+pub(crate) struct Waiting {
+    /// The block's mark.
+    mark: Mark,
+    /// What ends with it.
+    ends: PageEnd,
+    /// The number of its last frame.
+    last: u8,
+}
+
+/// What is known while the signals of a line come.
+#[derive(Debug, Drop)]
+struct Capture {
+    alloc: Global,
+    params: Option<Params>,
+    coming: BlockStore,
+    begun: bool,
+    waiting: Option<Waiting>,
+    kept: BlockStore,
+    taken: Option<Mark>,
+    octets: Vec<u8>,
+    next: u8,
+    spoiled: bool,
+}
+
+impl Model for Capture {
+    ghost use Rattle.std.specs.Prelude.{◌≡◌, IfSome};
+    ghost use Rattle.engines.specs.Captured.{Capture as CaptureValue};
+
+    ghost Value = { CaptureValue };
+
+    ghost view = { λ c. record {
+      params = c.params;
+      coming = c.coming.frames;
+      begun = c.begun;
+      waiting = c.waiting;
+      kept = c.kept.frames;
+      taken = c.taken;
+      octets = c.octets.items;
+      next = c.next;
+      spoiled = c.spoiled;
+    } };
+
+    ghost invariant = { λ c. (c.kept.small ≡ c.coming.small) × IfSome c.params (λ params. c.coming.small ≡ params.small) };
+}
+
+/// Whether two marks are the same.
+fn is_same(mark: Mark, other: Mark) -> bool
+    ensures { result ≡ same_mark mark other }
+{
+    mark.page == other.page && mark.block == other.block
+}
+
+/// Appends what is found.
+fn tell(out: &mut Vec<Captured>, found: Captured) -> Result<(), ToolFault>
+    ensures told { OnOk result (out.new.items ≡ out.old.items ++ found ∷ []) }
+    ensures fault { IfErr result IsOutside }
+{
+    match out.push(found) {
+        Ok(()) => Ok(()),
+        Err(_) => Err(NO_MEMORY),
+    }
+}
+
+/// Whether memory was refused.
+fn is_memory(kind: CodeFaultKind) -> bool
+    ensures { IsTrue result ↔ (kind ≡ CodeFaultKind.NoMemory) }
+{
+    kind == CodeFaultKind::NoMemory
+}
+
+/// The page that octets are, by the DCS.
+fn read_page(
+    alloc: Global,
+    params: Params,
+    mark: Mark,
+    octets: &[u8],
+) -> Result<Captured, ToolFault>
+    ensures found { IfOk result (λ found. found ≡ page_in params mark octets.now) }
+    ensures fault { IfErr result IsOutside }
+{
+    let width = params.width.pixels();
+    match params
+        .coding
+        .decode(alloc, octets, Order::LsbFirst, width, params.fine)
+    {
+        Ok((page, _used)) => Ok(Captured::Page(page)),
+        Err(fault) => {
+            if is_memory(fault.kind) {
+                return Err(NO_MEMORY);
+            }
+            Ok(Captured::Unread { mark, fault })
+        }
+    }
+}
+
+/// Puts the later frame of a number over the one that is there, where there is a later one.
+fn overlay_one(frames: &mut BlockStore, later: &BlockStore, number: u8) -> Result<(), ToolFault>
+    requires { frames.old.small ≡ later.now.small }
+    ensures small { frames.new.small ≡ frames.old.small }
+    ensures one { OnOk result ((k : ℕ) → frame_of frames.new.frames k
+        ≡ cond (nat_eq k number) (later_one (frame_of frames.old.frames k) (frame_of later.now.frames k)) (frame_of frames.old.frames k)) }
+    ensures fault { IfErr result IsOutside }
+{
+    if let Some(octets) = later.frame(number) {
+        if frames.put(number, octets).is_err() {
+            return Err(NO_MEMORY);
+        }
+    }
+    Ok(())
+}
+
+/// Puts the later frames of a block over those that are there.
+fn overlay(frames: &mut BlockStore, later: &BlockStore) -> Result<(), ToolFault>
+    requires { frames.old.small ≡ later.now.small }
+    ensures small { frames.new.small ≡ frames.old.small }
+    ensures frames { OnOk result (frames.new.frames ≡ overlaid frames.old.frames later.now.frames) }
+    ensures fault { IfErr result IsOutside }
+{
+    let _ready = frames.ready(); // for the proof: what every store keeps to
+    for number in 0u16..256 {
+        overlay_one(frames, later, number as u8)?;
+    }
+    let _ready = frames.ready();
+    Ok(())
+}
+
+/// Names a frame where it lacks.
+fn name_one(
+    frames: &BlockStore,
+    mark: Mark,
+    frame: u8,
+    out: &mut Vec<Captured>,
+) -> Result<(), ToolFault>
+    ensures named { OnOk result (out.new.items ≡ out.old.items
+        ++ cond (is_missing frames.now.frames frame) (Captured.Lacks mark frame ∷ []) []) }
+    ensures fault { IfErr result IsOutside }
+{
+    if frames.frame(frame).is_some() {
+        return Ok(());
+    }
+    tell(out, Captured::Lacks { mark, frame })
+}
+
+/// Names the frames of a block that lack.
+fn name_lacking(
+    frames: &BlockStore,
+    waiting: Waiting,
+    out: &mut Vec<Captured>,
+) -> Result<(), ToolFault>
+    ensures named { OnOk result (out.new.items ≡ out.old.items
+        ++ map (λ number. Captured.Lacks waiting.mark number) (lacking frames.now.frames waiting.last)) }
+    ensures fault { IfErr result IsOutside }
+{
+    for number in 0..waiting.last as u16 + 1 {
+        name_one(frames, waiting.mark, number as u8, out)?;
+    }
+    Ok(())
+}
+
+impl Capture {
+    /// Before any signal. Takes no memory.
+    fn new(alloc: Global) -> Capture
+        ensures { result ≡ empty_capture None }
+    {
+        Capture {
+            alloc,
+            params: None,
+            coming: BlockStore::new(alloc, false),
+            begun: false,
+            waiting: None,
+            kept: BlockStore::new(alloc, false),
+            taken: None,
+            octets: Vec::new(alloc),
+            next: 0,
+            spoiled: false,
+        }
+    }
+
+    /// After a DCS. Takes no memory.
+    fn begin(&mut self, params: Params)
+        ensures { self.new ≡ empty_capture (Some params) }
+    {
+        self.params = Some(params);
+        self.coming = BlockStore::new(self.alloc, params.small);
+        self.begun = false;
+        self.waiting = None;
+        self.kept = BlockStore::new(self.alloc, params.small);
+        self.taken = None;
+        self.octets.clear();
+        self.next = 0;
+        self.spoiled = false;
+    }
+
+    /// Whether the block with this mark is the one that waits for frames.
+    fn is_waiting(&self, mark: Mark) -> bool
+        ensures { result ≡ is_waiting self.now.waiting mark }
+    {
+        match self.waiting {
+            Some(waiting) => is_same(waiting.mark, mark),
+            None => false,
+        }
+    }
+
+    /// Whether the block with this mark was whole already.
+    fn is_taken(&self, mark: Mark) -> bool
+        ensures { result ≡ is_taken self.now.taken mark }
+    {
+        match self.taken {
+            Some(taken) => is_same(taken, mark),
+            None => false,
+        }
+    }
+
+    /// The last frame that counts.
+    fn last_of(&self, last: u8) -> u8
+        ensures { result ≡ last_of self.now.waiting last }
+    {
+        match self.waiting {
+            Some(waiting) => waiting.last.max(last),
+            None => last,
+        }
+    }
+
+    /// Drops the frames since the last PPS.
+    fn drop_coming(&mut self)
+        ensures { self.new ≡ record self.old { coming = no_frames; begun = false } }
+    {
+        self.coming.clear();
+        self.begun = false;
+    }
+
+    /// A block that lacks frames is given up.
+    fn spoil(&mut self, waiting: Waiting)
+        ensures { self.new ≡ after_lack waiting.ends waiting.mark (record self.old { waiting = None; kept = no_frames }) }
+    {
+        self.waiting = None;
+        self.kept.clear();
+        self.octets.clear();
+        match waiting.ends {
+            PageEnd::Null => {
+                self.next = waiting.mark.block.wrapping_add(1);
+                self.spoiled = true;
+            }
+            _ => {
+                self.next = 0;
+                self.spoiled = false;
+            }
+        }
+    }
+
+    /// The block that waits for frames, if there is one, is given up.
+    #[tactic(auto, unfolding(crate::specs::Captured::gives_up))]
+    fn give_up(&mut self, out: &mut Vec<Captured>) -> Result<(), ToolFault>
+        ensures taken { OnOk result (Takes (gives_up self.old self.old.waiting) self.new out.old.items out.new.items) }
+        ensures fault { IfErr result IsOutside }
+    {
+        let Some(waiting) = self.waiting else {
+            return Ok(());
+        };
+        name_lacking(&self.kept, waiting, out)?;
+        self.spoil(waiting);
+        Ok(())
+    }
+
+    /// A block comes: another one that waits is given up.
+    fn turn_from(&mut self, mark: Mark, out: &mut Vec<Captured>) -> Result<(), ToolFault>
+        ensures taken { OnOk result (Takes (turns_from mark self.old) self.new out.old.items out.new.items) }
+        ensures fault { IfErr result IsOutside }
+    {
+        if self.is_waiting(mark) {
+            return Ok(());
+        }
+        self.give_up(out)
+    }
+
+    /// A block comes: its page can't be read where blocks before it lack.
+    fn turn_to(&mut self, mark: Mark, out: &mut Vec<Captured>) -> Result<(), ToolFault>
+        ensures taken { OnOk result (Takes (turns_to mark self.old) self.new out.old.items out.new.items) }
+        ensures fault { IfErr result IsOutside }
+    {
+        if mark.block == self.next {
+            return Ok(());
+        }
+        tell(out, Captured::Skipped(mark))?;
+        self.octets.clear();
+        self.next = mark.block;
+        self.spoiled = true;
+        Ok(())
+    }
+
+    /// The frames since the last PPS are those of a block.
+    fn gather(&mut self) -> Result<(), ToolFault>
+        ensures gathered { OnOk result (self.new ≡ gathers self.old) }
+        ensures fault { IfErr result IsOutside }
+    {
+        overlay(&mut self.kept, &self.coming)?;
+        self.drop_coming();
+        Ok(())
+    }
+
+    /// Appends the frames of a whole block to the open page, unless a block of that lacks.
+    fn append_block(&mut self, last: u8) -> Result<(), ToolFault>
+        requires whole { all_there self.old.kept last ≡ true }
+        ensures appended { OnOk result (self.new ≡ record self.old { octets = with_block self.old (joined_frames self.old.kept (last + 1)) }) }
+        ensures fault { IfErr result IsOutside }
+    {
+        if self.spoiled {
+            self.octets.clear();
+            return Ok(());
+        }
+        self.kept.append_joined(last, &mut self.octets)?;
+        Ok(())
+    }
+
+    /// The open page is at its end: it is read, unless a block of it lacks.
+    fn end_page(
+        &mut self,
+        params: Params,
+        mark: Mark,
+        out: &mut Vec<Captured>,
+    ) -> Result<(), ToolFault>
+        ensures taken { OnOk result (Takes (record {
+          then = record self.old { octets = []; next = 0; spoiled = false };
+          found = cond self.old.spoiled [] (page_in params mark self.old.octets ∷ []);
+        }) self.new out.old.items out.new.items) }
+        ensures fault { IfErr result IsOutside }
+    {
+        if !self.spoiled {
+            let found = read_page(self.alloc, params, mark, &self.octets)?;
+            tell(out, found)?;
+        }
+        self.octets.clear();
+        self.next = 0;
+        self.spoiled = false;
+        Ok(())
+    }
+
+    /// A block is whole.
+    #[tactic(auto, unfolding(crate::specs::Captured::takes_block))]
+    fn take_block(
+        &mut self,
+        params: Params,
+        waiting: Waiting,
+        out: &mut Vec<Captured>,
+    ) -> Result<(), ToolFault>
+        requires whole { all_there self.old.kept waiting.last ≡ true }
+        ensures taken { OnOk result (Takes (takes_block params waiting.ends waiting.mark (joined_frames self.old.kept (waiting.last + 1))
+            self.old) self.new out.old.items out.new.items) }
+        ensures fault { IfErr result IsOutside }
+    {
+        self.append_block(waiting.last)?;
+        self.waiting = None;
+        self.kept.clear();
+        self.taken = Some(waiting.mark);
+        match waiting.ends {
+            PageEnd::Null => {
+                self.next = waiting.mark.block.wrapping_add(1);
+                Ok(())
+            }
+            _ => self.end_page(params, waiting.mark, out),
+        }
+    }
+
+    /// The block whose frames are gathered is whole, or waits for the frames that lack.
+    #[tactic(auto, unfolding(crate::specs::Captured::judges))]
+    fn judge(
+        &mut self,
+        params: Params,
+        waiting: Waiting,
+        out: &mut Vec<Captured>,
+    ) -> Result<(), ToolFault>
+        ensures taken { OnOk result (Takes (judges params waiting.ends waiting.mark waiting.last self.old)
+            self.new out.old.items out.new.items) }
+        ensures fault { IfErr result IsOutside }
+    {
+        if self.is_whole(waiting.last) {
+            return self.take_block(params, waiting, out);
+        }
+        self.waiting = Some(waiting);
+        Ok(())
+    }
+
+    /// Whether the frames 0 to `last` that are kept are all there.
+    fn is_whole(&self, last: u8) -> bool
+        ensures { result ≡ all_there self.now.kept last }
+    {
+        self.kept.whole(last)
+    }
+
+    /// A PPS of a block that isn't whole yet.
+    #[tactic(auto, unfolding(crate::specs::Captured::hears_block))]
+    fn hear_block(
+        &mut self,
+        params: Params,
+        waiting: Waiting,
+        out: &mut Vec<Captured>,
+    ) -> Result<(), ToolFault>
+        ensures taken { OnOk result (Takes (hears_block params waiting.ends waiting.mark waiting.last self.old)
+            self.new out.old.items out.new.items) }
+        ensures fault { IfErr result IsOutside }
+    {
+        self.turn_from(waiting.mark, out)?;
+        self.turn_to(waiting.mark, out)?;
+        let last = self.last_of(waiting.last);
+        self.gather()?;
+        let counted = Waiting {
+            mark: waiting.mark,
+            ends: waiting.ends,
+            last,
+        };
+        self.judge(params, counted, out)
+    }
+
+    /// A PPS.
+    fn hear_pps(&mut self, waiting: Waiting, out: &mut Vec<Captured>) -> Result<(), ToolFault>
+        ensures taken { OnOk result (Takes (hears_pps self.old.params waiting.ends waiting.mark waiting.last self.old)
+            self.new out.old.items out.new.items) }
+        ensures fault { IfErr result IsOutside }
+    {
+        let Some(params) = self.params else {
+            return tell(out, Captured::NoDcs(waiting.mark));
+        };
+        if self.is_taken(waiting.mark) {
+            self.drop_coming();
+            return Ok(());
+        }
+        self.hear_block(params, waiting, out)
+    }
+
+    /// An FCD.
+    #[tactic(auto, unfolding(stations::specs::Layers::within_frame_size))]
+    fn hear_fcd(&mut self, number: u8, octets: &[u8]) -> Result<(), ToolFault>
+        ensures taken { OnOk result (self.new ≡ (hears_fcd self.old.params number octets.now self.old).then) }
+        ensures fault { IfErr result IsOutside }
+    {
+        let Some(_params) = self.params else {
+            return Ok(());
+        };
+        match self.coming.put(number, octets) {
+            Ok(()) => {
+                self.begun = true;
+                Ok(())
+            }
+            Err(BlockFault::TooLong) => Ok(()),
+            Err(_) => Err(NO_MEMORY),
+        }
+    }
+
+    /// Names what is left open at the end of a document.
+    #[tactic(auto, unfolding(crate::specs::Captured::left_open))]
+    fn name_open(&self, out: &mut Vec<Captured>) -> Result<(), ToolFault>
+        ensures named { OnOk result (out.new.items ≡ out.old.items ++ left_open self.now) }
+        ensures fault { IfErr result IsOutside }
+    {
+        if self.begun || !self.octets.is_empty() {
+            return tell(out, Captured::Unended);
+        }
+        Ok(())
+    }
+
+    /// A document is at its end.
+    #[tactic(auto, unfolding(crate::specs::Captured::at_end))]
+    fn end(&mut self, out: &mut Vec<Captured>) -> Result<(), ToolFault>
+        ensures named { OnOk result (out.new.items ≡ out.old.items ++ at_end self.old) }
+        ensures fault { IfErr result IsOutside }
+    {
+        self.give_up(out)?;
+        self.name_open(out)
+    }
+
+    /// A signal.
+    #[tactic(auto, unfolding(crate::specs::Captured::hears))]
+    fn hear(&mut self, signal: Signal<'_>, out: &mut Vec<Captured>) -> Result<(), ToolFault>
+        ensures taken { OnOk result (Takes (hears (plain signal.entry) self.old) self.new out.old.items out.new.items) }
+        ensures fault { IfErr result IsOutside }
+    {
+        match signal {
+            Signal::Dcs(params) => {
+                self.end(out)?;
+                self.begin(params);
+                Ok(())
+            }
+            Signal::Fcd { number, octets } => self.hear_fcd(number, octets),
+            Signal::Pps {
+                ends,
+                page,
+                block,
+                last,
+            } => {
+                let mark = Mark { page, block };
+                self.hear_pps(Waiting { mark, ends, last }, out)
+            }
+            _ => Ok(()),
+        }
+    }
+
+    /// A content.
+    fn hear_content(&mut self, content: &[u8], out: &mut Vec<Captured>) -> Result<(), ToolFault>
+        ensures taken { OnOk result (Takes (hears_read (read_content content.now) self.old) self.new out.old.items out.new.items) }
+        ensures fault { IfErr result IsOutside }
+    {
+        match signals::read(content) {
+            Ok(signal) => self.hear(signal, out),
+            Err(_) => Ok(()),
+        }
+    }
+
+    /// All contents that wait.
+    fn hear_waiting(
+        &mut self,
+        deframer: &mut Deframer,
+        out: &mut Vec<Captured>,
+    ) -> Result<(), ToolFault>
+        ensures taken { OnOk result (Takes (hears_all deframer.old.queue self.old) self.new out.old.items out.new.items) }
+        ensures queue { OnOk result (deframer.new ≡ record deframer.old { queue = [] }) }
+        ensures fault { IfErr result IsOutside }
+    {
+        while let Some(content) = deframer.next() {
+            self.hear_content(content, out)?;
+        }
+        Ok(())
+    }
+}
+
+/// The pages in the octets of a line, of each of which the least significant bit comes first: those that the data of
+/// its FCDs join to by the PPSs, read by the width, the lines and the code of the DCS before, one after the
+/// other; and between them what lacks of others, in the order of the line. No station answers. Each page comes
+/// once, however often its blocks were sent. Errs with 8 where the reader fails, or doesn't end in 2^64 reads,
+/// and with 9. ITU-T T.30, Annex A.
+pub fn captured_pages<R: Read>(alloc: Global, reader: &mut R) -> Result<Vec<Captured>, ToolFault>
+    ensures found { IfOk result (λ found. IfSome (R.remaining reader.old) (λ octets.
+        found.items ≡ captured (good (bits_of LsbFirst octets)))) }
+    ensures fault { IfErr result IsOutside }
+{
+    let mut deframer = Deframer::new(alloc);
+    let mut capture = Capture::new(alloc);
+    let mut out = Vec::new(alloc);
+    let mut piece = [0; PIECE];
+    for _read in 0..u64::MAX {
+        let count = read_some(reader, &mut piece)?;
+        if count == 0 {
+            capture.end(&mut out)?;
+            return Ok(out);
+        }
+        deframer.feed(&piece[..count])?;
+        capture.hear_waiting(&mut deframer, &mut out)?;
+    }
+    Err(FAILED)
+}
