@@ -4,12 +4,13 @@ use Rattle.std.proofs.Common.{length, cond, min, refl, ap, sym, ◌∙◌, arith
 use Rattle.std.proofs.lemmas.List.{append-nil, length-append}
 use Rattle.std.proofs.lemmas.List.FromFn.{get_or-map-range_with_len}
 use Rattle.std.proofs.lemmas.Bool.{lt-ltb, le-ltb, cases_lt, eq-eqb, ne_eqb}
-use Rattle.hdlc.specs.declared.assembler.Ending.{Ending}
+use Rattle.hdlc.specs.declared.assembler.Pending.{Pending}
 use Rattle.hdlc.specs.declared.collector.Collector.{Collector}
 use Rattle.raster.specs.Octets.{number}
 use Rattle.hdlc.specs.Gaps.{unstuffed, has_six}
 use Rattle.hdlc.specs.Assembles.{Assembles}
 use Rattle.hdlc.specs.Collects.{Collects}
+use Rattle.hdlc.specs.Pending.{window_of}
 use Rattle.hdlc.specs.EightBits.{run_after, unstuffed_from, six_from, ones_at_end, unstuffed_entry, unstuffed_entries}
 use Rattle.raster.proofs.OctetBits.{octet_bits}
 use Rattle.hdlc.proofs.UnstuffedLemmas.{ones, ones-more, has_six-more, unstuffed-more, number_fits}
@@ -75,17 +76,17 @@ end_same m n (false ∷ more) h = refl
 
 -- ---- the tables, by computing
 
-pub entry_is : (n octet d : ℕ) → n ≤ 6 → octet < 256 → get_or unstuffed_entries (n * 256 + octet) d
-    ≡ number (unstuffed_from (min 5 n) (octet_bits octet)) + 256 * length (unstuffed_from (min 5 n) (octet_bits octet))
-    + 4096 * min 6 (ones_at_end n (octet_bits octet)) + cond (six_from (min 5 n) (octet_bits octet)) 32768 0
-entry_is n octet d few small =
-    let place : ℕ = n * 256 + octet in
-    let row : place / 256 ≡ n = omega arith in
+pub entry_is : (row octet d : ℕ) → row % 256 ≡ 0 → row ≤ 1536 → octet < 256 → get_or unstuffed_entries (row + octet) d
+    ≡ number (unstuffed_from (min 5 (row / 256)) (octet_bits octet)) + 256 * min 6 (ones_at_end (row / 256) (octet_bits octet))
+    + cond (six_from (min 5 (row / 256)) (octet_bits octet)) 2048 0 + 4096 * length (unstuffed_from (min 5 (row / 256)) (octet_bits octet))
+entry_is row octet d whole most small =
+    let place : ℕ = row + octet in
+    let same : place / 256 ≡ row / 256 = omega arith in
     let column : place % 256 ≡ octet = omega arith in
-    let one : ℕ → ℕ → ℕ = λ r o. number (unstuffed_from (min 5 r) (octet_bits o)) + 256 * length (unstuffed_from (min 5 r) (octet_bits o))
-    + 4096 * min 6 (ones_at_end r (octet_bits o)) + cond (six_from (min 5 r) (octet_bits o)) 32768 0 in
+    let one : ℕ → ℕ → ℕ = λ r o. number (unstuffed_from (min 5 r) (octet_bits o)) + 256 * min 6 (ones_at_end r (octet_bits o))
+    + cond (six_from (min 5 r) (octet_bits o)) 2048 0 + 4096 * length (unstuffed_from (min 5 r) (octet_bits o)) in
     get_or-map-range_with_len unstuffed_entry 0 1792 place place d (omega arith) (omega arith)
-    ∙ (ap (λ r. one r (place % 256)) row ∙ ap (λ o. one n o) column)
+    ∙ (ap (λ r. one r (place % 256)) same ∙ ap (λ o. one (row / 256) o) column)
 
 -- of eight bits at most eight are unstuffed
 pub unstuffed_few : (n : ℕ) (bits : List Bool) → length (unstuffed_from n bits) ≤ length bits
@@ -100,24 +101,25 @@ unstuffed_few n (b ∷ bits) =
     go false h = omega arith
 
 -- the parts of an entry
-parts_of : (v c o e : ℕ) (six : Bool) → v < 256 → c ≤ 8 → o ≤ 6 → e ≡ v + 256 * c + 4096 * o + cond six 32768 0
-    → (e % 256 ≡ v) × (e / 256 % 16 ≡ c) × (e / 4096 % 8 ≡ o) × (nat_eq (e / 32768) 1 ≡ six)
-parts_of v c o e true small few most is =
-    let one : e / 32768 ≡ 1 = omega arith in (omega arith, omega arith, omega arith, eq-eqb (e / 32768) 1 one)
-parts_of v c o e false small few most is =
-    let none : e / 32768 ≡ 0 = omega arith in (omega arith, omega arith, omega arith, ne_eqb (e / 32768) 1 (λ h. omega arith))
+parts_of : (v c o e : ℕ) (six : Bool) → v < 256 → o ≤ 6 → e ≡ v + 256 * o + cond six 2048 0 + 4096 * c
+    → (e % 256 ≡ v) × (e / 4096 ≡ c) × (e / 256 % 8 * 256 ≡ o * 256) × (nat_eq (e / 2048 % 2) 1 ≡ six)
+parts_of v c o e true small most is =
+    let one : e / 2048 % 2 ≡ 1 = omega arith in (omega arith, omega arith, omega arith, eq-eqb (e / 2048 % 2) 1 one)
+parts_of v c o e false small most is =
+    let none : e / 2048 % 2 ≡ 0 = omega arith in (omega arith, omega arith, omega arith, ne_eqb (e / 2048 % 2) 1 (λ h. omega arith))
 
 -- what the entry of an octet says
-pub entry_parts : (n octet d e : ℕ) → n ≤ 6 → octet < 256 → e ≡ get_or unstuffed_entries (n * 256 + octet) d
-    → (e % 256 ≡ number (unstuffed_from (min 5 n) (octet_bits octet)))
-    × (e / 256 % 16 ≡ length (unstuffed_from (min 5 n) (octet_bits octet)))
-    × (e / 4096 % 8 ≡ min 6 (ones_at_end n (octet_bits octet)))
-    × (nat_eq (e / 32768) 1 ≡ six_from (min 5 n) (octet_bits octet))
-entry_parts n octet d e few small is =
-    let left : List Bool = unstuffed_from (min 5 n) (octet_bits octet) in
-    let most : length left ≤ 8 = unstuffed_few (min 5 n) (octet_bits octet) in
-    parts_of (number left) (length left) (min 6 (ones_at_end n (octet_bits octet))) e (six_from (min 5 n) (octet_bits octet))
-    (number_fits left 8 most) most (omega arith) (is ∙ entry_is n octet d few small)
+pub entry_parts : (row octet d e : ℕ) → row % 256 ≡ 0 → row ≤ 1536 → octet < 256 → e ≡ get_or unstuffed_entries (row + octet) d
+    → (e % 256 ≡ number (unstuffed_from (min 5 (row / 256)) (octet_bits octet)))
+    × (e / 4096 ≡ length (unstuffed_from (min 5 (row / 256)) (octet_bits octet)))
+    × (e / 256 % 8 * 256 ≡ min 6 (ones_at_end (row / 256) (octet_bits octet)) * 256)
+    × (nat_eq (e / 2048 % 2) 1 ≡ six_from (min 5 (row / 256)) (octet_bits octet))
+entry_parts row octet d e whole most small is =
+    let left : List Bool = unstuffed_from (min 5 (row / 256)) (octet_bits octet) in
+    let few : length left ≤ 8 = unstuffed_few (min 5 (row / 256)) (octet_bits octet) in
+    parts_of (number left) (length left) (min 6 (ones_at_end (row / 256) (octet_bits octet))) e
+    (six_from (min 5 (row / 256)) (octet_bits octet)) (number_fits left 8 few) (omega arith)
+    (is ∙ entry_is row octet d whole most small)
 
 pub collects_octet : (c new : Collector) (gap : List Bool) (octet : ℕ) → Collects c gap → octet < 256 → new.seen ≡ 8
     → new.ones ≡ min 6 (ones_at_end c.ones (octet_bits octet))
@@ -138,11 +140,10 @@ collects_octet c new gap octet old small seen last aborted more =
     }
 
 -- a collector with other counts and other bits after the whole octets
-abbrev pub with_ending : Collector → ℕ → ℕ → Bool → Ending → Collector
-with_ending c seen ones aborted ending =
-    record c {
-      seen = seen;
-      ones = ones;
-      aborted = aborted;
-      unstuffed = record c.unstuffed { part = ending.part; window = ending.window };
-    }
+abbrev pub with_ending : Collector → ℕ → ℕ → Bool → Pending → Collector
+with_ending c seen ones aborted pending = record c {
+  seen = seen;
+  ones = ones;
+  aborted = aborted;
+  unstuffed = record c.unstuffed { part = pending.part; window = window_of pending };
+}

@@ -8,6 +8,7 @@ pub mod CheckOctets
 pub mod Assembling
 pub mod Collecting
 pub mod AssemblingOctets
+pub mod PendingLemmas
 pub mod CollectingOctets
 pub mod DeframerPartsLemmas
 pub mod KeptLemmas

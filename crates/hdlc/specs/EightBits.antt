@@ -46,12 +46,12 @@ bits_at place = map (λ bit. nat_eq (bit_at (place % 256) bit) 1) (range_with_le
 abbrev pub unstuffed_at : ℕ → List Bool
 unstuffed_at place = unstuffed_from (min 5 (place / 256)) (bits_at place)
 
--- The number that they are; from bit 8 on how many they are; from bit 12 on how many 1 bits in a row end the octet, six where
--- there are more; bit 15 where one of its bits is the sixth.
+-- The number that they are; from bit 8 on how many 1 bits in a row end the octet, six where there are more; bit 11 where one of
+-- its bits is the sixth; from bit 12 on how many the unstuffed bits are.
 abbrev pub unstuffed_entry : ℕ → ℕ
 unstuffed_entry place =
-    number (unstuffed_at place) + 256 * length (unstuffed_at place) + 4096 * min 6 (ones_at_end (place / 256) (bits_at place))
-    + cond (six_from (min 5 (place / 256)) (bits_at place)) 32768 0
+    number (unstuffed_at place) + 256 * min 6 (ones_at_end (place / 256) (bits_at place))
+    + cond (six_from (min 5 (place / 256)) (bits_at place)) 2048 0 + 4096 * length (unstuffed_at place)
 
 -- all entries
 abbrev pub unstuffed_entries : List ℕ

@@ -9,6 +9,7 @@ pub mod DeframerParts
 pub mod DeframerState
 pub mod Register
 pub mod Assembles
+pub mod Pending
 pub mod Collects
 pub mod EightBits
 pub mod Contents

@@ -1,8 +1,9 @@
 //! Bits put together to octets.
 
 ghost use Rattle.hdlc.specs.Assembles.{Assembles};
+ghost use Rattle.hdlc.specs.Pending.{window_of, IsPending};
 ghost use Rattle.raster.specs.Octets.{number};
-ghost use Rattle.std.specs.Prelude.{◌≡◌, ◌≤◌, ◌+◌, ◌/◌, ◌++◌, ◌∷◌, [], List, Bool, cond, length};
+ghost use Rattle.std.specs.Prelude.{◌≡◌, ◌≤◌, ◌<◌, ◌+◌, ◌/◌, ◌%◌, ◌^◌, ◌++◌, ◌∷◌, [], List, Bool, cond, length};
 
 use arrayvec::ArrayVec;
 
@@ -17,13 +18,15 @@ pub fn shifted(register: u8, bit: bool) -> u8
     }
 }
 
-/// The bits after the whole octets.
+/// The bits after the whole octets, while more come.
 #[derive(Clone, Copy)]
-pub struct Ending {
+pub struct Pending {
+    /// The bits as a number, the first the least significant.
+    pub(crate) bits: u32,
     /// How many they are, below eight.
-    pub(crate) part: u8,
-    /// The last eight bits, the newest the most significant.
-    pub(crate) window: u8,
+    pub(crate) part: u32,
+    /// The eight bits before them.
+    pub(crate) last: u8,
 }
 
 /// Puts bits together to octets, the least significant bit first, and keeps the first 302 of them:
@@ -86,49 +89,61 @@ impl Assembler {
     }
 
     /// The bits after the whole octets.
-    pub fn ending(&self) -> Ending
-        ensures { result ≡ record { part = self.now.part; window = self.now.window } }
+    pub fn pending(&self) -> Pending
+        ensures pending { IsPending result }
+        ensures part { result.part ≡ self.now.part % 8 }
+        ensures window { window_of result ≡ self.now.window }
     {
-        Ending {
-            part: self.part,
-            window: self.window,
+        let part = u32::from(self.part % 8);
+        let moved = u32::from(self.window) << part;
+        Pending {
+            bits: moved / 256,
+            part,
+            last: (moved % 256) as u8,
         }
     }
 
     /// Has these bits after the whole octets.
-    pub fn end(&mut self, ending: Ending)
-        ensures { self.new ≡ record self.old { part = ending.part; window = ending.window } }
+    pub fn end(&mut self, pending: Pending)
+        requires { IsPending pending }
+        ensures { self.new ≡ record self.old { part = pending.part; window = window_of pending } }
     {
-        self.part = ending.part;
-        self.window = ending.window;
+        let both = pending.bits * 256 + u32::from(pending.last);
+        self.part = pending.part as u8;
+        self.window = ((both >> pending.part) % 256) as u8;
     }
 
     /// Up to eight bits more, with other bits after the whole octets: so many of a number's, the least
     /// significant first. Answers the bits that are then after the whole octets.
-    pub fn push_after(&mut self, ending: Ending, value: u8, count: u8) -> Ending
-        requires { count ≤ 8 }
-        ensures { (bits more : List Bool) → length more ≡ count → number more ≡ value
-            → Assembles (record self.old { part = ending.part; window = ending.window }) bits
-            → Assembles (record self.new { part = result.part; window = result.window }) (bits ++ more) }
+    pub fn push_after(&mut self, pending: Pending, value: u8, count: u32) -> Pending
+        requires pending { IsPending pending }
+        requires few { count ≤ 8 }
+        requires fits { value < 2 ^ count }
+        ensures pending { IsPending result }
+        ensures bits { (bits more : List Bool) → length more ≡ count → number more ≡ value
+            → Assembles (record self.old { part = pending.part; window = window_of pending }) bits
+            → Assembles (record self.new { part = result.part; window = window_of result }) (bits ++ more) }
     {
-        let part = ending.part % 8;
-        let both = u16::from(value) * 256 + u16::from(ending.window);
-        let window = ((both >> count) % 256) as u8;
-        if part + count < 8 {
-            return Ending {
-                part: part + count,
-                window,
+        let bits = pending.bits.wrapping_add(u32::from(value) << pending.part);
+        let part = pending.part + count;
+        if part < 8 {
+            return Pending {
+                bits,
+                part,
+                last: pending.last,
             };
         }
-        let next = Ending {
-            part: part + count - 8,
-            window,
+        let octet = (bits % 256) as u8;
+        let next = Pending {
+            bits: bits / 256,
+            part: part - 8,
+            last: octet,
         };
         if self.whole.is_full() {
             self.long = true;
             return next;
         }
-        self.whole.push(((both >> (8 - part)) % 256) as u8);
+        self.whole.push(octet);
         next
     }
 }

@@ -98,20 +98,20 @@ impl Collector {
         ensures { (gap : List Bool) → Collects self.old gap → Collects self.new (gap ++ bits_of LsbFirst octets.now) }
     {
         let mut seen = self.seen;
-        let mut ones = self.ones.min(6);
+        let mut row = usize::from(self.ones.min(6)) * 256;
         let mut aborted = self.aborted;
-        let mut ending = self.unstuffed.ending();
+        let mut pending = self.unstuffed.pending();
         for octet in octets {
-            let left = unstuffed(ones, *octet);
+            let left = unstuffed(row, *octet);
             seen = 8;
-            ones = left.ones;
+            row = left.row;
             aborted |= left.sixth;
-            ending = self.unstuffed.push_after(ending, left.value, left.count);
+            pending = self.unstuffed.push_after(pending, left.value, left.count);
         }
         self.seen = seen;
-        self.ones = ones;
+        self.ones = (row / 256) as u8;
         self.aborted = aborted;
-        self.unstuffed.end(ending);
+        self.unstuffed.end(pending);
     }
 
     /// The class of the gap, if it ends here.
