@@ -12,3 +12,6 @@ pub mod SeesEol
 pub mod RowsOn
 pub mod ReadsItsCode
 pub mod RowsWords
+pub mod LineEnds
+pub mod Repairs
+pub mod RepairLaws

@@ -11,6 +11,7 @@ mod t6;
 
 pub use crate::coding::{Coding, PageCode};
 pub use crate::one_dim::OneDim;
+pub use crate::one_dim::repair::{RepairedPage, RepairedRow};
 pub use crate::page_reader::PageReader;
 pub use crate::t6::T6;
 pub use crate::t6::mode::{ModeCode, Shift};

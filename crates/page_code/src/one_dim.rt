@@ -12,6 +12,7 @@ ghost use Rattle.raster.specs.declared.row.Color.{Color};
 ghost use Rattle.std.specs.Prelude.{◌≡◌, ◌≤◌, ◌<◌, ◌+◌, ◌*◌, ◌++◌, ◌∷◌, [], ℕ, List, length, OnOk, All};
 
 mod eol;
+pub(crate) mod repair;
 
 use crate::coding::{Coding, PageCode};
 use crate::one_dim::eol::{Eol, after_five_eols, eol_at};

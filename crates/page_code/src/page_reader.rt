@@ -66,7 +66,7 @@ impl Model for PageReader {
 }
 
 /// Whether memory was refused.
-fn is_memory(kind: CodeFaultKind) -> bool
+pub(crate) fn is_memory(kind: CodeFaultKind) -> bool
     ensures { IsTrue result ↔ (kind ≡ NoMemory) }
 {
     kind == CodeFaultKind::NoMemory

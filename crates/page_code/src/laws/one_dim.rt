@@ -1,6 +1,7 @@
 //! Laws of pages in the one-dimensional code: what their contracts say is proved, and nothing runs.
 
 ghost use Rattle.page_code.specs.OneDimension.OwnRuns.{OwnRunsOwn, OwnRunsOnly};
+ghost use Rattle.page_code.specs.OneDimension.Repairs.{OneRepair, RepairsNothing};
 ghost use Rattle.page_code.specs.OneDimension.Laws.{ReadsExactly, RefusesNoPage, RefusesAtLongest, OneFront, ReadsCode};
 
 /// A page is read exactly where the bits read as it.
@@ -36,4 +37,14 @@ pub fn own_runs_own()
 /// No other runs are a row's own runs.
 pub fn own_runs_only()
     ensures { OwnRunsOnly }
+{}
+
+/// A page that can be read is given as it is, with nothing repaired.
+pub fn repair_of_a_whole_page()
+    ensures { RepairsNothing }
+{}
+
+/// Bits give one page, with the same rows repaired.
+pub fn one_repair()
+    ensures { OneRepair }
 {}

@@ -20,7 +20,7 @@ pub(crate) enum Eol {
 }
 
 /// The number of 0 bits before the first 1 from a place on, or none where there is no 1.
-fn zeros_from(octets: &[u8], order: Order, place: u128) -> Option<u128>
+pub(crate) fn zeros_from(octets: &[u8], order: Order, place: u128) -> Option<u128>
     requires { place ≤ 8 * length octets.now }
     ensures zeros { result ≡ zeros_before (drop place (bits_of order octets.now)) }
     ensures within { IfSome result (λ zeros. place + zeros < 8 * length octets.now) }

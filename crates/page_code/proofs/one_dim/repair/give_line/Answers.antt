@@ -1,0 +1,26 @@
+-- What the check asks of `give_line`.
+use Rattle.std.proofs.Common.{ap, length, refl}
+use Rattle.raster.specs.Packed.{bits_of}
+use Rattle.page_code.proofs.OneDimension.Repairs.{gives_broken, gives_read}
+use Rattle.page_code.proofs.OneDimension.RowsOn.{within_bits}
+use Rattle.page_code.proofs.one_dim.repair.give_line.Goals as goal
+
+pub returns-in_ok-push_row-in-Read : goal.returns-in_ok-push_row-in-Read
+returns-in_ok-push_row-in-Read c =
+    gives_read c.width.result (bits_of c.args.order c.args.octets.now) c.args.to.now (record {
+      page = c.push_row.new.page;
+      repaired = c.args.to.now.repaired;
+      place = c.in-Read.next;
+    }) c.in_ok-row.field-0 c.in-Read.row c.in-Read.next c.width.ensures c.in_ok-row.ensures c.in-Read.is c.in_ok-push_row-in-Read.ensures
+    refl refl
+
+pub returns-in_ok-push-in-Broken : goal.returns-in_ok-push-in-Broken
+returns-in_ok-push-in-Broken c =
+    gives_broken c.width.result (bits_of c.args.order c.args.octets.now) c.args.to.now (record {
+      page = c.push_row-in-Broken.new.page;
+      repaired = c.push.new.self;
+      place = c.after_eol-to.result;
+    }) c.in_ok-row.field-0 c.in-Broken.bit c.in_ok-row-in-Broken.row (length c.rows-number.result.now) c.width.ensures c.in_ok-row.ensures
+    c.in-Broken.is c.requires.line c.in_ok-row-in-Broken.ensures.0 c.in_ok-push_row-in-Broken.ensures (ap length
+    c.rows-number.ensures.rows) c.in_ok-push-in-Broken.ensures.items c.after_eol-to.ensures.skipped (within_bits c.args.order
+    c.args.octets.now c.after_eol-to.result c.after_eol-to.ensures.within)
