@@ -21,6 +21,7 @@ use Rattle.signals.specs.declared.params.Modems.TheVariants.{Fallback, V27, V29,
 use Rattle.engines.specs.declared.options.CallOptions.{CallOptions}
 use Rattle.faxtool.specs.declared.words.Job.{Job}
 use Rattle.faxtool.specs.declared.words.Job.TheVariants.{Call, Code, Decode, Frames, Show}
+use Rattle.faxtool.specs.declared.words.Request.{Request}
 use Rattle.faxtool.specs.declared.words.Outcome.{Outcome}
 use Rattle.faxtool.specs.declared.words.Outcome.TheVariants.{Done, Fault, Words}
 
@@ -71,6 +72,10 @@ flag_rule id = record (new_rule id) {
   action = Some SetTrue;
 }
 
+-- the command with `--explain`
+abbrev pub with_explain : App → App
+with_explain app = with_rule app (flag_rule (codes "explain"))
+
 -- the name of a file, which is required
 abbrev pub file_rule : Text → Rule
 file_rule id = record (new_rule id) {
@@ -81,8 +86,8 @@ file_rule id = record (new_rule id) {
 
 -- `code`: the code, the order, and the files of the image and of its code
 abbrev pub code_app : ValueParser → ValueParser → App
-code_app codings orders = with_rule (with_rule (with_rule (with_rule (new_app (codes "code"))
-    (coding_rule codings)) (order_rule orders)) (file_rule (codes "in"))) (file_rule (codes "out"))
+code_app codings orders = with_explain (with_rule (with_rule (with_rule (with_rule (new_app (codes "code"))
+    (coding_rule codings)) (order_rule orders)) (file_rule (codes "in"))) (file_rule (codes "out")))
 
 -- the command with the code, the width and the order
 abbrev pub with_page_options : App → ValueParser → ValueParser → App
@@ -90,7 +95,8 @@ with_page_options app codings orders = with_rule (with_rule (with_rule app (codi
 
 -- `show`: the code, the width, the order, and the file of the page
 abbrev pub show_app : ValueParser → ValueParser → App
-show_app codings orders = with_rule (with_page_options (new_app (codes "show")) codings orders) (file_rule (codes "file"))
+show_app codings orders =
+    with_explain (with_rule (with_page_options (new_app (codes "show")) codings orders) (file_rule (codes "file")))
 
 -- the command with `--fine`, `--salvage` and `--verbose`
 abbrev pub with_flags : App → App
@@ -99,13 +105,13 @@ with_flags app = with_rule (with_rule (with_rule app (flag_rule (codes "fine")))
 
 -- `decode`: the code, the width, the order, fine or not, salvage or not, verbose or not, and the files of the page and of its image
 abbrev pub decode_app : ValueParser → ValueParser → App
-decode_app codings orders = with_rule (with_rule (with_flags (with_page_options (new_app (codes "decode")) codings orders))
-    (file_rule (codes "file"))) (file_rule (codes "out"))
+decode_app codings orders = with_explain (with_rule (with_rule (with_flags (with_page_options (new_app (codes "decode")) codings orders))
+    (file_rule (codes "file"))) (file_rule (codes "out")))
 
 -- `frames`: how many octets of a content are shown, 0 to 300, and the file of the bits
 abbrev pub frames_app : App
-frames_app = with_rule (with_rule (new_app (codes "frames"))
-    (record (option_rule (codes "data")) { parser = Some (vp.Signed (pos 0) (pos 300)) })) (file_rule (codes "file"))
+frames_app = with_explain (with_rule (with_rule (new_app (codes "frames"))
+    (record (option_rule (codes "data")) { parser = Some (vp.Signed (pos 0) (pos 300)) })) (file_rule (codes "file")))
 
 -- the command with `--code`, `--frame` and `--modems`
 abbrev pub with_choices : App → ValueParser → ValueParser → ValueParser → App
@@ -116,9 +122,9 @@ with_choices app codings sizes modems = with_rule (with_rule (with_rule app
 -- `call`: the file of the script, which is required, the code, the size of frames, the modems, fine or not, the file of the
 -- stored pages, and the file of the document
 abbrev pub call_app : ValueParser → ValueParser → ValueParser → App
-call_app codings sizes modems = with_rule (with_rule (with_rule (with_choices (with_rule (new_app (codes "call"))
+call_app codings sizes modems = with_explain (with_rule (with_rule (with_rule (with_choices (with_rule (new_app (codes "call"))
     (record (file_option_rule (codes "script")) { required = true })) codings sizes modems) (flag_rule (codes "fine")))
-    (file_option_rule (codes "out"))) (file_rule (codes "in"))
+    (file_option_rule (codes "out"))) (file_rule (codes "in")))
 
 -- the program, which wants one of its commands
 abbrev pub empty_app : App
@@ -262,9 +268,15 @@ IsJobOf met (Call script options out input) = (rows : List Row)
 abbrev pub HasNoJob : Option (Text × List Row) → Type 0
 HasNoJob met = (job : Job) → IsJobOf met job → ⊥
 
+-- a fault is told in words too: the values of a command say so
+abbrev pub explains : Option (Text × List Row) → Bool
+explains None = false
+explains (Some met) = is_named (codes "true") (first_of (codes "explain") met.1)
+
 -- clap takes the words, and the job is of the command and the values that it states
-abbrev pub ReadsAs : List Text → Job → Type 0
-ReadsAs words job = (a : App) × IsFaxtool a × (fault_of a words ≡ []) × IsJobOf (subcommand_of a words) job
+abbrev pub ReadsAs : List Text → Request → Type 0
+ReadsAs words request = (a : App) × IsFaxtool a × (fault_of a words ≡ []) × IsJobOf (subcommand_of a words) request.job
+    × (request.explain ≡ explains (subcommand_of a words))
 
 -- ---- refusals
 

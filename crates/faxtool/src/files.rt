@@ -3,8 +3,10 @@
 ghost use Rattle.engines.specs.Faults.{IsOutside};
 ghost use Rattle.std.specs.Prelude.{IfErr};
 
+use crate::notes::{Notes, Part};
+use crate::progress::Progress;
 use engines::ToolFault;
-use std::io::{Read, Write};
+use std::io::{BufWriter, ErrorKind, Read, Write};
 use std::{fs, io};
 
 /// The name of standard input and of standard output.
@@ -12,61 +14,183 @@ pub const STANDARD: &str = "-";
 
 /// A file or standard input.
 #[derive(Drop)]
-pub enum Source {
-    /// A file.
+enum Origin {
     File(fs::File),
-    /// Standard input.
     Standard(<HostRuntime as io::Input>::Reader),
 }
 
-impl Read for Source {
+/// A file or standard input as it is read: how far that is, why it failed, and the first octets.
+#[derive(Drop)]
+pub struct Source<'a> {
+    from: Origin,
+    part: Part,
+    progress: Progress<'a>,
+    failed: Option<ErrorKind>,
+    most: usize,
+    octets: Vec<u8>,
+}
+
+impl Read for Source<'_> {
     fn read(&mut self, octets: &mut [u8]) -> io::Result<usize> {
-        match self {
-            Source::File(file) => file.read(octets),
-            Source::Standard(input) => input.read(octets),
+        let read = match &mut self.from {
+            Origin::File(file) => file.read(octets),
+            Origin::Standard(input) => input.read(octets),
+        };
+        match &read {
+            Ok(count) => {
+                self.failed = None;
+                self.progress.read(*count);
+                self.keep(octets.get(..*count).unwrap_or(&[]));
+            }
+            Err(error) => self.failed = Some(error.kind()),
+        }
+        read
+    }
+}
+
+impl Source<'_> {
+    /// Keeps octets that were read, up to the most that are to be kept.
+    fn keep(&mut self, read: &[u8]) {
+        let room = self.most.saturating_sub(self.octets.len());
+        let kept = read.get(..room.min(read.len())).unwrap_or(&[]);
+        if self.octets.extend_from_slice(kept).is_err() {
+            self.most = 0;
+        }
+    }
+
+    /// Notes what was read and why it failed.
+    pub fn close(self, notes: &mut Notes) {
+        let Source {
+            from: _,
+            part,
+            progress,
+            failed,
+            most: _,
+            octets,
+        } = self;
+        progress.end();
+        if let Some(kind) = failed {
+            notes.blame(part, kind);
+        }
+        if part == Part::Input {
+            notes.octets = octets;
         }
     }
 }
 
-/// A file or standard input, opened for reading. Errs with 8 where it can't be opened.
-pub fn open(rt: &HostRuntime, name: &str) -> Result<Source, ToolFault>
+/// A file or standard input, opened for reading. Errs with 8 where it can't be opened, which is noted.
+pub fn open<'a>(
+    rt: &'a HostRuntime,
+    name: &str,
+    part: Part,
+    notes: &mut Notes,
+) -> Result<Source<'a>, ToolFault>
     ensures { IfErr result IsOutside }
 {
-    if name == STANDARD {
-        return Ok(Source::Standard(rt.reader()));
+    let from = if name == STANDARD {
+        Origin::Standard(rt.reader())
+    } else {
+        match fs::open(rt, name) {
+            Ok(file) => Origin::File(file),
+            Err(error) => {
+                notes.blame(part, error.kind());
+                return Err(ToolFault::from(error));
+            }
+        }
+    };
+    Ok(Source {
+        from,
+        part,
+        progress: Progress::new(rt, notes.long),
+        failed: None,
+        most: notes.most,
+        octets: Vec::new(rt.alloc()),
+    })
+}
+
+/// Standard output, with why it failed.
+#[derive(Drop)]
+pub struct Printed<'a> {
+    rt: &'a HostRuntime,
+    failed: Option<ErrorKind>,
+}
+
+impl Write for Printed<'_> {
+    fn write(&mut self, octets: &[u8]) -> io::Result<usize> {
+        let written = io::writer(self.rt).write(octets);
+        self.failed = written.as_ref().err().map(|error| error.kind());
+        written
     }
-    Ok(Source::File(fs::open(rt, name)?))
+
+    fn flush(&mut self) -> io::Result<()> {
+        Ok(())
+    }
+}
+
+/// Standard output with a buffer before it. Errs with 9.
+pub fn print(rt: &HostRuntime) -> Result<BufWriter<Printed<'_>>, ToolFault>
+    ensures { IfErr result IsOutside }
+{
+    let printed = Printed { rt, failed: None };
+    Ok(BufWriter::new(rt.alloc(), printed)?)
+}
+
+/// Ends what was printed: the rest is written where all of it was done, and why it failed is noted. Errs with 8 where
+/// it can't be written, and with 9.
+pub fn end_print(
+    mut printed: BufWriter<Printed<'_>>,
+    done: bool,
+    notes: &mut Notes,
+) -> Result<(), ToolFault>
+    ensures { IfErr result IsOutside }
+{
+    let ended = if done { printed.flush() } else { Ok(()) };
+    if let Some(kind) = printed.get_ref().failed {
+        notes.blame(Part::Printed, kind);
+    }
+    Ok(ended?)
 }
 
 /// Writes these octets as the whole content of a file, or on standard output. A regular file is written beside its
 /// place and then renamed, so that what was there stays where a write fails; any other file, such as a device
 /// or a link, is written itself.
-/// Errs with 8 where it can't be written, and with 9.
-pub fn write(rt: &HostRuntime, name: &str, octets: &[u8]) -> Result<(), ToolFault>
+/// Errs with 8 where it can't be written, which is noted, and with 9.
+pub fn write(
+    rt: &HostRuntime,
+    name: &str,
+    octets: &[u8],
+    notes: &mut Notes,
+) -> Result<(), ToolFault>
     ensures { IfErr result IsOutside }
 {
+    let written = put(rt, name, octets);
+    if let Err(error) = &written {
+        notes.blame(Part::Output, error.kind());
+    }
+    Ok(written?)
+}
+
+/// Writes these octets as the whole content of a file, or on standard output.
+fn put(rt: &HostRuntime, name: &str, octets: &[u8]) -> io::Result<()> {
     if name == STANDARD {
         let mut writer = io::writer(rt);
         writer.write_all(octets)?;
-        writer.flush()?;
-        return Ok(());
+        return writer.flush();
     }
     if !is_replaceable(rt, name) {
-        fs::write(rt, name, octets)?;
-        return Ok(());
+        return fs::write(rt, name, octets);
     }
     let mut beside = String::from_str(rt.alloc(), name)?;
     beside.push_str(".part")?;
     let Ok(file) = fs::File::create(rt, beside.as_str()) else {
         // a folder in which no file can be made
-        fs::write(rt, name, octets)?;
-        return Ok(());
+        return fs::write(rt, name, octets);
     };
     let replaced = replace(rt, file, octets, beside.as_str(), name);
     if replaced.is_err() {
         let _removed = fs::remove_file(rt, beside.as_str());
     }
-    Ok(replaced?)
+    replaced
 }
 
 /// Whether a name is that of a regular file, or of none.

@@ -5,29 +5,33 @@
 ghost use Rattle.engines.specs.Calls.{HaveRows};
 ghost use Rattle.faxtool.specs.Jobs.{HasWidth};
 ghost use Rattle.raster.specs.Pixels.{IsWidth};
+ghost use Rattle.std.specs.Prelude.{IfSome};
 
+mod faults;
 mod files;
+mod notes;
+mod options;
+mod progress;
 mod words;
 
 use engines::{
-    CallOptions, FAILED, NO_MEMORY, ToolFault, call_engine, code_engine, decode_engine,
-    list_frames, salvage_engine, show_engine,
+    CallOptions, Explained, FAILED, Known, NO_MEMORY, ToolFault, call_engine, code_engine,
+    decode_engine, list_frames, refused_color, refused_row, salvage_engine, show_engine,
 };
+use notes::{Notes, Part};
 use page_code::Coding;
-use raster::{Page, write_pbm};
+use raster::{Color, Page, write_pbm};
 use run_tables::Order;
-use std::io::{BufWriter, Write};
+use std::io::{IsTerminal, Write};
 use std::process::ExitCode;
 use std::{env, io};
-use words::{Job, Outcome, read_words, status};
+use words::{Job, Outcome, Request, read_words, status};
 
 fn main(rt: HostRuntime) -> ExitCode {
     let outcome = run_words(&rt);
-    let _shown = match &outcome {
-        Outcome::Done => Ok(()),
-        Outcome::Fault(fault) => eprintln!(rt; "{fault}"),
-        Outcome::Words(error) => rt.eprint(error),
-    };
+    if let Outcome::Words(error) = &outcome {
+        let _shown = rt.eprint(error);
+    }
     ExitCode::from(status(&outcome))
 }
 
@@ -35,16 +39,17 @@ fn run_words(rt: &HostRuntime) -> Outcome {
     let words = match given_words(rt) {
         Ok(words) => words,
         // a word that is no text names no file that can be opened
-        Err(error) => return Outcome::Fault(ToolFault::from(error)),
+        Err(error) => return refused(rt, ToolFault::from(error), "a word that is no text"),
     };
     let mut texts = Vec::new(rt.alloc());
     for word in &words {
         if texts.push(word.as_str()).is_err() {
-            return Outcome::Fault(NO_MEMORY);
+            return refused(rt, NO_MEMORY, "the command's words");
         }
     }
     match read_words(rt.alloc(), texts.as_slice()) {
-        Ok(job) => run_job(rt, job),
+        Ok(request) => run_request(rt, &request),
+        Err(Outcome::Fault(fault)) => refused(rt, fault, "the command's words"),
         Err(outcome) => outcome,
     }
 }
@@ -54,22 +59,161 @@ fn given_words(rt: &HostRuntime) -> io::Result<Vec<String>> {
     Ok(words)
 }
 
-fn run_job(rt: &HostRuntime, job: Job) -> Outcome
-    requires { HasWidth job }
+/// A fault before any file was named: its line, and on a terminal its words.
+fn refused(rt: &HostRuntime, fault: ToolFault, file: &str) -> Outcome {
+    let _shown = eprintln!(rt; "{fault}");
+    if rt.stderr().is_terminal() {
+        let words = Explained::new(fault, Known::file(file));
+        let _explained = eprintln!(rt; "{words}");
+    }
+    Outcome::Fault(fault)
+}
+
+/// Does a job, and tells its fault: a line, and on a terminal or where that is asked for, one of words.
+fn run_request(rt: &HostRuntime, request: &Request) -> Outcome
+    requires { HasWidth request.now.job }
 {
-    let done = match &job {
+    let explains = request.explain || rt.stderr().is_terminal();
+    let kept = if explains { kept_of(&request.job) } else { 0 };
+    let mut notes = Notes::new(rt.alloc(), kept, is_long(&request.job));
+    match run_job(rt, &request.job, &mut notes) {
+        Ok(()) => Outcome::Done,
+        Err(fault) => {
+            let _shown = eprintln!(rt; "{fault}");
+            if explains {
+                explain(rt, &request.job, fault, &notes);
+            }
+            Outcome::Fault(fault)
+        }
+    }
+}
+
+/// How many octets of a job's input its faults are explained by: all of a coded page, and the first ones of images.
+fn kept_of(job: &Job) -> usize {
+    match job {
+        Job::Show { .. } | Job::Decode { .. } => usize::MAX,
+        _ => 4,
+    }
+}
+
+/// Whether a job may be long and prints nothing while it reads.
+fn is_long(job: &Job) -> bool {
+    match job {
+        Job::Code { .. } | Job::Decode { .. } | Job::Call { .. } => true,
+        Job::Show { .. } | Job::Frames { .. } => false,
+    }
+}
+
+/// Tells a fault of a job in words on standard error.
+fn explain<'a>(rt: &HostRuntime, job: &'a Job, fault: ToolFault, notes: &'a Notes)
+    requires { HasWidth job.now }
+{
+    let (row, color) = refused_at(rt, job, fault, notes);
+    let known = Known {
+        file: file_of(job, part_of(fault, notes)),
+        reason: notes.failed.map(|failed| failed.1),
+        begins: notes.octets.as_slice(),
+        row,
+        color,
+    };
+    let words = Explained::new(fault, known);
+    let _explained = eprintln!(rt; "{words}");
+}
+
+/// The row, counted from 1, and the color of the run in which the page that a job reads is refused, as far as they are
+/// known.
+fn refused_at(
+    rt: &HostRuntime,
+    job: &Job,
+    fault: ToolFault,
+    notes: &Notes,
+) -> (Option<usize>, Option<Color>)
+    requires { HasWidth job.now }
+{
+    let ToolFault::AtBit { no: _, place } = fault else {
+        return (None, None);
+    };
+    let Some((coding, order, width)) = page_of(job) else {
+        return (None, None);
+    };
+    let octets = notes.octets.as_slice();
+    let row = refused_row(rt.alloc(), octets, coding, order, width);
+    match coding {
+        Coding::OneDim => (row, refused_color(octets, order, width, place)),
+        Coding::T6 => (row, None),
+    }
+}
+
+/// The code, the order of bits and the width of the page that a job reads.
+fn page_of(job: &Job) -> Option<(Coding, Order, u32)>
+    requires { HasWidth job.now }
+    ensures { IfSome result (λ page. IsWidth page.2) }
+{
+    match job {
+        Job::Show {
+            coding,
+            order,
+            width,
+            ..
+        }
+        | Job::Decode {
+            coding,
+            order,
+            width,
+            ..
+        } => Some((*coding, *order, *width)),
+        _ => None,
+    }
+}
+
+/// Which file of a job a fault is about.
+fn part_of(fault: ToolFault, notes: &Notes) -> Part {
+    match (fault, notes.failed) {
+        (ToolFault::AtLine(_), _) => Part::Script,
+        (ToolFault::No(8), Some((part, _kind))) => part,
+        _ => Part::Input,
+    }
+}
+
+/// The name of a file of a job, as it is told.
+fn file_of<'a>(job: &'a Job, part: Part) -> &'a str {
+    let named = match (job, part) {
+        (_, Part::Printed) => files::STANDARD,
+        (Job::Code { output, .. } | Job::Decode { output, .. }, Part::Output) => output.as_str(),
+        (Job::Call { out: Some(out), .. }, Part::Output) => out.as_str(),
+        (Job::Call { script, .. }, Part::Script) => script.as_str(),
+        (
+            Job::Code { input, .. }
+            | Job::Show { input, .. }
+            | Job::Decode { input, .. }
+            | Job::Frames { input, .. }
+            | Job::Call { input, .. },
+            _,
+        ) => input.as_str(),
+    };
+    match part {
+        Part::Output | Part::Printed if named == files::STANDARD => "standard output",
+        _ if named == files::STANDARD => "standard input",
+        _ => named,
+    }
+}
+
+fn run_job(rt: &HostRuntime, job: &Job, notes: &mut Notes) -> Result<(), ToolFault>
+    requires { HasWidth job.now }
+{
+    match job {
         Job::Code {
             coding,
             order,
             input,
             output,
-        } => code_file(rt, *coding, *order, input, output),
+        } => code_file(rt, *coding, *order, input, output, notes),
         Job::Show {
             coding,
             order,
             width,
             input,
-        } => show_file(rt, *coding, *order, *width, input),
+        } => show_file(rt, *coding, *order, *width, input, notes),
         Job::Decode {
             coding,
             order,
@@ -81,23 +225,19 @@ fn run_job(rt: &HostRuntime, job: Job) -> Outcome
             output,
         } => {
             let decoded = if *salvage {
-                salvage_file(rt, *coding, *order, *width, *fine, input, output)
+                salvage_file(rt, *coding, *order, *width, *fine, input, output, notes)
             } else {
-                decode_file(rt, *coding, *order, *width, *fine, input, output)
+                decode_file(rt, *coding, *order, *width, *fine, input, output, notes)
             };
             tell(rt, *verbose, decoded)
         }
-        Job::Frames { most, input } => list_file(rt, *most, input),
+        Job::Frames { most, input } => list_file(rt, *most, input, notes),
         Job::Call {
             script,
             options,
             out,
             input,
-        } => call_file(rt, script, options, out.as_deref(), input),
-    };
-    match done {
-        Ok(()) => Outcome::Done,
-        Err(fault) => Outcome::Fault(fault),
+        } => call_file(rt, script, options, out.as_deref(), input, notes),
     }
 }
 
@@ -108,11 +248,14 @@ fn code_file(
     order: Order,
     input: &str,
     output: &str,
+    notes: &mut Notes,
 ) -> Result<(), ToolFault> {
-    let mut reader = files::open(rt, input)?;
+    let mut reader = files::open(rt, input, Part::Input, notes)?;
     let mut octets = Vec::new(rt.alloc());
-    code_engine(rt.alloc(), &mut reader, &mut octets, coding, order)?;
-    files::write(rt, output, octets.as_slice())
+    let coded = code_engine(rt.alloc(), &mut reader, &mut octets, coding, order);
+    reader.close(notes);
+    coded?;
+    files::write(rt, output, octets.as_slice(), notes)
 }
 
 /// Shows the page in a file.
@@ -122,14 +265,17 @@ fn show_file(
     order: Order,
     width: u32,
     input: &str,
+    notes: &mut Notes,
 ) -> Result<(), ToolFault>
     requires { IsWidth width }
 {
-    let mut reader = files::open(rt, input)?;
-    let mut writer = BufWriter::new(rt.alloc(), io::writer(rt))?;
-    show_engine(rt.alloc(), &mut reader, &mut writer, coding, order, width)?;
-    writer.flush()?;
-    Ok(())
+    let mut reader = files::open(rt, input, Part::Input, notes)?;
+    let mut writer = files::print(rt)?;
+    let shown = show_engine(rt.alloc(), &mut reader, &mut writer, coding, order, width);
+    reader.close(notes);
+    let printed = files::end_print(writer, shown.is_ok(), notes);
+    shown?;
+    printed
 }
 
 /// Decodes the page in a file into an image's file, and answers its rows and the bits of its code. The
@@ -142,12 +288,13 @@ fn decode_file(
     fine: bool,
     input: &str,
     output: &str,
+    notes: &mut Notes,
 ) -> Result<(usize, u128), ToolFault>
     requires { IsWidth width }
 {
-    let mut reader = files::open(rt, input)?;
+    let mut reader = files::open(rt, input, Part::Input, notes)?;
     let mut octets = Vec::new(rt.alloc());
-    let told = decode_engine(
+    let decoded = decode_engine(
         rt.alloc(),
         &mut reader,
         &mut octets,
@@ -155,8 +302,10 @@ fn decode_file(
         order,
         width,
         fine,
-    )?;
-    files::write(rt, output, octets.as_slice())?;
+    );
+    reader.close(notes);
+    let told = decoded?;
+    files::write(rt, output, octets.as_slice(), notes)?;
     Ok(told)
 }
 
@@ -170,12 +319,13 @@ fn salvage_file(
     fine: bool,
     input: &str,
     output: &str,
+    notes: &mut Notes,
 ) -> Result<(usize, u128), ToolFault>
     requires { IsWidth width }
 {
-    let mut reader = files::open(rt, input)?;
+    let mut reader = files::open(rt, input, Part::Input, notes)?;
     let mut octets = Vec::new(rt.alloc());
-    let salvage = salvage_engine(
+    let salvaged = salvage_engine(
         rt.alloc(),
         &mut reader,
         &mut octets,
@@ -183,9 +333,11 @@ fn salvage_file(
         order,
         width,
         fine,
-    )?;
+    );
+    reader.close(notes);
+    let salvage = salvaged?;
     if salvage.rows > 0 {
-        files::write(rt, output, octets.as_slice())?;
+        files::write(rt, output, octets.as_slice(), notes)?;
     }
     Ok((salvage.rows, salvage.end?))
 }
@@ -205,13 +357,20 @@ fn tell(
 }
 
 /// Lists the frames in a file, with at most so many octets of a content.
-fn list_file(rt: &HostRuntime, most: Option<u32>, input: &str) -> Result<(), ToolFault> {
-    let mut reader = files::open(rt, input)?;
-    let mut writer = BufWriter::new(rt.alloc(), io::writer(rt))?;
+fn list_file(
+    rt: &HostRuntime,
+    most: Option<u32>,
+    input: &str,
+    notes: &mut Notes,
+) -> Result<(), ToolFault> {
+    let mut reader = files::open(rt, input, Part::Input, notes)?;
+    let mut writer = files::print(rt)?;
     let most = most.map(|most| most as usize);
-    list_frames(rt.alloc(), &mut reader, &mut writer, most)?;
-    writer.flush()?;
-    Ok(())
+    let listed = list_frames(rt.alloc(), &mut reader, &mut writer, most);
+    reader.close(notes);
+    let printed = files::end_print(writer, listed.is_ok(), notes);
+    listed?;
+    printed
 }
 
 /// Runs a call by a script's file, and prints what has become of it. The file of the stored pages is
@@ -222,26 +381,36 @@ fn call_file(
     options: &CallOptions,
     out: Option<&str>,
     input: &str,
+    notes: &mut Notes,
 ) -> Result<(), ToolFault> {
     if script == files::STANDARD && input == files::STANDARD {
         return Err(FAILED);
     }
-    let mut script = files::open(rt, script)?;
-    let mut reader = files::open(rt, input)?;
-    let mut writer = BufWriter::new(rt.alloc(), io::writer(rt))?;
-    let pages = call_engine(rt.alloc(), &mut script, &mut reader, &mut writer, options)?;
-    writer.flush()?;
+    let mut script = files::open(rt, script, Part::Script, notes)?;
+    let mut reader = files::open(rt, input, Part::Input, notes)?;
+    let mut writer = files::print(rt)?;
+    let called = call_engine(rt.alloc(), &mut script, &mut reader, &mut writer, options);
+    script.close(notes);
+    reader.close(notes);
+    let printed = files::end_print(writer, called.is_ok(), notes);
+    let pages = called?;
+    printed?;
     match out {
-        Some(name) if !pages.is_empty() => write_pages(rt, name, &pages),
+        Some(name) if !pages.is_empty() => write_pages(rt, name, &pages, notes),
         _ => Ok(()),
     }
 }
 
 /// Writes pages into a file, one after the other.
-fn write_pages(rt: &HostRuntime, name: &str, pages: &[Page]) -> Result<(), ToolFault>
+fn write_pages(
+    rt: &HostRuntime,
+    name: &str,
+    pages: &[Page],
+    notes: &mut Notes,
+) -> Result<(), ToolFault>
     requires { HaveRows pages.now }
 {
     let mut octets = Vec::new(rt.alloc());
     write_pbm(pages, &mut octets)?;
-    files::write(rt, name, octets.as_slice())
+    files::write(rt, name, octets.as_slice(), notes)
 }

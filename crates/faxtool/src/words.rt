@@ -1,20 +1,23 @@
 //! The words that the program is called with.
 ghost use Rattle.std.specs.Prelude.{◌≡◌, ◌≢◌, IfOk, MatchOption, MatchResult, Some, codes, false, true};
-ghost use Rattle.std.specs.Prelude.{ℕ, map, option_map, pos, string_bytes};
-ghost use Rattle.clap.specs.Words.{app_of, first_of, found_of, kind_of, rows_of, rule_of};
-ghost use Rattle.clap.specs.Words.{new_app, subcommand_rows_of, with_rule, with_subcommand};
+ghost use Rattle.std.specs.Prelude.{ℕ, map, option_map, string_bytes};
+ghost use Rattle.clap.specs.Words.{app_of, first_of, found_of, kind_of, new_app, rows_of, subcommand_rows_of, with_rule};
+ghost use Rattle.clap.specs.Words.{with_subcommand};
 ghost use Rattle.clap.specs.declared.builder.command.Command.TheViews.{out-Command as fields_of};
-ghost use Rattle.clap.specs.declared.builder.value_parser.ValueParser.TheVariants as vp;
 ghost use Rattle.clap.specs.declared.error.kind.ErrorKind.TheVariants.{OutOfMemory};
 ghost use Rattle.faxtool.specs.Jobs.{AreOptionsIn, HasNoJob, HasNoOptions, IsFaxtool, IsJobOf, IsOutcomeOf, IsRefusalOf};
-ghost use Rattle.faxtool.specs.Jobs.{IsWidthIn, ReadsAs, ReadsNumber, call_app, choice_rule, code_app, coding_named, coding_rule};
-ghost use Rattle.faxtool.specs.Jobs.{decode_app, empty_app, file_option_rule, file_rule, flag_rule, frames_app, is_named, modems_named};
-ghost use Rattle.faxtool.specs.Jobs.{option_rule, order_named, order_rule, page_app, show_app, status_of, width_rule, with_choices};
-ghost use Rattle.faxtool.specs.Jobs.{with_flags, with_page_options};
+ghost use Rattle.faxtool.specs.Jobs.{IsWidthIn, ReadsAs, ReadsNumber, call_app, code_app, coding_named, coding_rule, decode_app};
+ghost use Rattle.faxtool.specs.Jobs.{empty_app, explains, file_option_rule, file_rule, frames_app, is_named, modems_named, order_named};
+ghost use Rattle.faxtool.specs.Jobs.{order_rule, page_app, show_app, status_of, with_choices, with_flags, with_page_options};
 
+use crate::faults::FAULTS;
+use crate::options::{
+    choice_option, coding_option, data_option, explain_option, file_name, file_option, flag_option,
+    order_option, width_option,
+};
 use clap::builder::ValueParser;
 use clap::error::ErrorKind;
-use clap::{Arg, ArgAction, ArgMatches, Command, Error};
+use clap::{ArgMatches, Command, Error};
 use engines::{CallOptions, NO_MEMORY, ToolFault};
 use page_code::Coding;
 use run_tables::Order;
@@ -85,6 +88,15 @@ pub enum Job {
     },
 }
 
+/// What the program is asked to do, and how it is to tell a fault.
+#[derive(Debug, PartialEq, Eq, Drop)]
+pub struct Request {
+    /// The job.
+    pub job: Job,
+    /// Whether a fault is told in words too.
+    pub explain: bool,
+}
+
 /// How the program ends.
 #[derive(Debug, Drop)]
 pub enum Outcome {
@@ -140,11 +152,11 @@ impl From<Error> for Outcome {
     }
 }
 
-/// The job that the words name, of which the first is the program's name.
+/// What the words ask for, of which the first is the program's name.
 ///
 /// An `Err` is the fault 9 where memory was refused, and else has the text for the user: what is
 /// wrong with the words, or the help that they ask for.
-pub fn read_words(alloc: Global, words: &[&str]) -> Result<Job, Outcome>
+pub fn read_words(alloc: Global, words: &[&str]) -> Result<Request, Outcome>
     ensures { let texts = map (λ word. word.now) words.now in
         MatchResult result (ReadsAs texts) (IsRefusalOf texts) }
 {
@@ -154,8 +166,21 @@ pub fn read_words(alloc: Global, words: &[&str]) -> Result<Job, Outcome>
         Err(error) => return Err(Outcome::from(error)),
     };
     match job_in(alloc, &matches)? {
-        Some(job) => Ok(job),
+        Some(job) => Ok(Request {
+            job,
+            explain: explains(&matches),
+        }),
         None => Err(Outcome::from(incomplete(&mut command)?)),
+    }
+}
+
+// Whether the words ask for a fault in words.
+fn explains(matches: &ArgMatches<'_>) -> bool
+    ensures { result ≡ explains (subcommand_rows_of matches.now) }
+{
+    match matches.subcommand() {
+        Some((_name, inner)) => is_named(text_in(inner, "explain"), "true"),
+        None => false,
     }
 }
 
@@ -444,6 +469,7 @@ fn empty_command<'a>(alloc: Global) -> Command<'a>
 {
     Command::new(alloc, "faxtool")
         .about("Codes images as fax pages, shows and decodes pages, lists frames and runs calls")
+        .after_help(FAULTS)
         .subcommand_required(true)
         .arg_required_else_help(true)
 }
@@ -456,6 +482,26 @@ fn code_command<'a>(
     ensures app { IfOk result (λ command. app_of command ≡ code_app codings.entry orders.entry) }
     ensures local { IfOk result (λ command. (fields_of command).has_globals ≡ false) }
 {
+    image_command(alloc, codings, orders)?
+        .arg(file_name(
+            alloc,
+            "out",
+            "OUT",
+            "The file that the code is written to; - is standard output",
+        ))?
+        .arg(explain_option(alloc))
+}
+
+// The command `code` with its options and the file of the image.
+fn image_command<'a>(
+    alloc: Global,
+    codings: ValueParser<'a>,
+    orders: ValueParser<'a>,
+) -> Result<Command<'a>, AllocError>
+    ensures app { IfOk result (λ command. app_of command ≡ with_rule (with_rule (with_rule (new_app (codes "code"))
+        (coding_rule codings.entry)) (order_rule orders.entry)) (file_rule (codes "in"))) }
+    ensures local { IfOk result (λ command. (fields_of command).has_globals ≡ false) }
+{
     Command::new(alloc, "code")
         .about("Writes the code of an image into a file")
         .arg(coding_option(alloc, codings))?
@@ -465,12 +511,6 @@ fn code_command<'a>(
             "in",
             "IN",
             "The file of the image, a PBM; - is standard input",
-        ))?
-        .arg(file_name(
-            alloc,
-            "out",
-            "OUT",
-            "The file that the code is written to; - is standard output",
         ))
 }
 
@@ -494,7 +534,8 @@ fn show_command<'a>(
         "file",
         "FILE",
         "The file of the coded page; - is standard input",
-    ))
+    ))?
+    .arg(explain_option(alloc))
 }
 
 fn decode_command<'a>(
@@ -517,7 +558,8 @@ fn decode_command<'a>(
             "out",
             "OUT",
             "The file that the image is written to; - is standard output",
-        ))
+        ))?
+        .arg(explain_option(alloc))
 }
 
 // The command `decode` with its options.
@@ -582,7 +624,8 @@ fn frames_command<'a>(alloc: Global) -> Result<Command<'a>, AllocError>
             "file",
             "FILE",
             "The file of the bits; - is standard input",
-        ))
+        ))?
+        .arg(explain_option(alloc))
 }
 
 fn call_command<'a>(
@@ -612,7 +655,8 @@ fn call_command<'a>(
             "in",
             "IN",
             "The file of the document, a PBM; - is standard input",
-        ))
+        ))?
+        .arg(explain_option(alloc))
 }
 
 // The command of a call with its script and the options that are one of several names.
@@ -651,102 +695,4 @@ fn script_command<'a>(
             "v17",
             "The modems of both stations",
         ))
-}
-
-// An option whose name is its id, with one value.
-fn named_option<'a>(alloc: Global, id: &'a str, shown: &'a str) -> Arg<'a>
-    ensures rule { rule_of result ≡ option_rule id.entry.now }
-    ensures local { result.global ≡ false }
-{
-    Arg::new(alloc, id)
-        .long(id)
-        .value_name(shown)
-        .action(ArgAction::Set)
-}
-
-// An option that is one of several names.
-fn choice_option<'a>(
-    alloc: Global,
-    id: &'a str,
-    names: ValueParser<'a>,
-    default: &'a str,
-    help: &'a str,
-) -> Arg<'a>
-    ensures rule { rule_of result ≡ choice_rule id.entry.now names.entry default.entry.now }
-    ensures local { result.global ≡ false }
-{
-    named_option(alloc, id, "NAME")
-        .value_parser(names)
-        .default_value(default)
-        .help(help)
-}
-
-fn file_option<'a>(alloc: Global, id: &'a str, required: bool, help: &'a str) -> Arg<'a>
-    ensures rule { rule_of result ≡ record (file_option_rule id.entry.now) { required = required } }
-    ensures local { result.global ≡ false }
-{
-    named_option(alloc, id, "FILE")
-        .required(required)
-        .help(help)
-}
-
-// An option that has no value.
-fn flag_option<'a>(alloc: Global, id: &'a str, help: &'a str) -> Arg<'a>
-    ensures rule { rule_of result ≡ flag_rule id.entry.now }
-    ensures local { result.global ≡ false }
-{
-    Arg::new(alloc, id)
-        .long(id)
-        .action(ArgAction::SetTrue)
-        .help(help)
-}
-
-fn coding_option<'a>(alloc: Global, codings: ValueParser<'a>) -> Arg<'a>
-    ensures rule { rule_of result ≡ coding_rule codings.entry }
-    ensures local { result.global ≡ false }
-{
-    named_option(alloc, "code", "CODE")
-        .required(true)
-        .value_parser(codings)
-        .help("The code of the page: mh codes each row by its runs alone, mmr after the row above")
-}
-
-fn order_option<'a>(alloc: Global, orders: ValueParser<'a>) -> Arg<'a>
-    ensures rule { rule_of result ≡ order_rule orders.entry }
-    ensures local { result.global ≡ false }
-{
-    named_option(alloc, "order", "ORDER")
-        .value_parser(orders)
-        .default_value("msb")
-        .help("Which bit of an octet of the code comes first, the most or the least significant")
-}
-
-fn width_option<'a>(alloc: Global) -> Arg<'a>
-    ensures rule { rule_of result ≡ width_rule }
-    ensures local { result.global ≡ false }
-{
-    named_option(alloc, "width", "N")
-        .required(true)
-        .value_parser(clap::value_parser!(u32).range(1..=2432))
-        .help("The width of the page in pixels, 1 to 2432")
-}
-
-fn data_option<'a>(alloc: Global) -> Arg<'a>
-    ensures rule { rule_of result ≡ record (option_rule (codes "data")) { parser = Some (vp.Signed (pos 0) (pos 300)) } }
-    ensures local { result.global ≡ false }
-{
-    named_option(alloc, "data", "N")
-        .value_parser(clap::value_parser!(u32).range(0..=300))
-        .help("Shows at most N octets of a content, and `..` where it has more")
-}
-
-fn file_name<'a>(alloc: Global, id: &'a str, shown: &'a str, help: &'a str) -> Arg<'a>
-    ensures rule { rule_of result ≡ file_rule id.entry.now }
-    ensures local { result.global ≡ false }
-{
-    Arg::new(alloc, id)
-        .value_name(shown)
-        .required(true)
-        .action(ArgAction::Set)
-        .help(help)
 }

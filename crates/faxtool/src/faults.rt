@@ -1,0 +1,26 @@
+//! The table of faults, as the help shows it.
+
+/// What the fault lines mean: the number, and what is wrong.
+pub const FAULTS: &str =
+    "Faults, as `fault N`, `fault N at bit B` (from 0) or `fault 30 at line L` (from 1), with status 1:
+   1  an image's width isn't 1 to 2432 pixels
+   3  an image has more than 20000 rows
+   4  an image has no row; at a bit: a page ends before its first row
+   5  a file is no raw PBM (P4)
+   6  an image is cut short
+   7  an image's file is empty
+   8  a file or standard output can't be read or written
+   9  memory was refused
+  10  at a bit: no code begins there that may come
+  11  at a bit: the file ends inside a code or before the next one
+  12  at a bit: a run goes past the row's width (mh)
+  13  at a bit: a vertical mode doesn't move to the right (mmr)
+  14  at a bit: a mode or a run goes past the row's width (mmr)
+  15  at a bit: a horizontal mode of two runs of 0 pixels (mmr)
+  16  at a bit: an extension code (mmr)
+  17  at a bit: the page's end is missing (mmr)
+  18  at a bit: one row more than 20000
+  26  a page's width is none that a call carries
+  27  code was given several images
+  30  at a line: no command of a script
+Status 2: the words are no job. With --explain a second line says which file it is, where and why.";

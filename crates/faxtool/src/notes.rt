@@ -1,0 +1,47 @@
+//! What is noted of a job while it is done, for the words that explain its fault.
+
+use std::alloc::Global;
+use std::io::ErrorKind;
+
+/// A file of a job.
+#[derive(Clone, Copy, Debug, PartialEq, Eq)]
+pub enum Part {
+    /// What is coded, shown, decoded, listed or sent.
+    Input,
+    /// The script of a call.
+    Script,
+    /// What the file OUT or that of `--out` gets.
+    Output,
+    /// What is printed.
+    Printed,
+}
+
+/// What is noted of a job.
+#[derive(Drop)]
+pub struct Notes {
+    /// The file that could not be read or written, and why.
+    pub failed: Option<(Part, ErrorKind)>,
+    /// How many octets of the input are kept at most.
+    pub most: usize,
+    /// Whether it is told how far reading is, where that takes long.
+    pub long: bool,
+    /// The first octets of the input.
+    pub octets: Vec<u8>,
+}
+
+impl Notes {
+    /// Nothing is noted yet. At most so many octets of the input will be kept.
+    pub fn new(alloc: Global, most: usize, long: bool) -> Notes {
+        Notes {
+            failed: None,
+            most,
+            long,
+            octets: Vec::new(alloc),
+        }
+    }
+
+    /// Notes why a file could not be read or written.
+    pub fn blame(&mut self, part: Part, kind: ErrorKind) {
+        self.failed = Some((part, kind));
+    }
+}

@@ -1,0 +1,50 @@
+# Completion of faxtool's commands, options and files in bash. Load it by `. faxtool.bash`, or put it as `faxtool` into
+# ~/.local/share/bash-completion/completions.
+
+# The options of a command.
+_faxtool_options() {
+    case $1 in
+        code) echo --code --order --explain --help ;;
+        show) echo --code --width --order --explain --help ;;
+        decode) echo --code --width --order --fine --salvage --verbose --explain --help ;;
+        frames) echo --data --explain --help ;;
+        call) echo --script --code --frame --modems --fine --out --explain --help ;;
+        *) echo --help ;;
+    esac
+}
+
+# The values of an option, and nothing where it has none or is the name of a file.
+_faxtool_values() {
+    case $1 in
+        --code) echo mh mmr ;;
+        --order) echo msb lsb ;;
+        --frame) echo 256 64 ;;
+        --modems) echo v17 v27v29 v29 v27 fallback ;;
+        --width) echo 1728 2048 2432 ;;
+        --data) echo 8 ;;
+    esac
+}
+
+_faxtool() {
+    local word=${COMP_WORDS[COMP_CWORD]} before=${COMP_WORDS[COMP_CWORD - 1]} values
+    COMPREPLY=()
+    if [ "$COMP_CWORD" = 1 ]; then
+        COMPREPLY=($(compgen -W "code show decode frames call help --help" -- "$word"))
+        return
+    fi
+    # bash takes --code=mh as three words
+    [ "$word" != = ] || word=
+    [ "$before" != = ] || before=${COMP_WORDS[COMP_CWORD - 2]}
+    values=$(_faxtool_values "$before")
+    if [ -n "$values" ]; then
+        COMPREPLY=($(compgen -W "$values" -- "$word"))
+    elif [ "${COMP_WORDS[1]}" = help ]; then
+        COMPREPLY=($(compgen -W "code show decode frames call" -- "$word"))
+    elif [ "${word#-}" != "$word" ]; then
+        COMPREPLY=($(compgen -W "$(_faxtool_options "${COMP_WORDS[1]}")" -- "$word"))
+    else
+        COMPREPLY=($(compgen -f -- "$word"))
+    fi
+}
+
+complete -o filenames -F _faxtool faxtool
