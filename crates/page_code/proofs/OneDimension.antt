@@ -12,3 +12,7 @@ pub mod SeesEol
 pub mod RowsOn
 pub mod ReadsItsCode
 pub mod RowsWords
+pub mod PageKinds
+pub mod PageParts
+pub mod PageRefusals
+pub mod PagesGoOn

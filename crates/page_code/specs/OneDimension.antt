@@ -4,3 +4,5 @@ pub mod OwnRuns
 pub mod Fronts
 pub mod Laws
 pub mod Reading
+pub mod Kinds
+pub mod KindLaws
