@@ -15,3 +15,7 @@ pub mod RowsWords
 pub mod LineEnds
 pub mod Repairs
 pub mod RepairLaws
+pub mod PageKinds
+pub mod PageParts
+pub mod PageRefusals
+pub mod PagesGoOn

@@ -6,3 +6,5 @@ pub mod Laws
 pub mod Reading
 pub mod Repairs
 pub mod Repairing
+pub mod Kinds
+pub mod KindLaws

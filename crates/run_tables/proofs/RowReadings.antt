@@ -90,7 +90,7 @@ reading_row width row front rest place some wide full spells =
     ap (λ (l : List Bool). Ok (row, place + length l)) way.spelled))
 
 -- codes that lead to a whole row complete it
-walk_left : (width : ℕ) (codes : List RunItem) (s : RowState) (row : List Color) → Walk (Step width) s codes (whole row)
+pub walk_left : (width : ℕ) (codes : List RunItem) (s : RowState) (row : List Color) → Walk (Step width) s codes (whole row)
     → Left width s row (spell item_word codes)
 walk_left width [] s row walk = rw walk (refl, refl)
 walk_left width (code ∷ codes) (inside pixels color makeup) row walk = code_left width pixels color makeup code walk.0 row (spell item_word

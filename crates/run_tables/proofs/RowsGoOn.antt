@@ -122,7 +122,7 @@ makeup_goes_on width front so_far color wide part = elim (cases_lt so_far width)
         (ap (λ l. l ++ run_words color part.makeup) part.runs.words ∙
         ap (λ c. runs_words White runs ++ run_words c part.makeup) part.runs.color_is)))
 
-part_goes_on : (width : ℕ) (front : List Bool) (so_far : ℕ) (color : Color) (among : Among) → IsWidth width
+pub part_goes_on : (width : ℕ) (front : List Bool) (so_far : ℕ) (color : Color) (among : Among) → IsWidth width
     → IsRowPart width front so_far color among → Completed width front
 part_goes_on width front so_far color AllCodes wide part = runs_go_on width front so_far color wide.1 part
 part_goes_on width front so_far color TerminatingCodes wide part = makeup_goes_on width front so_far color wide.1 part
@@ -172,7 +172,7 @@ ends_before color among rest (bit ∷ more) ends = (
 )
 
 -- no code stays none when bits follow
-none_more : (color : Color) (among : Among) (rest more : List Bool) → CodeKind color among rest BadCode
+pub none_more : (color : Color) (among : Among) (rest more : List Bool) → CodeKind color among rest BadCode
     → CodeKind color among (rest ++ more) BadCode
 none_more color among rest more is = (
   λ run b. elim (beginnings rest more b.0 b.1 b.3) [

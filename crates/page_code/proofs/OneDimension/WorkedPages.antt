@@ -1,7 +1,8 @@
 -- Worked pages: by computing alone.
-use Rattle.std.proofs.Common.{◌≡◌, ◌∷◌, [], replicate, refl}
+use Rattle.std.proofs.Common.{ℕ, ◌≡◌, ◌≤◌, Bool, List, ◌∷◌, [], replicate, refl, arith}
 use Rattle.std.specs.Prelude.{Ok, Err, codes}
 use Rattle.raster.specs.declared.row.Color.TheVariants.{White, Black}
+use Rattle.run_tables.specs.declared.fault.CodeFaultKind.{CodeFaultKind}
 use Rattle.run_tables.specs.declared.fault.CodeFaultKind.TheVariants.{NoRows, BadCode, Truncated, RunTooLong}
 use Rattle.run_tables.specs.Codes.{text, code_word}
 use Rattle.run_tables.specs.RowFronts.{run_items, after_code, look_code, read_row}
@@ -9,6 +10,9 @@ use Rattle.run_tables.specs.RowFronts.{reading as row_reading}
 use Rattle.page_code.specs.OneDimension.OwnRuns.{own_runs}
 use Rattle.page_code.specs.OneDimension.Pages.{page_words}
 use Rattle.page_code.specs.OneDimension.Fronts.{reading, read_page, bits_of_five}
+use Rattle.page_code.specs.OneDimension.KindLaws.{AreRefusedPages}
+use Rattle.page_code.specs.OneDimension.Kinds.{IsRefusedPage}
+use Rattle.page_code.proofs.OneDimension.PageRefusals.{refused_page}
 
 -- EOL, and eight 0 bits and a 1, which begin no code
 bad : read_page 8 (text (codes "000000000001000000001000")) ≡ Err (12, BadCode)
@@ -119,3 +123,26 @@ white_page : page_words (replicate 1728 White ∷ []) ≡ text (codes
     "00000000000101001101100110101000000000001000000000001000000000001000000000001000000000001000000000001")
 unfolding code_word own_runs
 white_page = refl
+
+-- the refused ones, in the grammar's words
+pub refused_pages : AreRefusedPages
+refused_pages = record {
+  nothing = at 8 [] 0 NoRows (omega arith) (omega arith) nothing;
+  zeros = at 8 (text (codes "00000000")) 0 NoRows (omega arith) (omega arith) zeros;
+  eol_and_zeros = at 8 (text (codes "000000000001000000000000")) 12 NoRows (omega arith) (omega arith) none;
+  two_eols = at 8 (text (codes "000000000001000000000001")) 12 NoRows (omega arith) (omega arith) two;
+  no_code = at 8 (text (codes "000000000001000000001000")) 12 BadCode (omega arith) (omega arith) bad;
+  too_long = at 8 (text (codes "000000000001101000000000")) 12 RunTooLong (omega arith) (omega arith) long;
+  inside_a_row = at 8 (text (codes "0000000000011000")) 16 Truncated (omega arith) (omega arith) inside_row;
+  seven_zeros = at 8 (text (codes "00000000000110000000000")) 16 Truncated (omega arith) (omega arith) inside_zeros;
+  nine_zeros = at 8 (text (codes "0000000000011000000000000")) 16 BadCode (omega arith) (omega arith) inside_bad;
+  seven_zeros_after_makeup = at 128 (text (codes "110110000000")) 5 BadCode (omega arith) (omega arith) after_makeup;
+  six_zeros_after_makeup = at 128 (text (codes "11011000000")) 5 Truncated (omega arith) (omega arith) after_makeup_cut;
+  makeup_after_makeup = at 2432 (text (codes "1101111011")) 5 BadCode (omega arith) (omega arith) two_makeups;
+  rest_too_long = at 65 (text (codes "110110111000")) 5 RunTooLong (omega arith) (omega arith) long_after_makeup;
+  no_eol = at 8 (text (codes "1001100001")) 5 BadCode (omega arith) (omega arith) row_after;
+}
+  where
+    at : (width : ℕ) (x : List Bool) (place : ℕ) (kind : CodeFaultKind) → 1 ≤ width → width ≤ 2432 → read_page width x ≡ Err (place, kind)
+        → IsRefusedPage width x place kind
+    at width x place kind some most e = refused_page width x place kind (some, most) e

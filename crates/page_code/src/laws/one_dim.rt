@@ -1,5 +1,6 @@
 //! Laws of pages in the one-dimensional code: what their contracts say is proved, and nothing runs.
 
+ghost use Rattle.page_code.specs.OneDimension.KindLaws.{AreRefusedPages, FrontsGoOn, OneKind, RefusesPagesExactly};
 ghost use Rattle.page_code.specs.OneDimension.OwnRuns.{OwnRunsOwn, OwnRunsOnly};
 ghost use Rattle.page_code.specs.OneDimension.Repairs.{OneRepair, RepairsNothing};
 ghost use Rattle.page_code.specs.OneDimension.Laws.{ReadsExactly, RefusesNoPage, RefusesAtLongest, OneFront, ReadsCode};
@@ -47,4 +48,26 @@ pub fn repair_of_a_whole_page()
 /// Bits give one page, with the same rows repaired.
 pub fn one_repair()
     ensures { OneRepair }
+{}
+
+/// One place of a page has one kind of refusal.
+pub fn one_kind()
+    ensures { OneKind }
+{}
+
+/// A page is refused exactly where it goes no further after whole items, for the reason that the
+/// bits there give: bits read as a page or have one refusal, and not both.
+pub fn refuses_pages_exactly()
+    ensures { RefusesPagesExactly }
+{}
+
+/// After whole items of a page are bits with which they read as a page; with a run code that passes
+/// the width, a second EOL before any row, or bits that are no code's, none does.
+pub fn fronts_go_on()
+    ensures { FrontsGoOn }
+{}
+
+/// Refused pages that were coded by hand.
+pub fn refused_pages()
+    ensures { AreRefusedPages }
 {}

@@ -1,0 +1,74 @@
+-- Laws of refused pages in the one-dimensional code (ITU-T T.4, 4.1): where a page goes no further, and why.
+use Rattle.std.specs.Prelude.{ℕ, ◌≡◌, ◌+◌, ◌<◌, ◌≤◌, ◌⊎◌, ◌↔◌, Bool, List, [], ◌++◌, length, Err, codes}
+use Rattle.raster.specs.declared.row.Color.{Color}
+use Rattle.raster.specs.Pixels.{IsWidth}
+use Rattle.run_tables.specs.declared.fault.CodeFaultKind.{CodeFaultKind}
+use Rattle.run_tables.specs.declared.fault.CodeFaultKind.TheVariants.{NoRows, BadCode, Truncated, RunTooLong, TooManyCodedRows}
+use Rattle.run_tables.specs.declared.reader.Among.{Among}
+use Rattle.run_tables.specs.Codes.{text}
+use Rattle.run_tables.specs.Kinds.{MayCome}
+use Rattle.page_code.specs.OneDimension.Fronts.{read_page}
+use Rattle.page_code.specs.OneDimension.Kinds.{PagePlace, IsPagePart, IsBeforeCode, PageKind, IsRefusedPage}
+use Rattle.page_code.specs.OneDimension.Kinds.PagePlace.{line_begin}
+use Rattle.page_code.specs.OneDimension.Pages.{eol_word, ReadsAs}
+
+-- where pages are refused
+pub record RefusesPagesExactly : Type 0 where
+  -- reading refuses exactly where the page goes no further after whole items, and for that reason
+  pub named : (width : ℕ) (x : List Bool) (place : ℕ) (kind : CodeFaultKind) → IsWidth width
+      → (read_page width x ≡ Err (place, kind)) ↔ IsRefusedPage width x place kind
+  -- bits read as a page, or are refused
+  pub some : (width : ℕ) (x : List Bool) → IsWidth width → ((page : List (List Color)) × (used : ℕ) × ReadsAs width x page used)
+      ⊎ ((place : ℕ) × (kind : CodeFaultKind) × IsRefusedPage width x place kind)
+  -- bits that read as a page aren't refused
+  pub none : (width : ℕ) (x : List Bool) (page : List (List Color)) (used place : ℕ) (kind : CodeFaultKind) → IsWidth width
+      → ReadsAs width x page used → ¬ IsRefusedPage width x place kind
+  -- there is one refusal alone
+  pub one : (width : ℕ) (x : List Bool) (p q : ℕ) (a b : CodeFaultKind) → IsWidth width → IsRefusedPage width x p a
+      → IsRefusedPage width x q b → (p ≡ q) × (a ≡ b)
+  -- no more bits are whole items of a page
+  pub longest : (width : ℕ) (x : List Bool) (place : ℕ) (kind : CodeFaultKind) (front rest : List Bool) (at : PagePlace) → IsWidth width
+      → IsRefusedPage width x place kind → IsPagePart width front at → x ≡ front ++ rest → length front ≤ place
+
+-- one place of a page has one kind
+abbrev pub OneKind : Type 0
+OneKind = (width : ℕ) (at : PagePlace) (x : List Bool) (a b : CodeFaultKind) → PageKind width at x a → PageKind width at x b → a ≡ b
+
+-- whole items of a page go on, and what is refused after them doesn't
+pub record FrontsGoOn : Type 0 where
+  -- after whole items are bits with which they read as a page
+  pub goes_on : (width : ℕ) (front : List Bool) (at : PagePlace) → IsWidth width → IsPagePart width front at
+      → (page : List (List Color)) × (more : List Bool) × (used : ℕ) × ReadsAs width (front ++ more) page used
+  -- with a run code after them that passes the width no bits read as a page, whatever follows
+  pub too_long : (width : ℕ) (front : List Bool) (at : PagePlace) (so_far : ℕ) (color : Color) (among : Among) (run : ℕ) (word : List Bool)
+      → IsWidth width → IsPagePart width front at → IsBeforeCode at so_far color among → MayCome color among run word
+      → width < so_far + run → (more : List Bool) (page : List (List Color)) (used : ℕ) → ¬ ReadsAs width (front ++ (word ++ more)) page used
+  -- nor with a second EOL after the first
+  pub second_eol : (width : ℕ) (front : List Bool) (count : ℕ) → IsWidth width → IsPagePart width front (line_begin 0) → 11 ≤ count
+      → (more : List Bool) (page : List (List Color)) (used : ℕ) → ¬ ReadsAs width (front ++ (eol_word count ++ more)) page used
+  -- nor do bits that are refused as no code's, or where a 20,001st row would begin
+  pub no_item : (width : ℕ) (x : List Bool) (place : ℕ) (kind : CodeFaultKind) → IsWidth width
+      → (kind ≡ BadCode) ⊎ (kind ≡ TooManyCodedRows) → IsRefusedPage width x place kind → (more : List Bool) (page : List (List Color))
+      (used : ℕ) → ¬ ReadsAs width (x ++ more) page used
+
+-- refused pages that were coded by hand from the tables
+pub record AreRefusedPages : Type 0 where
+  -- no bit; only 0 bits; an EOL and only 0 bits; two EOLs
+  pub nothing : IsRefusedPage 8 [] 0 NoRows
+  pub zeros : IsRefusedPage 8 (text (codes "00000000")) 0 NoRows
+  pub eol_and_zeros : IsRefusedPage 8 (text (codes "000000000001000000000000")) 12 NoRows
+  pub two_eols : IsRefusedPage 8 (text (codes "000000000001000000000001")) 12 NoRows
+  -- after an EOL eight 0 bits and a 1, with which no code begins; a white make-up code of 64
+  pub no_code : IsRefusedPage 8 (text (codes "000000000001000000001000")) 12 BadCode
+  pub too_long : IsRefusedPage 8 (text (codes "000000000001101000000000")) 12 RunTooLong
+  -- after an EOL and white 3 of 8: no bit; seven 0 bits, with which make-up codes begin; nine, with which none does
+  pub inside_a_row : IsRefusedPage 8 (text (codes "0000000000011000")) 16 Truncated
+  pub seven_zeros : IsRefusedPage 8 (text (codes "00000000000110000000000")) 16 Truncated
+  pub nine_zeros : IsRefusedPage 8 (text (codes "0000000000011000000000000")) 16 BadCode
+  -- after a make-up code: seven 0 bits; six; another make-up code; a terminating code past the width
+  pub seven_zeros_after_makeup : IsRefusedPage 128 (text (codes "110110000000")) 5 BadCode
+  pub six_zeros_after_makeup : IsRefusedPage 128 (text (codes "11011000000")) 5 Truncated
+  pub makeup_after_makeup : IsRefusedPage 2432 (text (codes "1101111011")) 5 BadCode
+  pub rest_too_long : IsRefusedPage 65 (text (codes "110110111000")) 5 RunTooLong
+  -- after a row neither an EOL nor only 0 bits
+  pub no_eol : IsRefusedPage 8 (text (codes "1001100001")) 5 BadCode
