@@ -1,14 +1,18 @@
 -- Worked rows, pages and refusals of the two-dimensional code, by computing.
-use Rattle.std.proofs.Common.{◌≡◌, List, [], ◌∷◌, ◌++◌, replicate, refl}
+use Rattle.std.proofs.Common.{ℕ, ◌≡◌, ◌≤◌, Bool, List, [], ◌∷◌, ◌++◌, replicate, refl, arith}
 use Rattle.std.specs.Prelude.{Ok, Err, codes}
 use Rattle.raster.specs.declared.row.Color.{Color}
 use Rattle.raster.specs.declared.row.Color.TheVariants.{White, Black}
+use Rattle.run_tables.specs.declared.fault.CodeFaultKind.{CodeFaultKind}
 use Rattle.run_tables.specs.declared.fault.CodeFaultKind.TheVariants.{NoRows, BadCode, Truncated, Backwards, PastEnd, EmptyHorizontal}
 use Rattle.run_tables.specs.declared.fault.CodeFaultKind.TheVariants.{Extension, MissingEofb}
 use Rattle.run_tables.specs.Codes.{text, code_word}
 use Rattle.run_tables.specs.RowFronts.{run_items}
 use Rattle.page_code.specs.TwoDimensions.Positions.{change_from, b1_of, white_line}
 use Rattle.page_code.specs.TwoDimensions.Code.{row_code, page_code}
+use Rattle.page_code.specs.TwoDimensions.Kinds.{IsRefusedPage}
+use Rattle.page_code.specs.TwoDimensions.KindLaws.{AreRefusedPages}
+use Rattle.page_code.proofs.TwoDimensions.KindLaws.{refuses_pages_exactly}
 use Rattle.page_code.specs.TwoDimensions.Fronts.{reading, read_page, after_mode, after_run, look_mode, look_run}
 
 -- Rows and pages
@@ -153,3 +157,34 @@ cut_first = refl
 zeros_first : read_page 8 (text (codes "00000000")) ≡ Err (0, MissingEofb)
 unfolding reading code_word run_items b1_of change_from after_mode after_run look_mode look_run
 zeros_first = refl
+
+-- the same over the relation that says why
+pub refused_pages : AreRefusedPages
+refused_pages = record {
+  nothing = at 8 [] 0 MissingEofb (omega arith) (omega arith) nothing;
+  extension_first = at 8 (text (codes "00000010")) 0 Extension (omega arith) (omega arith) extension_first;
+  extension_alone = at 8 (text (codes "0000001")) 0 Extension (omega arith) (omega arith) extension_alone;
+  no_eofb = at 8 (text (codes "10000000")) 1 MissingEofb (omega arith) (omega arith) no_eofb;
+  half_eofb = at 8 (text (codes "100000000000100000000000")) 1 Truncated (omega arith) (omega arith) half_eofb;
+  eofb_with_other_bits = at 8 (text (codes "100000000000100000001")) 1 BadCode (omega arith) (omega arith) eofb_with_other_bits;
+  cut_run = at 8 (text (codes "00100000")) 3 Truncated (omega arith) (omega arith) cut_run;
+  past_end = at 8 (text (codes "01100000")) 0 PastEnd (omega arith) (omega arith) past_end;
+  backwards = at 8 (text (codes "001001101010101010000000")) 15 Backwards (omega arith) (omega arith) backwards;
+  backwards_first = at 8 (text (codes "001000111000110000010000")) 14 Backwards (omega arith) (omega arith) backwards_first;
+  empty_horizontal = at 8 (text (codes "001001101010000110111000")) 11 EmptyHorizontal (omega arith) (omega arith) empty_horizontal;
+  no_rows = at 8 (text (codes "000000000001000000000001")) 0 NoRows (omega arith) (omega arith) no_rows;
+  long_run = at 8 (text (codes "00111011")) 3 PastEnd (omega arith) (omega arith) long_run;
+  two_makeups = at 100 (text (codes "0011101111011")) 8 BadCode (omega arith) (omega arith) two_makeups;
+  zeros_inside = at 8 (text (codes "0010111110000000")) 9 BadCode (omega arith) (omega arith) zeros_inside;
+  six_zeros_inside = at 8 (text (codes "001011111000000")) 9 BadCode (omega arith) (omega arith) six_zeros_inside;
+  cut_inside = at 8 (text (codes "001011111000001")) 9 Truncated (omega arith) (omega arith) cut_inside;
+  end_inside = at 8 (text (codes "001011111")) 9 Truncated (omega arith) (omega arith) end_inside;
+  extension_inside = at 8 (text (codes "0010111110000001")) 9 Extension (omega arith) (omega arith) extension_inside;
+  eofb_inside = at 8 (text (codes "001011111000000000001000000000001")) 9 BadCode (omega arith) (omega arith) eofb_inside;
+  cut_first = at 8 (text (codes "000001")) 0 Truncated (omega arith) (omega arith) cut_first;
+  zeros_first = at 8 (text (codes "00000000")) 0 MissingEofb (omega arith) (omega arith) zeros_first;
+}
+  where
+    at : (width : ℕ) (x : List Bool) (place : ℕ) (kind : CodeFaultKind) → 1 ≤ width → width ≤ 2432
+        → read_page width x ≡ Err (place, kind) → IsRefusedPage width x place kind
+    at width x place kind some most e = (refuses_pages_exactly.named width x place kind (some, most)).0 e

@@ -1,6 +1,6 @@
 //! Laws of the two-dimensional code: what their contracts say is proved, and nothing runs.
 
-ghost use Rattle.page_code.specs.TwoDimensions.KindLaws.{FrontsAreParts, FrontsGoOn, OneKind, RefusesPagesExactly};
+ghost use Rattle.page_code.specs.TwoDimensions.KindLaws.{AreRefusedPages, FrontsAreParts, FrontsGoOn, OneKind, RefusesPagesExactly};
 ghost use Rattle.page_code.specs.TwoDimensions.Laws.{FindsPositions, OneFront, PassLeadsOn, ReadsExactly};
 ghost use Rattle.page_code.specs.TwoDimensions.Laws.{RefusesAtLongest, RefusesNoPage, RoundTrip};
 
@@ -53,6 +53,11 @@ pub fn fronts_are_parts()
 /// After whole codes some bits complete a page, and after what is refused none do.
 pub fn fronts_go_on()
     ensures { FrontsGoOn }
+{}
+
+/// Refused pages that were coded by hand from the tables.
+pub fn refused_pages()
+    ensures { AreRefusedPages }
 {}
 
 /// The code of a page, followed by any bits, reads as the page.
