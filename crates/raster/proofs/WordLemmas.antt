@@ -1,14 +1,14 @@
 -- Bits of octets as numbers of 64 bits.
 use Rattle.std.proofs.Common.{◌≡◌, ℕ, ◌+◌, ◌-◌, ◌*◌, ◌/◌, ◌%◌, ◌^◌, ◌<◌, ◌≤◌, ◌||◌, true, false, List, [], ◌∷◌, refl, sym, ap, ◌∙◌}
 use Rattle.std.proofs.Common.{get_or, nat_eq, arith, bit_or, zero, suc, w8, w64, inl, inr, max, length}
-use Rattle.std.specs.Int.{bit_at, reverse_bits, reverse_bits_onto, from_be_bytes, to_be_bytes, to_le_bytes, swap_bytes}
+use Rattle.std.specs.Int.{bit_at, reverse_bits, reverse_bits_onto, from_be_bytes, to_be_bytes}
 use Rattle.std.proofs.lemmas.Nat.{shr-shr, or_shifted, shl_whole, pow_pos, pow-add}
 use Rattle.std.proofs.lemmas.Nat.Bits.{bit_at_lowest, bit_at-suc, bit_at-zero, bit_at_or, bit_at_cat_low, bit_at_cat_high, bit_at_above}
 use Rattle.std.proofs.lemmas.Nat.Bits.{bit_at-lt, bit_at_mask_inside}
 use Rattle.std.proofs.lemmas.Bool.{cases_lt}
-use Rattle.std.proofs.lemmas.List.{get_or_past}
+use Rattle.std.specs.Prelude.{slice_index}
 use Rattle.raster.specs.Packed.{bit_in, place_in}
-use Rattle.raster.specs.Words.{IsWordAt, bit_of_word}
+use Rattle.raster.specs.Words.{IsWordAt, bit_of_word, turned_octet}
 use Rattle.raster.proofs.PackedLemmas.{place_in-same, bit_in-past}
 use Rattle.raster.specs.declared.packed.Order.{Order}
 use Rattle.raster.specs.declared.packed.Order.TheVariants.{LsbFirst, MsbFirst}
@@ -256,43 +256,29 @@ lowest_as_highest octets p =
     ap (λ m. nat_eq (bit_at (get_or octets m 0) (p % 8)) 1) which ∙
     ap (λ q. nat_eq (bit_at (get_or octets ((8 * (p / 8) + (7 - p % 8)) / 8) 0) q) 1) place
 
--- the octets of a number, the lowest first
-le_at : (n q : ℕ) → q < 8 → get_or (to_le_bytes w64 n) q 0 ≡ n / 2 ^ (8 * q) % 2 ^ 8
-le_at n zero h = omega arith
-le_at n (suc zero) h = refl
-le_at n (suc (suc zero)) h = refl
-le_at n (suc (suc (suc zero))) h = refl
-le_at n (suc (suc (suc (suc zero)))) h = refl
-le_at n (suc (suc (suc (suc (suc zero))))) h = refl
-le_at n (suc (suc (suc (suc (suc (suc zero)))))) h = refl
-le_at n (suc (suc (suc (suc (suc (suc (suc zero))))))) h = refl
-le_at n (suc (suc (suc (suc (suc (suc (suc (suc q)))))))) h = absurd (omega arith)
+-- the octets of a number, each turned: the first bit of each is its lowest
+turned_octets_are : (word : ℕ) (octets : List ℕ) → ((i : ℕ) → i < 8 → slice_index octets i ≡ turned_octet (slice_index (to_be_bytes w64
+    word) i)) → (k : ℕ) → k < 64 → bit_of_word word k ≡ bit_in LsbFirst octets k
+turned_octets_are word octets turned k h =
+    let octet : ℕ = slice_index (to_be_bytes w64 word) (k / 8) in
+    let back : 7 - (7 - k % 8) ≡ k % 8 = omega arith in
+    be_octets word k h ∙ sym (ap (λ b. nat_eq b 1)
+    (ap (λ x. bit_at x (k % 8)) (turned (k / 8) (omega arith)) ∙
+    (ap (bit_at (turned_octet octet)) (sym back) ∙ bit_at_turned8 octet (7 - k % 8) (omega arith))))
 
-le_small : (n i : ℕ) → get_or (to_le_bytes w64 n) i 0 < 256
-le_small n i =
-    elim (cases_lt i 8) [
-      | inl lt ↦ omega (arith, le_at n i lt)
-      | inr le ↦ omega (arith, get_or_past (to_le_bytes w64 n) i 0 le)
-    ]
-
--- the octets of a number in the other order
-swapped : (n k : ℕ) → k < 64 → bit_of_word (swap_bytes w64 n) k ≡ nat_eq (bit_at n (8 * (k / 8) + (7 - k % 8))) 1
-swapped n k h =
-    let e : 8 * 0 + k ≡ k = omega arith in
-    be_word (to_le_bytes w64 n) 0 (le_small n) k h ∙
-    (ap (bit_in MsbFirst (to_le_bytes w64 n)) e ∙ ap (λ b. nat_eq b 1)
-    (ap (λ x. bit_at x (7 - k % 8)) (le_at n (k / 8) (omega arith)) ∙ octet_bit n (8 * (k / 8)) (7 - k % 8) (omega arith)))
-
-bit_at_turned64 : (n i : ℕ) → i < 64 → bit_at (reverse_bits w64 n) i ≡ bit_at n (63 - i)
-bit_at_turned64 n i h = onto_new 64 n 0 i h
+pub turned_bits : (word : ℕ) (octets : List ℕ) (turned : ℕ) → ((i : ℕ) → i < 8 → slice_index octets i ≡ turned_octet (slice_index
+    (to_be_bytes w64 word) i)) → IsWordAt MsbFirst octets (8 * 0) turned → (k : ℕ) → k < 64
+    → bit_of_word turned k ≡ bit_of_word word (8 * (k / 8) + (7 - k % 8))
+turned_bits word octets turned each is k h =
+    let back : 8 * 0 + k ≡ 8 * ((8 * (k / 8) + (7 - k % 8)) / 8) + (7 - (8 * (k / 8) + (7 - k % 8)) % 8) = omega arith in
+    is k h ∙
+    (ap (bit_in MsbFirst octets) back ∙
+    (sym (lowest_as_highest octets (8 * (k / 8) + (7 - k % 8))) ∙
+    sym (turned_octets_are word octets each (8 * (k / 8) + (7 - k % 8)) (omega arith))))
 
 -- a word whose octets are in an order of bits
 abbrev pub IsInOrder : Order → ℕ → ℕ → Type 0
 IsInOrder order word turned = (k : ℕ) → k < 64 → bit_of_word turned k ≡ bit_of_word word (8 * (k / 8) + (7 - place_in order k))
-
-pub turned_in_order : (word : ℕ) → IsInOrder LsbFirst word (swap_bytes w64 (reverse_bits w64 word))
-turned_in_order word k h =
-    swapped (reverse_bits w64 word) k h ∙ ap (λ b. nat_eq b 1) (bit_at_turned64 word (8 * (k / 8) + (7 - k % 8)) (omega arith))
 
 pub kept_in_order : (word : ℕ) → IsInOrder MsbFirst word word
 kept_in_order word k h =

@@ -45,6 +45,7 @@ pub fn bit_of(order: Order, octets: &[u8], place: u128) -> bool
 
 /// The 64 bits of the octets from a place on, the first of them the most significant; places count
 /// from 0, eight an octet. Bits past the octets are 0.
+#[inline(always)]
 pub fn word_at(order: Order, octets: &[u8], place: u128) -> u64
     ensures { IsWordAt order octets.now place result }
 {
@@ -110,6 +111,7 @@ fn push_bit(order: Order, octets: &mut Vec<u8>, count: u128, bit: bool) -> Resul
     Ok(())
 }
 
+#[inline(always)]
 fn push_number(
     order: Order,
     octets: &mut Vec<u8>,
@@ -321,6 +323,7 @@ impl PackedBits {
     }
 
     /// Appends so many of the lowest bits of a number, at most 32, the most significant of them first.
+    #[inline(always)]
     #[tactic(auto, using(crate::proofs::PackedLemmas::views))]
     pub fn push_bits(&mut self, value: u32, count: u32) -> Result<(), AllocError>
         requires { count ≤ 32 }

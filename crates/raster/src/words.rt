@@ -1,9 +1,9 @@
 //! Bits of octets, up to 64 at a time.
 
 ghost use Rattle.raster.specs.Packed.{bit_in, place_in};
-ghost use Rattle.raster.specs.Words.{bit_of_word, IsWordAt, IsFirstInWord, IsFirstOther, AreOred};
+ghost use Rattle.raster.specs.Words.{bit_of_word, turned_octet, IsWordAt, IsFirstInWord, IsFirstOther, AreOred};
 ghost use Rattle.std.specs.Int.{bit_at};
-ghost use Rattle.std.specs.Prelude.{ℕ, true, false, ◌≡◌, ◌≤◌, ◌<◌, ◌+◌, ◌-◌, ◌*◌, ◌/◌, length, nat_eq, slice_index};
+ghost use Rattle.std.specs.Prelude.{ℕ, true, false, ◌≡◌, ◌≤◌, ◌<◌, ◌+◌, ◌-◌, ◌*◌, ◌/◌, ◌%◌, length, nat_eq, slice_index};
 
 use crate::blocks::block_change;
 use crate::packed::Order;
@@ -37,13 +37,36 @@ fn whole_word(octets: &[u8], at: usize) -> u64
     ])
 }
 
+/// The octets, each with its bits in the other order.
+fn turned_eight(octets: [u8; 8]) -> [u8; 8]
+    ensures { (i : ℕ) → i < 8 → slice_index result i ≡ turned_octet (slice_index octets i) }
+{
+    [
+        turned(octets[0]),
+        turned(octets[1]),
+        turned(octets[2]),
+        turned(octets[3]),
+        turned(octets[4]),
+        turned(octets[5]),
+        turned(octets[6]),
+        turned(octets[7]),
+    ]
+}
+
+/// The word with the bits of each of its eight octets turned.
+fn turned_word(word: u64) -> u64
+    ensures { (k : ℕ) → k < 64 → bit_of_word result k ≡ bit_of_word word (8 * (k / 8) + (7 - k % 8)) }
+{
+    whole_word(&turned_eight(word.to_be_bytes()), 0)
+}
+
 /// The word with each of its eight octets in an order of bits: turned where its least significant bit is
 /// to be the first.
 fn in_order(order: Order, word: u64) -> u64
     ensures { (k : ℕ) → k < 64 → bit_of_word result k ≡ bit_of_word word (8 * (k / 8) + (7 - place_in order k)) }
 {
     match order {
-        Order::LsbFirst => word.reverse_bits().swap_bytes(),
+        Order::LsbFirst => turned_word(word),
         Order::MsbFirst => word,
     }
 }
@@ -60,6 +83,7 @@ fn octet_or_zero(order: Order, octets: &[u8], at: usize) -> u8
 }
 
 /// The bits from an octet on, filled with 0 bits to 64.
+#[cold]
 fn last_word(order: Order, octets: &[u8], at: usize) -> u64
     requires { at ≤ length octets.now }
     ensures { IsWordAt order octets.now (8 * at) result }
@@ -72,6 +96,7 @@ fn last_word(order: Order, octets: &[u8], at: usize) -> u64
 }
 
 /// The 64 bits from an octet on; past the octets they are 0.
+#[inline(always)]
 pub(crate) fn octet_word(order: Order, octets: &[u8], at: usize) -> u64
     requires { at ≤ length octets.now }
     ensures { IsWordAt order octets.now (8 * at) result }
@@ -83,6 +108,7 @@ pub(crate) fn octet_word(order: Order, octets: &[u8], at: usize) -> u64
 }
 
 /// The 64 bits that begin within an octet.
+#[inline(always)]
 pub(crate) fn shifted_word(order: Order, octets: &[u8], at: usize, within: u32) -> u64
     requires at { at ≤ length octets.now }
     requires within { within < 8 }
@@ -119,6 +145,7 @@ fn put_octets(octets: &mut [u8], at: usize, eight: [u8; 8])
 }
 
 /// Ors the bits of a word to those of eight octets from one of them on.
+#[inline(always)]
 pub(crate) fn or_word(order: Order, octets: &mut Vec<u8>, at: usize, word: u64)
     requires { at + 8 ≤ length octets.old.items }
     ensures { AreOred order octets.old.items word octets.new.items at }

@@ -180,6 +180,7 @@ impl<'a> BitReader<'a> {
     }
 
     /// The next 64 bits as a number, the first of them the most significant; past the end they are 0.
+    #[inline(always)]
     pub fn peek(&self) -> u64
         ensures { IsFirst64 (rest_of self.now) result }
     {
@@ -209,6 +210,7 @@ impl<'a> BitReader<'a> {
     }
 
     /// The code that may come and begins the bits that are left: its run, and its code word's length.
+    #[inline(always)]
     fn find_code(&self, color: Color, among: Among) -> Option<(u32, usize)>
         ensures found { IfSome result (λ code. pick (code_word color) (runs_among among) (rest_of self.now) ≡ Some code.0) }
         ensures length { IfSome result (λ code. code.1 ≡ length (code_word color code.0)) }
@@ -244,6 +246,7 @@ impl<'a> BitReader<'a> {
     }
 
     /// The refusal where no code that may come begins the bits that are left.
+    #[cold]
     fn refusal(&self, color: Color, among: Among) -> CodeFault
         ensures { result ≡ record { place = self.now.place; kind = kind_among color among (rest_of self.now) } }
     {
@@ -258,6 +261,7 @@ impl<'a> BitReader<'a> {
     /// The run of the next code, one of those that may come (ITU-T T.4, 4.1.1). Errs where none of
     /// them begins the bits that are left: with `Truncated` where these are a beginning of one, none
     /// left included, and else with `BadCode`. An error changes nothing.
+    #[inline(always)]
     pub fn next_code(&mut self, color: Color, among: Among) -> Result<u32, CodeFault>
         ensures reads { ReadsCode color among self.old self.new result }
         ensures picks { PicksCode color among self.old self.new result }

@@ -77,6 +77,7 @@ impl BitWriter {
 
     /// Appends so many of the lowest bits of a number, at most 32, the most significant of them first.
     /// Errs where memory is refused, which changes nothing.
+    #[inline(always)]
     pub fn push_bits(&mut self, value: u32, count: u32) -> Result<(), AllocError>
         requires { count ≤ 32 }
         ensures ok { OnOk result (Appends (number_bits count value) self.old self.new) }

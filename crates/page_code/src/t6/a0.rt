@@ -52,6 +52,7 @@ impl A0 {
 
     /// b1: the first changing element of the reference line to the right of a0 and of opposite color,
     /// or the line's end where there is none.
+    #[inline(always)]
     pub(crate) fn b1(self, reference: &mut Changes) -> u32
         requires { self.place ≤ max_width }
         ensures first { IsFirstTo reference.old (other self.color) (right_of self) result }

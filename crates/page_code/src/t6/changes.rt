@@ -20,6 +20,7 @@ fn changes_of(alloc: Global, row: &Row, mut places: Vec<u32>) -> Result<Vec<u32>
 }
 
 /// An index at or below `start` before which a place is to the left of `from`, if there is one before it.
+#[inline(always)]
 fn step_back(places: &[u32], from: u32, start: usize) -> usize
     requires { start ≤ length places.now }
     ensures within { result ≤ start }
@@ -33,6 +34,7 @@ fn step_back(places: &[u32], from: u32, start: usize) -> usize
 }
 
 /// The index of the first place that isn't to the left of `from`, at or above `start`.
+#[inline(always)]
 fn step_on(places: &[u32], from: u32, start: usize) -> usize
     requires within { start ≤ length places.now }
     requires left { IsLeftBefore places.now from start }

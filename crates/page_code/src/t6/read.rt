@@ -105,6 +105,7 @@ fn is_cut_mode(reader: &BitReader) -> bool
 }
 
 /// The refusal where no mode code begins the bits that are left.
+#[cold]
 fn no_mode(reader: &BitReader) -> CodeFault
     ensures { result ≡ record { place = reader.now.place; kind = missing_mode (rest_of reader.now) } }
 {
@@ -119,6 +120,7 @@ fn no_mode(reader: &BitReader) -> CodeFault
 }
 
 /// The next mode code (ITU-T T.6, 2.2.2).
+#[inline(always)]
 fn next_mode(reader: &mut BitReader) -> Result<ModeCode, CodeFault>
     ensures { ReadsMode reader.old reader.new result }
 {
