@@ -1,5 +1,6 @@
 -- A fault in words is one line.
-use Rattle.std.proofs.Common.{◌≡◌, ◌%◌, ◌/◌, ◌++◌, ◌∷◌, [], ◌&&◌, ℕ, Bool, true, false, List, Option, Some, None, refl, arith, codes, zero, suc, nat_lt}
+use Rattle.std.proofs.Common.{◌≡◌, ◌%◌, ◌/◌, ◌++◌, ◌∷◌, [], ◌&&◌, ℕ, Bool, true, false, List, Option, Some, None, refl, arith}
+use Rattle.std.proofs.Common.{codes, zero, suc, nat_lt}
 use Rattle.std.proofs.lemmas.Grind.{common_steps}
 use Rattle.std.specs.Fmt.{decimal, digit_glyph, digits, digits_onto}
 use Rattle.std.specs.List.{list_all}
@@ -11,7 +12,8 @@ use Rattle.raster.specs.declared.row.Color.TheVariants.{White, Black}
 use Rattle.engines.specs.declared.explain.Known.{Known}
 use Rattle.engines.specs.declared.fault.ToolFault.{ToolFault}
 use Rattle.engines.specs.declared.fault.ToolFault.TheVariants.{No, AtBit, AtLine}
-use Rattle.engines.specs.Explanations.{IsOneLine, code_table, code_words, explained, image_table, image_words, netpbm_table, tiff_table, is_shown, name_text, no_raw_pbm, reason_words, row_text, whole_words, words_in}
+use Rattle.engines.specs.Explanations.{IsOneLine, code_table, code_words, explained, image_table, image_words, is_shown, name_text}
+use Rattle.engines.specs.Explanations.{netpbm_table, no_raw_pbm, reason_words, row_text, tiff_table, whole_words, words_in}
 
 -- a text after a text
 pub both_lines : (a b : List ℕ) → IsOneLine a → IsOneLine b → IsOneLine (a ++ b)
@@ -92,7 +94,8 @@ image_header_line [] = refl
 image_header_line (first ∷ []) = refl
 image_header_line (first ∷ (second ∷ rest)) = if_p (first == 80) refl
   where
-    if_m : (test : Bool) → (first == 77) ≡ test → (first == 73) ≡ false → (first == 80) ≡ false → IsOneLine (no_raw_pbm (first ∷ (second ∷ rest)))
+    if_m : (test : Bool) → (first == 77) ≡ test → (first == 73) ≡ false → (first == 80) ≡ false
+        → IsOneLine (no_raw_pbm (first ∷ (second ∷ rest)))
     if_m true e n o = rw (o, n, e) (words_line (tiff_table 77) (codes "no raw PBM: it doesn't begin with P4") second refl refl)
     if_m false e n o = rw (o, n, e) refl
 
