@@ -220,7 +220,8 @@ page_kind_sees width (row_start rows) x kind is = elim (kind_line width (length 
     ended : AreZeros x ⊎ EolBegins x → length rows ≡ 0 → look width (row_start rows) x ≡ refuse NoRows
     ended (inl zeros) none = line_zeros width rows x zeros ∙ no_rows_end rows 0 none
     ended (inr begins) none =
-        line_eol width rows x begins.0 (ap zeros_before begins.3 ∙ zeros_eol begins.0 begins.1) begins.2 ∙ no_rows_end rows (bits_of_five x) none
+        line_eol width rows x begins.0 (ap zeros_before begins.3 ∙ zeros_eol begins.0 begins.1) begins.2 ∙
+        no_rows_end rows (bits_of_five x) none
 page_kind_sees width (row_state rows pixels color makeup) x kind is = row_kind_sees width rows pixels color makeup x kind is
 page_kind_sees width (row_end rows) x kind is =
     let there = kind_end width x kind is in

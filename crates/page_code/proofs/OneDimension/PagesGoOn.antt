@@ -20,8 +20,8 @@ use Rattle.run_tables.proofs.CodeLooks.{run_item_at}
 use Rattle.run_tables.proofs.RowsGoOn.{Completed, part_goes_on, none_more}
 use Rattle.page_code.specs.OneDimension.Fronts.{CodeBegins}
 use Rattle.page_code.specs.OneDimension.KindLaws.{FrontsGoOn}
-use Rattle.page_code.specs.OneDimension.Kinds.{PagePlace, AreRows, IsLineBegin, MayBeginRow, IsPagePart, IsBeforeCode, GoesOnInLine, PageKind}
-use Rattle.page_code.specs.OneDimension.Kinds.{IsRefusedPage}
+use Rattle.page_code.specs.OneDimension.Kinds.{PagePlace, AreRows, IsLineBegin, MayBeginRow, IsPagePart, IsBeforeCode, GoesOnInLine}
+use Rattle.page_code.specs.OneDimension.Kinds.{PageKind, IsRefusedPage}
 use Rattle.page_code.specs.OneDimension.Kinds.PagePlace.{page_begin, line_begin, in_row, line_end}
 use Rattle.page_code.specs.OneDimension.Pages.{eol_word, AreZeros, ReadsAs}
 use Rattle.page_code.proofs.OneDimension.Look.{code_stands}
@@ -76,7 +76,8 @@ row_completes width before codes rows room may row =
 next_completes : (width : ℕ) (before : List Bool) (rows : List (List Color)) → IsWidth width → length rows < max_rows
     → MayBeginRow width before rows → Completes width before
 next_completes width before rows wide room may =
-    let none : AreRuns width [] 0 White = record { runs = []; words = refl; sum_is = refl; color_is = refl; short = omega (arith, wide.0) } in
+    let some : 0 < width = omega (arith, wide.0) in
+    let none : AreRuns width [] 0 White = record { runs = []; words = refl; sum_is = refl; color_is = refl; short = some } in
     rw append-nil at (row_completes width before [] rows room may (part_goes_on width [] 0 White AllCodes wide none))
 
 -- rows and an EOL are a page
@@ -205,5 +206,6 @@ fronts_go_on = record {
   too_long = λ width front at so_far color among run word wide part here may long more page used reads. too_long width front at so_far color
       among run word wide part here may long more page used reads;
   second_eol = λ width front count wide part long more page used reads. second_eol width front count wide part long more page used reads;
-  no_item = λ width x place kind wide which refused more page used reads. no_item width x place kind wide which refused more page used reads;
+  no_item = λ width x place kind wide which refused more page used reads. no_item width x place kind wide which refused more page used
+      reads;
 }

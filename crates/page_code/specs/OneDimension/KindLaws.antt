@@ -42,7 +42,8 @@ pub record FrontsGoOn : Type 0 where
   -- with a run code after them that passes the width no bits read as a page, whatever follows
   pub too_long : (width : ℕ) (front : List Bool) (at : PagePlace) (so_far : ℕ) (color : Color) (among : Among) (run : ℕ) (word : List Bool)
       → IsWidth width → IsPagePart width front at → IsBeforeCode at so_far color among → MayCome color among run word
-      → width < so_far + run → (more : List Bool) (page : List (List Color)) (used : ℕ) → ¬ ReadsAs width (front ++ (word ++ more)) page used
+      → width < so_far + run → (more : List Bool) (page : List (List Color)) (used : ℕ)
+      → ¬ ReadsAs width (front ++ (word ++ more)) page used
   -- nor with a second EOL after the first
   pub second_eol : (width : ℕ) (front : List Bool) (count : ℕ) → IsWidth width → IsPagePart width front (line_begin 0) → 11 ≤ count
       → (more : List Bool) (page : List (List Color)) (used : ℕ) → ¬ ReadsAs width (front ++ (eol_word count ++ more)) page used
