@@ -24,3 +24,7 @@ remainder_of register = fold crc_bit register (replicate 8 false)
 -- the same of each register whose high octet is 0
 abbrev pub remainders : List ℕ
 remainders = map remainder_of (range_with_len 0 256)
+
+-- the same with sixteen 0 bits more
+abbrev pub twice_remainders : List ℕ
+twice_remainders = map (λ register. remainder_of (remainder_of register)) (range_with_len 0 256)

@@ -97,6 +97,10 @@ impl Collector {
     pub fn push_octets(&mut self, octets: &[u8])
         ensures { (gap : List Bool) → Collects self.old gap → Collects self.new (gap ++ bits_of LsbFirst octets.now) }
     {
+        let count = octets.len();
+        if count == 0 {
+            return;
+        }
         let mut seen = self.seen;
         let mut row = usize::from(self.ones.min(6)) * 256;
         let mut aborted = self.aborted;

@@ -10,6 +10,9 @@ use Rattle.hdlc.proofs.CollectingOctets.{collects_octet, unstuffed_few}
 use Rattle.hdlc.proofs.UnstuffedLemmas.{number_fits}
 use Rattle.hdlc.proofs.collector.Collector.push_octets.Goals as goal
 
+pub returns-then-count-eq0 : goal.returns-then-count-eq0
+returns-then-count-eq0 c gap old = rw (← octets-all gap c.args.octets.now 0 (omega arith), octets-none gap) old
+
 pub loop-octet-init : goal.loop-octet-init
 loop-octet-init c = record {
   whole = omega (arith, c.from-row.ensures);
