@@ -228,16 +228,15 @@ page_go_begins width (running page line first makeup) (run_item code) t rest ste
 
 stop_begins : (width : ℕ) (s : PageState) (y : List Bool) (rows : List (List Color)) (n : ℕ) → page_look width s y ≡ stop rows n
     → BeginsWithCode s y
-stop_begins width (between page) y rows n e = seen (begins eofb y) (all_zero y) (begins y eofb) (ltb (length page.rows) 20000) refl e
+stop_begins width (between page) y rows n e = seen (begins eofb y) (all_zero y) (begins y eofb) (ltb (length page.rows) 20000) _ _ _ refl e
   where
-    seen : (a b c d : Bool) → begins eofb y ≡ a → cond a (page_end page.rows) (cond b (refuse MissingEofb) (cond c (refuse Truncated) (cond
-        d
-        (look_mode width page line_begin y) (refuse TooManyCodedRows)))) ≡ stop rows n → BeginsWithCode (between page) y
-    seen true b c d is e = (eofb, drop (length eofb) y, inl refl, begins_split eofb y is)
-    seen false true c d is e = cc
-    seen false false true d is e = cc
-    seen false false false true is e = absurd (mode_never_stops width page line_begin y rows n e)
-    seen false false false false is e = cc
+    seen : (a b c d : Bool) (p q r : CodeFaultKind) → begins eofb y ≡ a → cond a (page_end page.rows) (cond b (refuse p) (cond c (refuse
+        q) (cond d (look_mode width page line_begin y) (refuse r)))) ≡ stop rows n → BeginsWithCode (between page) y
+    seen true b c d p q r is e = (eofb, drop (length eofb) y, inl refl, begins_split eofb y is)
+    seen false true c d p q r is e = cc
+    seen false false true d p q r is e = cc
+    seen false false false true p q r is e = absurd (mode_never_stops width page line_begin y rows n e)
+    seen false false false false p q r is e = cc
 stop_begins width (inside page line) y rows n e = absurd (mode_never_stops width page line y rows n e)
 stop_begins width (running page line first makeup) y rows n e = absurd (run_never_stops width page line first makeup y rows n e)
 
