@@ -9,3 +9,4 @@ mod CallEnds
 mod CallSteps
 mod EntryLines
 mod DecodedRows
+mod RepairedLines

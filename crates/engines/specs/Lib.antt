@@ -1,6 +1,7 @@
 -- The definitions of the engines.
 pub mod Faults
 pub mod CodedPages
+pub mod Repairs
 pub mod Texts
 pub mod Frames
 pub mod Scripts
