@@ -13,3 +13,4 @@ pub mod OneLine
 mod FirstImage
 mod CapturedSteps
 mod Capturing
+mod RepairedLines

@@ -2,6 +2,7 @@
 pub mod Faults
 pub mod Explanations
 pub mod CodedPages
+pub mod Repairs
 pub mod Texts
 pub mod Frames
 pub mod Captured

@@ -1,0 +1,87 @@
+//! What `decode --repair` does: an image of a coded page with rows that can't be read, over any reader and any writers.
+ghost use Rattle.engines.specs.Faults.{IsOutside};
+ghost use Rattle.engines.specs.Repairs.{RefusesRepair, RepairsPage, count_line, repaired_line, repaired_text};
+ghost use Rattle.raster.specs.Pixels.{IsWidth};
+ghost use Rattle.std.specs.Io.KnownBytes.{Appends};
+ghost use Rattle.std.specs.Prelude.{IfErr, IfOk, IfSome, OnOk};
+
+use crate::fault::ToolFault;
+use page_code::{OneDim, RepairedPage, RepairedRow};
+use raster::write_pbm;
+use run_tables::Order;
+use std::alloc::Global;
+use std::io::{Read, Write};
+
+/// What was given of a coded page.
+#[derive(Clone, Copy, Debug, PartialEq, Eq)]
+pub struct Repair {
+    /// How many rows were written.
+    pub rows: usize,
+    /// How many of them are repaired: each is the one before it.
+    pub repaired: usize,
+}
+
+/// Reads octets that begin with a page of this width in pixels, 1 to 2,432, in the one-dimensional code, and writes
+/// it as an image of Netpbm's raw PBM format, in which a row that can't be read is the one before it (white for the
+/// first). Then a line for each such row is written to `lines`, and one with their number, if there is one. Errs at
+/// the bit where the page is refused if no row can be read, at a 20,001st row, with 8 where the reader or a writer
+/// fails, and with 9.
+pub fn repair_engine<R: Read, W: Write, L: Write>(
+    alloc: Global,
+    reader: &mut R,
+    writer: &mut W,
+    lines: &mut L,
+    order: Order,
+    width: u32,
+    fine: bool,
+) -> Result<Repair, ToolFault>
+    requires { IsWidth width }
+    ensures repaired { IfOk result (λ repair. IfSome (R.remaining reader.old)
+        (RepairsPage order width fine (W.contents writer.old) (W.contents writer.new)
+        (L.contents lines.old) (L.contents lines.new) repair)) }
+    ensures refused { IfErr result (λ fault. IfSome (R.remaining reader.old) (λ octets. RefusesRepair order width octets fault)) }
+{
+    let mut octets = Vec::new(alloc);
+    reader.read_to_end(&mut octets)?;
+    let RepairedPage { page, repaired } = OneDim::repair(alloc, &octets, order, width, fine)?;
+    let rows = page.rows().len();
+    write_pbm(&[page], writer)?;
+    write_repaired(&repaired, lines)?;
+    Ok(Repair {
+        rows,
+        repaired: repaired.len(),
+    })
+}
+
+/// Writes the line of a repaired row.
+fn write_row<L: Write>(row: &RepairedRow, lines: &mut L) -> Result<(), ToolFault>
+    ensures line { OnOk result (Appends (L.contents lines.old) (L.contents lines.new) (repaired_line row.now)) }
+    ensures fault { IfErr result IsOutside }
+{
+    writeln!(lines, "row {} repaired at bit {}", row.row, row.bit)?;
+    Ok(())
+}
+
+/// Writes the line with the number of repaired rows.
+fn write_count<L: Write>(count: usize, lines: &mut L) -> Result<(), ToolFault>
+    ensures line { OnOk result (Appends (L.contents lines.old) (L.contents lines.new) (count_line count)) }
+    ensures fault { IfErr result IsOutside }
+{
+    writeln!(lines, "repaired rows: {count}")?;
+    Ok(())
+}
+
+/// Writes a line for each repaired row, and one with their number, if there is one.
+fn write_repaired<L: Write>(rows: &[RepairedRow], lines: &mut L) -> Result<(), ToolFault>
+    ensures lines { OnOk result (Appends (L.contents lines.old) (L.contents lines.new) (repaired_text rows.now)) }
+    ensures fault { IfErr result IsOutside }
+{
+    if rows.is_empty() {
+        return Ok(());
+    }
+    for row in rows {
+        write_row(row, lines)?;
+    }
+    write_count(rows.len(), lines)?;
+    Ok(())
+}
