@@ -314,6 +314,46 @@ CASES
     python3 -B "$data/try_salvage.py" "$program" "$work" || fails "decode --salvage of cut pages"
 }
 
+# bits TEXT: a file of the bits of a text of 0 and 1, filled with 0 to an octet, whose name it prints.
+bits() {
+    name=$work/bits_$(echo "$1" | cksum | tr -d ' ')
+    python3 -c 'import sys
+text = sys.argv[1].replace(" ", "")
+text += "0" * (-len(text) % 8)
+sys.stdout.buffer.write(bytes(int(text[at:at + 8], 2) for at in range(0, len(text), 8)))' "$1" > "$name"
+    echo "$name"
+}
+
+# Pages with rows that can't be read: each is given as the one before it, and named; where no row can be read, that is a fault.
+try_repair() {
+    eol=000000000001 row="0111 11 1011" bad=10100
+    end="$eol $eol $eol $eol $eol $eol"
+    works decode --repair --code mh --width 8 "$(bits "$eol $row $end")" "$work/repaired"
+    is_same "$work/repaired" "$(octets "50 34 0A 38 20 31 0A 30")" "decode --repair of a whole page"
+    gives 0 decode --repair --code mh --width 8 "$(bits "$eol $row $eol $bad $eol $row $end")" "$work/repaired"
+    is_same "$work/repaired" "$(octets "50 34 0A 38 20 33 0A 30 30 30")" "decode --repair of a page with a bad row"
+    printf 'row 2 repaired at bit 34\nrepaired rows: 1\n' > "$work/wanted"
+    is_same "$work/error" "$work/wanted" "what decode --repair tells"
+    [ ! -s "$work/output" ] || fails "decode --repair printed something"
+    gives 0 decode --repair --explain --verbose --code mh --width 8 "$(bits "$eol $bad $eol $row $end")" "$work/repaired"
+    is_same "$work/repaired" "$(octets "50 34 0A 38 20 32 0A 00 30")" "decode --repair of a page with a bad first row"
+    printf 'row 1 repaired at bit 12\nrepaired rows: 1\nrows 2\n' > "$work/wanted"
+    is_same "$work/error" "$work/wanted" "what decode --repair --verbose tells"
+    rm -f "$work/repaired"
+    cp "$(bits "$eol $bad $end")" "$work/bad_page"
+    explains "fault 12 at bit 12" "$work/bad_page: row 1: this run goes past the row's width: is --width right?" \
+        decode --repair --code mh --width 8 "$work/bad_page" "$work/repaired"
+    faults "fault 8" decode --repair --code mh --width 8 "$work/missing" "$work/repaired"
+    [ ! -e "$work/repaired" ] || fails "decode --repair made OUT after a fault"
+    for words in "--repair --salvage --code mh" "--repair --code mmr" "--repair --salvage --code mmr"; do
+        refuses decode $words --width 8 "$work/bad_page" "$work/repaired"
+        grep -qF -e "--repair is for --code mh, and can't be used with --salvage" "$work/error" || fails "decode $words doesn't say what is wrong"
+    done
+    refuses decode --repair --repair --code mh --width 8 "$work/bad_page" "$work/repaired"
+    refuses show --repair --code mh --width 8 "$work/bad_page"
+    [ ! -f "$data/try_repair.py" ] || python3 -B "$data/try_repair.py" "$program" "$work" || fails "decode --repair of pages with a flipped bit"
+}
+
 # What fault lines mean, in words: which file, where in it, and what is wrong there.
 try_explained() {
     cd "$work"
@@ -670,7 +710,7 @@ try_readme() {
         sed -n 's/^    faxtool \([a-z]\)/\1/p' "$top/README.md" | sed 's/  .*//' > commands
         [ "$(wc -l < commands)" -ge 7 ] || fails "the README has no commands"
         while read -r words; do
-            case $words in *--salvage*) gives 1 $words ;; *) works $words ;; esac
+            case $words in *--salvage*) gives 1 $words ;; *--repair*) gives 0 $words ;; *) works $words ;; esac
         done < commands
         is_same page.mmr docs/examples/page.mmr "the README's code"
         is_same page.pbm docs/examples/page.pbm "the README's decode"
@@ -705,6 +745,7 @@ for program in "$@"; do
     try_cut_pages
     try_kept
     try_salvage
+    try_repair
     try_explained
     try_terminal
     try_completion

@@ -6,7 +6,7 @@ _faxtool_options() {
     case $1 in
         code) echo --code --order --explain --help ;;
         show) echo --code --width --order --explain --help ;;
-        decode) echo --code --width --order --fine --salvage --verbose --explain --help ;;
+        decode) echo --code --width --order --fine --salvage --repair --verbose --explain --help ;;
         frames) echo --data --explain --help ;;
         call) echo --script --code --frame --modems --fine --out --explain --help ;;
         *) echo --help ;;

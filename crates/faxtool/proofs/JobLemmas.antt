@@ -173,7 +173,7 @@ pub no_width : (rows : List Row) → ((n : ℕ) → IsWidthIn rows n → ⊥) �
 no_width rows none (Code coding order input output) (others, e, is) = show_is_code (some_name (codes "show") (codes "code") rows others e)
 no_width rows none (Show coding order width input) (others, e, is) =
     none width (subst (λ (xs : List Row). IsWidthIn xs width) (sym (some_rows (codes "show") (codes "show") rows others e)) is.width_is)
-no_width rows none (Decode coding order width fine salvage verbose input output) (others, e, is) =
+no_width rows none (Decode coding order width fine salvage repair verbose input output) (others, e, is) =
     show_is_decode (some_name (codes "show") (codes "decode") rows others e)
 no_width rows none (Frames most input) (others, e, reads, is) = show_is_frames (some_name (codes "show") (codes "frames") rows others e)
 no_width rows none (Call script options out input) (others, e, is) =
@@ -185,7 +185,7 @@ no_width_to_decode rows none (Code coding order input output) (others, e, is) =
     decode_is_code (some_name (codes "decode") (codes "code") rows others e)
 no_width_to_decode rows none (Show coding order width input) (others, e, is) =
     show_is_decode (sym (some_name (codes "decode") (codes "show") rows others e))
-no_width_to_decode rows none (Decode coding order width fine salvage verbose input output) (others, e, is) =
+no_width_to_decode rows none (Decode coding order width fine salvage repair verbose input output) (others, e, is) =
     none width (subst (λ (xs : List Row). IsWidthIn xs width) (sym (some_rows (codes "decode") (codes "decode") rows others e))
     is.shown.width_is)
 no_width_to_decode rows none (Frames most input) (others, e, reads, is) =
@@ -199,7 +199,7 @@ no_options rows none (Code coding order input output) (others, e, is) =
     call_is_code (some_name (codes "call") (codes "code") rows others e)
 no_options rows none (Show coding order width input) (others, e, is) =
     show_is_call (sym (some_name (codes "call") (codes "show") rows others e))
-no_options rows none (Decode coding order width fine salvage verbose input output) (others, e, is) =
+no_options rows none (Decode coding order width fine salvage repair verbose input output) (others, e, is) =
     decode_is_call (sym (some_name (codes "call") (codes "decode") rows others e))
 no_options rows none (Frames most input) (others, e, reads, is) =
     call_is_frames (some_name (codes "call") (codes "frames") rows others e)

@@ -1,6 +1,6 @@
 -- The commands of the program, what each job is of the values that clap reads, and why words are refused.
 use Rattle.std.specs.Prelude.{◌≡◌, ◌≢◌, ◌≤◌, ◌<◌, ◌^◌, ◌⊎◌, ℕ, Bool, true, false, List, [], ◌∷◌, Option, Some, None}
-use Rattle.std.specs.Prelude.{codes, map, pos, if◌then◌else◌, option_map, string_bytes}
+use Rattle.std.specs.Prelude.{codes, map, pos, if◌then◌else◌, option_map, string_bytes, not, ◌&&◌}
 use Rattle.std.specs.Str.{bytes_eq}
 use Rattle.std.specs.Str.Parse.{IsNumeral, digits_value, without_leading_plus}
 use Rattle.clap.specs.Words.{App, IsAmong, Row, Rule, Text, fault_of, first_of, kind_of, new_app}
@@ -98,12 +98,13 @@ abbrev pub show_app : ValueParser → ValueParser → App
 show_app codings orders =
     with_explain (with_rule (with_page_options (new_app (codes "show")) codings orders) (file_rule (codes "file")))
 
--- the command with `--fine`, `--salvage` and `--verbose`
+-- the command with `--fine`, `--salvage`, `--repair` and `--verbose`
 abbrev pub with_flags : App → App
-with_flags app = with_rule (with_rule (with_rule app (flag_rule (codes "fine"))) (flag_rule (codes "salvage")))
-    (flag_rule (codes "verbose"))
+with_flags app = with_rule (with_rule (with_rule (with_rule app (flag_rule (codes "fine"))) (flag_rule (codes "salvage")))
+    (flag_rule (codes "repair"))) (flag_rule (codes "verbose"))
 
--- `decode`: the code, the width, the order, fine or not, salvage or not, verbose or not, and the files of the page and of its image
+-- `decode`: the code, the width, the order, fine or not, what is done with a page that can't be
+-- read, verbose or not, and the files of the page and of its image
 abbrev pub decode_app : ValueParser → ValueParser → App
 decode_app codings orders = with_explain (with_rule (with_rule (with_flags (with_page_options (new_app (codes "decode")) codings orders))
     (file_rule (codes "file"))) (file_rule (codes "out")))
@@ -217,12 +218,19 @@ pub record IsShowOf (rows : List Row) (coding : Coding) (order : Order) (width :
   pub width_is : IsWidthIn rows width
   pub input_is : first_of (codes "file") rows ≡ Some input
 
+-- rows are repaired of the one-dimensional code alone, and not where the page is salvaged
+abbrev pub go_together : Coding → Bool → Bool → Bool
+go_together OneDim salvage repair = not (salvage && repair)
+go_together T6 salvage repair = not repair
+
 -- the values of the command `decode` are those of the job
-pub record IsDecodeOf (rows : List Row) (coding : Coding) (order : Order) (width : ℕ) (fine salvage verbose : Bool)
+pub record IsDecodeOf (rows : List Row) (coding : Coding) (order : Order) (width : ℕ) (fine salvage repair verbose : Bool)
     (input output : Text) : Type 0 where
   pub shown : IsShowOf rows coding order width input
   pub fine_is : fine ≡ is_named (codes "true") (first_of (codes "fine") rows)
   pub salvage_is : salvage ≡ is_named (codes "true") (first_of (codes "salvage") rows)
+  pub repair_is : repair ≡ is_named (codes "true") (first_of (codes "repair") rows)
+  pub together : go_together coding salvage repair ≡ true
   pub verbose_is : verbose ≡ is_named (codes "true") (first_of (codes "verbose") rows)
   pub output_is : first_of (codes "out") rows ≡ Some output
 
@@ -253,9 +261,9 @@ IsJobOf met (Code coding order input output) = (rows : List Row)
 IsJobOf met (Show coding order width input) = (rows : List Row)
     × (met ≡ Some (codes "show", rows))
     × IsShowOf rows coding order width (string_bytes input)
-IsJobOf met (Decode coding order width fine salvage verbose input output) = (rows : List Row)
+IsJobOf met (Decode coding order width fine salvage repair verbose input output) = (rows : List Row)
     × (met ≡ Some (codes "decode", rows))
-    × IsDecodeOf rows coding order width fine salvage verbose (string_bytes input) (string_bytes output)
+    × IsDecodeOf rows coding order width fine salvage repair verbose (string_bytes input) (string_bytes output)
 IsJobOf met (Frames most input) = (rows : List Row)
     × (met ≡ Some (codes "frames", rows))
     × ReadsNumber (codes "data") rows most
@@ -306,6 +314,6 @@ status_of (Words error) = 2
 abbrev pub HasWidth : Job → Type 0
 HasWidth (Code coding order input output) = Unit {0}
 HasWidth (Show coding order width input) = IsWidth width
-HasWidth (Decode coding order width fine salvage verbose input output) = IsWidth width
+HasWidth (Decode coding order width fine salvage repair verbose input output) = IsWidth width
 HasWidth (Frames most input) = Unit {0}
 HasWidth (Call script options out input) = Unit {0}

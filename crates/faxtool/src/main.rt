@@ -16,7 +16,7 @@ mod words;
 
 use engines::{
     CallOptions, Explained, FAILED, Known, NO_MEMORY, ToolFault, call_engine, code_engine,
-    decode_engine, list_frames, refused_color, refused_row, salvage_engine, show_engine,
+    decode_engine, list_frames, refused_color, refused_row, repair_engine, salvage_engine, show_engine,
 };
 use notes::{Notes, Part};
 use page_code::Coding;
@@ -220,10 +220,14 @@ fn run_job(rt: &HostRuntime, job: &Job, notes: &mut Notes) -> Result<(), ToolFau
             width,
             fine,
             salvage,
+            repair,
             verbose,
             input,
             output,
         } => {
+            if *repair {
+                return repair_file(rt, *order, *width, *fine, *verbose, input, output, notes);
+            }
             let decoded = if *salvage {
                 salvage_file(rt, *coding, *order, *width, *fine, input, output, notes)
             } else {
@@ -340,6 +344,42 @@ fn salvage_file(
         files::write(rt, output, octets.as_slice(), notes)?;
     }
     Ok((salvage.rows, salvage.end?))
+}
+
+/// Decodes the page in a file, with each row that can't be read given as the one before it, and then lists these
+/// rows on standard error. The image's file is opened only once its whole content is made.
+fn repair_file(
+    rt: &HostRuntime,
+    order: Order,
+    width: u32,
+    fine: bool,
+    verbose: bool,
+    input: &str,
+    output: &str,
+    notes: &mut Notes,
+) -> Result<(), ToolFault>
+    requires { IsWidth width }
+{
+    let mut reader = files::open(rt, input, Part::Input, notes)?;
+    let mut octets = Vec::new(rt.alloc());
+    let mut lines = Vec::new(rt.alloc());
+    let repaired = repair_engine(
+        rt.alloc(),
+        &mut reader,
+        &mut octets,
+        &mut lines,
+        order,
+        width,
+        fine,
+    );
+    reader.close(notes);
+    let repair = repaired?;
+    files::write(rt, output, octets.as_slice(), notes)?;
+    Write::write_all(&mut rt.stderr(), lines.as_slice())?;
+    if verbose {
+        eprintln!(rt; "rows {}", repair.rows)?;
+    }
+    Ok(())
 }
 
 /// Tells the rows of a page that was decoded and the bits of its code on standard error, where that is

@@ -7,7 +7,7 @@ ghost use Rattle.clap.specs.declared.builder.command.Command.TheViews.{out-Comma
 ghost use Rattle.clap.specs.declared.error.kind.ErrorKind.TheVariants.{OutOfMemory};
 ghost use Rattle.faxtool.specs.Jobs.{AreOptionsIn, HasNoJob, HasNoOptions, IsFaxtool, IsJobOf, IsOutcomeOf, IsRefusalOf};
 ghost use Rattle.faxtool.specs.Jobs.{IsWidthIn, ReadsAs, ReadsNumber, call_app, code_app, coding_named, coding_rule, decode_app};
-ghost use Rattle.faxtool.specs.Jobs.{empty_app, explains, file_option_rule, file_rule, frames_app, is_named, modems_named, order_named};
+ghost use Rattle.faxtool.specs.Jobs.{empty_app, explains, file_option_rule, file_rule, frames_app, go_together, is_named, modems_named, order_named};
 ghost use Rattle.faxtool.specs.Jobs.{order_rule, page_app, show_app, status_of, with_choices, with_flags, with_page_options};
 
 use crate::faults::FAULTS;
@@ -61,6 +61,8 @@ pub enum Job {
         fine: bool,
         /// Whether of a page that can't be read its whole rows are written.
         salvage: bool,
+        /// Whether a row that can't be read is given as the one before it.
+        repair: bool,
         /// Whether its rows and the bits of its code are told on standard error.
         verbose: bool,
         /// The name of the page's file.
@@ -170,7 +172,7 @@ pub fn read_words(alloc: Global, words: &[&str]) -> Result<Request, Outcome>
             job,
             explain: explains(&matches),
         }),
-        None => Err(Outcome::from(incomplete(&mut command)?)),
+        None => Err(Outcome::from(unfit(&mut command)?)),
     }
 }
 
@@ -184,7 +186,7 @@ fn explains(matches: &ArgMatches<'_>) -> bool
     }
 }
 
-// The job, where no value of it is missing.
+// The job, where no value of it is missing and its options go together.
 fn job_in(alloc: Global, matches: &ArgMatches<'_>) -> Result<Option<Job>, AllocError>
     ensures { let met = subcommand_rows_of matches.now in
         IfOk result (λ job. MatchOption job (HasNoJob met) (IsJobOf met)) }
@@ -265,16 +267,32 @@ fn decode_job(alloc: Global, matches: &ArgMatches<'_>) -> Result<Option<Job>, Al
     let Some(output) = text_in(matches, "out") else {
         return Ok(None);
     };
+    let salvage = is_named(text_in(matches, "salvage"), "true");
+    let repair = is_named(text_in(matches, "repair"), "true");
+    if !go_together(coding, salvage, repair) {
+        return Ok(None);
+    }
     Ok(Some(Job::Decode {
         coding,
         order: order_in(matches),
         width,
         fine: is_named(text_in(matches, "fine"), "true"),
-        salvage: is_named(text_in(matches, "salvage"), "true"),
+        salvage,
+        repair,
         verbose: is_named(text_in(matches, "verbose"), "true"),
         input: String::from_str(alloc, input)?,
         output: String::from_str(alloc, output)?,
     }))
+}
+
+// Whether rows may be repaired, where that is asked for.
+fn go_together(coding: Coding, salvage: bool, repair: bool) -> bool
+    ensures { result ≡ go_together coding salvage repair }
+{
+    match coding {
+        Coding::OneDim => !(salvage && repair),
+        Coding::T6 => !repair,
+    }
 }
 
 fn frames_job(alloc: Global, matches: &ArgMatches<'_>) -> Result<Option<Job>, AllocError>
@@ -415,11 +433,14 @@ fn number_in(matches: &ArgMatches<'_>, id: &str) -> Option<u32>
     matches.get_one::<u32>(id)
 }
 
-// The error for words that miss a value, which a parse refuses by itself.
-fn incomplete(command: &mut Command<'_>) -> Result<Error, AllocError>
-    ensures { IfOk result (λ error. kind_of error ≡ ErrorKind.MissingRequiredArgument) }
+// The error for words whose options don't go together, or that miss a value, which a parse refuses by itself.
+fn unfit(command: &mut Command<'_>) -> Result<Error, AllocError>
+    ensures { IfOk result (λ error. kind_of error ≡ ErrorKind.ArgumentConflict) }
 {
-    command.error(ErrorKind::MissingRequiredArgument, "a value is missing")
+    command.error(
+        ErrorKind::ArgumentConflict,
+        "--repair is for --code mh, and can't be used with --salvage",
+    )
 }
 
 fn faxtool_command<'a>(alloc: Global) -> Result<Command<'a>, AllocError>
@@ -574,6 +595,7 @@ fn flagged_command<'a>(
 {
     let salvage =
         "Writes the whole rows before the bit where the page can't be read, if there is one";
+    let repair = "Gives each row that can't be read as the one before it, and names it (mh alone)";
     page_command(
         alloc,
         "decode",
@@ -587,6 +609,7 @@ fn flagged_command<'a>(
         "The page has 7.7 lines a millimetre in place of 3.85",
     ))?
     .arg(flag_option(alloc, "salvage", salvage))?
+    .arg(flag_option(alloc, "repair", repair))?
     .arg(flag_option(
         alloc,
         "verbose",

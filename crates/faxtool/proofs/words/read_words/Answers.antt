@@ -31,5 +31,5 @@ returns c =
     let a = app_of c.in_ok-command.command in
     let is : IsFaxtool a = c.in_ok-command.ensures in
     let met = (c.in-Ok.ensures.ok.2 (is_faxtool_simple a is)).1 in
-    refused_for_job (map (λ word. word.now) c.args.words.now) a c.in_ok-incomplete-in-None.field-0 c.from-in-None.result is
+    refused_for_job (map (λ word. word.now) c.args.words.now) a c.in_ok-unfit-in-None.field-0 c.from-in-None.result is
     (subst HasNoJob met (search rules)) c.from-in-None.ensures
