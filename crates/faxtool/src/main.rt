@@ -10,13 +10,13 @@ mod files;
 mod words;
 
 use engines::{
-    CallOptions, FAILED, NO_MEMORY, ToolFault, call_engine, code_engine, decode_engine,
-    list_frames, salvage_engine, show_engine,
+    CallOptions, Captured, FAILED, NO_MEMORY, ToolFault, call_engine, captured_pages, code_engine,
+    decode_engine, list_frames, salvage_engine, show_engine,
 };
 use page_code::Coding;
 use raster::{Page, write_pbm};
 use run_tables::Order;
-use std::io::{BufWriter, Write};
+use std::io::{BufWriter, Read, Write};
 use std::process::ExitCode;
 use std::{env, io};
 use words::{Job, Outcome, read_words, status};
@@ -24,7 +24,7 @@ use words::{Job, Outcome, read_words, status};
 fn main(rt: HostRuntime) -> ExitCode {
     let outcome = run_words(&rt);
     let _shown = match &outcome {
-        Outcome::Done => Ok(()),
+        Outcome::Done | Outcome::Lacking => Ok(()),
         Outcome::Fault(fault) => eprintln!(rt; "{fault}"),
         Outcome::Words(error) => rt.eprint(error),
     };
@@ -87,7 +87,20 @@ fn run_job(rt: &HostRuntime, job: Job) -> Outcome
             };
             tell(rt, *verbose, decoded)
         }
-        Job::Frames { most, input } => list_file(rt, *most, input),
+        Job::Frames {
+            most,
+            pages: None,
+            input,
+        } => list_file(rt, *most, input),
+        Job::Frames {
+            most,
+            pages: Some(folder),
+            input,
+        } => match frames_file(rt, *most, folder, input) {
+            Ok(true) => Ok(()),
+            Ok(false) => return Outcome::Lacking,
+            Err(fault) => Err(fault),
+        },
         Job::Call {
             script,
             options,
@@ -211,6 +224,84 @@ fn list_file(rt: &HostRuntime, most: Option<u32>, input: &str) -> Result<(), Too
     let most = most.map(|most| most as usize);
     list_frames(rt.alloc(), &mut reader, &mut writer, most)?;
     writer.flush()?;
+    Ok(())
+}
+
+/// Lists the frames in a file, writes the pages that they carry into the files page-1.pbm and so on of a
+/// folder, and tells what lacks of others on standard error; whether nothing does.
+fn frames_file(
+    rt: &HostRuntime,
+    most: Option<u32>,
+    folder: &str,
+    input: &str,
+) -> Result<bool, ToolFault> {
+    let mut reader = files::open(rt, input)?;
+    let mut octets = Vec::new(rt.alloc());
+    reader.read_to_end(&mut octets)?;
+    let mut writer = BufWriter::new(rt.alloc(), io::writer(rt))?;
+    let most = most.map(|most| most as usize);
+    let mut bits = octets.as_slice();
+    list_frames(rt.alloc(), &mut bits, &mut writer, most)?;
+    writer.flush()?;
+    let mut bits = octets.as_slice();
+    let mut pages: u64 = 0;
+    let mut lacks = false;
+    for found in captured_pages(rt.alloc(), &mut bits)? {
+        if let Captured::Page(page) = found {
+            pages = pages.saturating_add(1);
+            write_captured(rt, folder, pages, page)?;
+        } else {
+            lacks = true;
+            tell_captured(rt, &found)?;
+        }
+    }
+    Ok(!lacks)
+}
+
+/// Writes the page of a number into a folder.
+fn write_captured(
+    rt: &HostRuntime,
+    folder: &str,
+    number: u64,
+    page: Page,
+) -> Result<(), ToolFault> {
+    if page.rows().is_empty() {
+        // no code is that of such a page
+        return Ok(());
+    }
+    let name = format!(in rt.alloc(); "{folder}/page-{number}.pbm")?;
+    write_pages(rt, name.as_str(), &[page])
+}
+
+/// Tells what lacks of a page on standard error. Pages and blocks have the numbers of their PPS, frames those of
+/// their FCD.
+fn tell_captured(rt: &HostRuntime, found: &Captured) -> Result<(), ToolFault> {
+    match found {
+        Captured::Page(_) => {}
+        Captured::Unread { mark, fault } => {
+            let no = fault.kind.number();
+            eprintln!(rt;
+                "page {}: can't be read, fault {no} at bit {}",
+                mark.page, fault.place
+            )?;
+        }
+        Captured::Lacks { mark, frame } => {
+            eprintln!(rt;
+                "page {} block {}: frame {frame} lacks",
+                mark.page, mark.block
+            )?;
+        }
+        Captured::Skipped(mark) => {
+            eprintln!(rt;
+                "page {} block {}: the blocks before it lack",
+                mark.page, mark.block
+            )?;
+        }
+        Captured::Unended => eprintln!(rt; "a page has no end")?,
+        Captured::NoDcs(mark) => {
+            eprintln!(rt; "page {} block {}: no DCS before it", mark.page, mark.block)?;
+        }
+    }
     Ok(())
 }
 
