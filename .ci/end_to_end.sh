@@ -576,6 +576,17 @@ try_large_frames() {
     is_same "$work/output" "$work/frames.txt" "frames of a mebibyte"
 }
 
+# The pages in the frames of calls, whole ones and such as lack something; and of a folder that is missing.
+try_captured() {
+    python3 -B "$data/try_captured.py" "$program" "$work" || fails "frames --pages"
+    mkdir -p "$work/captured"
+    gives 1 frames --pages "$work/captured" "$top/docs/examples/line.bits"
+    is_same "$work/captured/page-1.pbm" "$top/docs/examples/row.pbm" "the page in docs/examples/line.bits"
+    [ "$(head -1 "$work/error")" = "page 1 block 2: the blocks before it lack" ] || fails "frames --pages named other blocks"
+    gives 1 frames --pages "$work/missing" "$top/docs/examples/line.bits"
+    [ "$(cat "$work/error")" = "fault 8" ] || fails "frames --pages into a missing folder"
+}
+
 # Words that are no job, and those that ask for help.
 try_words() {
     refuses
@@ -584,7 +595,7 @@ try_words() {
         "code --code mh --order up a b" "show --code mh a" "show --width 8 a" "show --code mh --width 0 a" \
         "show --code mh --width 2433 a" "show --code mh --width x a" "frames" "frames a b" "frames --code mh a" \
         "help show" "call --help" paint "code --code mr a b" "code --code mh --order MSB a b" "show --code mh --width 8" \
-        "frames --data x a" "frames --data 301 a" "frames --data -1 a" "frames --data 1 --data 1 a" "decode --code mh --width 8 --salvage --salvage a b" "show --code mh --width 8.0 a" "show --code mh --width 4294967304 a" "show --code mh --width 18446744073709551624 a" \
+        "frames --data x a" "frames --data 301 a" "frames --data -1 a" "frames --data 1 --data 1 a" "frames --pages a" "frames --pages a --pages b c" "decode --code mh --width 8 --salvage --salvage a b" "show --code mh --width 8.0 a" "show --code mh --width 4294967304 a" "show --code mh --width 18446744073709551624 a" \
         "call a" "call --script a" "call --script a --frame 128 b" "call --script a --modems v34 b" \
         "call --script a --fine --fine b" "decode --code mh --width 8 a" "decode --code mh a b" "decode --width 8 a b" \
         "decode --code mh --width 8 --verbose --verbose a b" "decode --code mh --width 8 a b c" "decode --help"; do
@@ -751,6 +762,7 @@ for program in "$@"; do
     try_completion
     try_most_rows
     try_large_frames
+    try_captured
     try_words
     try_outputs
     try_scripts

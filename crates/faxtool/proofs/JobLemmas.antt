@@ -14,7 +14,7 @@ use Rattle.clap.proofs.OnLiterals.{clap_on_literals}
 use Rattle.clap.proofs.WalkLemmas.{one_text-rows}
 use Rattle.faxtool.specs.declared.words.Job.TheVariants.{Call, Code, Decode, Frames, Show}
 use Rattle.faxtool.specs.declared.words.Outcome.{Outcome}
-use Rattle.faxtool.specs.declared.words.Outcome.TheVariants.{Done, Fault, Words}
+use Rattle.faxtool.specs.declared.words.Outcome.TheVariants.{Done, Fault, Lacking, Words}
 use Rattle.faxtool.specs.Jobs.{AreOptionsIn, HasNoJob, HasNoOptions, IsFaxtool, IsOutcomeOf, IsRefusalOf, IsWidthIn, ReadsNumber}
 use Rattle.faxtool.specs.Jobs.{TakesNames, call_app, faxtool_app, page_app}
 
@@ -103,6 +103,7 @@ is_faxtool {E} codings orders sizes modems takes_codings takes_orders takes_size
 pub refused_by_kind : (words : List Text) (a : App) (error : Error) (outcome : Outcome) → IsFaxtool a
     → HasKind (fault_of a words) error → IsOutcomeOf error outcome → IsRefusalOf words outcome
 refused_by_kind words a error Done is kinds made = made
+refused_by_kind words a error Lacking is kinds made = elim made [ ]
 refused_by_kind words a error (Fault fault) is kinds made = made.1
 refused_by_kind words a error (Words given) is (inl memory) made = absurd (made.0 memory)
 refused_by_kind words a error (Words given) is (inr among) made =
@@ -112,6 +113,7 @@ refused_by_kind words a error (Words given) is (inr among) made =
 pub refused_for_job : (words : List Text) (a : App) (error : Error) (outcome : Outcome) → IsFaxtool a
     → HasNoJob (subcommand_of a words) → IsOutcomeOf error outcome → IsRefusalOf words outcome
 refused_for_job words a error Done is none made = made
+refused_for_job words a error Lacking is none made = elim made [ ]
 refused_for_job words a error (Fault fault) is none made = made.1
 refused_for_job words a error (Words given) is none made = (a, is, inr none)
 
@@ -175,7 +177,8 @@ no_width rows none (Show coding order width input) (others, e, is) =
     none width (subst (λ (xs : List Row). IsWidthIn xs width) (sym (some_rows (codes "show") (codes "show") rows others e)) is.width_is)
 no_width rows none (Decode coding order width fine salvage repair verbose input output) (others, e, is) =
     show_is_decode (some_name (codes "show") (codes "decode") rows others e)
-no_width rows none (Frames most input) (others, e, reads, is) = show_is_frames (some_name (codes "show") (codes "frames") rows others e)
+no_width rows none (Frames most pages input) (others, e, reads, folder, is) =
+    show_is_frames (some_name (codes "show") (codes "frames") rows others e)
 no_width rows none (Call script options out input) (others, e, is) =
     show_is_call (some_name (codes "show") (codes "call") rows others e)
 
@@ -188,7 +191,7 @@ no_width_to_decode rows none (Show coding order width input) (others, e, is) =
 no_width_to_decode rows none (Decode coding order width fine salvage repair verbose input output) (others, e, is) =
     none width (subst (λ (xs : List Row). IsWidthIn xs width) (sym (some_rows (codes "decode") (codes "decode") rows others e))
     is.shown.width_is)
-no_width_to_decode rows none (Frames most input) (others, e, reads, is) =
+no_width_to_decode rows none (Frames most pages input) (others, e, reads, folder, is) =
     decode_is_frames (some_name (codes "decode") (codes "frames") rows others e)
 no_width_to_decode rows none (Call script options out input) (others, e, is) =
     decode_is_call (some_name (codes "decode") (codes "call") rows others e)
@@ -201,7 +204,7 @@ no_options rows none (Show coding order width input) (others, e, is) =
     show_is_call (sym (some_name (codes "call") (codes "show") rows others e))
 no_options rows none (Decode coding order width fine salvage repair verbose input output) (others, e, is) =
     decode_is_call (sym (some_name (codes "call") (codes "decode") rows others e))
-no_options rows none (Frames most input) (others, e, reads, is) =
+no_options rows none (Frames most pages input) (others, e, reads, folder, is) =
     call_is_frames (some_name (codes "call") (codes "frames") rows others e)
 no_options rows none (Call script options out input) (others, e, is) =
     none options (subst (λ (xs : List Row). AreOptionsIn xs options) (sym (some_rows (codes "call") (codes "call") rows others e))

@@ -23,7 +23,7 @@ use Rattle.faxtool.specs.declared.words.Job.{Job}
 use Rattle.faxtool.specs.declared.words.Job.TheVariants.{Call, Code, Decode, Frames, Show}
 use Rattle.faxtool.specs.declared.words.Request.{Request}
 use Rattle.faxtool.specs.declared.words.Outcome.{Outcome}
-use Rattle.faxtool.specs.declared.words.Outcome.TheVariants.{Done, Fault, Words}
+use Rattle.faxtool.specs.declared.words.Outcome.TheVariants.{Done, Fault, Lacking, Words}
 
 -- ---- the commands
 
@@ -109,10 +109,11 @@ abbrev pub decode_app : ValueParser → ValueParser → App
 decode_app codings orders = with_explain (with_rule (with_rule (with_flags (with_page_options (new_app (codes "decode")) codings orders))
     (file_rule (codes "file"))) (file_rule (codes "out")))
 
--- `frames`: how many octets of a content are shown, 0 to 300, and the file of the bits
+-- `frames`: how many octets of a content are shown, 0 to 300, the folder of the pages, and the file of the bits
 abbrev pub frames_app : App
-frames_app = with_explain (with_rule (with_rule (new_app (codes "frames"))
-    (record (option_rule (codes "data")) { parser = Some (vp.Signed (pos 0) (pos 300)) })) (file_rule (codes "file")))
+frames_app = with_explain (with_rule (with_rule (with_rule (new_app (codes "frames"))
+    (record (option_rule (codes "data")) { parser = Some (vp.Signed (pos 0) (pos 300)) })) (file_option_rule (codes "pages")))
+    (file_rule (codes "file")))
 
 -- the command with `--code`, `--frame` and `--modems`
 abbrev pub with_choices : App → ValueParser → ValueParser → ValueParser → App
@@ -264,9 +265,10 @@ IsJobOf met (Show coding order width input) = (rows : List Row)
 IsJobOf met (Decode coding order width fine salvage repair verbose input output) = (rows : List Row)
     × (met ≡ Some (codes "decode", rows))
     × IsDecodeOf rows coding order width fine salvage repair verbose (string_bytes input) (string_bytes output)
-IsJobOf met (Frames most input) = (rows : List Row)
+IsJobOf met (Frames most pages input) = (rows : List Row)
     × (met ≡ Some (codes "frames", rows))
     × ReadsNumber (codes "data") rows most
+    × (first_of (codes "pages") rows ≡ option_map string_bytes pages)
     × (first_of (codes "file") rows ≡ Some (string_bytes input))
 IsJobOf met (Call script options out input) = (rows : List Row)
     × (met ≡ Some (codes "call", rows))
@@ -291,6 +293,7 @@ ReadsAs words request = (a : App) × IsFaxtool a × (fault_of a words ≡ []) ×
 -- memory was refused, or clap refuses the words by this kind of error, or they have no job
 abbrev pub IsRefusalOf : List Text → Outcome → Type 0
 IsRefusalOf words Done = ⊥
+IsRefusalOf words Lacking = ⊥
 IsRefusalOf words (Fault fault) = fault ≡ No 9
 IsRefusalOf words (Words error) = (a : App) × IsFaxtool a
     × (IsAmong (kind_of error) (fault_of a words)
@@ -299,14 +302,16 @@ IsRefusalOf words (Words error) = (a : App) × IsFaxtool a
 -- the outcome where clap gives this error
 abbrev pub IsOutcomeOf : Error → Outcome → Type 0
 IsOutcomeOf error Done = ⊥
+IsOutcomeOf error Lacking = ⊥
 IsOutcomeOf error (Fault fault) = (kind_of error ≡ OutOfMemory) × (fault ≡ No 9)
 IsOutcomeOf error (Words given) = (kind_of error ≢ OutOfMemory) × (given ≡ error)
 
 -- ---- the exit status
 
--- 0 where the job is done, 1 for a fault, 2 for the words
+-- 0 where the job is done, 1 for a fault or where something lacks, 2 for the words
 abbrev pub status_of : Outcome → ℕ
 status_of Done = 0
+status_of Lacking = 1
 status_of (Fault fault) = 1
 status_of (Words error) = 2
 
@@ -315,5 +320,5 @@ abbrev pub HasWidth : Job → Type 0
 HasWidth (Code coding order input output) = Unit {0}
 HasWidth (Show coding order width input) = IsWidth width
 HasWidth (Decode coding order width fine salvage repair verbose input output) = IsWidth width
-HasWidth (Frames most input) = Unit {0}
+HasWidth (Frames most pages input) = Unit {0}
 HasWidth (Call script options out input) = Unit {0}

@@ -15,14 +15,15 @@ mod progress;
 mod words;
 
 use engines::{
-    CallOptions, Explained, FAILED, Known, NO_MEMORY, ToolFault, call_engine, code_engine,
-    decode_engine, list_frames, refused_color, refused_row, repair_engine, salvage_engine, show_engine,
+    CallOptions, Captured, Explained, FAILED, Known, NO_MEMORY, ToolFault, call_engine,
+    captured_pages, code_engine, decode_engine, list_frames, refused_color, refused_row,
+    repair_engine, salvage_engine, show_engine,
 };
 use notes::{Notes, Part};
 use page_code::Coding;
 use raster::{Color, Page, write_pbm};
 use run_tables::Order;
-use std::io::{IsTerminal, Write};
+use std::io::{IsTerminal, Read, Write};
 use std::process::ExitCode;
 use std::{env, io};
 use words::{Job, Outcome, Request, read_words, status};
@@ -77,7 +78,7 @@ fn run_request(rt: &HostRuntime, request: &Request) -> Outcome
     let kept = if explains { kept_of(&request.job) } else { 0 };
     let mut notes = Notes::new(rt.alloc(), kept, is_long(&request.job));
     match run_job(rt, &request.job, &mut notes) {
-        Ok(()) => Outcome::Done,
+        Ok(outcome) => outcome,
         Err(fault) => {
             let _shown = eprintln!(rt; "{fault}");
             if explains {
@@ -181,6 +182,13 @@ fn file_of<'a>(job: &'a Job, part: Part) -> &'a str {
         (_, Part::Printed) => files::STANDARD,
         (Job::Code { output, .. } | Job::Decode { output, .. }, Part::Output) => output.as_str(),
         (Job::Call { out: Some(out), .. }, Part::Output) => out.as_str(),
+        (
+            Job::Frames {
+                pages: Some(folder),
+                ..
+            },
+            Part::Output,
+        ) => folder.as_str(),
         (Job::Call { script, .. }, Part::Script) => script.as_str(),
         (
             Job::Code { input, .. }
@@ -198,7 +206,7 @@ fn file_of<'a>(job: &'a Job, part: Part) -> &'a str {
     }
 }
 
-fn run_job(rt: &HostRuntime, job: &Job, notes: &mut Notes) -> Result<(), ToolFault>
+fn run_job(rt: &HostRuntime, job: &Job, notes: &mut Notes) -> Result<Outcome, ToolFault>
     requires { HasWidth job.now }
 {
     match job {
@@ -207,13 +215,13 @@ fn run_job(rt: &HostRuntime, job: &Job, notes: &mut Notes) -> Result<(), ToolFau
             order,
             input,
             output,
-        } => code_file(rt, *coding, *order, input, output, notes),
+        } => code_file(rt, *coding, *order, input, output, notes)?,
         Job::Show {
             coding,
             order,
             width,
             input,
-        } => show_file(rt, *coding, *order, *width, input, notes),
+        } => show_file(rt, *coding, *order, *width, input, notes)?,
         Job::Decode {
             coding,
             order,
@@ -226,23 +234,38 @@ fn run_job(rt: &HostRuntime, job: &Job, notes: &mut Notes) -> Result<(), ToolFau
             output,
         } => {
             if *repair {
-                return repair_file(rt, *order, *width, *fine, *verbose, input, output, notes);
+                repair_file(rt, *order, *width, *fine, *verbose, input, output, notes)?;
+                return Ok(Outcome::Done);
             }
             let decoded = if *salvage {
                 salvage_file(rt, *coding, *order, *width, *fine, input, output, notes)
             } else {
                 decode_file(rt, *coding, *order, *width, *fine, input, output, notes)
             };
-            tell(rt, *verbose, decoded)
+            tell(rt, *verbose, decoded)?;
         }
-        Job::Frames { most, input } => list_file(rt, *most, input, notes),
+        Job::Frames {
+            most,
+            pages: None,
+            input,
+        } => list_file(rt, *most, input, notes)?,
+        Job::Frames {
+            most,
+            pages: Some(folder),
+            input,
+        } => {
+            if !frames_file(rt, *most, folder, input, notes)? {
+                return Ok(Outcome::Lacking);
+            }
+        }
         Job::Call {
             script,
             options,
             out,
             input,
-        } => call_file(rt, script, options, out.as_deref(), input, notes),
+        } => call_file(rt, script, options, out.as_deref(), input, notes)?,
     }
+    Ok(Outcome::Done)
 }
 
 /// Codes an image's file. The output's file is opened only once its whole content is made.
@@ -411,6 +434,100 @@ fn list_file(
     let printed = files::end_print(writer, listed.is_ok(), notes);
     listed?;
     printed
+}
+
+/// Lists the frames in a file, writes the pages that they carry into the files page-1.pbm and so on of a
+/// folder, and tells what lacks of others on standard error; whether nothing does.
+fn frames_file(
+    rt: &HostRuntime,
+    most: Option<u32>,
+    folder: &str,
+    input: &str,
+    notes: &mut Notes,
+) -> Result<bool, ToolFault> {
+    let mut reader = files::open(rt, input, Part::Input, notes)?;
+    let mut octets = Vec::new(rt.alloc());
+    let read = reader.read_to_end(&mut octets);
+    reader.close(notes);
+    read?;
+    let mut writer = files::print(rt)?;
+    let most = most.map(|most| most as usize);
+    let mut bits = octets.as_slice();
+    let listed = list_frames(rt.alloc(), &mut bits, &mut writer, most);
+    let printed = files::end_print(writer, listed.is_ok(), notes);
+    listed?;
+    printed?;
+    write_found(rt, folder, octets.as_slice(), notes)
+}
+
+/// Writes the pages that the frames in bits carry into a folder, and tells what lacks of others; whether nothing does.
+fn write_found(
+    rt: &HostRuntime,
+    folder: &str,
+    octets: &[u8],
+    notes: &mut Notes,
+) -> Result<bool, ToolFault> {
+    let mut bits = octets;
+    let mut pages: u64 = 0;
+    let mut lacks = false;
+    for found in captured_pages(rt.alloc(), &mut bits)? {
+        if let Captured::Page(page) = found {
+            pages = pages.saturating_add(1);
+            write_captured(rt, folder, pages, page, notes)?;
+        } else {
+            lacks = true;
+            tell_captured(rt, &found)?;
+        }
+    }
+    Ok(!lacks)
+}
+
+/// Writes the page of a number into a folder.
+fn write_captured(
+    rt: &HostRuntime,
+    folder: &str,
+    number: u64,
+    page: Page,
+    notes: &mut Notes,
+) -> Result<(), ToolFault> {
+    if page.rows().is_empty() {
+        // no code is that of such a page
+        return Ok(());
+    }
+    let name = format!(in rt.alloc(); "{folder}/page-{number}.pbm")?;
+    write_pages(rt, name.as_str(), &[page], notes)
+}
+
+/// Tells what lacks of a page on standard error. Pages and blocks have the numbers of their PPS, frames those of
+/// their FCD.
+fn tell_captured(rt: &HostRuntime, found: &Captured) -> Result<(), ToolFault> {
+    match found {
+        Captured::Page(_) => {}
+        Captured::Unread { mark, fault } => {
+            let no = fault.kind.number();
+            eprintln!(rt;
+                "page {}: can't be read, fault {no} at bit {}",
+                mark.page, fault.place
+            )?;
+        }
+        Captured::Lacks { mark, frame } => {
+            eprintln!(rt;
+                "page {} block {}: frame {frame} lacks",
+                mark.page, mark.block
+            )?;
+        }
+        Captured::Skipped(mark) => {
+            eprintln!(rt;
+                "page {} block {}: the blocks before it lack",
+                mark.page, mark.block
+            )?;
+        }
+        Captured::Unended => eprintln!(rt; "a page has no end")?,
+        Captured::NoDcs(mark) => {
+            eprintln!(rt; "page {} block {}: no DCS before it", mark.page, mark.block)?;
+        }
+    }
+    Ok(())
 }
 
 /// Runs a call by a script's file, and prints what has become of it. The file of the stored pages is

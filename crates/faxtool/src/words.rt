@@ -74,6 +74,8 @@ pub enum Job {
     Frames {
         /// At most how many octets of a content are shown, where it isn't all of them.
         most: Option<u32>,
+        /// The name of the folder that the pages in the frames go to, where one is given.
+        pages: Option<String>,
         /// The name of the file.
         input: String,
     },
@@ -104,19 +106,21 @@ pub struct Request {
 pub enum Outcome {
     /// The job is done.
     Done,
+    /// The job is done as far as it can be: what lacks was told.
+    Lacking,
     /// The job failed.
     Fault(ToolFault),
     /// The words are no job, or ask for help: the error has the text.
     Words(Error),
 }
 
-/// The exit status of the program: 0 where the job is done, 1 for a fault and 2 for the words.
+/// The exit status of the program: 0 where the job is done, 1 for a fault or where something lacks, and 2 for the words.
 pub fn status(outcome: &Outcome) -> u8
     ensures { result ≡ status_of outcome.now }
 {
     match outcome {
         Outcome::Done => 0,
-        Outcome::Fault(_) => 1,
+        Outcome::Lacking | Outcome::Fault(_) => 1,
         Outcome::Words(_) => 2,
     }
 }
@@ -304,6 +308,7 @@ fn frames_job(alloc: Global, matches: &ArgMatches<'_>) -> Result<Option<Job>, Al
     };
     Ok(Some(Job::Frames {
         most: number_in(matches, "data"),
+        pages: copy_of(alloc, text_in(matches, "pages"))?,
         input: String::from_str(alloc, input)?,
     }))
 }
@@ -642,6 +647,12 @@ fn frames_command<'a>(alloc: Global) -> Result<Command<'a>, AllocError>
     Command::new(alloc, "frames")
         .about("Lists the frames in a file of bits, the least significant of an octet first")
         .arg(data_option(alloc))?
+        .arg(file_option(
+            alloc,
+            "pages",
+            false,
+            "The folder that the pages in the frames are written to, as page-1.pbm and so on",
+        ))?
         .arg(file_name(
             alloc,
             "file",

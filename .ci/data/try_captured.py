@@ -1,0 +1,131 @@
+"""Runs `frames --pages` on the frames of calls that carry the large page and a page of white rows: try_captured.py PROGRAM FOLDER
+
+FOLDER has large.pbm, 2,432 pixels wide. The frames are those of ITU-T T.30 Annex A, with the check sequence of T.30, 5.3.7. Each
+call is tried whole, with blocks sent again, twice on one line, with a frame, the DCS or the last PPS lost, and with a page's code
+cut short. Ends with status 1 at the first that differs."""
+
+import os
+import shutil
+import subprocess
+import sys
+
+program, folder = sys.argv[1:]
+WIDTHS = {1728: 0, 2048: 1, 2432: 2}
+NULL, MPS, EOP = 0x00, 0x4F, 0x2F
+
+
+def check(octets):
+    """The two octets of the check sequence, in order of sending."""
+    register = 0xFFFF
+    for octet in octets:
+        register ^= octet
+        for _ in range(8):
+            register = register >> 1 ^ (0x8408 if register & 1 else 0)
+    return bytes([~register & 0xFF, ~register >> 8 & 0xFF])
+
+
+def line(contents):
+    """The octets of a line on which contents are sent as frames."""
+    bits = []
+    for content in contents:
+        bits += [0, 1, 1, 1, 1, 1, 1, 0]
+        ones = 0
+        for octet in content + check(content):
+            for place in range(8):
+                bit = octet >> place & 1
+                bits.append(bit)
+                ones = ones + 1 if bit else 0
+                if ones == 5:
+                    bits.append(0)
+                    ones = 0
+    bits += [0, 1, 1, 1, 1, 1, 1, 0]
+    bits += [0] * (-len(bits) % 8)
+    return bytes(sum(bits[at + place] << place for place in range(8)) for at in range(0, len(bits), 8))
+
+
+def dcs(width, mmr, small):
+    """A DCS at 14,400 bits a second, of standard lines."""
+    third = 0x80 | WIDTHS[width]
+    return bytes([0xFF, 0x13, 0x83, 0x00, 0x22, third, 0x04 | (0x08 if small else 0) | (0x40 if mmr else 0)])
+
+
+def burst(block, numbers, ends, page, count):
+    """The FCDs of numbers in a block, three RCP and PPS."""
+    sent = [bytes([0xFF, 0x03, 0x06, number]) + block[number] for number in numbers]
+    return sent + [bytes([0xFF, 0x03, 0x86])] * 3 + [bytes([0xFF, 0x13, 0xBF, ends, page, count, len(block) - 1])]
+
+
+def blocks_of(code, small):
+    """A page's code as blocks of frames."""
+    size = 64 if small else 256
+    frames = [code[at : at + size].ljust(size, b"\0") for at in range(0, len(code), size)]
+    return [frames[at : at + 256] for at in range(0, len(frames), 256)]
+
+
+def coded(image, mmr):
+    """A page's code, the least significant bit of an octet first."""
+    out = f"{folder}/captured.code"
+    words = [program, "code", "--code", "mmr" if mmr else "mh", "--order", "lsb", image, out]
+    subprocess.run(words, check=True)
+    return open(out, "rb").read()
+
+
+def tried(name, contents, wanted, said, status):
+    """The pages that are written of contents, what is said of others, and the status."""
+    bits, pages = f"{folder}/captured.bits", f"{folder}/captured"
+    with open(bits, "wb") as file:
+        file.write(line(contents))
+    shutil.rmtree(pages, ignore_errors=True)
+    os.mkdir(pages)
+    done = subprocess.run([program, "frames", "--pages", pages, bits], capture_output=True)
+    plain = subprocess.run([program, "frames", bits], capture_output=True)
+    got = [open(f"{pages}/page-{number + 1}.pbm", "rb").read() for number in range(len(os.listdir(pages)))]
+    if done.stdout != plain.stdout:
+        sys.exit(f"{name}: another list")
+    if done.stderr.decode().splitlines() != said:
+        sys.exit(f"{name}: it said {done.stderr.decode()[:200]}")
+    if got != wanted or done.returncode != status:
+        sys.exit(f"{name}: {len(got)} pages, status {done.returncode}")
+
+
+def call(pages, mmr, small, lost=None):
+    """The contents that a caller sends of pages in one group; each block without a lost frame, which goes out again."""
+    sent = [dcs(2432, mmr, small)]
+    for number, code in enumerate(pages):
+        blocks = blocks_of(code, small)
+        for count, block in enumerate(blocks):
+            ends = NULL if count + 1 < len(blocks) else EOP if number + 1 == len(pages) else MPS
+            numbers = range(len(block))
+            if lost is None:
+                sent += burst(block, numbers, ends, number, count)
+            else:
+                missed = lost % len(block)
+                sent += burst(block, [n for n in numbers if n != missed], ends, number, count)
+                sent += burst(block, [missed], ends, number, count) * 2
+    return sent
+
+
+large = open(f"{folder}/large.pbm", "rb").read()
+white = f"{folder}/white.pbm"
+with open(white, "wb") as file:
+    file.write(b"P4\n2432 3\n" + bytes(3 * 304))
+few = open(white, "rb").read()
+for mmr in False, True:
+    codes = [coded(f"{folder}/large.pbm", mmr), coded(white, mmr)]
+    for small in False, True:
+        name = f"{'mmr' if mmr else 'mh'}, frames of {64 if small else 256}"
+        both = call(codes, mmr, small)
+        tried(name, both, [large, few], [], 0)
+        tried(f"{name}, sent again", call(codes, mmr, small, 7), [large, few], [], 0)
+        tried(f"{name}, two calls", both + both, [large, few, large, few], [], 0)
+        first = both[:1] + both[2:]
+        tried(f"{name}, frame 0 lost", first, [few], ["page 0 block 0: frame 0 lacks"], 1)
+        tried(f"{name}, no DCS", call([codes[1]], mmr, small)[1:], [], ["page 0 block 0: no DCS before it"], 1)
+        tried(f"{name}, no end", call([codes[1]], mmr, small)[:-1], [], ["a page has no end"], 1)
+        if mmr:
+            piece = codes[0][:200]
+            with open(f"{folder}/captured.code", "wb") as file:
+                file.write(b"".join(blocks_of(piece, small)[0]))
+            words = [program, "show", "--code", "mmr", "--order", "lsb", "--width", "2432", f"{folder}/captured.code"]
+            fault = subprocess.run(words, capture_output=True, text=True).stderr.strip()
+            tried(f"{name}, cut", call([piece], mmr, small), [], [f"page 0: can't be read, {fault}"], 1)
