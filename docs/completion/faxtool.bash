@@ -7,7 +7,7 @@ _faxtool_options() {
         code) echo --code --order --explain --help ;;
         show) echo --code --width --order --explain --help ;;
         decode) echo --code --width --order --fine --salvage --repair --verbose --explain --help ;;
-        frames) echo --data --explain --help ;;
+        frames) echo --data --pages --explain --help ;;
         call) echo --script --code --frame --modems --fine --out --explain --help ;;
         *) echo --help ;;
     esac
