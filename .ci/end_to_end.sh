@@ -351,7 +351,7 @@ try_repair() {
     done
     refuses decode --repair --repair --code mh --width 8 "$work/bad_page" "$work/repaired"
     refuses show --repair --code mh --width 8 "$work/bad_page"
-    [ ! -f "$data/try_repair.py" ] || python3 -B "$data/try_repair.py" "$program" "$work" || fails "decode --repair of pages with a flipped bit"
+    python3 -B "$data/try_repair.py" "$program" "$work" || fails "decode --repair of pages with a flipped bit"
 }
 
 # What fault lines mean, in words: which file, where in it, and what is wrong there.
@@ -718,6 +718,10 @@ try_readme() {
     (
         cd "$work/readme"
         head -c 500 docs/examples/page.mmr > cut.mmr
+        python3 -c 'import sys
+octets = bytearray(open("docs/examples/page.mh", "rb").read())
+octets[len(octets) // 2] ^= 16
+sys.stdout.buffer.write(octets)' > bad.mh
         sed -n 's/^    faxtool \([a-z]\)/\1/p' "$top/README.md" | sed 's/  .*//' > commands
         [ "$(wc -l < commands)" -ge 7 ] || fails "the README has no commands"
         while read -r words; do
@@ -726,6 +730,7 @@ try_readme() {
         is_same page.mmr docs/examples/page.mmr "the README's code"
         is_same page.pbm docs/examples/page.pbm "the README's decode"
         head -c 9 rest.pbm | grep -q '^P4' || fails "the README's decode --salvage"
+        [ "$(wc -c < whole.pbm)" = "$(wc -c < page.pbm)" ] || fails "the README's decode --repair"
     )
     rm -r "$work/readme"
 }

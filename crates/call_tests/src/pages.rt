@@ -1,7 +1,10 @@
 //! What no clause says of images and coded pages: octets that come and go one by one, and readers and writers that fail.
 
 use crate::streams::{Narrow, OneByOne};
-use engines::{FAILED, ToolFault, code_engine, decode_engine, salvage_engine, show_engine};
+use engines::{
+    FAILED, Repair, ToolFault, code_engine, decode_engine, repair_engine, salvage_engine,
+    show_engine,
+};
 use page_code::Coding;
 use run_tables::Order;
 use std::test::Fail;
@@ -142,4 +145,67 @@ fn whole_rows_are_salvaged(rt: HostRuntime) -> Result<(), Fail> {
     assert_eq!(rt; salvage.rows, 2);
     assert_eq!(rt; salvage.end, Err(ToolFault::AtBit { no: 16, place: 13 }));
     Ok(())
+}
+
+// EOL, a row of 2 white, 2 black and 4 white pixels, EOL, 2 white pixels of a row, and two EOLs.
+const BROKEN: [u8; 8] = [0x00, 0x17, 0xEC, 0x00, 0x5C, 0x00, 0x40, 0x04];
+
+#[test]
+fn rows_are_repaired(rt: HostRuntime) -> Result<(), Fail> {
+    let alloc = rt.alloc();
+    let mut reader = OneByOne {
+        left: &BROKEN,
+        fails: false,
+    };
+    let mut image = Vec::new(alloc);
+    let mut lines = Vec::new(alloc);
+    let repair = repair_engine(
+        alloc,
+        &mut reader,
+        &mut image,
+        &mut lines,
+        Order::MsbFirst,
+        8,
+        false,
+    )?;
+    assert_eq!(rt; image.as_slice(), b"P4\n8 2\n00".as_slice());
+    assert_eq!(rt;
+        lines.as_slice(),
+        b"row 2 repaired at bit 38\nrepaired rows: 1\n".as_slice()
+    );
+    assert_eq!(rt;
+        repair,
+        Repair {
+            rows: 2,
+            repaired: 1
+        }
+    );
+    Ok(())
+}
+
+// The second writer takes so many octets, and then no more.
+#[test]
+fn a_failing_list_is_fault_8(rt: HostRuntime) {
+    let alloc = rt.alloc();
+    for room in 0..42usize {
+        let mut reader = OneByOne {
+            left: &BROKEN,
+            fails: false,
+        };
+        let mut image = Vec::new(alloc);
+        let mut lines = Narrow {
+            taken: Vec::new(alloc),
+            room,
+        };
+        let done = repair_engine(
+            alloc,
+            &mut reader,
+            &mut image,
+            &mut lines,
+            Order::MsbFirst,
+            8,
+            false,
+        );
+        assert_eq!(rt; done, Err(FAILED), "{room} octets");
+    }
 }

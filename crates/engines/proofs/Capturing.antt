@@ -126,7 +126,8 @@ piece_heard start left rest framing fed after now new out more piece old taken s
     let grown : good whole ≡ good bits ++ later.0 = ap good joined ∙ later.1 in
     let queue : fed.queue ≡ later.0 = stands.queued ∙ (ap (drop (length (good bits))) grown ∙ drop-append_seam (good bits) later.0) in
     let all : hears_all (good whole) (empty_capture None) ≡ (hears_all (good bits) (empty_capture None) >>> hears_all later.0) =
-    ap (λ (contents : List (List ℕ)). hears_all contents (empty_capture None)) grown ∙ hears_more (good bits) later.0 (empty_capture None) in
+    ap (λ (contents : List (List ℕ)). hears_all contents (empty_capture None)) grown ∙ hears_more (good bits) later.0
+    (empty_capture None) in
     record {
       came = old.came ++ piece;
       read = Consumes-trans start left rest old.came piece old.read taken;

@@ -33,7 +33,8 @@ pub row_more : (before now new : Option (List ℕ)) (rows : List RepairedRow) (i
     → Appends before new (flat_map repaired_line (take (index + 1) rows))
 row_more before now new rows index default within lines line =
     let more : flat_map repaired_line (take (index + 1) rows) ≡ flat_map repaired_line (take index rows) ++
-    repaired_line (get_or rows index default) = ap (λ (l : List RepairedRow). flat_map repaired_line l) (take_next rows index default within)
+    repaired_line (get_or rows index default) = ap (λ (l : List RepairedRow). flat_map repaired_line l)
+    (take_next rows index default within)
     ∙ lines_push (take index rows) (get_or rows index default) in
     subst (Appends before new) (sym more) (Appends-trans before now new _ _ lines line)
 

@@ -1,4 +1,5 @@
--- The pages in what is sent on a line, by its signals alone (ITU-T T.30, Annex A): what anyone who hears the caller can read, with no station.
+-- The pages in what is sent on a line, by its signals alone (ITU-T T.30, Annex A): what anyone who hears the caller can read,
+-- with no station.
 use Rattle.std.specs.Prelude.{ℕ, ◌≡◌, ◌+◌, ◌++◌, ◌∷◌, [], ◌%◌, ◌||◌, Bool, true, false, cond, not, map, max, nat_eq, List, length}
 use Rattle.std.specs.Prelude.{Option, Some, None, Result, Ok, Err, slice_set}
 use Rattle.std.specs.List.{filter, range_with_len}

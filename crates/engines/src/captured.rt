@@ -10,7 +10,8 @@ ghost use Rattle.raster.specs.Packed.{bits_of};
 ghost use Rattle.raster.specs.declared.packed.Order.TheVariants.{LsbFirst};
 ghost use Rattle.signals.specs.Reading.{read_content};
 ghost use Rattle.signals.specs.Signals.{plain};
-ghost use Rattle.std.specs.Prelude.{◌≡◌, ◌↔◌, ◌+◌, ◌++◌, ◌∷◌, [], ℕ, IfErr, IfOk, IfSome, IsTrue, None, OnOk, Some, cond, false, map, nat_eq, true};
+ghost use Rattle.std.specs.Prelude.{◌≡◌, ◌↔◌, ◌+◌, ◌++◌, ◌∷◌, [], ℕ, IfErr, IfOk, IfSome, IsTrue};
+ghost use Rattle.std.specs.Prelude.{None, OnOk, Some, cond, false, map, nat_eq, true};
 ghost use Rattle.stations.specs.AnswererStep.{all_there, same_mark};
 
 use crate::fault::{FAILED, NO_MEMORY, ToolFault};
@@ -357,7 +358,8 @@ impl Capture {
     /// Appends the frames of a whole block to the open page, unless a block of that lacks.
     fn append_block(&mut self, last: u8) -> Result<(), ToolFault>
         requires whole { all_there self.old.kept last ≡ true }
-        ensures appended { OnOk result (self.new ≡ record self.old { octets = with_block self.old (joined_frames self.old.kept (last + 1)) }) }
+        ensures appended { OnOk result
+            (self.new ≡ record self.old { octets = with_block self.old (joined_frames self.old.kept (last + 1)) }) }
         ensures fault { IfErr result IsOutside }
     {
         if self.spoiled {

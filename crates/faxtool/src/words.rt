@@ -7,7 +7,8 @@ ghost use Rattle.clap.specs.declared.builder.command.Command.TheViews.{out-Comma
 ghost use Rattle.clap.specs.declared.error.kind.ErrorKind.TheVariants.{OutOfMemory};
 ghost use Rattle.faxtool.specs.Jobs.{AreOptionsIn, HasNoJob, HasNoOptions, IsFaxtool, IsJobOf, IsOutcomeOf, IsRefusalOf};
 ghost use Rattle.faxtool.specs.Jobs.{IsWidthIn, ReadsAs, ReadsNumber, call_app, code_app, coding_named, coding_rule, decode_app};
-ghost use Rattle.faxtool.specs.Jobs.{empty_app, explains, file_option_rule, file_rule, frames_app, go_together, is_named, modems_named, order_named};
+ghost use Rattle.faxtool.specs.Jobs.{empty_app, explains, file_option_rule, file_rule, frames_app};
+ghost use Rattle.faxtool.specs.Jobs.{go_together, is_named, modems_named, order_named};
 ghost use Rattle.faxtool.specs.Jobs.{order_rule, page_app, show_app, status_of, with_choices, with_flags, with_page_options};
 
 use crate::faults::FAULTS;

@@ -1,5 +1,6 @@
 -- The bits of octets, least significant first, place by place.
-use Rattle.std.proofs.Common.{◌≡◌, ℕ, ◌+◌, ◌/◌, ◌%◌, ◌^◌, ◌<◌, ◌≤◌, Bool, List, [], ◌∷◌, ◌++◌, refl, ap, sym, ◌∙◌, arith, length, take, drop}
+use Rattle.std.proofs.Common.{◌≡◌, ℕ, ◌+◌, ◌/◌, ◌%◌, ◌^◌, ◌<◌, ◌≤◌, Bool, List, [], ◌∷◌}
+use Rattle.std.proofs.Common.{◌++◌, refl, ap, sym, ◌∙◌, arith, length, take, drop}
 use Rattle.std.proofs.Common.{get_or, nat_eq, append_assoc}
 use Rattle.std.proofs.Math.Seq.{take-add}
 use Rattle.std.proofs.lemmas.List.{append-nil, take_more, take_all}
@@ -38,7 +39,8 @@ octets-next bits octets i d h =
 
 -- the same up to several octets more
 pub octets-more : (bits : List Bool) (octets : List ℕ) (i n : ℕ)
-    → bits ++ bits_of LsbFirst (take (i + n) octets) ≡ (bits ++ bits_of LsbFirst (take i octets)) ++ bits_of LsbFirst (take n (drop i octets))
+    → bits ++ bits_of LsbFirst (take (i + n) octets) ≡ (bits ++ bits_of LsbFirst (take i octets)) ++ bits_of LsbFirst
+    (take n (drop i octets))
 octets-more bits octets i n =
     ap (λ xs. bits ++ bits_of LsbFirst xs) (take-add i n octets)
     ∙ (ap (λ xs. bits ++ xs) (bits_of-append LsbFirst (take i octets) (take n (drop i octets)))

@@ -1,6 +1,7 @@
 -- Octets none of whose bits ends a flag, many at once.
 use Rattle.std.proofs.Common.{◌≡◌, ℕ, zero, suc, ◌+◌, ◌-◌, ◌*◌, ◌/◌, ◌%◌, ◌^◌, ◌<◌, ◌≤◌, Bool, true, false, not, ◌&&◌, List, [], ◌∷◌, ◌++◌}
-use Rattle.std.proofs.Common.{length, take, drop, cond, refl, ap, sym, ◌∙◌, arith, nat_eq, bit_and, append_assoc, Option, Some, None, get_or}
+use Rattle.std.proofs.Common.{length, take, drop, cond, refl, ap, sym, ◌∙◌, arith, nat_eq}
+use Rattle.std.proofs.Common.{bit_and, append_assoc, Option, Some, None, get_or}
 use Rattle.std.proofs.Common.{w64, subst}
 use Rattle.std.proofs.Math.Seq.{drop-cons}
 use Rattle.std.specs.Int.{from_le_bytes}
@@ -119,7 +120,8 @@ word_calm last a b c d e f g h n small la lb lc ld le lf lg lh is six =
     sym (end_split octets last small (la, (lb, (lc, (ld, (le, (lf, (lg, tt)))))))) ∙ (sym (shifted_test bits last small)
     ∙ (ap (no_flag_below (length bits)) (sym same) ∙ calm (length bits) (n % 0x100000000000000 * 256 + last) six))
 
-take_next : (os : List ℕ) (at next n : ℕ) → at < length os → next ≡ at + 1 → take (suc n) (drop at os) ≡ get_or os at 0 ∷ take n (drop next os)
+take_next : (os : List ℕ) (at next n : ℕ) → at < length os → next ≡ at + 1 → take (suc n) (drop at os) ≡ get_or os at 0 ∷ take n
+    (drop next os)
 take_next os at next n h e =
     let same : suc at ≡ next = omega arith in
     ap (take (suc n)) (drop-cons os at 0 h ∙ ap (λ m. get_or os at 0 ∷ drop m os) same)
@@ -196,7 +198,8 @@ single_empty bits window o yes_ empty last small quiet =
       gap_ = next_empty bits (octet_bits o) refl u empty;
     })
 
-joined : (bits : List Bool) (x : ℕ) (xs : List ℕ) → (bits ++ bits_of LsbFirst (x ∷ [])) ++ bits_of LsbFirst xs ≡ bits ++ bits_of LsbFirst (x ∷ xs)
+joined : (bits : List Bool) (x : ℕ) (xs : List ℕ) → (bits ++ bits_of LsbFirst (x ∷ [])) ++ bits_of LsbFirst xs ≡ bits
+    ++ bits_of LsbFirst (x ∷ xs)
 joined bits x xs = append_assoc bits (bits_of LsbFirst (x ∷ [])) (bits_of LsbFirst xs)
     ∙ ap (λ r. bits ++ r) (sym (bits_of-append LsbFirst (x ∷ []) xs))
 
@@ -344,7 +347,8 @@ pub after_empty : (cutter new : Cutter) (bits : List Bool) (octets : List ℕ) (
 after_empty cutter new bits octets n size come begun_ window_ yes_ empty held_ more =
     let is : octets ≡ take n octets ++ get_or octets n 0 ∷ [] = split_last octets n size in
     subst (λ all. Cuts new (bits ++ bits_of LsbFirst all)) (sym is)
-    (cuts_after_empty cutter new bits (take n octets) (get_or octets n 0) (subst (Comes cutter bits) is come) begun_ window_ yes_ empty held_
+    (cuts_after_empty cutter new bits (take n octets) (get_or octets n 0)
+    (subst (Comes cutter bits) is come) begun_ window_ yes_ empty held_
     more)
 
 pub after_unbegun : (cutter new : Cutter) (bits : List Bool) (octets : List ℕ) (n : ℕ) → n + 1 ≡ length octets → Comes cutter bits octets

@@ -13,6 +13,8 @@ mod pbm;
 #[cfg(test)]
 mod pbm_writer;
 #[cfg(test)]
+mod repair;
+#[cfg(test)]
 mod rows;
 #[cfg(test)]
 mod run_codes;

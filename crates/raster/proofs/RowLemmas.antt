@@ -50,7 +50,8 @@ sum_more x xs = grind (arith, common_steps)
 
 -- a run more
 pub painted_more : (all : List Color) (bits : List Bool) (run : ℕ) (rest : List ℕ) (bit : Bool)
-    → colors bits ++ colored (color_of bit) (run ∷ rest) ≡ all → colors (bits ++ replicate run bit) ++ colored (color_of (not bit)) rest ≡ all
+    → colors bits ++ colored (color_of bit) (run ∷ rest) ≡ all → colors (bits ++ replicate run bit) ++ colored
+    (color_of (not bit)) rest ≡ all
 painted_more all bits run rest true e =
     ap (λ (xs : List Color). xs ++ colored White rest) (colors_run bits run true Black refl) ∙
     (append_assoc (colors bits) (replicate run Black) (colored White rest) ∙ e)

@@ -212,7 +212,8 @@ run_codes_refused color old new (Err f) fault reads = (
   λ e.
       let same : f ≡ fault = cc in
       rw (← same) (refused_code color AllCodes old f reads.0),
-  λ refused. ap (λ (g : CodeFault). Err g) (one_refused_code color AllCodes old f fault (refused_code color AllCodes old f reads.0) refused),
+  λ refused. ap (λ (g : CodeFault). Err g) (one_refused_code color AllCodes old f fault
+      (refused_code color AllCodes old f reads.0) refused),
 )
 
 -- ---- what is answered of runs
@@ -266,7 +267,8 @@ one_refused_run color reader f g (inr one) (inr two) =
     let rest_is : one.2 ≡ two.2 = sym (makeup_rest color reader one.0 one.1 one.2 one.3 one.5) ∙ (ap (λ n. drop (length (code_word color
     n)) (rest_of reader)) same ∙ makeup_rest color reader two.0 two.1 two.2 two.3 two.5) in
     let kind : CodeKind color TerminatingCodes two.2 f.kind = rw rest_is at one.7 in
-    same_fault f g (one.6 ∙ (ap (λ (w : List Bool). reader.place + length w) word_is ∙ sym two.6)) (one_code_kind color TerminatingCodes two.2
+    same_fault f g (one.6 ∙ (ap (λ (w : List Bool). reader.place + length w) word_is ∙ sym two.6))
+    (one_code_kind color TerminatingCodes two.2
     f.kind g.kind kind two.7)
 
 -- where a run is refused none is there

@@ -1,5 +1,6 @@
 -- Looking at a run code finds exactly the code that may be there, whatever automaton the code is an item of.
-use Rattle.std.proofs.Common.{ltb, [], ◌∷◌, ℕ, ◌≡◌, ◌+◌, ◌<◌, Bool, true, false, List, ◌++◌, map, length, drop, replicate, Some, None, refl, ap, sym}
+use Rattle.std.proofs.Common.{ltb, [], ◌∷◌, ℕ, ◌≡◌, ◌+◌, ◌<◌, Bool, true, false, List, ◌++◌}
+use Rattle.std.proofs.Common.{map, length, drop, replicate, Some, None, refl, ap, sym}
 use Rattle.std.proofs.Common.{◌∙◌, arith, cond, nat_eq}
 use Rattle.std.specs.Prelude.{Option, Contains, Result, Ok, Err}
 use Rattle.std.specs.List.{list_all, range_with_len}

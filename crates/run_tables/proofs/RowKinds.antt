@@ -107,7 +107,8 @@ module _ {State Item Answer : Type 0} (item : RunItem → Item) (full : List Col
           rw (← kind_is) (code_row_kind width (length pixels + amount makeup) color (among_after makeup) x (kind_among color (among_after
           makeup) x) (code_kind color (among_after makeup) x (none_stands color (among_after makeup) x none)))
       by (Some run) found =
-          let there = after_refused full next width pixels color makeup run kind (judged_refused (item (run_item color run)) (after_code full next width pixels color makeup
+          let there = after_refused full next width pixels color makeup run kind
+          (judged_refused (item (run_item color run)) (after_code full next width pixels color makeup
           run) kind (sym (sees x run found) ∙ e)) in
           rw there.0 (
             run,
@@ -125,7 +126,8 @@ module _ {State Item Answer : Type 0} (item : RunItem → Item) (full : List Col
     | inr long ↦
         let run : ℕ = long.1.0 in
         let found = pick_stands color (among_after makeup) x run (begins_next color (among_after makeup) x run long.1.1) in
-        sees x run found ∙ (ap (judged {Answer = Answer} (item (run_item color run))) (after_long full next width pixels color makeup run (omega (
+        sees x run found ∙ (ap (judged {Answer = Answer} (item (run_item color run)))
+        (after_long full next width pixels color makeup run (omega (
           arith,
           long.1.2,
         ))) ∙ ap (λ (k : CodeFaultKind). refuse k) (sym long.0))

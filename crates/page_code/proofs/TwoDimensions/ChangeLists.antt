@@ -129,7 +129,8 @@ first_to_at row places color from at index place all first (inr other_one) is =
       | inl l ↦
           let passed : ℕ = slice_index_or places at 0 in
           let back : at + 1 - 1 ≡ at = omega arith in
-          let one : IsNextChange row from passed = change_at row places from at passed all first (sym (get_or_default places at (length row) 0
+          let one : IsNextChange row from passed = change_at row places from at passed all first
+          (sym (get_or_default places at (length row) 0
           l)) in
           let two : IsNextChange row (passed + 1) place = change_after row places (at + 1) passed place all (omega arith)
           (sym (get_or_default places at (length row) 0 l) ∙ ap (λ (i : ℕ). slice_index_or places i (length row)) (sym back))

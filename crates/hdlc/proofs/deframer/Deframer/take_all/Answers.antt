@@ -39,7 +39,8 @@ pub loop-at-preserved : goal.loop-at-preserved
 loop-at-preserved c =
     let piece : List ℕ = c.args.piece.now in
     let at : ℕ = c.loop-at.at in
-    let rest : take (length piece - at) (drop at piece) ≡ drop at piece = take_all (length piece - at) (drop at piece) (rw length-drop (omega
+    let rest : take (length piece - at) (drop at piece) ≡ drop at piece = take_all (length piece - at) (drop at piece)
+    (rw length-drop (omega
     arith)) in
     record {
       within = omega (arith, c.in-Ok.ensures.most);
