@@ -1,5 +1,5 @@
 -- Pages in either code: the code of a page, what bits read as, and which bits read as a page.
-use Rattle.std.specs.Prelude.{ℕ, ◌≡◌, ◌<◌, ◌≤◌, ◌↔◌, ◌++◌, Bool, List, length, All, Result, Ok, Err}
+use Rattle.std.specs.Prelude.{ℕ, ◌≡◌, ◌<◌, ◌≤◌, ◌↔◌, ◌⊎◌, ◌++◌, Bool, List, length, All, Result, Ok, Err}
 use Rattle.raster.specs.declared.row.Color.{Color}
 use Rattle.raster.specs.Pixels.{IsWidth}
 use Rattle.raster.specs.Pages.{max_rows}
@@ -9,10 +9,12 @@ use Rattle.page_code.specs.declared.coding.Coding.TheVariants.{OneDim, T6}
 use Rattle.page_code.specs.PageCodes.{ReadsItsCode}
 use Rattle.page_code.specs.OneDimension.Pages.{ReadsAs, page_words}
 use Rattle.page_code.specs.OneDimension.Fronts.{read_page as read_one_dim}
+use Rattle.page_code.specs.OneDimension.Kinds.{IsRefusedPage as IsRefusedOneDim}
 use Rattle.page_code.specs.OneDimension.Laws.{IsLongestFront as IsLongestOneDim}
 use Rattle.page_code.specs.TwoDimensions.Code.{page_code}
 use Rattle.page_code.specs.TwoDimensions.Modes.{ReadsAsPage}
 use Rattle.page_code.specs.TwoDimensions.Fronts.{read_page as read_t6}
+use Rattle.page_code.specs.TwoDimensions.Kinds.{IsRefusedPage as IsRefusedT6}
 use Rattle.page_code.specs.TwoDimensions.Laws.{IsLongestFront as IsLongestT6}
 
 -- the prescribed code of rows of a width
@@ -35,6 +37,11 @@ unfoldable pub IsLongestIn : Coding → ℕ → List Bool → ℕ → CodeFaultK
 IsLongestIn OneDim width bits place kind = IsLongestOneDim width bits place kind
 IsLongestIn T6 width bits place kind = IsLongestT6 width bits place kind
 
+-- whole items of a page, so many bits, begin the bits, and for this reason the page goes no further
+unfoldable pub IsRefusedIn : Coding → ℕ → List Bool → ℕ → CodeFaultKind → Type 0
+IsRefusedIn OneDim width bits place kind = IsRefusedOneDim width bits place kind
+IsRefusedIn T6 width bits place kind = IsRefusedT6 width bits place kind
+
 -- Laws of pages in either code
 
 -- a page is read exactly where the bits read as it
@@ -52,6 +59,22 @@ RefusesNoPage =
 abbrev pub RefusesAtLongest : Type 0
 RefusesAtLongest = (coding : Coding) (width : ℕ) (bits : List Bool) (place : ℕ) (kind : CodeFaultKind)
     → read_rows coding width bits ≡ Err (place, kind) → IsLongestIn coding width bits place kind
+
+-- where pages are refused, and why
+pub record RefusesExactly : Type 0 where
+  -- reading refuses exactly where the page goes no further after whole items, and for that reason
+  pub named : (coding : Coding) (width : ℕ) (bits : List Bool) (place : ℕ) (kind : CodeFaultKind) → IsWidth width
+      → (read_rows coding width bits ≡ Err (place, kind)) ↔ IsRefusedIn coding width bits place kind
+  -- bits read as a page, or are refused
+  pub some : (coding : Coding) (width : ℕ) (bits : List Bool) → IsWidth width
+      → ((rows : List (List Color)) × (used : ℕ) × ReadsIn coding width bits rows used)
+      ⊎ ((place : ℕ) × (kind : CodeFaultKind) × IsRefusedIn coding width bits place kind)
+  -- bits that read as a page aren't refused
+  pub none : (coding : Coding) (width : ℕ) (bits : List Bool) (rows : List (List Color)) (used place : ℕ) (kind : CodeFaultKind)
+      → IsWidth width → ReadsIn coding width bits rows used → ¬ IsRefusedIn coding width bits place kind
+  -- there is one refusal alone
+  pub one : (coding : Coding) (width : ℕ) (bits : List Bool) (p q : ℕ) (a b : CodeFaultKind) → IsWidth width
+      → IsRefusedIn coding width bits p a → IsRefusedIn coding width bits q b → (p ≡ q) × (a ≡ b)
 
 -- the code of a page, followed by any bits, reads as the page with the code's length
 abbrev pub ReadsCode : Type 0

@@ -1,7 +1,7 @@
 //! Laws of pages in either code: what their contracts say is proved, and nothing runs.
 
 ghost use Rattle.page_code.specs.RowsSoFar.{RowsStay};
-ghost use Rattle.page_code.specs.Codings.{GivesCodedRows, ReadsCode, ReadsExactly, RefusesAtLongest, RefusesNoPage};
+ghost use Rattle.page_code.specs.Codings.{GivesCodedRows, ReadsCode, ReadsExactly, RefusesAtLongest, RefusesExactly, RefusesNoPage};
 
 pub mod one_dim;
 pub mod t6;
@@ -19,6 +19,12 @@ pub fn refuses_no_page()
 /// A refusal has the length of the longest front as its place, and the kind of what is there.
 pub fn refuses_at_longest()
     ensures { RefusesAtLongest }
+{}
+
+/// What reading gives is a refusal exactly where, and for the reason that, a relation over the grammar says;
+/// bits read as a page or have one refusal, and not both.
+pub fn refuses_exactly()
+    ensures { RefusesExactly }
 {}
 
 /// The code of a page, followed by any bits, reads as the page, and reading it gives the page and the
