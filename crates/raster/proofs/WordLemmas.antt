@@ -285,6 +285,19 @@ kept_in_order word k h =
     let there : k ≡ 8 * (k / 8) + (7 - (7 - k % 8)) = omega arith in
     ap (bit_of_word word) there
 
+-- the octets of a word in an order of bits hold its bits
+pub octets_in_order : (order : Order) (word turned k : ℕ) → IsInOrder order word turned → k < 64
+    → bit_in order (to_be_bytes w64 turned) k ≡ bit_of_word word k
+octets_in_order MsbFirst word turned k same h =
+    let there : 8 * (k / 8) + (7 - (7 - k % 8)) ≡ k = omega arith in
+    sym (be_octets turned k h) ∙ (same k h ∙ ap (bit_of_word word) there)
+octets_in_order LsbFirst word turned k same h =
+    let there : 8 * (k / 8) + (7 - k % 8) < 64 = omega arith in
+    let back : 8 * ((8 * (k / 8) + (7 - k % 8)) / 8) + (7 - (8 * (k / 8) + (7 - k % 8)) % 8) ≡ k = omega arith in
+    lowest_as_highest (to_be_bytes w64 turned) k ∙
+    (sym (be_octets turned (8 * (k / 8) + (7 - k % 8)) there) ∙
+    (same (8 * (k / 8) + (7 - k % 8)) there ∙ ap (bit_of_word word) back))
+
 -- the bits of eight octets, in either order
 pub in_order_word : (order : Order) (octets : List ℕ) (at word turned : ℕ) → IsWordAt MsbFirst octets (8 * at) word
     → IsInOrder order word turned → IsWordAt order octets (8 * at) turned

@@ -4,13 +4,13 @@ ghost use Rattle.raster.specs.Changes.{AreChanges};
 ghost use Rattle.raster.specs.Pixels.{colors};
 ghost use Rattle.raster.specs.Packed.{bit_in, bits_in, bits_of, place_in, IsPacked, Bits, FillsOctets};
 ghost use Rattle.raster.specs.Runs.{colored};
-ghost use Rattle.raster.specs.Words.{IsWordAt, IsFirstOtherBit, number_bits};
+ghost use Rattle.raster.specs.Words.{bit_of_word, IsWordAt, IsFirstOtherBit, number_bits};
 ghost use Rattle.raster.specs.declared.row.Color.{Color};
 ghost use Rattle.std.specs.Prelude.{false, ◌≢◌, ℕ, ◌≡◌, ◌≤◌, ◌<◌, ◌+◌, ◌-◌, ◌*◌, ◌^◌, ◌||◌, ◌/◌, ◌++◌, ◌∷◌, [], nat_eq, length};
 ghost use Rattle.std.specs.Prelude.{replicate, sum, take, slice_get, IfOk, OnOk, OnErr};
 
 use crate::changes::changes;
-use crate::words::{first_other, number_word, or_word, set_run, shifted_word};
+use crate::words::{first_other, in_order, number_word, or_word, set_run, shifted_word};
 use std::alloc::{AllocError, Global};
 use std::marker::Model;
 
@@ -53,6 +53,14 @@ pub fn word_at(order: Order, octets: &[u8], place: u128) -> u64
         return 0;
     }
     shifted_word(order, octets, (place / 8) as usize, (place % 8) as u32)
+}
+
+/// The eight octets that hold the bits of a word, its most significant bit as the first.
+#[inline(always)]
+pub fn word_octets(order: Order, word: u64) -> [u8; 8]
+    ensures { (k : ℕ) → k < 64 → bit_in order result k ≡ bit_of_word word k }
+{
+    in_order(order, word).to_be_bytes()
 }
 
 fn set_bit(order: Order, octets: &mut Vec<u8>, place: u128)

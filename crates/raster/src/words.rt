@@ -62,7 +62,7 @@ fn turned_word(word: u64) -> u64
 
 /// The word with each of its eight octets in an order of bits: turned where its least significant bit is
 /// to be the first.
-fn in_order(order: Order, word: u64) -> u64
+pub(crate) fn in_order(order: Order, word: u64) -> u64
     ensures { (k : ℕ) → k < 64 → bit_of_word result k ≡ bit_of_word word (8 * (k / 8) + (7 - place_in order k)) }
 {
     match order {

@@ -22,3 +22,4 @@ pub mod RowReads
 pub mod RowWorkedRows
 pub mod CodeLaws
 pub mod RowWriting
+pub mod PendingLemmas

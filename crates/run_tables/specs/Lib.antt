@@ -9,6 +9,7 @@ pub mod ReadTables
 pub mod WriteTables
 pub mod RunWords
 pub mod Written
+pub mod Pending
 pub mod Fronts
 pub mod Longest
 pub mod RowFronts

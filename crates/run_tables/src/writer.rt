@@ -1,15 +1,17 @@
 //! Writing of bits, and of runs and rows by their code words (ITU-T T.4, 4.1.1 and 4.1.2).
 
 ghost use Rattle.raster.specs.Changes.{AreChanges, IsNextChange};
-ghost use Rattle.raster.specs.Packed.{FillsOctets};
-ghost use Rattle.raster.specs.Words.{number_bits};
+ghost use Rattle.raster.specs.Packed.{bit_in, FillsOctets};
+ghost use Rattle.raster.specs.Words.{bit_of_word, number_bits};
 ghost use Rattle.run_tables.specs.Codes.{run_words, text};
+ghost use Rattle.run_tables.specs.Pending.{word_bits, IsClear, IsStored};
 ghost use Rattle.run_tables.specs.Written.{Appends, AppendsRow, eol};
 ghost use Rattle.raster.specs.declared.row.Color.{Color};
-ghost use Rattle.std.specs.Prelude.{List, ◌≡◌, ◌≤◌, ◌<◌, ◌+◌, ◌-◌, ◌++◌, ◌∷◌, [], length, replicate, slice_index_or, take, OnOk, OnErr};
+ghost use Rattle.std.specs.Prelude.{ℕ, List, ◌≡◌, ◌≤◌, ◌<◌, ◌+◌, ◌-◌, ◌*◌, ◌++◌, ◌∷◌, [], length, replicate};
+ghost use Rattle.std.specs.Prelude.{slice_index_or, take, OnOk, OnErr};
 
 use crate::write_table::run_word;
-use raster::packed::{Order, PackedBits};
+use raster::packed::{Order, word_at, word_octets};
 use raster::{Color, Row};
 use std::alloc::{AllocError, Global};
 use std::marker::Model;
@@ -36,35 +38,140 @@ fn end_of_run(changes: &[u32], index: usize, at: u32, width: u32) -> u32
     place_at(changes, index, width)
 }
 
-/// A list of bits that grows at its end, and the order in which octets are to hold them.
+/// So many octets at least, the new ones 0.
+#[cold]
+fn grow(octets: &mut Vec<u8>, needed: usize) -> Result<(), AllocError>
+    ensures room { OnOk result (needed ≤ length octets.new.items) }
+    ensures same { (order : Order) (k : ℕ) → bit_in order octets.new.items k ≡ bit_in order octets.old.items k }
+    ensures err { OnErr result (octets.new.items ≡ octets.old.items) }
+{
+    if octets.len() < needed {
+        octets.resize(needed, 0)?;
+    }
+    Ok(())
+}
+
+/// Room for 16 octets after so many.
+#[inline(always)]
+fn make_room(octets: &mut Vec<u8>, at: usize) -> Result<(), AllocError>
+    requires { at ≤ length octets.old.items }
+    ensures room { OnOk result (at + 16 ≤ length octets.new.items) }
+    ensures same { (order : Order) (k : ℕ) → bit_in order octets.new.items k ≡ bit_in order octets.old.items k }
+    ensures err { OnErr result (octets.new.items ≡ octets.old.items) }
+{
+    if octets.len() - at < 16 {
+        grow(octets, at + 256)?;
+    }
+    Ok(())
+}
+
+/// Writes the bits of a word over those of eight octets from one of them on.
+#[inline(always)]
+fn put_word(order: Order, octets: &mut Vec<u8>, at: usize, word: u64)
+    requires { at + 8 ≤ length octets.old.items }
+    ensures { IsStored order octets.old.items octets.new.items at word }
+{
+    octets[at..at + 8].copy_from_slice(&word_octets(order, word));
+}
+
+/// The word's first bits, and else 0.
+fn first_of(word: u64, count: u32) -> u64
+    requires { count < 64 }
+    ensures same { (k : ℕ) → k < count → bit_of_word result k ≡ bit_of_word word k }
+    ensures clear { IsClear count result }
+{
+    word >> 1 >> (63 - count) << (63 - count) << 1
+}
+
+/// The octet from which the last of so many bits are in one word, at most one that is given, and how
+/// many bits the word then holds.
+fn last_place(at: usize, bits: u128) -> (usize, u32)
+    requires { bits < 8 * at + 64 }
+    ensures place { 8 * result.0 + result.1 ≡ bits }
+    ensures low { result.0 ≤ at }
+    ensures few { result.1 < 64 }
+{
+    let first = (bits / 8).min(at as u128) as usize;
+    (first, (bits - 8 * first as u128) as u32)
+}
+
+/// A number whose lowest bits are all the same.
+#[inline(always)]
+fn same_bits(bit: bool) -> u32
+    ensures { (count : ℕ) → count ≤ 32 → number_bits count result ≡ replicate count bit }
+{
+    if bit { u32::MAX } else { 0 }
+}
+
+/// A list of bits that grows at its end, and the order in which octets are to hold them. The last bits
+/// wait in a word until they are 64.
 #[derive(Debug, Drop)]
 pub struct BitWriter {
-    packed: PackedBits,
+    octets: Vec<u8>,
+    order: Order,
+    at: usize,
+    word: u64,
+    filled: u32,
+    limit: u32,
 }
 
 impl Model for BitWriter {
     ghost use Rattle.raster.specs.Packed.{Bits};
+    ghost use Rattle.run_tables.specs.Pending.{held, IsPending};
 
     ghost Value = { Bits };
 
-    ghost view = { λ writer. writer.packed };
+    ghost view = { λ w. record { order = w.order; bits = held w.order w.octets.items w.at w.word w.filled } };
+
+    ghost invariant = { λ w. IsPending w.octets.items w.at w.word w.filled w.limit };
 }
 
 impl BitWriter {
     /// No bits yet.
+    #[tactic(auto, using(crate::proofs::PendingLemmas::views))]
     pub fn new(alloc: Global, order: Order) -> Self
         ensures { result ≡ record { order = order; bits = [] } }
     {
         BitWriter {
-            packed: PackedBits::new(alloc, order),
+            octets: Vec::new(alloc),
+            order,
+            at: 0,
+            word: 0,
+            filled: 0,
+            limit: 0,
         }
     }
 
     /// The number of bits so far.
+    #[tactic(auto, using(crate::proofs::PendingLemmas::views))]
     pub fn bits(&self) -> u128
         ensures { result ≡ length self.now.bits }
     {
-        self.packed.len()
+        8 * self.at as u128 + self.filled as u128
+    }
+
+    /// Appends the first bits of a word that the pending word may have no room for.
+    #[inline(never)]
+    fn push_full(&mut self, all: u64, count: u32) -> Result<(), AllocError>
+        requires few { count ≤ 32 }
+        requires clear { IsClear count all }
+        ensures ok { OnOk result (Appends (word_bits count all) self.old self.new) }
+        ensures err { OnErr result (self.new ≡ self.old) }
+    {
+        make_room(&mut self.octets, self.at)?;
+        self.limit = 64;
+        let word = self.word | all >> self.filled;
+        let filled = self.filled + count;
+        if filled < 64 {
+            self.word = word;
+            self.filled = filled;
+            return Ok(());
+        }
+        put_word(self.order, &mut self.octets, self.at, word);
+        self.at += 8;
+        self.word = all << (64 - self.filled);
+        self.filled = filled - 64;
+        Ok(())
     }
 
     /// Appends a bit. Errs where memory is refused, which changes nothing.
@@ -72,7 +179,7 @@ impl BitWriter {
         ensures ok { OnOk result (Appends (bit ∷ []) self.old self.new) }
         ensures err { OnErr result (self.new ≡ self.old) }
     {
-        self.packed.push(bit)
+        self.push_bits(bit as u32, 1)
     }
 
     /// Appends so many of the lowest bits of a number, at most 32, the most significant of them first.
@@ -83,7 +190,14 @@ impl BitWriter {
         ensures ok { OnOk result (Appends (number_bits count value) self.old self.new) }
         ensures err { OnErr result (self.new ≡ self.old) }
     {
-        self.packed.push_bits(value, count)
+        let all = (value as u64) << 32 << (32 - count);
+        let filled = self.filled + count;
+        if filled >= self.limit {
+            return self.push_full(all, count);
+        }
+        self.word |= all >> self.filled;
+        self.filled = filled;
+        Ok(())
     }
 
     /// Appends a bit so many times. Errs where memory is refused, which changes nothing.
@@ -91,7 +205,18 @@ impl BitWriter {
         ensures ok { OnOk result (Appends (replicate count bit) self.old self.new) }
         ensures err { OnErr result (self.new ≡ self.old) }
     {
-        self.packed.push_run(bit, count)
+        let start = self.bits();
+        let value = same_bits(bit);
+        let mut left = count;
+        while left > 0 {
+            let some = left.min(32);
+            if let Err(refused) = self.push_bits(value, some) {
+                self.truncate(start);
+                return Err(refused);
+            }
+            left -= some;
+        }
+        Ok(())
     }
 
     /// Forgets all bits but so many first ones.
@@ -99,15 +224,36 @@ impl BitWriter {
         requires { bits ≤ length self.old.bits }
         ensures { self.new ≡ record self.old { bits = take bits self.old.bits } }
     {
-        self.packed.truncate(bits);
+        if self.limit == 0 {
+            return; // there are no bits
+        }
+        put_word(self.order, &mut self.octets, self.at, self.word);
+        let (at, filled) = last_place(self.at, bits);
+        let word = word_at(self.order, &self.octets, 8 * at as u128);
+        self.word = first_of(word, filled);
+        self.at = at;
+        self.filled = filled;
     }
 
     /// The octets that hold the bits, eight an octet, the last octet filled with 0 bits.
     pub fn into_octets(self) -> Vec<u8>
         ensures { FillsOctets self.order self.bits result.items }
     {
-        let BitWriter { packed } = self;
-        packed.into_octets()
+        let BitWriter {
+            mut octets,
+            order,
+            at,
+            word,
+            filled,
+            limit,
+        } = self;
+        if limit == 0 {
+            octets.clear();
+            return octets;
+        }
+        put_word(order, &mut octets, at, word);
+        octets.truncate(at + ((filled + 7) / 8) as usize);
+        octets
     }
 
     /// Appends the bits that the digits `0` and `1` write. Errs where memory is refused, which changes
