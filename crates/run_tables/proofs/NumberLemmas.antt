@@ -13,6 +13,7 @@ use Rattle.raster.specs.declared.packed.Order.{Order}
 use Rattle.raster.specs.Packed.{bit_in, bits_in, bits_of}
 use Rattle.raster.specs.Words.{IsWordAt, number_bits}
 use Rattle.raster.proofs.PackedLemmas.{length-bits_in, bit_in-past}
+use Rattle.raster.proofs.WordLemmas.{bit_at_rest, bit_at_shl_high}
 use Rattle.run_tables.specs.Numbers.{AreFirst, IsFirst64, number_text, first_bits}
 use Rattle.run_tables.specs.Texts.{begins}
 
@@ -173,6 +174,14 @@ front_first a b count x word sum few is =
     let place : a - 1 - k + b ≡ 63 - k = omega arith in
     number_at a (word / 2 ^ b) k d within ∙ (ap (λ n. nat_eq n 1) (shifted word (a - 1 - k) b ∙ ap (bit_at word) place) ∙
     (is k (omega arith) ∙ sym (first_at a x k d within))))
+
+-- a number whose bits were moved to the left
+pub front_moved : (s count : ℕ) (x : List Bool) (word : ℕ) → s ≤ count → count ≤ 64 → AreFirst count x word
+    → AreFirst (count - s) (drop s x) (word * 2 ^ s % 2 ^ 64)
+front_moved s count x word few most is k h =
+    let back : 63 - k - s ≡ 63 - (s + k) = omega arith in
+    ap (λ b. nat_eq b 1) (bit_at_rest (word * 2 ^ s) 64 (63 - k) (omega arith) ∙ (bit_at_shl_high word s (63 - k) (omega arith) ∙ ap (bit_at
+    word) back)) ∙ (is (s + k) (omega arith) ∙ sym (get_or-drop s x k false))
 
 -- how many bits of octets are left
 pub length-rest : (order : Order) (octets : List ℕ) (place : ℕ) → length (drop place (bits_of order octets)) ≡ 8 * length octets - place

@@ -6,10 +6,11 @@ ghost use Rattle.run_tables.specs.CodeReading.{PicksCode, ReadsCode, ReadsRun, R
 ghost use Rattle.run_tables.specs.CodeReading.{kind_among, runs_among};
 ghost use Rattle.run_tables.specs.Codes.{code_word, text};
 ghost use Rattle.run_tables.specs.Numbers.{AreFirst, IsFirst64, first_bits, number_text};
+ghost use Rattle.run_tables.specs.ReadTables.{entry_for};
 ghost use Rattle.run_tables.specs.Reading.{rest_of};
 ghost use Rattle.run_tables.specs.Texts.{begins, is_cut, pick};
 ghost use Rattle.std.specs.Bool.{OnFalse, OnTrue};
-ghost use Rattle.std.specs.Prelude.{None, OnSome, Some, IfNone, IfSome, if◌then◌else◌, is_some, length, slice_get, ◌*◌, ◌+◌, ◌^◌, ◌<◌};
+ghost use Rattle.std.specs.Prelude.{None, Ok, OnSome, Some, IfNone, IfSome, if◌then◌else◌, is_some, length, slice_get, ◌*◌, ◌+◌, ◌^◌, ◌/◌, ◌<◌};
 ghost use Rattle.std.specs.Prelude.{◌≡◌, ◌≤◌};
 
 use crate::fault::{CodeFault, CodeFaultKind};
@@ -48,6 +49,17 @@ pub enum RunCode {
     MakeUp(u32),
     /// A terminating code: 0 to 63 pixels.
     Terminating(u32),
+}
+
+/// The run and the length of the code word of a color that begins the 64 bits of a number, or 0 and 0.
+#[inline(always)]
+fn code_in(color: Color, word: u64) -> (u32, u32)
+    ensures code { result ≡ entry_for color (number_text 13 (word / 2 ^ 51)) }
+    ensures run { result.0 < 2 ^ 16 }
+    ensures length { result.1 ≤ 13 }
+{
+    let (run, length) = entry(color, (word >> 51) as u32);
+    (run as u32, length as u32)
 }
 
 /// Reads the bits of octets one after the other.
@@ -187,6 +199,28 @@ impl<'a> BitReader<'a> {
         ensures no { OnFalse result (length (rest_of self.now) < count) }
     {
         ((self.within + count + 7) / 8) as usize <= self.octets.len() - self.at
+    }
+
+    /// Whether the next 57 bits are left: where eight octets are, that of the next bit included.
+    #[inline(always)]
+    #[tactic(auto, using(raster::proofs::PackedLemmas::views))]
+    fn has_57(&self) -> bool
+        ensures { OnTrue result (57 ≤ length (rest_of self.now)) }
+    {
+        self.octets.len() - self.at >= 8
+    }
+
+    /// Goes so many bits on, at most 64.
+    #[inline(always)]
+    #[tactic(auto, using(raster::proofs::PackedLemmas::views))]
+    fn step(&mut self, count: u32)
+        requires few { count ≤ 64 }
+        requires fits { self.old.place + count ≤ length self.old.bits }
+        ensures { self.new ≡ record self.old { place = self.old.place + count } }
+    {
+        let bit = self.within + count;
+        self.at += (bit / 8) as usize;
+        self.within = bit % 8;
     }
 
     /// The next 64 bits as a number, the first of them the most significant; past the end they are 0.
@@ -338,10 +372,37 @@ impl<'a> BitReader<'a> {
         Ok(high + low)
     }
 
-    /// The next run of a color, of at most so many pixels: as `read_run` reads it, but that a code
-    /// which takes it past them is refused there, with the kind `past`. After an error the reader is
-    /// somewhere in the run.
-    pub fn read_run_within(
+    /// A run of a color, of at most so many pixels, where it can be told from the next 57 bits. Else
+    /// none, and nothing changed.
+    #[inline(always)]
+    fn quick_run(&mut self, color: Color, room: u32) -> Option<u32>
+        ensures some { IfSome result (λ run. (past : CodeFaultKind) → ReadsRunWithin color room past self.old self.new (Ok run)) }
+        ensures none { IfNone result (self.new ≡ self.old) }
+    {
+        let enough = self.has_57();
+        if !enough {
+            return None;
+        }
+        let word = self.peek_57();
+        let (high, bits) = code_in(color, word);
+        if bits == 0 || high > room {
+            return None;
+        }
+        if high < 64 {
+            self.step(bits);
+            return Some(high);
+        }
+        let (low, more) = code_in(color, word << bits);
+        if more == 0 || low >= 64 || high + low > room {
+            return None;
+        }
+        self.step(bits + more);
+        Some(high + low)
+    }
+
+    /// `read_run_within` code by code.
+    #[cold]
+    fn read_run_by_codes(
         &mut self,
         color: Color,
         room: u32,
@@ -363,5 +424,23 @@ impl<'a> BitReader<'a> {
             return Err(CodeFault::new(second, past));
         }
         Ok(high + low)
+    }
+
+    /// The next run of a color, of at most so many pixels: as `read_run` reads it, but that a code
+    /// which takes it past them is refused there, with the kind `past`. After an error the reader is
+    /// somewhere in the run.
+    #[inline(always)]
+    pub fn read_run_within(
+        &mut self,
+        color: Color,
+        room: u32,
+        past: CodeFaultKind,
+    ) -> Result<u32, CodeFault>
+        ensures { ReadsRunWithin color room past self.old self.new result }
+    {
+        match self.quick_run(color, room) {
+            Some(run) => Ok(run),
+            None => self.read_run_by_codes(color, room, past),
+        }
     }
 }
