@@ -177,6 +177,15 @@ shifted order octets at within word next few byte is more k h =
           ap (λ b. nat_eq b 1) both ∙ (more (k + within - 64) (omega arith) ∙ ap (bit_in order octets) place)
     ]
 
+-- bits of a word that was moved to the left
+pub moved : (order : Order) (octets : List ℕ) (at within word k : ℕ) → IsWordAt order octets (8 * at) word → within + k < 64
+    → bit_of_word (word * 2 ^ within % 2 ^ 64) k ≡ bit_in order octets (8 * at + within + k)
+moved order octets at within word k is h =
+    let back : 63 - k - within ≡ 63 - (within + k) = omega arith in
+    let place : 8 * at + (within + k) ≡ 8 * at + within + k = omega arith in
+    ap (λ b. nat_eq b 1) (bit_at_rest (word * 2 ^ within) 64 (63 - k) (omega arith) ∙ (bit_at_shl_high word within (63 - k) (omega arith)
+    ∙ ap (bit_at word) back)) ∙ (is (within + k) h ∙ ap (bit_in order octets) place)
+
 pub highest_from : (order : Order) (octets : List ℕ) (at octet : ℕ) → ((k : ℕ) → k < 8 → bit_at octet (7 - k) ≡ bit_at (get_or octets at 0)
     (place_in order k)) → IsHighest order octets at octet
 highest_from order octets at octet turned k h =

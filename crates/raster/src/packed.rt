@@ -4,13 +4,13 @@ ghost use Rattle.raster.specs.Changes.{AreChanges};
 ghost use Rattle.raster.specs.Pixels.{colors};
 ghost use Rattle.raster.specs.Packed.{bit_in, bits_in, bits_of, place_in, IsPacked, Bits, FillsOctets};
 ghost use Rattle.raster.specs.Runs.{colored};
-ghost use Rattle.raster.specs.Words.{bit_of_word, IsWordAt, IsFirstOtherBit, number_bits};
+ghost use Rattle.raster.specs.Words.{IsWordAt, IsFirstOtherBit, bit_of_word, number_bits};
 ghost use Rattle.raster.specs.declared.row.Color.{Color};
 ghost use Rattle.std.specs.Prelude.{false, ◌≢◌, ℕ, ◌≡◌, ◌≤◌, ◌<◌, ◌+◌, ◌-◌, ◌*◌, ◌^◌, ◌||◌, ◌/◌, ◌++◌, ◌∷◌, [], nat_eq, length};
 ghost use Rattle.std.specs.Prelude.{replicate, sum, take, slice_get, IfOk, OnOk, OnErr};
 
 use crate::changes::changes;
-use crate::words::{first_other, in_order, number_word, or_word, set_run, shifted_word};
+use crate::words::{first_other, in_order, moved_word, number_word, or_word, set_run, shifted_word};
 use std::alloc::{AllocError, Global};
 use std::marker::Model;
 
@@ -61,6 +61,28 @@ pub fn word_octets(order: Order, word: u64) -> [u8; 8]
     ensures { (k : ℕ) → k < 64 → bit_in order result k ≡ bit_of_word word k }
 {
     in_order(order, word).to_be_bytes()
+}
+
+/// The 64 bits of the octets from a bit within an octet on, the first of them the most significant.
+/// Bits past the octets are 0.
+#[inline(always)]
+pub fn word_within(order: Order, octets: &[u8], at: usize, within: u32) -> u64
+    requires at { at ≤ length octets.now }
+    requires within { within < 8 }
+    ensures { IsWordAt order octets.now (8 * at + within) result }
+{
+    shifted_word(order, octets, at, within)
+}
+
+/// The bits of eight octets from a bit within the first of them on, the first of them the most
+/// significant: 57 to 64 bits.
+#[inline(always)]
+pub fn word_of_eight(order: Order, octets: &[u8], at: usize, within: u32) -> u64
+    requires at { at + 8 ≤ length octets.now }
+    requires within { within < 8 }
+    ensures { (k : ℕ) → within + k < 64 → bit_of_word result k ≡ bit_in order octets.now (8 * at + within + k) }
+{
+    moved_word(order, octets, at, within)
 }
 
 fn set_bit(order: Order, octets: &mut Vec<u8>, place: u128)

@@ -107,9 +107,9 @@ pub(crate) fn octet_word(order: Order, octets: &[u8], at: usize) -> u64
     in_order(order, whole_word(octets, at))
 }
 
-/// The 64 bits that begin within an octet.
-#[inline(always)]
-pub(crate) fn shifted_word(order: Order, octets: &[u8], at: usize, within: u32) -> u64
+/// The 64 bits that begin within an octet, where fewer than nine octets are left.
+#[cold]
+fn last_shifted_word(order: Order, octets: &[u8], at: usize, within: u32) -> u64
     requires at { at ≤ length octets.now }
     requires within { within < 8 }
     ensures { IsWordAt order octets.now (8 * at + within) result }
@@ -117,6 +117,31 @@ pub(crate) fn shifted_word(order: Order, octets: &[u8], at: usize, within: u32) 
     let word = octet_word(order, octets, at);
     let next = octet_or_zero(order, octets, at + 8);
     word << within | next as u64 >> (8 - within)
+}
+
+/// The 64 bits that begin within an octet.
+#[inline(always)]
+pub(crate) fn shifted_word(order: Order, octets: &[u8], at: usize, within: u32) -> u64
+    requires at { at ≤ length octets.now }
+    requires within { within < 8 }
+    ensures { IsWordAt order octets.now (8 * at + within) result }
+{
+    if octets.len() - at < 9 {
+        return last_shifted_word(order, octets, at, within);
+    }
+    let word = in_order(order, whole_word(octets, at));
+    let next = first_highest(order, octets[at + 8]);
+    word << within | next as u64 >> (8 - within)
+}
+
+/// The bits of eight octets from a bit of the first of them on, 57 to 64.
+#[inline(always)]
+pub(crate) fn moved_word(order: Order, octets: &[u8], at: usize, within: u32) -> u64
+    requires at { at + 8 ≤ length octets.now }
+    requires within { within < 8 }
+    ensures { (k : ℕ) → within + k < 64 → bit_of_word result k ≡ bit_in order octets.now (8 * at + within + k) }
+{
+    in_order(order, whole_word(octets, at)) << within
 }
 
 /// The word whose bits from a place below 8 on are so many of the lowest bits of a number, and else 0.

@@ -7,6 +7,7 @@ pub mod CodeReads
 pub mod ReadTableLemmas
 pub mod RunReads
 pub mod CodePicks
+pub mod QuickRuns
 pub mod FrontLaws
 pub mod FrontWalks
 pub mod CodeLooks

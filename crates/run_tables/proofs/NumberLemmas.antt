@@ -6,14 +6,15 @@ use Rattle.std.specs.Int.{bit_at}
 use Rattle.std.proofs.Math.Nat.{div-div-eq-div-mul, div-eq_of_lt, suc-add}
 use Rattle.std.proofs.lemmas.Nat.{pow-add, div-mul-add, div_below, pow_pos}
 use Rattle.std.proofs.lemmas.Nat.Bits.{bit_at-zero, bit_at_cat_low, bit_at-lt, same_from_bits_below}
-use Rattle.std.proofs.lemmas.List.{take_at, same_lists, get_or-drop, get_or_past}
+use Rattle.std.proofs.lemmas.List.{take_at, length-drop, same_lists, get_or-drop, get_or_past}
 use Rattle.std.proofs.lemmas.List.FromFn.{get_or-map-range_with_len, length-map-range_with_len}
 use Rattle.std.proofs.lemmas.Bool.{and_parts, and_from, false≢true, cases_lt, cases_Bool, eqb-true}
 use Rattle.raster.specs.declared.packed.Order.{Order}
 use Rattle.raster.specs.Packed.{bit_in, bits_in, bits_of}
 use Rattle.raster.specs.Words.{IsWordAt, number_bits}
 use Rattle.raster.proofs.PackedLemmas.{length-bits_in, bit_in-past}
-use Rattle.run_tables.specs.Numbers.{IsFirst64, number_text, first_bits}
+use Rattle.raster.proofs.WordLemmas.{bit_at_rest, bit_at_shl_high}
+use Rattle.run_tables.specs.Numbers.{AreFirst, IsFirst64, number_text, first_bits}
 use Rattle.run_tables.specs.Texts.{begins}
 
 shifted : (n a b : ℕ) → bit_at (n / 2 ^ b) a ≡ bit_at n (a + b)
@@ -164,22 +165,37 @@ first_at (suc count) [] (suc k) d h = first_at count [] k d (omega arith)
 first_at (suc count) (b ∷ x) zero d h = refl
 first_at (suc count) (b ∷ x) (suc k) d h = first_at count x k d (omega arith)
 
--- the first bits of a number that is the first 64 bits are those bits
-pub word_first : (a b : ℕ) (x : List Bool) (word : ℕ) → a + b ≡ 64 → IsFirst64 x word → number_text a (word / 2 ^ b) ≡ first_bits a x
-word_first a b x word sum is =
-    let whole : number_text 64 word ≡ first_bits 64 x = same_lists (number_text 64 word) (first_bits 64 x) (length-number_text 64 word ∙
-    sym
-    (length-first_bits 64 x)) (λ k d h.
-    let within : k < 64 = omega (arith, length-number_text 64 word) in
-    number_at 64 word k d within ∙ (is k within ∙ sym (first_at 64 x k d within))) in
-    first_number a b word x (ap (λ n. number_text n word) sum ∙ (whole ∙ ap (λ n. first_bits n x) (sym sum)))
+-- so many first bits of a number are the bits that they are
+pub front_first : (a b count : ℕ) (x : List Bool) (word : ℕ) → a + b ≡ 64 → a ≤ count → AreFirst count x word
+    → number_text a (word / 2 ^ b) ≡ first_bits a x
+front_first a b count x word sum few is =
+    same_lists (number_text a (word / 2 ^ b)) (first_bits a x) (length-number_text a (word / 2 ^ b) ∙ sym (length-first_bits a x)) (λ k d h.
+    let within : k < a = omega (arith, h, length-number_text a (word / 2 ^ b)) in
+    let place : a - 1 - k + b ≡ 63 - k = omega arith in
+    number_at a (word / 2 ^ b) k d within ∙ (ap (λ n. nat_eq n 1) (shifted word (a - 1 - k) b ∙ ap (bit_at word) place) ∙
+    (is k (omega arith) ∙ sym (first_at a x k d within))))
 
--- the bits of octets from a place on
-pub word_rest : (order : Order) (octets : List ℕ) (place word : ℕ) → IsWordAt order octets place word
-    → IsFirst64 (drop place (bits_of order octets)) word
+-- a number whose bits were moved to the left
+pub front_moved : (s count : ℕ) (x : List Bool) (word : ℕ) → s ≤ count → count ≤ 64 → AreFirst count x word
+    → AreFirst (count - s) (drop s x) (word * 2 ^ s % 2 ^ 64)
+front_moved s count x word few most is k h =
+    let back : 63 - k - s ≡ 63 - (s + k) = omega arith in
+    ap (λ b. nat_eq b 1) (bit_at_rest (word * 2 ^ s) 64 (63 - k) (omega arith) ∙ (bit_at_shl_high word s (63 - k) (omega arith) ∙ ap (bit_at
+    word) back)) ∙ (is (s + k) (omega arith) ∙ sym (get_or-drop s x k false))
+
+-- how many bits of octets are left
+pub length-rest : (order : Order) (octets : List ℕ) (place : ℕ) → length (drop place (bits_of order octets)) ≡ 8 * length octets - place
+length-rest order octets place = simp (length-drop, length-bits_in)
+
+-- the same of a number whose 64 bits are all first bits
+pub word_first : (a b : ℕ) (x : List Bool) (word : ℕ) → a + b ≡ 64 → IsFirst64 x word → number_text a (word / 2 ^ b) ≡ first_bits a x
+word_first a b x word sum is = front_first a b 64 x word sum (omega arith) is
+
+-- a bit of octets from a place on
+pub bit_rest : (order : Order) (octets : List ℕ) (place k : ℕ) → bit_in order octets (place + k) ≡ get_or (drop place (bits_of order octets))
+    k false
 unfolding bits_in
-word_rest order octets place word is k h = is k h ∙ sym (get_or-drop place (bits_of order octets) k false ∙ at (cases_lt
-    (place + k) (8 * length octets)))
+bit_rest order octets place k = sym (get_or-drop place (bits_of order octets) k false ∙ at (cases_lt (place + k) (8 * length octets)))
   where
     at : (place + k < 8 * length octets) ⊎ (8 * length octets ≤ place + k)
         → get_or (bits_of order octets) (place + k) false ≡ bit_in order octets (place + k)
@@ -188,6 +204,17 @@ word_rest order octets place word is k h = is k h ∙ sym (get_or-drop place (bi
     at (inr le) =
         let past : length (bits_of order octets) ≤ place + k = rw length-bits_in le in
         get_or_past (bits_of order octets) (place + k) false past ∙ sym (bit_in-past order octets (place + k) le)
+
+-- the bits of octets from a place on
+pub word_rest : (order : Order) (octets : List ℕ) (place word : ℕ) → IsWordAt order octets place word
+    → IsFirst64 (drop place (bits_of order octets)) word
+word_rest order octets place word is k h = is k h ∙ bit_rest order octets place k
+
+-- a bit of a word that begins within an octet
+pub word_front : (order : Order) (octets : List ℕ) (place within word k : ℕ) → ((i : ℕ) → within + i < 64 → nat_eq (bit_at word (63 - i)) 1
+    ≡ bit_in order octets (place + i)) → within + k < 64 → nat_eq (bit_at word (63 - k)) 1 ≡ get_or (drop place (bits_of order octets)) k
+    false
+word_front order octets place within word k is h = is k h ∙ bit_rest order octets place k
 
 begins_self : (x : List Bool) → begins x x ≡ true
 begins_self [] = refl
@@ -213,25 +240,26 @@ begins_equal (a ∷ x) (b ∷ y) e l =
     same false false e = refl
 
 -- where a number's text begins the bits, their first bits are that number
-pub text_begins : (a b : ℕ) (x : List Bool) (word value : ℕ) → a + b ≡ 64 → word < 2 ^ 64 → value < 2 ^ a → IsFirst64 x word
+pub text_begins : (a b count : ℕ) (x : List Bool) (word value : ℕ) → a + b ≡ 64 → a ≤ count → word < 2 ^ 64 → value < 2 ^ a
+    → AreFirst count x word
     → begins (number_text a value) x ≡ true → (a ≤ length x) × (word / 2 ^ b ≡ value)
-text_begins a b x word value sum fits small is e =
+text_begins a b count x word value sum enough fits small is e =
     let few : length (number_text a value) ≤ a = omega (arith, length-number_text a value) in
     let filled = begins_filled (number_text a value) x a few e in
     let equal = begins_equal (number_text a value) (first_bits a x) filled (length-number_text a value ∙ sym (length-first_bits a x)) in
     let pow : 2 ^ 64 ≡ 2 ^ a * 2 ^ b = ap (λ n. 2 ^ n) (sym sum) ∙ pow-add 2 a b in
     let below : word / 2 ^ b < 2 ^ a = div_below word (2 ^ b) (2 ^ a) (pow_pos b) (rw pow at fits) in (
       omega (arith, begins_within (number_text a value) x e, length-number_text a value),
-      number_same a (word / 2 ^ b) value below small (word_first a b x word sum is ∙ sym equal),
+      number_same a (word / 2 ^ b) value below small (front_first a b count x word sum enough is ∙ sym equal),
     )
 
 -- and the other way round
-pub begins_text : (a b : ℕ) (x : List Bool) (word value : ℕ) → a + b ≡ 64 → IsFirst64 x word → a ≤ length x → word / 2 ^ b ≡ value
+pub begins_text : (a b count : ℕ) (x : List Bool) (word value : ℕ) → a + b ≡ 64 → a ≤ count → AreFirst count x word → a ≤ length x → word / 2 ^ b ≡ value
     → begins (number_text a value) x ≡ true
-begins_text a b x word value sum is fits e =
+begins_text a b count x word value sum enough is fits e =
     let few : length (number_text a value) ≤ a = omega (arith, length-number_text a value) in
     let short : length (number_text a value) ≤ length x = omega (arith, length-number_text a value) in
-    let equal : number_text a value ≡ first_bits a x = ap (number_text a) (sym e) ∙ word_first a b x word sum is in
+    let equal : number_text a value ≡ first_bits a x = ap (number_text a) (sym e) ∙ front_first a b count x word sum enough is in
     begins_unfilled (number_text a value) x a few short (ap (λ l. begins (number_text a value) l) (sym equal) ∙ begins_self (number_text a
     value))
 
@@ -244,13 +272,14 @@ starts_past count value x h = elim (cases_Bool (begins (number_text count value)
 ]
 
 -- a number's text begins the bits exactly where their first bits are the number
-pub starts_same : (a b : ℕ) (x : List Bool) (word value : ℕ) → a + b ≡ 64 → word < 2 ^ 64 → value < 2 ^ a → IsFirst64 x word
+pub starts_same : (a b count : ℕ) (x : List Bool) (word value : ℕ) → a + b ≡ 64 → a ≤ count → word < 2 ^ 64 → value < 2 ^ a
+    → AreFirst count x word
     → a ≤ length x → nat_eq (word / 2 ^ b) value ≡ begins (number_bits a value) x
 unfolding number_text
-starts_same a b x word value sum fits small is within = elim (cases_Bool (begins (number_text a value) x)) [
-  | inl t ↦ eq-eqb (word / 2 ^ b) value (text_begins a b x word value sum fits small is t).1 ∙ sym t
+starts_same a b count x word value sum enough fits small is within = elim (cases_Bool (begins (number_text a value) x)) [
+  | inl t ↦ eq-eqb (word / 2 ^ b) value (text_begins a b count x word value sum enough fits small is t).1 ∙ sym t
   | inr f ↦ elim (cases_Bool (nat_eq (word / 2 ^ b) value)) [
-    | inl same ↦ absurd (false≢true (sym f ∙ begins_text a b x word value sum is within (eqb-true (word / 2 ^ b) value same)))
+    | inl same ↦ absurd (false≢true (sym f ∙ begins_text a b count x word value sum enough is within (eqb-true (word / 2 ^ b) value same)))
     | inr other ↦ other ∙ sym f
   ]
 ]

@@ -6,6 +6,10 @@ use Rattle.raster.specs.Words.{bit_of_word, number_bits}
 abbrev pub IsFirst64 : List Bool → ℕ → Type 0
 IsFirst64 bits word = (k : ℕ) → k < 64 → bit_of_word word k ≡ slice_index_or bits k false
 
+-- so many first bits of the number are the first bits; past their end it has 0 bits
+abbrev pub AreFirst : ℕ → List Bool → ℕ → Type 0
+AreFirst count bits word = (k : ℕ) → k < count → bit_of_word word k ≡ slice_index_or bits k false
+
 -- the text that a number writes: so many of its lowest bits
 unfoldable pub number_text : ℕ → ℕ → List Bool
 number_text count value = number_bits count value

@@ -34,6 +34,7 @@ fn long_entries(color: Color) -> &'static [(u16, u8)]
 }
 
 /// The run and the length of the code word of a color that begins 13 bits, or 0 and 0.
+#[inline(always)]
 pub(crate) fn entry(color: Color, next: u32) -> (u16, u8)
     requires { next < 2 ^ 13 }
     ensures { result ≡ entry_for color (number_text 13 next) }

@@ -5,18 +5,19 @@ ghost use Rattle.raster.specs.Words.{number_bits};
 ghost use Rattle.run_tables.specs.CodeReading.{PicksCode, ReadsCode, ReadsRun, ReadsRunCode, ReadsRunWithin, count_among, first_runs};
 ghost use Rattle.run_tables.specs.CodeReading.{kind_among, runs_among};
 ghost use Rattle.run_tables.specs.Codes.{code_word, text};
-ghost use Rattle.run_tables.specs.Numbers.{IsFirst64, first_bits, number_text};
+ghost use Rattle.run_tables.specs.Numbers.{AreFirst, IsFirst64, first_bits, number_text};
+ghost use Rattle.run_tables.specs.ReadTables.{entry_for};
 ghost use Rattle.run_tables.specs.Reading.{rest_of};
 ghost use Rattle.run_tables.specs.Texts.{begins, is_cut, pick};
-ghost use Rattle.std.specs.Bool.{OnTrue};
-ghost use Rattle.std.specs.Prelude.{None, OnSome, Some, IfNone, IfSome, if◌then◌else◌, is_some, length, slice_get, ◌*◌, ◌+◌, ◌^◌, ◌<◌};
+ghost use Rattle.std.specs.Bool.{OnFalse, OnTrue};
+ghost use Rattle.std.specs.Prelude.{None, Ok, OnSome, Some, IfNone, IfSome, if◌then◌else◌, is_some, length, slice_get, ◌*◌, ◌+◌, ◌^◌, ◌/◌, ◌<◌};
 ghost use Rattle.std.specs.Prelude.{◌≡◌, ◌≤◌};
 
 use crate::fault::{CodeFault, CodeFaultKind};
 use crate::read_table::entry;
 use crate::table::code_at;
 use raster::Color;
-use raster::packed::{Order, bit_of, word_at};
+use raster::packed::{Order, bit_of, word_of_eight, word_within};
 use std::marker::Model;
 
 /// Which codes of a color may be at a place.
@@ -50,24 +51,37 @@ pub enum RunCode {
     Terminating(u32),
 }
 
+/// The run and the length of the code word of a color that begins the 64 bits of a number, or 0 and 0.
+#[inline(always)]
+fn code_in(color: Color, word: u64) -> (u32, u32)
+    ensures code { result ≡ entry_for color (number_text 13 (word / 2 ^ 51)) }
+    ensures run { result.0 < 2 ^ 16 }
+    ensures length { result.1 ≤ 13 }
+{
+    let (run, length) = entry(color, (word >> 51) as u32);
+    (run as u32, length as u32)
+}
+
 /// Reads the bits of octets one after the other.
 #[derive(Debug, Drop)]
 pub struct BitReader<'a> {
     octets: &'a [u8],
     order: Order,
-    place: u128,
+    /// The octet of the next bit, and the bit's place in it.
+    at: usize,
+    within: u32,
 }
 
 impl<'a> Model for BitReader<'a> {
-    ghost use Rattle.std.specs.Prelude.{◌≤◌, ◌*◌, length};
+    ghost use Rattle.std.specs.Prelude.{◌≤◌, ◌<◌, ◌+◌, ◌*◌, length};
     ghost use Rattle.raster.specs.Packed.{bits_of};
     ghost use Rattle.run_tables.specs.Reading.{Reading};
 
     ghost Value = { Reading };
 
-    ghost view = { λ reader. record { bits = bits_of reader.order reader.octets.now; place = reader.place } };
+    ghost view = { λ reader. record { bits = bits_of reader.order reader.octets.now; place = 8 * reader.at + reader.within } };
 
-    ghost invariant = { λ reader. reader.place ≤ 8 * length reader.octets.now };
+    ghost invariant = { λ reader. record { place : 8 * reader.at + reader.within ≤ 8 * length reader.octets.now; bit : reader.within < 8 } };
 }
 
 impl<'a> BitReader<'a> {
@@ -79,7 +93,8 @@ impl<'a> BitReader<'a> {
         BitReader {
             octets,
             order,
-            place,
+            at: (place / 8) as usize,
+            within: (place % 8) as u32,
         }
     }
 
@@ -89,7 +104,7 @@ impl<'a> BitReader<'a> {
         ensures place { result ≡ self.now.place }
         ensures within { result ≤ length self.now.bits }
     {
-        self.place
+        8 * self.at as u128 + self.within as u128
     }
 
     /// A second reader of the same bits, at the same place, to look ahead by.
@@ -99,7 +114,8 @@ impl<'a> BitReader<'a> {
         BitReader {
             octets: self.octets,
             order: self.order,
-            place: self.place,
+            at: self.at,
+            within: self.within,
         }
     }
 
@@ -110,8 +126,10 @@ impl<'a> BitReader<'a> {
         ensures within { OnSome result (self.now.place + by < length self.now.bits) }
         ensures past { IfNone result (length self.now.bits ≤ self.now.place + by) }
     {
-        let place = self.place + by as u128;
-        if place / 8 < self.octets.len() as u128 {
+        let bit = self.within + (by % 8) as u32;
+        let further = by / 8 + (bit / 8) as usize;
+        if further < self.octets.len() - self.at {
+            let place = 8 * (self.at + further) as u128 + (bit % 8) as u128;
             Some(bit_of(self.order, self.octets, place))
         } else {
             None
@@ -125,7 +143,7 @@ impl<'a> BitReader<'a> {
         ensures after { self.new ≡ record self.old { place = self.old.place + (if is_some result then 1 else 0) } }
     {
         let bit = self.ahead(0)?;
-        self.place += 1;
+        self.skip(1);
         Some(bit)
     }
 
@@ -135,7 +153,9 @@ impl<'a> BitReader<'a> {
         requires { self.old.place + count ≤ length self.old.bits }
         ensures { self.new ≡ record self.old { place = self.old.place + count } }
     {
-        self.place += count as u128;
+        let bit = self.within + (count % 8) as u32;
+        self.at += count / 8 + (bit / 8) as usize;
+        self.within = bit % 8;
     }
 
     /// Whether what the digits `0` and `1` write begins the bits that are left.
@@ -171,12 +191,36 @@ impl<'a> BitReader<'a> {
         self.ahead(digits.len()).is_none()
     }
 
-    /// The number of bits that are left.
+    /// Whether so many bits are left, at most 256.
     #[tactic(auto, using(raster::proofs::PackedLemmas::views))]
-    fn left(&self) -> u128
-        ensures { result ≡ length (rest_of self.now) }
+    fn has(&self, count: u32) -> bool
+        requires { count ≤ 256 }
+        ensures yes { OnTrue result (count ≤ length (rest_of self.now)) }
+        ensures no { OnFalse result (length (rest_of self.now) < count) }
     {
-        8 * self.octets.len() as u128 - self.place
+        ((self.within + count + 7) / 8) as usize <= self.octets.len() - self.at
+    }
+
+    /// Whether the next 57 bits are left: where eight octets are, that of the next bit included.
+    #[inline(always)]
+    #[tactic(auto, using(raster::proofs::PackedLemmas::views))]
+    fn has_57(&self) -> bool
+        ensures { OnTrue result (57 ≤ length (rest_of self.now)) }
+    {
+        self.octets.len() - self.at >= 8
+    }
+
+    /// Goes so many bits on, at most 64.
+    #[inline(always)]
+    #[tactic(auto, using(raster::proofs::PackedLemmas::views))]
+    fn step(&mut self, count: u32)
+        requires few { count ≤ 64 }
+        requires fits { self.old.place + count ≤ length self.old.bits }
+        ensures { self.new ≡ record self.old { place = self.old.place + count } }
+    {
+        let bit = self.within + count;
+        self.at += (bit / 8) as usize;
+        self.within = bit % 8;
     }
 
     /// The next 64 bits as a number, the first of them the most significant; past the end they are 0.
@@ -184,7 +228,27 @@ impl<'a> BitReader<'a> {
     pub fn peek(&self) -> u64
         ensures { IsFirst64 (rest_of self.now) result }
     {
-        word_at(self.order, self.octets, self.place)
+        word_within(self.order, self.octets, self.at, self.within)
+    }
+
+    /// `peek` where fewer than eight octets are left.
+    #[cold]
+    fn last_peek(&self) -> u64
+        ensures { IsFirst64 (rest_of self.now) result }
+    {
+        self.peek()
+    }
+
+    /// The next bits as a number, the first of them the most significant. They are the first 57 of its
+    /// 64 bits; past the end they are 0. It costs less than `peek`.
+    #[inline(always)]
+    pub fn peek_57(&self) -> u64
+        ensures { AreFirst 57 (rest_of self.now) result }
+    {
+        if self.octets.len() - self.at < 8 {
+            return self.last_peek();
+        }
+        word_of_eight(self.order, self.octets, self.at, self.within)
     }
 
     /// Whether so many of the lowest bits of a number, the most significant of them first, begin the
@@ -195,10 +259,11 @@ impl<'a> BitReader<'a> {
         requires small { value < 2 ^ count }
         ensures { result ≡ begins (number_bits count value) (rest_of self.now) }
     {
-        if count as u128 > self.left() {
+        let fits = self.has(count);
+        if !fits {
             return false;
         }
-        self.peek() >> (64 - count) == value as u64
+        self.peek_57() >> (64 - count) == value as u64
     }
 
     /// The next 13 bits as a number; past the end they are 0.
@@ -206,7 +271,7 @@ impl<'a> BitReader<'a> {
         ensures below { result < 2 ^ 13 }
         ensures bits { number_text 13 result ≡ first_bits 13 (rest_of self.now) }
     {
-        (self.peek() >> 51) as u32
+        (self.peek_57() >> 51) as u32
     }
 
     /// The code that may come and begins the bits that are left: its run, and its code word's length.
@@ -221,7 +286,8 @@ impl<'a> BitReader<'a> {
         if length == 0 {
             return None;
         }
-        if length as u128 > self.left() {
+        let fits = self.has(length as u32);
+        if !fits {
             return None;
         }
         let code = (run as u32, length as usize);
@@ -306,10 +372,37 @@ impl<'a> BitReader<'a> {
         Ok(high + low)
     }
 
-    /// The next run of a color, of at most so many pixels: as `read_run` reads it, but that a code
-    /// which takes it past them is refused there, with the kind `past`. After an error the reader is
-    /// somewhere in the run.
-    pub fn read_run_within(
+    /// A run of a color, of at most so many pixels, where it can be told from the next 57 bits. Else
+    /// none, and nothing changed.
+    #[inline(always)]
+    fn quick_run(&mut self, color: Color, room: u32) -> Option<u32>
+        ensures some { IfSome result (λ run. (past : CodeFaultKind) → ReadsRunWithin color room past self.old self.new (Ok run)) }
+        ensures none { IfNone result (self.new ≡ self.old) }
+    {
+        let enough = self.has_57();
+        if !enough {
+            return None;
+        }
+        let word = self.peek_57();
+        let (high, bits) = code_in(color, word);
+        if bits == 0 || high > room {
+            return None;
+        }
+        if high < 64 {
+            self.step(bits);
+            return Some(high);
+        }
+        let (low, more) = code_in(color, word << bits);
+        if more == 0 || low >= 64 || high + low > room {
+            return None;
+        }
+        self.step(bits + more);
+        Some(high + low)
+    }
+
+    /// `read_run_within` code by code.
+    #[cold]
+    fn read_run_by_codes(
         &mut self,
         color: Color,
         room: u32,
@@ -331,5 +424,23 @@ impl<'a> BitReader<'a> {
             return Err(CodeFault::new(second, past));
         }
         Ok(high + low)
+    }
+
+    /// The next run of a color, of at most so many pixels: as `read_run` reads it, but that a code
+    /// which takes it past them is refused there, with the kind `past`. After an error the reader is
+    /// somewhere in the run.
+    #[inline(always)]
+    pub fn read_run_within(
+        &mut self,
+        color: Color,
+        room: u32,
+        past: CodeFaultKind,
+    ) -> Result<u32, CodeFault>
+        ensures { ReadsRunWithin color room past self.old self.new result }
+    {
+        match self.quick_run(color, room) {
+            Some(run) => Ok(run),
+            None => self.read_run_by_codes(color, room, past),
+        }
     }
 }
