@@ -8,6 +8,7 @@ mod fault;
 pub mod laws;
 pub mod packed;
 mod page;
+mod painting;
 mod pbm;
 mod pbm_writer;
 mod row;

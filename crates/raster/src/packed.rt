@@ -10,6 +10,7 @@ ghost use Rattle.std.specs.Prelude.{false, ◌≢◌, ℕ, ◌≡◌, ◌≤◌,
 ghost use Rattle.std.specs.Prelude.{replicate, sum, take, slice_get, IfOk, OnOk, OnErr};
 
 use crate::changes::changes;
+use crate::painting::paint;
 use crate::words::{first_other, in_order, moved_word, number_word, or_word, set_run, shifted_word};
 use std::alloc::{AllocError, Global};
 use std::marker::Model;
@@ -187,20 +188,6 @@ fn push_same(
     Ok(())
 }
 
-/// Appends bits that are all the same, where there is room for them and for the 64 after them.
-fn set_same(order: Order, octets: &mut Vec<u8>, count: u32, bit: bool, more: u32)
-    requires packed { IsPacked order octets.old.items count }
-    requires small { count + more ≤ 2432 }
-    requires room { count + more + 64 ≤ 8 * length octets.old.items }
-    ensures packed { IsPacked order octets.new.items (count + more) }
-    ensures length { length octets.new.items ≡ length octets.old.items }
-    ensures bits { bits_in order octets.new.items (count + more) ≡ bits_in order octets.old.items count ++ replicate more bit }
-{
-    if bit {
-        set_run(order, octets, (count / 8) as usize, count % 8, more);
-    }
-}
-
 /// The number of octets that so many bits fill, the last of them in part.
 fn octets_for(count: u128) -> usize
     requires { count < 2 ^ 66 }
@@ -253,32 +240,21 @@ impl PackedBits {
         }
     }
 
-    /// The bits of alternating runs that add up to a width, 0 bits first.
+    /// The bits of alternating runs that add up to a width, 0 bits first, in the order of a row.
     #[tactic(auto, using(crate::proofs::PackedLemmas::views))]
-    pub(crate) fn of_runs(
-        alloc: Global,
-        order: Order,
-        runs: &[u32],
-        width: u32,
-    ) -> Result<Self, AllocError>
+    pub(crate) fn of_runs(alloc: Global, runs: &[u32], width: u32) -> Result<Self, AllocError>
         requires sum { sum runs.now ≡ width }
         requires small { width ≤ 2432 }
         ensures colors { IfOk result (λ p. colors p.bits ≡ colored Color.White runs.now) }
-        ensures order { IfOk result (λ p. p.order ≡ order) }
+        ensures order { IfOk result (λ p. p.order ≡ Order.MsbFirst) }
     {
         let mut octets = Vec::new(alloc);
         grow(&mut octets, width as usize / 8 + 9)?;
-        let mut count: u32 = 0;
-        let mut bit = false;
-        for run in runs {
-            set_same(order, &mut octets, count, bit, *run);
-            count += *run;
-            bit = !bit;
-        }
+        paint(&mut octets, runs, width);
         Ok(PackedBits {
             octets,
-            order,
-            count: count as u128,
+            order: Order::MsbFirst,
+            count: width as u128,
         })
     }
 

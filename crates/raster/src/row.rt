@@ -94,7 +94,7 @@ impl Row {
         let Some(width) = total_width(runs) else {
             return Err(RasterFault::BadWidth);
         };
-        let pixels = PackedBits::of_runs(alloc, Order::MsbFirst, runs, width)?;
+        let pixels = PackedBits::of_runs(alloc, runs, width)?;
         Ok(Row { pixels })
     }
 

@@ -180,6 +180,7 @@ pub(crate) fn or_word(order: Order, octets: &mut Vec<u8>, at: usize, word: u64)
 }
 
 /// The word whose bits from a place on are so many 1 bits, and else 0.
+#[inline(always)]
 fn ones_word(count: u32, within: u32) -> u64
     requires some { 0 < count }
     requires fits { within + count ≤ 64 }
@@ -191,6 +192,7 @@ fn ones_word(count: u32, within: u32) -> u64
 }
 
 /// Sets so many bits from a place within an octet on, all of them in the eight octets from there on.
+#[inline(always)]
 fn set_within(order: Order, octets: &mut Vec<u8>, at: usize, within: u32, count: u32)
     requires some { 0 < count }
     requires within { within < 8 }
@@ -205,7 +207,32 @@ fn set_within(order: Order, octets: &mut Vec<u8>, at: usize, within: u32, count:
     or_word(order, octets, at, word);
 }
 
+/// Sets more bits from a place within an octet on than are left of the eight octets from there on.
+#[inline(never)]
+fn set_long(order: Order, octets: &mut Vec<u8>, at: usize, within: u32, count: u32)
+    requires within { within < 8 }
+    requires long { 64 < within + count }
+    requires inside { 8 * at + within + count + 64 ≤ 8 * length octets.old.items }
+    ensures length { length octets.new.items ≡ length octets.old.items }
+    ensures before { (k : ℕ) → k < 8 * at + within → bit_in order octets.new.items k ≡ bit_in order octets.old.items k }
+    ensures set { (k : ℕ) → 8 * at + within ≤ k → k < 8 * at + within + count → bit_in order octets.new.items k ≡ true }
+    ensures after { (k : ℕ) → 8 * at + within + count ≤ k → bit_in order octets.new.items k ≡ bit_in order octets.old.items k }
+{
+    set_within(order, octets, at, within, 64 - within);
+    let mut next = at + 8;
+    let mut left = count - (64 - within);
+    while left >= 64 {
+        set_within(order, octets, next, 0, 64);
+        next += 8;
+        left -= 64;
+    }
+    if left > 0 {
+        set_within(order, octets, next, 0, left);
+    }
+}
+
 /// Sets so many bits from a place within an octet on.
+#[inline(always)]
 pub(crate) fn set_run(order: Order, octets: &mut Vec<u8>, at: usize, within: u32, count: u32)
     requires within { within < 8 }
     requires inside { 8 * at + within + count + 64 ≤ 8 * length octets.old.items }
@@ -214,16 +241,14 @@ pub(crate) fn set_run(order: Order, octets: &mut Vec<u8>, at: usize, within: u32
     ensures set { (k : ℕ) → 8 * at + within ≤ k → k < 8 * at + within + count → bit_in order octets.new.items k ≡ true }
     ensures after { (k : ℕ) → 8 * at + within + count ≤ k → bit_in order octets.new.items k ≡ bit_in order octets.old.items k }
 {
-    let mut next = at;
-    let mut from = within;
-    let mut left = count;
-    while left > 0 {
-        let some = (64 - from).min(left);
-        set_within(order, octets, next, from, some);
-        next += 8;
-        from = 0;
-        left -= some;
+    if count == 0 {
+        return;
     }
+    if count > 64 - within {
+        set_long(order, octets, at, within, count);
+        return;
+    }
+    set_within(order, octets, at, within, count);
 }
 
 /// The first place of a word from a place on whose bit is another, or 64.
