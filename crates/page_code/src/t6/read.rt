@@ -14,7 +14,6 @@ ghost use Rattle.std.specs.Prelude.{◌≡◌, ◌≤◌, ◌<◌, ◌+◌, [], 
 
 use crate::coding::Coding;
 use crate::page::{Progress, push_row, row_of};
-use crate::t6::a0::b2;
 use crate::t6::changes::Changes;
 use crate::t6::line::Line;
 use crate::t6::mode::{EOFB, EOFB_NUMBER, ModeCode, Shift};
@@ -143,8 +142,7 @@ fn pass(reference: &mut Changes, line: &mut Line) -> Result<(), AllocError>
     ensures same { reference.new ≡ reference.old }
 {
     let a0 = line.a0();
-    let b1 = a0.b1(reference);
-    let b2 = b2(reference, b1);
+    let (_b1, b2) = a0.b1_b2(reference);
     line.push_run(b2 - a0.place)?;
     line.push_run(0)
 }
@@ -162,7 +160,7 @@ fn vertical(
 {
     let a0 = line.a0();
     let from = a0.right();
-    let b1 = a0.b1(reference);
+    let (b1, _b2) = a0.b1_b2(reference);
     let right = shift.right();
     let left = shift.left();
     if b1 + right < from + left {
