@@ -27,18 +27,18 @@ impl A0 {
         }
     }
 
-    /// On the line, at this place and of this color.
-    pub(crate) fn on_line(place: u32, color: Color) -> Self
-        ensures { result ≡ record { place = place; begun = true; color = color } }
+    /// Puts a0 on the line, at this place and of this color.
+    #[inline(always)]
+    pub(crate) fn move_to(&mut self, place: u32, color: Color)
+        ensures { self.new ≡ record { place = place; begun = true; color = color } }
     {
-        A0 {
-            place,
-            begun: true,
-            color,
-        }
+        self.place = place;
+        self.begun = true;
+        self.color = color;
     }
 
     /// The least place to the right of a0.
+    #[inline(always)]
     pub(crate) fn right(self) -> u32
         requires { self.place ≤ max_width }
         ensures { result ≡ right_of self }

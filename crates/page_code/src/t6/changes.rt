@@ -109,6 +109,13 @@ impl<'a> Changes<'a> {
         Ok(Changes { row, places, at: 0 })
     }
 
+    /// Seeks from the row's beginning again.
+    pub(crate) fn begin(&mut self)
+        ensures { self.new ≡ self.old }
+    {
+        self.at = 0;
+    }
+
     /// The row's width in pixels.
     pub(crate) fn width(&self) -> u32
         ensures width { result ≡ length self.now }

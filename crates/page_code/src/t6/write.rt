@@ -16,27 +16,29 @@ use run_tables::BitWriter;
 use std::alloc::{AllocError, Global};
 
 /// The vertical mode that leads from b1 to a1, where there is one (ITU-T T.6, 2.2.3).
+#[inline(always)]
 fn shift_to(b1: u32, a1: u32) -> Option<Shift>
     requires b1 { b1 ≤ max_width }
     requires a1 { a1 ≤ max_width }
     ensures { result ≡ vertical_to b1 a1 verticals }
 {
-    if a1 + 3 < b1 || a1 > b1 + 3 {
+    if a1 + 3 < b1 {
         return None;
     }
-    let shift = match a1 + 3 - b1 {
-        0 => Shift::VL3,
-        1 => Shift::VL2,
-        2 => Shift::VL1,
-        3 => Shift::V0,
-        4 => Shift::VR1,
-        5 => Shift::VR2,
-        _ => Shift::VR3,
-    };
-    Some(shift)
+    match a1 + 3 - b1 {
+        0 => Some(Shift::VL3),
+        1 => Some(Shift::VL2),
+        2 => Some(Shift::VL1),
+        3 => Some(Shift::V0),
+        4 => Some(Shift::VR1),
+        5 => Some(Shift::VR2),
+        6 => Some(Shift::VR3),
+        _ => None,
+    }
 }
 
 /// Appends a mode code (ITU-T T.6, 2.2.2, table 1).
+#[inline(always)]
 fn push_mode(writer: &mut BitWriter, code: ModeCode) -> Result<(), AllocError>
     ensures { OnOk result (Appends (mode_word code) writer.old writer.new) }
 {
@@ -64,18 +66,18 @@ fn write_mode(
     let (b1, b2) = a0.b1_b2(reference);
     if b2 < a1 {
         push_mode(writer, ModeCode::Pass)?;
-        *a0 = A0::on_line(b2, color);
+        a0.move_to(b2, color);
         return Ok(());
     }
     if let Some(shift) = shift_to(b1, a1) {
         push_mode(writer, ModeCode::Vertical(shift))?;
-        *a0 = A0::on_line(a1, color.other());
+        a0.move_to(a1, color.other());
         return Ok(());
     }
     push_mode(writer, ModeCode::Horizontal)?;
     writer.write_run(color, a1 - a0.place)?;
     writer.write_run(color.other(), a2 - a1)?;
-    *a0 = A0::on_line(a2, color);
+    a0.move_to(a2, color);
     Ok(())
 }
 
@@ -114,6 +116,7 @@ fn write_rows<'a>(
         let mut row = spare.of_next(alloc, &rows[at])?;
         write_row(writer, &mut reference, &mut row)?;
         spare = reference;
+        row.begin();
         reference = row;
     }
     Ok(())

@@ -16,7 +16,7 @@ returns-then-b1-right-clause-moves c =
       c.left-left.ensures.left,
       from,
     ) in
-    rw c.new.ensures (backwards_leads c.args.reference.now c.args.line.now c.requires c.a0-a0.result c.a0-a0.ensures.is c.b1_b2-b1.result.0
+    rw c.new.ensures (backwards_leads c.args.reference.now c.args.line.now c.requires c.a0-a0.result.now c.a0-a0.ensures.is c.b1_b2-b1.result.0
     c.b1_b2-b1.ensures.first c.args.shift c.args.place c.args.line.now back)
 
 pub returns-then-a1-width-clause-moves : goal.returns-then-a1-width-clause-moves
@@ -37,7 +37,7 @@ returns-then-a1-width-clause-moves c =
       c.width.ensures.width,
       ap length c.b1_b2-b1.ensures.same,
     ) in
-    rw c.new-then-a1-width.ensures (past_leads c.args.reference.now c.args.line.now c.requires c.a0-a0.result c.a0-a0.ensures.is
+    rw c.new-then-a1-width.ensures (past_leads c.args.reference.now c.args.line.now c.requires c.a0-a0.result.now c.a0-a0.ensures.is
     c.b1_b2-b1.result.0 c.b1_b2-b1.ensures.first c.args.shift c.args.place c.args.line.now right past)
 
 pub returns-in_err-push_run-clause-moves : goal.returns-in_err-push_run-clause-moves
@@ -48,7 +48,7 @@ returns-in_err-push_run-clause-moves c =
 pub returns-clause-moves : goal.returns-clause-moves
 returns-clause-moves c =
     let from : c.right-from.result ≡ right_of_a0 c.args.line.now = c.right-from.ensures ∙ ap right_of c.a0-a0.ensures.is in
-    let place : c.a0-a0.result.place ≡ length c.args.line.now.pixels = ap (λ (a : A0). a.place) c.a0-a0.ensures.is in
+    let place : c.a0-a0.result.now.place ≡ length c.args.line.now.pixels = ap (λ (a : A0). a.place) c.a0-a0.ensures.is in
     let right : right_of_a0 c.args.line.now + to_left c.args.shift ≤ c.b1_b2-b1.result.0 + to_right c.args.shift = omega (
       arith,
       c.if-b1-right.false,
@@ -64,6 +64,6 @@ returns-clause-moves c =
       c.width.ensures.width,
       ap length c.b1_b2-b1.ensures.same,
     ) in
-    vertical_leads c.args.reference.now c.args.line.now c.requires c.a0-a0.result c.a0-a0.ensures.is c.b1_b2-b1.result.0 c.b1_b2-b1.ensures.first
-    c.args.shift (c.b1_b2-b1.result.0 + c.right-right.result - c.left-left.result) c.a0-a0.result.place c.push_run.new.self there right
+    vertical_leads c.args.reference.now c.args.line.now c.requires c.a0-a0.result.now c.a0-a0.ensures.is c.b1_b2-b1.result.0 c.b1_b2-b1.ensures.first
+    c.args.shift (c.b1_b2-b1.result.0 + c.right-right.result - c.left-left.result) c.a0-a0.result.now.place c.push_run.new.self there right
     within place c.in_ok-push_run.ensures
