@@ -1,5 +1,5 @@
 -- A row's changing elements as a list: the next one from a place.
-use Rattle.std.proofs.Common.{ℕ, zero, suc, ◌≡◌, ◌≢◌, ◌+◌, ◌-◌, ◌%◌, ◌<◌, ◌≤◌, inl, inr, List, length, arith, refl, sym, ap, ◌∙◌}
+use Rattle.std.proofs.Common.{ℕ, zero, suc, ◌≡◌, ◌≢◌, ◌+◌, ◌-◌, ◌%◌, ◌<◌, ◌≤◌, inl, inr, List, length, arith, refl, sym, ap, subst, ◌∙◌}
 use Rattle.std.specs.Prelude.{slice_index_or}
 use Rattle.std.proofs.lemmas.Bool.{cases_lt, cases_eq}
 use Rattle.std.proofs.lemmas.List.{get_or_default, get_or_past}
@@ -177,4 +177,24 @@ pub index_of_white : (at : ℕ) → IsIndexOf White at (at + (at + 1) % 2)
 index_of_white at = elim (cases_eq (at % 2) 0) [
   | inl e ↦ inr (turned_even at e, omega arith)
   | inr ne ↦ inl (turned_odd at ne, omega arith)
+]
+
+-- the place at the next index, or the row's end where there is none, is the next changing element after a place
+pub next_at : (row : List Color) (places : List ℕ) (index place next : ℕ) → AreChanges row places
+    → place ≡ slice_index_or places index (length row) → next ≡ slice_index_or places (index + 1) (length row)
+    → IsNextChange row (place + 1) next
+next_at row places index place next all is next_is = elim (cases_lt index (length places)) [
+  | inl l ↦
+      let back : index + 1 - 1 ≡ index = omega arith in
+      change_after row places (index + 1) place next all (omega arith)
+      (is ∙ ap (λ (i : ℕ). slice_index_or places i (length row)) (sym back))
+      (subst (λ (p : ℕ). p < length row) (sym (is ∙ get_or_default places index (length row) 0 l)) (all.changing index l).0) next_is
+  | inr g ↦
+      let end : place ≡ length row = is ∙ get_or_past places index (length row) g in
+      let after : next ≡ length row = next_is ∙ get_or_past places (index + 1) (length row) (omega arith) in
+      record {
+        bound = omega (arith, after);
+        changing = λ h. absurd (omega (arith, h, after));
+        least = λ k low below changing. absurd (omega (arith, low, below, end, after));
+      }
 ]

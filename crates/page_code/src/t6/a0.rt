@@ -27,18 +27,18 @@ impl A0 {
         }
     }
 
-    /// On the line, at this place and of this color.
-    pub(crate) fn on_line(place: u32, color: Color) -> Self
-        ensures { result ≡ record { place = place; begun = true; color = color } }
+    /// Puts a0 on the line, at this place and of this color.
+    #[inline(always)]
+    pub(crate) fn move_to(&mut self, place: u32, color: Color)
+        ensures { self.new ≡ record { place = place; begun = true; color = color } }
     {
-        A0 {
-            place,
-            begun: true,
-            color,
-        }
+        self.place = place;
+        self.begun = true;
+        self.color = color;
     }
 
     /// The least place to the right of a0.
+    #[inline(always)]
     pub(crate) fn right(self) -> u32
         requires { self.place ≤ max_width }
         ensures { result ≡ right_of self }
@@ -50,28 +50,17 @@ impl A0 {
         }
     }
 
-    /// b1: the first changing element of the reference line to the right of a0 and of opposite color,
-    /// or the line's end where there is none.
+    /// b1: the first changing element of the reference line to the right of a0 and of opposite color; and
+    /// b2: the next changing element to the right of b1. Each is the line's end where there is none.
     #[inline(always)]
-    pub(crate) fn b1(self, reference: &mut Changes) -> u32
+    pub(crate) fn b1_b2(self, reference: &mut Changes) -> (u32, u32)
         requires { self.place ≤ max_width }
-        ensures first { IsFirstTo reference.old (other self.color) (right_of self) result }
-        ensures range { result ≤ max_width }
+        ensures first { IsFirstTo reference.old (other self.color) (right_of self) result.0 }
+        ensures next { IsB2 reference.old result.0 result.1 }
+        ensures range { (result.0 ≤ max_width) × (result.1 ≤ max_width) }
         ensures same { reference.new ≡ reference.old }
     {
         let _width = reference.width(); // tells the proof that it is at most 2,432
-        reference.next_change_to(self.color.other(), self.right())
+        reference.next_two_to(self.color.other(), self.right())
     }
-}
-
-/// b2: the next changing element of the reference line to the right of b1, or the line's end where
-/// there is none.
-pub(crate) fn b2(reference: &mut Changes, b1: u32) -> u32
-    requires { b1 ≤ max_width }
-    ensures next { IsB2 reference.old b1 result }
-    ensures range { result ≤ max_width }
-    ensures same { reference.new ≡ reference.old }
-{
-    let _width = reference.width(); // tells the proof that it is at most 2,432
-    reference.next_change(b1 + 1)
 }

@@ -4,7 +4,7 @@ ghost use Rattle.page_code.specs.TwoDimensions.Changes.{IsFirstFrom, IsIndexOf, 
 ghost use Rattle.page_code.specs.TwoDimensions.Positions.{IsFirstTo};
 ghost use Rattle.raster.specs.Changes.{AreChanges, IsNextChange};
 ghost use Rattle.raster.specs.Pixels.{IsWidth};
-ghost use Rattle.std.specs.Prelude.{◌≡◌, ◌≤◌, ◌<◌, ◌^◌, IfOk, length};
+ghost use Rattle.std.specs.Prelude.{◌≡◌, ◌≤◌, ◌<◌, ◌+◌, ◌^◌, IfOk, length, slice_index_or};
 
 use raster::{Color, Row};
 use std::alloc::{AllocError, Global};
@@ -47,7 +47,20 @@ fn step_on(places: &[u32], from: u32, start: usize) -> usize
     at
 }
 
+/// The place at an index, or the width where there is none.
+#[inline(always)]
+fn place_at(places: &[u32], index: usize, width: u32) -> u32
+    ensures { result ≡ slice_index_or places.now index width }
+{
+    if index < places.len() {
+        places[index]
+    } else {
+        width
+    }
+}
+
 /// The index of the first changing element of a color at or above an index: colors alternate, black first.
+#[inline(always)]
 fn index_of(at: usize, color: Color) -> usize
     requires { at < 2 ^ 63 }
     ensures { IsIndexOf color at result }
@@ -96,6 +109,13 @@ impl<'a> Changes<'a> {
         Ok(Changes { row, places, at: 0 })
     }
 
+    /// Seeks from the row's beginning again.
+    pub(crate) fn begin(&mut self)
+        ensures { self.new ≡ self.old }
+    {
+        self.at = 0;
+    }
+
     /// The row's width in pixels.
     pub(crate) fn width(&self) -> u32
         ensures width { result ≡ length self.now }
@@ -104,32 +124,38 @@ impl<'a> Changes<'a> {
         self.row.width()
     }
 
-    /// The first changing element of this color at or above a place, or the width where there is none.
-    pub(crate) fn next_change_to(&mut self, color: Color, from: u32) -> u32
-        ensures first { IsFirstTo self.old color from result }
+    /// The first changing element of this color at or above a place and the next changing element after
+    /// it, each the width where there is none.
+    #[inline(always)]
+    pub(crate) fn next_two_to(&mut self, color: Color, from: u32) -> (u32, u32)
+        ensures first { IsFirstTo self.old color from result.0 }
+        ensures next { IsNextChange self.old (result.0 + 1) result.1 }
         ensures same { self.new ≡ self.old }
     {
+        let width = self.row.width();
         let back = step_back(&self.places, from, self.at);
         let at = step_on(&self.places, from, back);
         self.at = at;
         let index = index_of(at, color);
-        if index >= self.places.len() {
-            return self.row.width();
-        }
-        self.places[index]
+        let one = place_at(&self.places, index, width);
+        let two = place_at(&self.places, index + 1, width);
+        (one, two)
     }
 
-    /// The first changing element at or above a place, or the width where there is none.
-    pub(crate) fn next_change(&mut self, from: u32) -> u32
-        ensures next { IsNextChange self.old from result }
+    /// The first changing element at or above a place and the next one after it, each the width where
+    /// there is none.
+    #[inline(always)]
+    pub(crate) fn next_two(&mut self, from: u32) -> (u32, u32)
+        ensures first { IsNextChange self.old from result.0 }
+        ensures next { IsNextChange self.old (result.0 + 1) result.1 }
         ensures same { self.new ≡ self.old }
     {
+        let width = self.row.width();
         let back = step_back(&self.places, from, self.at);
         let at = step_on(&self.places, from, back);
         self.at = at;
-        if at >= self.places.len() {
-            return self.row.width();
-        }
-        self.places[at]
+        let one = place_at(&self.places, at, width);
+        let two = place_at(&self.places, at + 1, width);
+        (one, two)
     }
 }

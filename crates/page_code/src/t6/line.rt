@@ -45,14 +45,16 @@ impl Line {
     }
 
     /// a0, which is after the pixels so far.
-    pub(crate) fn a0(&self) -> A0
-        ensures is { result ≡ a0_of self.now }
-        ensures range { result.place ≤ max_width }
+    #[inline(always)]
+    pub(crate) fn a0(&self) -> &A0
+        ensures is { result.now ≡ a0_of self.now }
+        ensures range { result.now.place ≤ max_width }
     {
-        self.a0
+        &self.a0
     }
 
     /// Appends a run of a0's color, and moves a0 after it, to the other color.
+    #[inline(always)]
     pub(crate) fn push_run(&mut self, run: u32) -> Result<(), AllocError>
         requires { length self.old.pixels + run ≤ max_width }
         ensures { OnOk result (self.new ≡ record {
@@ -62,14 +64,24 @@ impl Line {
         }) }
     {
         self.runs.push(run)?;
-        self.a0 = A0::on_line(self.a0.place + run, self.a0.color.other());
+        let place = self.a0.place + run;
+        let color = self.a0.color.other();
+        self.a0.move_to(place, color);
         Ok(())
     }
 
+    /// The line with no pixels again, in the same memory.
+    pub(crate) fn begin(&mut self)
+        ensures { self.new ≡ line_begin }
+    {
+        self.runs.clear();
+        self.a0 = A0::begin();
+    }
+
     /// The row of the line's pixels.
-    pub(crate) fn into_row(self, alloc: Global) -> Result<Row, AllocError>
-        requires { IsWidth (length self.pixels) }
-        ensures { IfOk result (λ row. row ≡ self.pixels) }
+    pub(crate) fn row(&self, alloc: Global) -> Result<Row, AllocError>
+        requires { IsWidth (length self.now.pixels) }
+        ensures { IfOk result (λ row. row ≡ self.now.pixels) }
     {
         row_of(alloc, &self.runs)
     }

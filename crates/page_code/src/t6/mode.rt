@@ -75,6 +75,7 @@ impl Shift {
     }
 
     /// The number that the mode's code is, and how many bits it has (ITU-T T.6, table 1).
+    #[inline(always)]
     fn number(self) -> (u32, u32)
         ensures word { number_bits result.1 result.0 ≡ vertical_word self }
         ensures count { result.1 ≤ 32 }
@@ -112,6 +113,7 @@ impl ModeCode {
     }
 
     /// The number that the code is, and how many bits it has (ITU-T T.6, table 1).
+    #[inline(always)]
     pub(crate) fn number(self) -> (u32, u32)
         ensures word { number_bits result.1 result.0 ≡ mode_word self }
         ensures count { result.1 ≤ 32 }

@@ -14,7 +14,6 @@ ghost use Rattle.std.specs.Prelude.{◌≡◌, ◌≤◌, ◌<◌, ◌+◌, [], 
 
 use crate::coding::Coding;
 use crate::page::{Progress, push_row, row_of};
-use crate::t6::a0::b2;
 use crate::t6::changes::Changes;
 use crate::t6::line::Line;
 use crate::t6::mode::{EOFB, EOFB_NUMBER, ModeCode, Shift};
@@ -142,9 +141,8 @@ fn pass(reference: &mut Changes, line: &mut Line) -> Result<(), AllocError>
     ensures leads { OnOk result (LeadsOn reference.old line.old line.new ModeCode.Pass) }
     ensures same { reference.new ≡ reference.old }
 {
-    let a0 = line.a0();
-    let b1 = a0.b1(reference);
-    let b2 = b2(reference, b1);
+    let a0 = *line.a0();
+    let (_b1, b2) = a0.b1_b2(reference);
     line.push_run(b2 - a0.place)?;
     line.push_run(0)
 }
@@ -160,9 +158,9 @@ fn vertical(
     ensures moves { MovesTo reference.old place line.old line.new (ModeCode.Vertical shift) result }
     ensures same { reference.new ≡ reference.old }
 {
-    let a0 = line.a0();
+    let a0 = *line.a0();
     let from = a0.right();
-    let b1 = a0.b1(reference);
+    let (b1, _b2) = a0.b1_b2(reference);
     let right = shift.right();
     let left = shift.left();
     if b1 + right < from + left {
@@ -182,7 +180,7 @@ fn horizontal(reader: &mut BitReader, width: u32, line: &mut Line) -> Result<(),
     requires width { width ≤ max_width }
     ensures { ReadsHorizontal width reader.old reader.new line.old line.new result }
 {
-    let a0 = line.a0();
+    let a0 = *line.a0();
     let other = a0.color.other();
     let room = width - a0.place;
     let first = reader.read_run_within(a0.color, room, CodeFaultKind::PastEnd)?;
@@ -215,33 +213,39 @@ fn read_mode(
     }
 }
 
-/// One row after its reference row (ITU-T T.6, 2.2).
-fn read_row(alloc: Global, reader: &mut BitReader, reference: &Row) -> Result<Row, CodeFault>
+/// One row after its reference row (ITU-T T.6, 2.2), by a line whose pixels don't matter.
+fn read_row(
+    alloc: Global,
+    reader: &mut BitReader,
+    reference: &Row,
+    line: &mut Line,
+) -> Result<Row, CodeFault>
     ensures { ReadsRow reference.now reader.old reader.new result }
 {
     let _start = reader.place(); // tells the proof that it is within the bits
     let width = reference.width();
     let mut changes = Changes::of(alloc, reference)?;
-    let mut line = Line::new(alloc);
+    line.begin();
     while line.a0().place < width {
-        read_mode(reader, &mut changes, &mut line)?;
+        read_mode(reader, &mut changes, line)?;
     }
-    Ok(line.into_row(alloc)?)
+    Ok(line.row(alloc)?)
 }
 
-/// The next row, after the last of these rows or after a white row.
+/// The next row, after the last of these rows or after a white row, by a line whose pixels don't matter.
 fn next_row(
     alloc: Global,
     reader: &mut BitReader,
     white: &Row,
     rows: &[Row],
+    line: &mut Line,
 ) -> Result<Row, CodeFault>
     ensures { ReadsRow (reference_at white.now rows.now (length rows.now)) reader.old reader.new result }
 {
     if rows.is_empty() {
-        return read_row(alloc, reader, white);
+        return read_row(alloc, reader, white, line);
     }
-    read_row(alloc, reader, &rows[rows.len() - 1])
+    read_row(alloc, reader, &rows[rows.len() - 1], line)
 }
 
 /// Reads on from the rows read so far to the page's end, and answers how many bits the page uses. After
@@ -256,6 +260,7 @@ pub(crate) fn read_on(
     requires read { IsReadTo Coding.T6 to.old.page.width (bits_of order octets.now) to.old.page.rows to.old.place }
     ensures { ReadsOn Coding.T6 (bits_of order octets.now) to.old to.new result }
 {
+    let mut line = Line::new(alloc);
     let white = row_of(alloc, &[to.page.width()])?;
     loop {
         let mut reader = BitReader::at(octets, order, to.place);
@@ -264,7 +269,7 @@ pub(crate) fn read_on(
             Start::End => return Ok(to.place + EOFB.len() as u128),
             Start::Refused(kind) => return Err(CodeFault::new(to.place, kind)),
         }
-        let row = next_row(alloc, &mut reader, &white, to.page.rows())?;
+        let row = next_row(alloc, &mut reader, &white, to.page.rows(), &mut line)?;
         push_row(&mut to.page, row)?;
         to.place = reader.place();
     }

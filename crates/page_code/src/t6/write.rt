@@ -8,7 +8,7 @@ ghost use Rattle.run_tables.specs.Written.{Appends};
 ghost use Rattle.std.specs.Prelude.{◌≡◌, ◌≤◌, ◌<◌, ◌+◌, All, length, OnOk};
 
 use crate::page::row_of;
-use crate::t6::a0::{A0, b2};
+use crate::t6::a0::A0;
 use crate::t6::changes::Changes;
 use crate::t6::mode::{EOFB, ModeCode, Shift};
 use raster::{Page, Row};
@@ -16,36 +16,29 @@ use run_tables::BitWriter;
 use std::alloc::{AllocError, Global};
 
 /// The vertical mode that leads from b1 to a1, where there is one (ITU-T T.6, 2.2.3).
+#[inline(always)]
 fn shift_to(b1: u32, a1: u32) -> Option<Shift>
     requires b1 { b1 ≤ max_width }
     requires a1 { a1 ≤ max_width }
     ensures { result ≡ vertical_to b1 a1 verticals }
 {
-    if a1 == b1 {
-        return Some(Shift::V0);
+    if a1 + 3 < b1 {
+        return None;
     }
-    if a1 == b1 + 1 {
-        return Some(Shift::VR1);
+    match a1 + 3 - b1 {
+        0 => Some(Shift::VL3),
+        1 => Some(Shift::VL2),
+        2 => Some(Shift::VL1),
+        3 => Some(Shift::V0),
+        4 => Some(Shift::VR1),
+        5 => Some(Shift::VR2),
+        6 => Some(Shift::VR3),
+        _ => None,
     }
-    if a1 == b1 + 2 {
-        return Some(Shift::VR2);
-    }
-    if a1 == b1 + 3 {
-        return Some(Shift::VR3);
-    }
-    if a1 + 1 == b1 {
-        return Some(Shift::VL1);
-    }
-    if a1 + 2 == b1 {
-        return Some(Shift::VL2);
-    }
-    if a1 + 3 == b1 {
-        return Some(Shift::VL3);
-    }
-    None
 }
 
 /// Appends a mode code (ITU-T T.6, 2.2.2, table 1).
+#[inline(always)]
 fn push_mode(writer: &mut BitWriter, code: ModeCode) -> Result<(), AllocError>
     ensures { OnOk result (Appends (mode_word code) writer.old writer.new) }
 {
@@ -69,24 +62,22 @@ fn write_mode(
 {
     let _width = row.width(); // tells the proof that it is at most 2,432
     let color = a0.color;
-    let a1 = row.next_change(a0.right());
-    let b1 = a0.b1(reference);
-    let b2 = b2(reference, b1);
+    let (a1, a2) = row.next_two(a0.right());
+    let (b1, b2) = a0.b1_b2(reference);
     if b2 < a1 {
         push_mode(writer, ModeCode::Pass)?;
-        *a0 = A0::on_line(b2, color);
+        a0.move_to(b2, color);
         return Ok(());
     }
     if let Some(shift) = shift_to(b1, a1) {
         push_mode(writer, ModeCode::Vertical(shift))?;
-        *a0 = A0::on_line(a1, color.other());
+        a0.move_to(a1, color.other());
         return Ok(());
     }
-    let a2 = row.next_change(a1 + 1);
     push_mode(writer, ModeCode::Horizontal)?;
     writer.write_run(color, a1 - a0.place)?;
     writer.write_run(color.other(), a2 - a1)?;
-    *a0 = A0::on_line(a2, color);
+    a0.move_to(a2, color);
     Ok(())
 }
 
@@ -125,6 +116,7 @@ fn write_rows<'a>(
         let mut row = spare.of_next(alloc, &rows[at])?;
         write_row(writer, &mut reference, &mut row)?;
         spare = reference;
+        row.begin();
         reference = row;
     }
     Ok(())

@@ -23,9 +23,9 @@ returns-in_err-read_mode c =
     c.read_mode.new.line c.in_err-read_mode.field-0.0 short c.loop-reader.invariant.reads (rw c.loop-reader.invariant.same at
     c.in_err-read_mode.ensures.steps))
 
-pub returns-in_err-into_row : goal.returns-in_err-into_row
-returns-in_err-into_row c =
-    let p = err_from_is_err_and c.from_residual-in_err-into_row.result c.from_residual-in_err-into_row.ensures.1 in
+pub returns-in_err-row : goal.returns-in_err-row
+returns-in_err-row c =
+    let p = err_from_is_err_and c.from_residual-in_err-row.result c.from_residual-in_err-row.ensures.1 in
     rw (p.1, p.2) (inl refl)
 
 pub returns : goal.returns
@@ -38,9 +38,9 @@ returns c =
       c.width-width.ensures.width,
       c.loop-reader.invariant.short,
     ) in (
-      ap length c.in_ok-into_row.ensures ∙ full,
+      ap length c.in_ok-row.ensures ∙ full,
       c.loop-reader.invariant.bits,
       c.loop-reader.invariant.within,
-      row_ends c.args.reference.now c.args.reader.now c.loop-reader.reader c.loop-reader.line c.in_ok-into_row.field-0
-          c.in_ok-into_row.ensures full c.loop-reader.invariant.reads,
+      row_ends c.args.reference.now c.args.reader.now c.loop-reader.reader c.loop-reader.line c.in_ok-row.field-0
+          c.in_ok-row.ensures full c.loop-reader.invariant.reads,
     )

@@ -9,36 +9,36 @@ use Rattle.page_code.proofs.t6.read.vertical.Goals as goal
 pub returns-then-b1-right-clause-moves : goal.returns-then-b1-right-clause-moves
 returns-then-b1-right-clause-moves c =
     let from : c.right-from.result ≡ right_of_a0 c.args.line.now = c.right-from.ensures ∙ ap right_of c.a0-a0.ensures.is in
-    let back : c.b1-b1.result + to_right c.args.shift < right_of_a0 c.args.line.now + to_left c.args.shift = omega (
+    let back : c.b1_b2-b1.result.0 + to_right c.args.shift < right_of_a0 c.args.line.now + to_left c.args.shift = omega (
       arith,
       c.if-b1-right.true,
       c.right-right.ensures.right,
       c.left-left.ensures.left,
       from,
     ) in
-    rw c.new.ensures (backwards_leads c.args.reference.now c.args.line.now c.requires c.a0-a0.result c.a0-a0.ensures.is c.b1-b1.result
-    c.b1-b1.ensures.first c.args.shift c.args.place c.args.line.now back)
+    rw c.new.ensures (backwards_leads c.args.reference.now c.args.line.now c.requires c.a0-a0.result.now c.a0-a0.ensures.is c.b1_b2-b1.result.0
+    c.b1_b2-b1.ensures.first c.args.shift c.args.place c.args.line.now back)
 
 pub returns-then-a1-width-clause-moves : goal.returns-then-a1-width-clause-moves
 returns-then-a1-width-clause-moves c =
     let from : c.right-from.result ≡ right_of_a0 c.args.line.now = c.right-from.ensures ∙ ap right_of c.a0-a0.ensures.is in
-    let right : right_of_a0 c.args.line.now + to_left c.args.shift ≤ c.b1-b1.result + to_right c.args.shift = omega (
+    let right : right_of_a0 c.args.line.now + to_left c.args.shift ≤ c.b1_b2-b1.result.0 + to_right c.args.shift = omega (
       arith,
       c.if-b1-right.false,
       c.right-right.ensures.right,
       c.left-left.ensures.left,
       from,
     ) in
-    let past : length c.args.reference.now + to_left c.args.shift < c.b1-b1.result + to_right c.args.shift = omega (
+    let past : length c.args.reference.now + to_left c.args.shift < c.b1_b2-b1.result.0 + to_right c.args.shift = omega (
       arith,
       c.if-a1-width.true,
       c.right-right.ensures.right,
       c.left-left.ensures.left,
       c.width.ensures.width,
-      ap length c.b1-b1.ensures.same,
+      ap length c.b1_b2-b1.ensures.same,
     ) in
-    rw c.new-then-a1-width.ensures (past_leads c.args.reference.now c.args.line.now c.requires c.a0-a0.result c.a0-a0.ensures.is
-    c.b1-b1.result c.b1-b1.ensures.first c.args.shift c.args.place c.args.line.now right past)
+    rw c.new-then-a1-width.ensures (past_leads c.args.reference.now c.args.line.now c.requires c.a0-a0.result.now c.a0-a0.ensures.is
+    c.b1_b2-b1.result.0 c.b1_b2-b1.ensures.first c.args.shift c.args.place c.args.line.now right past)
 
 pub returns-in_err-push_run-clause-moves : goal.returns-in_err-push_run-clause-moves
 returns-in_err-push_run-clause-moves c =
@@ -48,22 +48,22 @@ returns-in_err-push_run-clause-moves c =
 pub returns-clause-moves : goal.returns-clause-moves
 returns-clause-moves c =
     let from : c.right-from.result ≡ right_of_a0 c.args.line.now = c.right-from.ensures ∙ ap right_of c.a0-a0.ensures.is in
-    let place : c.a0-a0.result.place ≡ length c.args.line.now.pixels = ap (λ (a : A0). a.place) c.a0-a0.ensures.is in
-    let right : right_of_a0 c.args.line.now + to_left c.args.shift ≤ c.b1-b1.result + to_right c.args.shift = omega (
+    let place : c.a0-a0.result.now.place ≡ length c.args.line.now.pixels = ap (λ (a : A0). a.place) c.a0-a0.ensures.is in
+    let right : right_of_a0 c.args.line.now + to_left c.args.shift ≤ c.b1_b2-b1.result.0 + to_right c.args.shift = omega (
       arith,
       c.if-b1-right.false,
       c.right-right.ensures.right,
       c.left-left.ensures.left,
       from,
     ) in
-    let there : c.b1-b1.result + c.right-right.result - c.left-left.result ≡ c.b1-b1.result + to_right c.args.shift - to_left c.args.shift =
+    let there : c.b1_b2-b1.result.0 + c.right-right.result - c.left-left.result ≡ c.b1_b2-b1.result.0 + to_right c.args.shift - to_left c.args.shift =
     omega (arith, c.right-right.ensures.right, c.left-left.ensures.left) in
-    let within : c.b1-b1.result + c.right-right.result - c.left-left.result ≤ length c.args.reference.now = omega (
+    let within : c.b1_b2-b1.result.0 + c.right-right.result - c.left-left.result ≤ length c.args.reference.now = omega (
       arith,
       c.if-a1-width.false,
       c.width.ensures.width,
-      ap length c.b1-b1.ensures.same,
+      ap length c.b1_b2-b1.ensures.same,
     ) in
-    vertical_leads c.args.reference.now c.args.line.now c.requires c.a0-a0.result c.a0-a0.ensures.is c.b1-b1.result c.b1-b1.ensures.first
-    c.args.shift (c.b1-b1.result + c.right-right.result - c.left-left.result) c.a0-a0.result.place c.push_run.new.self there right
+    vertical_leads c.args.reference.now c.args.line.now c.requires c.a0-a0.result.now c.a0-a0.ensures.is c.b1_b2-b1.result.0 c.b1_b2-b1.ensures.first
+    c.args.shift (c.b1_b2-b1.result.0 + c.right-right.result - c.left-left.result) c.a0-a0.result.now.place c.push_run.new.self there right
     within place c.in_ok-push_run.ensures

@@ -3,7 +3,7 @@ use Rattle.std.specs.Prelude.{sum}
 use Rattle.raster.specs.declared.row.Color.TheVariants.{White}
 use Rattle.raster.proofs.RowLemmas.{length-colored}
 use Rattle.page_code.specs.TwoDimensions.Positions.{CodingLine}
-use Rattle.page_code.proofs.t6.line.Line.into_row.Goals as goal
+use Rattle.page_code.proofs.t6.line.Line.row.Goals as goal
 
 pub row_of-requires : goal.row_of-requires
 row_of-requires c =
