@@ -1,7 +1,8 @@
 //! What no clause says: refused memory, vectors of another program, and failing readers and writers.
 
-use raster::packed::{Order, PackedBits};
+use raster::packed::Order;
 use raster::{Color, Document, Page, RasterFault, Row, block_change, write_text};
+use run_tables::BitWriter;
 use std::alloc::Global;
 use std::io;
 use std::io::Write;
@@ -104,7 +105,7 @@ fn bits_fill_octets_in_both_orders(rt: HostRuntime) -> Result<(), Fail> {
         (Order::LsbFirst, [0b1101, 1]),
         (Order::MsbFirst, [0b1011_0000, 128]),
     ] {
-        let mut bits = PackedBits::new(alloc, order);
+        let mut bits = BitWriter::new(alloc, order);
         for bit in [true, false, true, true, false, false, false, false, true] {
             bits.push(bit)?;
         }

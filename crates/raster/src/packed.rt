@@ -1,17 +1,17 @@
-//! Bits that are kept eight an octet, in either order. Rows and bit writers are made of it.
+//! Bits that are kept eight an octet, in either order.
 
 ghost use Rattle.raster.specs.Changes.{AreChanges};
 ghost use Rattle.raster.specs.Pixels.{colors};
 ghost use Rattle.raster.specs.Packed.{bit_in, bits_in, bits_of, place_in, IsPacked, Bits, FillsOctets};
 ghost use Rattle.raster.specs.Runs.{colored};
-ghost use Rattle.raster.specs.Words.{IsWordAt, IsFirstOtherBit, bit_of_word, number_bits};
+ghost use Rattle.raster.specs.Words.{IsWordAt, IsFirstOtherBit, bit_of_word};
 ghost use Rattle.raster.specs.declared.row.Color.{Color};
-ghost use Rattle.std.specs.Prelude.{false, ◌≢◌, ℕ, ◌≡◌, ◌≤◌, ◌<◌, ◌+◌, ◌-◌, ◌*◌, ◌^◌, ◌||◌, ◌/◌, ◌++◌, ◌∷◌, [], nat_eq, length};
-ghost use Rattle.std.specs.Prelude.{replicate, sum, take, slice_get, IfOk, OnOk, OnErr};
+ghost use Rattle.std.specs.Prelude.{false, ◌≢◌, ℕ, ◌≡◌, ◌≤◌, ◌<◌, ◌+◌, ◌-◌, ◌*◌, ◌^◌, ◌/◌, ◌++◌, length};
+ghost use Rattle.std.specs.Prelude.{replicate, sum, slice_get, IfOk, OnOk, OnErr};
 
 use crate::changes::changes;
 use crate::painting::paint;
-use crate::words::{first_other, in_order, moved_word, number_word, or_word, set_run, shifted_word};
+use crate::words::{first_other, in_order, moved_word, shifted_word};
 use std::alloc::{AllocError, Global};
 use std::marker::Model;
 
@@ -86,14 +86,6 @@ pub fn word_of_eight(order: Order, octets: &[u8], at: usize, within: u32) -> u64
     moved_word(order, octets, at, within)
 }
 
-fn set_bit(order: Order, octets: &mut Vec<u8>, place: u128)
-    requires { place < 8 * length octets.old.items }
-    ensures length { length octets.new.items ≡ length octets.old.items }
-    ensures set { (k : ℕ) → bit_in order octets.new.items k ≡ (nat_eq k place || bit_in order octets.old.items k) }
-{
-    octets[(place / 8) as usize] |= 1 << shift_of(order, place);
-}
-
 fn clear_bit(order: Order, octets: &mut Vec<u8>, place: u128)
     requires { place < 8 * length octets.old.items }
     ensures length { length octets.new.items ≡ length octets.old.items }
@@ -112,79 +104,6 @@ fn grow(octets: &mut Vec<u8>, needed: usize) -> Result<(), AllocError>
     ensures err { OnErr result (octets.new.items ≡ octets.old.items) }
 {
     octets.resize(needed, 0)?;
-    Ok(())
-}
-
-/// Room for so many bits more and for the 64 after them.
-fn make_room(octets: &mut Vec<u8>, count: u128, more: u32) -> Result<(), AllocError>
-    requires { count ≤ 8 * length octets.old.items }
-    ensures room { OnOk result (count + more + 64 ≤ 8 * length octets.new.items) }
-    ensures same { (order : Order) (k : ℕ) → bit_in order octets.new.items k ≡ bit_in order octets.old.items k }
-    ensures err { OnErr result (octets.new.items ≡ octets.old.items) }
-{
-    let needed = ((count + more as u128) / 8) as usize + 9;
-    if octets.len() < needed {
-        grow(octets, needed + 64)?;
-    }
-    Ok(())
-}
-
-fn push_bit(order: Order, octets: &mut Vec<u8>, count: u128, bit: bool) -> Result<(), AllocError>
-    requires { IsPacked order octets.old.items count }
-    ensures packed { OnOk result (IsPacked order octets.new.items (count + 1)) }
-    ensures ok { OnOk result (bits_in order octets.new.items (count + 1) ≡ bits_in order octets.old.items count ++ bit ∷ []) }
-    ensures err { OnErr result (octets.new.items ≡ octets.old.items) }
-{
-    make_room(octets, count, 1)?;
-    if bit {
-        set_bit(order, octets, count);
-    }
-    Ok(())
-}
-
-#[inline(always)]
-fn push_number(
-    order: Order,
-    octets: &mut Vec<u8>,
-    count: u128,
-    value: u32,
-    more: u32,
-) -> Result<(), AllocError>
-    requires packed { IsPacked order octets.old.items count }
-    requires more { more ≤ 32 }
-    ensures packed { OnOk result (IsPacked order octets.new.items (count + more)) }
-    ensures ok { OnOk result (bits_in order octets.new.items (count + more)
-        ≡ bits_in order octets.old.items count ++ number_bits more value) }
-    ensures err { OnErr result (octets.new.items ≡ octets.old.items) }
-{
-    make_room(octets, count, more)?;
-    let word = number_word(value, more, (count % 8) as u32);
-    or_word(order, octets, (count / 8) as usize, word);
-    Ok(())
-}
-
-fn push_same(
-    order: Order,
-    octets: &mut Vec<u8>,
-    count: u128,
-    bit: bool,
-    more: u32,
-) -> Result<(), AllocError>
-    requires { IsPacked order octets.old.items count }
-    ensures packed { OnOk result (IsPacked order octets.new.items (count + more)) }
-    ensures ok { OnOk result (bits_in order octets.new.items (count + more) ≡ bits_in order octets.old.items count ++ replicate more bit) }
-    ensures err { OnErr result (octets.new.items ≡ octets.old.items) }
-{
-    make_room(octets, count, more)?;
-    if bit {
-        set_run(
-            order,
-            octets,
-            (count / 8) as usize,
-            (count % 8) as u32,
-            more,
-        );
-    }
     Ok(())
 }
 
@@ -209,7 +128,7 @@ fn cut(order: Order, octets: &mut Vec<u8>, count: u128)
     }
 }
 
-/// A list of bits that grows at its end, kept eight an octet.
+/// A list of bits, kept eight an octet.
 #[derive(Debug, Drop)]
 pub struct PackedBits {
     octets: Vec<u8>,
@@ -228,18 +147,6 @@ impl Model for PackedBits {
 }
 
 impl PackedBits {
-    /// No bits.
-    #[tactic(auto, using(crate::proofs::PackedLemmas::views))]
-    pub fn new(alloc: Global, order: Order) -> Self
-        ensures { result ≡ record { order = order; bits = [] } }
-    {
-        PackedBits {
-            octets: Vec::new(alloc),
-            order,
-            count: 0,
-        }
-    }
-
     /// The bits of alternating runs that add up to a width, 0 bits first, in the order of a row.
     #[tactic(auto, using(crate::proofs::PackedLemmas::views))]
     pub(crate) fn of_runs(alloc: Global, runs: &[u32], width: u32) -> Result<Self, AllocError>
@@ -317,68 +224,10 @@ impl PackedBits {
         changes(alloc, &self.octets, self.count as u32)
     }
 
-    /// Appends a bit.
-    #[tactic(auto, using(crate::proofs::PackedLemmas::views))]
-    pub fn push(&mut self, bit: bool) -> Result<(), AllocError>
-        ensures ok { OnOk result (self.new ≡ record self.old { bits = self.old.bits ++ bit ∷ [] }) }
-        ensures err { OnErr result (self.new ≡ self.old) }
-    {
-        push_bit(self.order, &mut self.octets, self.count, bit)?;
-        self.count += 1;
-        Ok(())
-    }
-
-    /// Appends so many of the lowest bits of a number, at most 32, the most significant of them first.
-    #[inline(always)]
-    #[tactic(auto, using(crate::proofs::PackedLemmas::views))]
-    pub fn push_bits(&mut self, value: u32, count: u32) -> Result<(), AllocError>
-        requires { count ≤ 32 }
-        ensures ok { OnOk result (self.new ≡ record self.old { bits = self.old.bits ++ number_bits count value }) }
-        ensures err { OnErr result (self.new ≡ self.old) }
-    {
-        push_number(self.order, &mut self.octets, self.count, value, count)?;
-        self.count += count as u128;
-        Ok(())
-    }
-
-    /// Appends so many bits that are all the same.
-    #[tactic(auto, using(crate::proofs::PackedLemmas::views))]
-    pub fn push_run(&mut self, bit: bool, count: u32) -> Result<(), AllocError>
-        ensures ok { OnOk result (self.new ≡ record self.old { bits = self.old.bits ++ replicate count bit }) }
-        ensures err { OnErr result (self.new ≡ self.old) }
-    {
-        push_same(self.order, &mut self.octets, self.count, bit, count)?;
-        self.count += count as u128;
-        Ok(())
-    }
-
-    /// Forgets all bits but the first ones.
-    #[tactic(auto, using(crate::proofs::PackedLemmas::views))]
-    pub fn truncate(&mut self, bits: u128)
-        requires { bits ≤ length self.old.bits }
-        ensures { self.new ≡ record self.old { bits = take bits self.old.bits } }
-    {
-        cut(self.order, &mut self.octets, bits);
-        self.count = bits;
-    }
-
     /// The octets that hold the bits, lent, the last one filled with 0 bits.
     pub fn octets(&self) -> &[u8]
         ensures { FillsOctets self.now.order self.now.bits result.now }
     {
         &self.octets[..octets_for(self.count)]
-    }
-
-    /// The octets that hold the bits, the last one filled with 0 bits.
-    pub fn into_octets(self) -> Vec<u8>
-        ensures { FillsOctets self.order self.bits result.items }
-    {
-        let PackedBits {
-            mut octets,
-            order: _,
-            count,
-        } = self;
-        octets.truncate(octets_for(count));
-        octets
     }
 }

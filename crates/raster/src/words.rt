@@ -144,20 +144,6 @@ pub(crate) fn moved_word(order: Order, octets: &[u8], at: usize, within: u32) ->
     in_order(order, whole_word(octets, at)) << within
 }
 
-/// The word whose bits from a place below 8 on are so many of the lowest bits of a number, and else 0.
-pub(crate) fn number_word(value: u32, count: u32, within: u32) -> u64
-    requires count { count ≤ 32 }
-    requires within { within < 8 }
-    ensures before { (k : ℕ) → k < within → bit_of_word result k ≡ false }
-    ensures inside { (k : ℕ) → within ≤ k → k < within + count → bit_of_word result k ≡ nat_eq (bit_at value (within + count - 1 - k)) 1 }
-    ensures after { (k : ℕ) → within + count ≤ k → k < 64 → bit_of_word result k ≡ false }
-{
-    if count == 0 {
-        return 0;
-    }
-    (value as u64) << (64 - count) >> within
-}
-
 /// Writes eight octets over those from a place on.
 fn put_octets(octets: &mut [u8], at: usize, eight: [u8; 8])
     requires { at + 8 ≤ length octets.old }
