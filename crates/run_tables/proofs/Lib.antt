@@ -20,6 +20,7 @@ pub mod RowParts
 pub mod RowRefusals
 pub mod RowsGoOn
 pub mod RowReads
+pub mod RowSteps
 pub mod RowWorkedRows
 pub mod CodeLaws
 pub mod RowWriting

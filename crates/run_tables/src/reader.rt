@@ -375,7 +375,7 @@ impl<'a> BitReader<'a> {
     /// A run of a color, of at most so many pixels, where it can be told from the next 57 bits. Else
     /// none, and nothing changed.
     #[inline(always)]
-    fn quick_run(&mut self, color: Color, room: u32) -> Option<u32>
+    pub(crate) fn quick_run(&mut self, color: Color, room: u32) -> Option<u32>
         ensures some { IfSome result (λ run. (past : CodeFaultKind) → ReadsRunWithin color room past self.old self.new (Ok run)) }
         ensures none { IfNone result (self.new ≡ self.old) }
     {
@@ -402,7 +402,7 @@ impl<'a> BitReader<'a> {
 
     /// `read_run_within` code by code.
     #[cold]
-    fn read_run_by_codes(
+    pub(crate) fn read_run_by_codes(
         &mut self,
         color: Color,
         room: u32,

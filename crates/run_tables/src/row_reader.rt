@@ -2,7 +2,7 @@
 
 ghost use Rattle.raster.specs.Pixels.{IsWidth};
 ghost use Rattle.raster.specs.Runs.{colored};
-ghost use Rattle.run_tables.specs.RowReading.{ReadsRow, RefusesRow, RowRuns, WholeRow};
+ghost use Rattle.run_tables.specs.RowReading.{IsInRow, ReadsRow, RefusesRow, RowRuns, WholeRow};
 ghost use Rattle.std.specs.Prelude.{IfOk, IfErr, OnErr, sum, ◌≡◌, ◌≢◌};
 
 use crate::fault::{CodeFault, CodeFaultKind};
@@ -22,20 +22,55 @@ fn row_of(alloc: Global, runs: &[u32]) -> Result<Row, AllocError>
     }
 }
 
+/// The runs of a row that were read, the color of the next one, and how many pixels they are.
+#[derive(Drop)]
+struct RunsSoFar {
+    runs: Vec<u32>,
+    color: Color,
+    pixels: u32,
+}
+
 impl<'a> BitReader<'a> {
+    /// The first runs of a row, as many as can be told quickly.
+    fn quick_runs(&mut self, alloc: Global, width: u32) -> Result<RunsSoFar, AllocError>
+        requires { IsWidth width }
+        ensures { IfOk result (λ row. IsInRow width self.old self.new row.runs.items row.color row.pixels) }
+    {
+        let _place = self.place(); // tells the proof that it is within the bits
+        let mut ahead = self.look_ahead();
+        let mut runs = Vec::with_capacity(alloc, 128)?;
+        let mut color = Color::White;
+        let mut pixels = 0;
+        while pixels < width {
+            let Some(run) = ahead.quick_run(color, width - pixels) else {
+                break;
+            };
+            runs.push(run)?;
+            pixels += run;
+            color = color.other();
+        }
+        *self = ahead;
+        Ok(RunsSoFar {
+            runs,
+            color,
+            pixels,
+        })
+    }
+
     /// The runs of a row of this width. After an error the reader is somewhere in the row.
     fn row_runs(&mut self, alloc: Global, width: u32) -> Result<Vec<u32>, CodeFault>
         requires { IsWidth width }
         ensures { RowRuns width self.old self.new result }
     {
-        let _place = self.place(); // tells the proof that it is within the bits
-        let mut runs = Vec::with_capacity(alloc, 128)?;
-        let mut color = Color::White;
-        let mut sum = 0;
-        while sum < width {
-            let run = self.read_run_within(color, width - sum, CodeFaultKind::RunTooLong)?;
+        let RunsSoFar {
+            mut runs,
+            mut color,
+            mut pixels,
+        } = self.quick_runs(alloc, width)?;
+        while pixels < width {
+            let run = self.read_run_by_codes(color, width - pixels, CodeFaultKind::RunTooLong)?;
             runs.push(run)?;
-            sum += run;
+            pixels += run;
             color = color.other();
         }
         Ok(runs)
