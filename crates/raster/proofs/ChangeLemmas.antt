@@ -1,18 +1,20 @@
 -- Lists of places, and the changing positions of a row.
-use Rattle.std.proofs.Common.{◌≡◌, ◌≢◌, ℕ, ◌+◌, ◌-◌, ◌*◌, ◌/◌, ◌%◌, ◌^◌, ◌<◌, ◌≤◌, ◌&&◌, Bool, true, false, List, [], ◌∷◌, ◌++◌, refl, sym}
+use Rattle.std.proofs.Common.{◌≡◌, ◌≢◌, ℕ, ◌+◌, ◌-◌, ◌*◌, ◌/◌, ◌%◌, ◌^◌, ◌<◌, ◌≤◌, Bool, true, false, List, [], ◌∷◌, ◌++◌, refl, sym}
 use Rattle.std.proofs.Common.{ap, ◌∙◌, get_or, length, nat_eq, nat_lt, arith, bit_and, bit_or, bit_xor, zero, suc, inl, inr, w64}
 use Rattle.std.proofs.Common.{append_assoc, length-append}
 use Rattle.std.specs.Int.{bit_at, bit_not}
-use Rattle.std.proofs.lemmas.List.{append-nil, get_or_append_left, get_or-append_right}
+use Rattle.std.proofs.Common.{take}
+use Rattle.std.proofs.lemmas.List.{append-nil, get_or_append_left, get_or-append_right, length-take-le, take-take, take_at}
 use Rattle.std.proofs.lemmas.List.Elements.{Contains-append_left, Contains-append_right}
 use Rattle.std.proofs.lemmas.Nat.Bits.{bit_at-lt, bit_at_above, bit_at_and, bit_at_or, bit_at_xor, bit_at_not, bit_at_ones}
 use Rattle.std.proofs.lemmas.Nat.Bits.{bit_at_ones_above, ones_shr, same_from_bits_below, bit_at-zero}
-use Rattle.std.proofs.lemmas.Bool.{cases_lt, and_parts, lt-ltb, le-ltb, true≢false}
-use Rattle.std.proofs.lemmas.Nat.{shr-shr, and_le_l, and_le_r, pow_pos}
+use Rattle.std.proofs.lemmas.Bool.{cases_lt, and_parts, eqb-true, lt-ltb, le-ltb, true≢false}
+use Rattle.std.proofs.lemmas.Nat.{shr-shr, and_le_l, and_le_r, pow_below, pow_pos, xor_lt}
+use Rattle.std.proofs.Math.Nat.{mod-eq_of_lt}
 use Rattle.raster.specs.Packed.{bit_in, bits_in}
 use Rattle.raster.specs.Pixels.{color_of, colors}
-use Rattle.raster.specs.Words.{IsWordAt, IsFirstInWord, bit_of_word}
-use Rattle.raster.specs.Changes.{color_at, color_before, AreChanges, Lists, differ, bit_before, turns_at}
+use Rattle.raster.specs.Words.{IsWordAt, IsFirstInWord, IsFirstOther, bit_of_word}
+use Rattle.raster.specs.Changes.{color_at, color_before, AppendsChanges, AreChanges, Lists, NextTurns, differ, bit_before, turns_at, turns_below}
 use Rattle.raster.specs.declared.packed.Order.TheVariants.{MsbFirst}
 use Rattle.raster.proofs.PackedLemmas.{slice_get-bits_in, length-bits_in}
 use Rattle.raster.proofs.RowLemmas.{slice_get-colors, color_at_get, length-colors}
@@ -222,6 +224,76 @@ fewer rest place inside first =
       )
     ]
 
+is_one : (b : ℕ) → nat_eq b 1 ≡ true → b ≡ 1
+is_one b e = eqb-true b 1 e
+
+is_not_one : (b : ℕ) → b < 2 → nat_eq b 1 ≡ false → b ≡ 0
+is_not_one zero lt e = refl
+is_not_one (suc zero) lt e = absurd (true≢false e)
+is_not_one (suc (suc b)) lt e = absurd (omega arith)
+
+-- the first 1 bit turned is the word after it
+pub turned_first : (rest place : ℕ) → rest < 2 ^ 64 → place < 64 → IsFirstInWord rest 0 false place
+    → bit_xor rest (1 * 2 ^ (63 - place)) ≡ after_place rest place
+turned_first rest place fits inside first =
+    same_from_bits_below 64 (bit_xor rest (1 * 2 ^ (63 - place))) (after_place rest place) (xor_lt 64 rest (1 * 2 ^ (63 - place)) fits one_fits)
+    (omega (arith, and_le_l rest ((2 ^ 64 - 1) / 2 ^ place / 2 ^ 1), fits)) same
+  where
+    one_fits : 1 * 2 ^ (63 - place) < 2 ^ 64
+    one_fits = omega (arith, pow_below (63 - place) 64 (omega arith))
+
+    low : (i : ℕ) → i < 63 - place → bit_at (bit_xor rest (1 * 2 ^ (63 - place))) i ≡ bit_at (after_place rest place) i
+    low i h =
+        omega (
+          arith,
+          bit_at_xor rest (1 * 2 ^ (63 - place)) i,
+          bit_at_shl_low 1 (63 - place) i h,
+          bit_at_and rest ((2 ^ 64 - 1) / 2 ^ place / 2 ^ 1) i,
+          ap (λ m. bit_at m i) (after_mask place inside) ∙ bit_at_ones (63 - place) i h,
+          bit_at-lt rest i,
+        )
+
+    here : bit_at (bit_xor rest (1 * 2 ^ (63 - place))) (63 - place) ≡ bit_at (after_place rest place) (63 - place)
+    here =
+        let none : (63 - place) - (63 - place) ≡ 0 = omega arith in
+        let one : bit_at (1 * 2 ^ (63 - place)) (63 - place) ≡ 1 = bit_at_shl_high 1 (63 - place) (63 - place) (omega arith)
+        ∙ ap (bit_at 1) none in
+        omega (
+          arith,
+          bit_at_xor rest (1 * 2 ^ (63 - place)) (63 - place),
+          one,
+          is_one (bit_at rest (63 - place)) (first.hit inside),
+          bit_at_and rest ((2 ^ 64 - 1) / 2 ^ place / 2 ^ 1) (63 - place),
+          ap (λ m. bit_at m (63 - place)) (after_mask place inside) ∙ bit_at_ones_above (63 - place) (63 - place) (omega arith),
+        )
+
+    high : (i : ℕ) → 63 - place < i → i < 64 → bit_at (bit_xor rest (1 * 2 ^ (63 - place))) i ≡ bit_at (after_place rest place) i
+    high i h lt =
+        let back : 63 - (63 - i) ≡ i = omega arith in
+        let none : bit_at rest i ≡ 0 = is_not_one (bit_at rest i) (bit_at-lt rest i)
+        (ap (λ j. nat_eq (bit_at rest j) 1) (sym back) ∙ first.before (63 - i) (omega arith) (omega arith)) in
+        omega (
+          arith,
+          bit_at_xor rest (1 * 2 ^ (63 - place)) i,
+          bit_at_shl_high 1 (63 - place) i (omega arith),
+          bit_at_above 1 1 (i - (63 - place)) (omega arith) (omega arith),
+          none,
+          bit_at_and rest ((2 ^ 64 - 1) / 2 ^ place / 2 ^ 1) i,
+        )
+
+    same : (i : ℕ) → i < 64 → bit_at (bit_xor rest (1 * 2 ^ (63 - place))) i ≡ bit_at (after_place rest place) i
+    same i h =
+        elim (cases_lt i (63 - place)) [
+          | inl lt ↦ low i lt
+          | inr le ↦
+              elim (cases_lt (63 - place) i) [
+                | inl lt ↦ high i lt h
+                | inr ge ↦
+                    let e : i ≡ 63 - place = omega arith in
+                    rw e here
+              ]
+        ]
+
 first_of_rest : (word base rest place : ℕ) (old out : List ℕ) (pushed : Pushed word base rest old out) → place < 64
     → IsFirstInWord rest 0 false place → IsFirstInWord word pushed.at false place
 first_of_rest word base rest place old out pushed inside first =
@@ -235,18 +307,44 @@ first_of_rest word base rest place old out pushed inside first =
       }
     ]
 
-pub pushed_more : (word base rest place : ℕ) (old out : List ℕ) → Pushed word base rest old out → place < 64
-    → IsFirstInWord rest 0 false place → Pushed word base (after_place rest place) old (out ++ (base + place) ∷ [])
-pushed_more word base rest place old out pushed inside first =
-    let in_word = first_of_rest word base rest place old out pushed inside first in
+-- the same, with no more places than bits up to the one
+pub record Put (word base rest : ℕ) (old out : List ℕ) (index next : ℕ) : Type 0 where
+  pub pushed : Pushed word base rest old out
+  pub few : next ≤ index + pushed.at
+
+pub put_none : (word base : ℕ) (old : List ℕ) (index : ℕ) → word < 2 ^ 64 → Put word base word old old index index
+put_none word base old index fits = record { pushed = pushed_none word base old fits; few = omega arith }
+
+pub put_within : (word base rest place : ℕ) (old out : List ℕ) (index next : ℕ) → Put word base rest old out index next → place < 64
+    → IsFirstInWord rest 0 false place → next < index + 64
+put_within word base rest place old out index next put inside first =
+    omega (arith, put.few, (first_of_rest word base rest place old out put.pushed inside first).low)
+
+pub put_more : (word base rest place : ℕ) (old out : List ℕ) (index next : ℕ) → Put word base rest old out index next → place < 64
+    → IsFirstInWord rest 0 false place → Put word base (after_place rest place) old (out ++ (base + place) ∷ []) index (next + 1)
+put_more word base rest place old out index next put inside first =
+    let in_word = first_of_rest word base rest place old out put.pushed inside first in
     record {
-      at = place + 1;
-      few = omega arith;
-      fits = omega (arith, and_le_l rest ((2 ^ 64 - 1) / 2 ^ place / 2 ^ 1), pushed.fits);
-      none = λ k h. after_none rest place k inside (omega arith);
-      same = λ k low h. after_same rest place k (omega arith) h ∙ pushed.same k (omega (arith, in_word.low)) h;
-      listed = lists_more word base pushed.at place old out pushed.few inside in_word pushed.listed;
+      pushed = record {
+        at = place + 1;
+        few = omega arith;
+        fits = omega (arith, and_le_l rest ((2 ^ 64 - 1) / 2 ^ place / 2 ^ 1), put.pushed.fits);
+        none = λ k h. after_none rest place k inside (omega arith);
+        same = λ k low h. after_same rest place k (omega arith) h ∙ put.pushed.same k (omega (arith, in_word.low)) h;
+        listed = lists_more word base put.pushed.at place old out put.pushed.few inside in_word put.pushed.listed;
+      };
+      few = omega (arith, put.few, in_word.low);
     }
+
+-- the word that the code makes
+pub turned_off : (rest place : ℕ) → rest < 2 ^ 64 → place < 64 → IsFirstInWord rest 0 false place
+    → bit_xor rest (1 * 2 ^ (63 - place) % 2 ^ 64) ≡ after_place rest place
+turned_off rest place fits inside first =
+    let small : 1 * 2 ^ (63 - place) < 2 ^ 64 = omega (arith, pow_below (63 - place) 64 (omega arith)) in
+    ap (bit_xor rest) (mod-eq_of_lt small) ∙ turned_first rest place fits inside first
+
+pub put_all : (word base : ℕ) (old out : List ℕ) (index next : ℕ) → Put word base 0 old out index next → next ≤ index + 64
+put_all word base old out index next put = omega (arith, put.few, put.pushed.few)
 
 pub pushed_all : (word base : ℕ) (old out : List ℕ) → Pushed word base 0 old out → Lists (λ k. bit_of_word word (k - base)) old out base
     (base + 64)
@@ -354,10 +452,6 @@ kept_after word count k few low h =
 
 -- ---- a row
 
--- the places below an end whose bit differs from the one before
-abbrev pub turns_below : List ℕ → ℕ → ℕ → Bool
-turns_below octets end place = nat_lt place end && turns_at octets place
-
 color_at_bits : (octets : List ℕ) (width k : ℕ) → k < width → color_at (colors (bits_in MsbFirst octets width)) k ≡ color_of
     (bit_in MsbFirst octets k)
 color_at_bits octets width k h =
@@ -402,23 +496,167 @@ are_changes octets width places lists = rw lists.appended (record {
     test_is : (k : ℕ) → k < width → color_of (bit_in MsbFirst octets k) ≢ color_of (bit_before octets k) → turns_below octets width k ≡ true
     test_is k h ne = rw (lt-ltb k width h) (differs_back (bit_in MsbFirst octets k) (bit_before octets k) ne)
 
--- one word more
-pub lists_word : (octets : List ℕ) (end at turned word : ℕ) (old xs new : List ℕ) → ((k : ℕ) → k < 64
-    → bit_of_word turned k ≡ turns_at octets (8 * at + k)) → ((k : ℕ) → k < end - 8 * at → bit_of_word word k ≡ bit_of_word turned k)
-    → ((k : ℕ) → end - 8 * at ≤ k → k < 64 → bit_of_word word k ≡ false) → Lists (turns_below octets end) old xs 0 (8 * at)
-    → Lists (λ k. bit_of_word word (k - 8 * at)) xs new (8 * at) (8 * at + 64) → Lists (turns_below octets end) old new 0 (8 * (at + 8))
-lists_word octets end at turned word old xs new turn inside after before lists =
-    let next : 8 * at + 64 ≡ 8 * (at + 8) = omega arith in
-    rw (← next)
+pub appends_changes : (octets : List ℕ) (width : ℕ) (old new : List ℕ) → Lists (turns_below octets width) old new 0 width
+    → AppendsChanges (colors (bits_in MsbFirst octets width)) old new
+appends_changes octets width old new lists = (
+  lists.places,
+  lists.appended,
+  are_changes octets width lists.places (record {
+    places = lists.places;
+    appended = refl;
+    rising = lists.rising;
+    only = lists.only;
+    all = lists.all;
+  }),
+)
+
+-- ---- the next word with a change
+
+-- no bit past the end counts
+pub past_end : (octets : List ℕ) (end k : ℕ) → end ≤ k → turns_below octets end k ≡ false
+past_end octets end k le = rw (le-ltb k end le) refl
+
+pub bit_of_none : (k : ℕ) → bit_of_word 0 k ≡ false
+bit_of_none k = ap (λ b. nat_eq b 1) (bit_at-zero (63 - k))
+
+-- no word where the end is reached
+pub next_past : (octets : List ℕ) (end from : ℕ) → from % 8 ≡ 0 → end ≤ 8 * from → 8 * from ≤ end + 128 → NextTurns octets end from from 0
+next_past octets end from aligned past few = record {
+  low = omega arith;
+  high = few;
+  aligned = aligned;
+  none = λ k low h. absurd (omega arith);
+  word = λ k h. bit_of_none k ∙ sym (past_end octets end (8 * from + k) (omega arith));
+}
+
+-- the word from there on
+pub next_here : (octets : List ℕ) (end from turned : ℕ) → from % 8 ≡ 0 → 8 * from < end → ((k : ℕ) → k < 64
+    → bit_of_word turned k ≡ turns_below octets end (8 * from + k)) → NextTurns octets end from from turned
+next_here octets end from turned aligned below is = record {
+  low = omega arith;
+  high = omega arith;
+  aligned = aligned;
+  none = λ k low h. absurd (omega arith);
+  word = is;
+}
+
+-- a word with no change is passed over
+pub next_on : (octets : List ℕ) (end from at turned : ℕ) → from % 8 ≡ 0 → ((k : ℕ) → k < 64 → bit_of_word 0 k ≡ turns_below octets end (8 *
+    from + k)) → NextTurns octets end (from + 8) at turned → NextTurns octets end from at turned
+next_on octets end from at turned aligned is next = record {
+  low = omega (arith, next.low);
+  high = next.high;
+  aligned = next.aligned;
+  none = λ k low h.
+      elim (cases_lt k (8 * (from + 8))) [
+        | inl lt ↦
+            let back : 8 * from + (k - 8 * from) ≡ k = omega arith in
+            ap (turns_below octets end) (sym back) ∙ (sym (is (k - 8 * from) (omega arith)) ∙ bit_of_none (k - 8 * from))
+        | inr le ↦ next.none k le h
+      ];
+  word = next.word;
+}
+
+bit_before_is : (octets : List ℕ) (place : ℕ) → 0 < place → bit_before octets place ≡ bit_in MsbFirst octets (place - 1)
+bit_before_is octets zero some = absurd (omega arith)
+bit_before_is octets (suc place) some = let e : suc place - 1 ≡ place = omega arith in ap (bit_in MsbFirst octets) (sym e)
+
+alike : (a b bit : Bool) → a ≡ bit → b ≡ bit → differ a b ≡ false
+alike true true bit p q = refl
+alike false false bit p q = refl
+alike true false bit p q = absurd (true≢false (p ∙ sym q))
+alike false true bit p q = absurd (true≢false (q ∙ sym p))
+
+no_change : (octets : List ℕ) (from end place k : ℕ) (bit : Bool) → 0 < from → bit_in MsbFirst octets (8 * from - 1) ≡ bit
+    → IsFirstOther octets (8 * from) end bit place → 8 * from ≤ k → k < place → turns_at octets k ≡ false
+no_change octets from end place k bit some before first low h =
+    alike (bit_in MsbFirst octets k) (bit_before octets k) bit (first.before k low h)
+    (bit_before_is octets k (omega arith) ∙
+    elim (cases_lt (8 * from) k) [
+      | inl lt ↦ first.before (k - 1) (omega arith) (omega arith)
+      | inr le ↦ let e : k - 1 ≡ 8 * from - 1 = omega arith in ap (bit_in MsbFirst octets) e ∙ before
+    ])
+
+no_change_below : (octets : List ℕ) (from end place k : ℕ) (bit : Bool) → 0 < from → bit_in MsbFirst octets (8 * from - 1) ≡ bit
+    → IsFirstOther octets (8 * from) end bit place → 8 * from ≤ k → k < place → turns_below octets end k ≡ false
+no_change_below octets from end place k bit some before first low h =
+    rw (lt-ltb k end (omega (arith, first.high))) (no_change octets from end place k bit some before first low h)
+
+-- no change up to the end
+pub next_none : (octets : List ℕ) (from end place : ℕ) (bit : Bool) → 0 < from → 8 * from < end
+    → bit_in MsbFirst octets (8 * from - 1) ≡ bit → IsFirstOther octets (8 * from) end bit place → end ≤ place
+    → NextTurns octets end from ((end + 63) / 64 * 8) 0
+next_none octets from end place bit some below before first past = record {
+  low = omega arith;
+  high = omega arith;
+  aligned = omega arith;
+  none = λ k low h.
+      elim (cases_lt k place) [
+        | inl lt ↦ no_change_below octets from end place k bit some before first low lt
+        | inr le ↦ past_end octets end k (omega arith)
+      ];
+  word = λ k h. bit_of_none k ∙ sym (past_end octets end ((8 * ((end + 63) / 64 * 8)) + k) (omega arith));
+}
+
+-- the word with the next change
+pub next_found : (octets : List ℕ) (from end place turned : ℕ) (bit : Bool) → 0 < from → from % 8 ≡ 0
+    → bit_in MsbFirst octets (8 * from - 1) ≡ bit → IsFirstOther octets (8 * from) end bit place → place < end → ((k : ℕ) → k < 64
+    → bit_of_word turned k ≡ turns_below octets end (8 * (place / 64 * 8) + k)) → NextTurns octets end from (place / 64 * 8) turned
+next_found octets from end place turned bit some aligned before first inside is = record {
+  low = omega (arith, first.low);
+  high = omega arith;
+  aligned = omega arith;
+  none = λ k low h. no_change_below octets from end place k bit some before first low (omega arith);
+  word = is;
+}
+
+-- the bits of a word below the end
+pub below_end : (octets : List ℕ) (end at turned word k : ℕ) → ((j : ℕ) → j < 64 → bit_of_word turned j ≡ turns_at octets (8 * at + j))
+    → ((j : ℕ) → j < end - 8 * at → bit_of_word word j ≡ bit_of_word turned j)
+    → ((j : ℕ) → end - 8 * at ≤ j → j < 64 → bit_of_word word j ≡ false) → k < 64 → bit_of_word word k ≡ turns_below octets end (8 * at + k)
+below_end octets end at turned word k turn inside after h =
+    elim (cases_lt (8 * at + k) end) [
+      | inl lt ↦ rw (lt-ltb (8 * at + k) end lt) (inside k (omega arith) ∙ turn k h)
+      | inr le ↦ after k (omega arith) h ∙ sym (past_end octets end (8 * at + k) le)
+    ]
+
+-- one word more, and those up to the next one
+pub lists_word : (octets : List ℕ) (end at word next turned : ℕ) (old xs new : List ℕ) → ((k : ℕ) → k < 64
+    → bit_of_word word k ≡ turns_below octets end (8 * at + k)) → Lists (turns_below octets end) old xs 0 (8 * at)
+    → Lists (λ k. bit_of_word word (k - 8 * at)) xs new (8 * at) (8 * at + 64) → NextTurns octets end (at + 8) next turned
+    → Lists (turns_below octets end) old new 0 (8 * next)
+lists_word octets end at word next turned old xs new is before lists after =
+    lists_join (turns_below octets end) old new new 0 (8 * at + 64) (8 * next) (omega arith) (omega (arith, after.low))
     (lists_join (turns_below octets end) old xs new 0 (8 * at) (8 * at + 64) (omega arith) (omega arith) before
     (lists_same (λ k. bit_of_word word (k - 8 * at)) (turns_below octets end) xs new (8 * at) (8 * at + 64) same lists))
+    (lists_none (turns_below octets end) new (8 * at + 64) (8 * next) (λ k low h. after.none k (omega arith) h))
   where
     same : (k : ℕ) → 8 * at ≤ k → k < 8 * at + 64 → turns_below octets end k ≡ bit_of_word word (k - 8 * at)
     same k low h =
-        elim (cases_lt k end) [
-          | inl lt ↦
-              let back : 8 * at + (k - 8 * at) ≡ k = omega arith in
-              rw (lt-ltb k end lt)
-              (ap (turns_at octets) (sym back) ∙ (sym (turn (k - 8 * at) (omega arith)) ∙ sym (inside (k - 8 * at) (omega arith))))
-          | inr le ↦ rw (le-ltb k end le) (sym (after (k - 8 * at) (omega arith) (omega arith)))
-        ]
+        let back : 8 * at + (k - 8 * at) ≡ k = omega arith in
+        ap (turns_below octets end) (sym back) ∙ sym (is (k - 8 * at) (omega arith))
+
+-- the places up to the end are all
+pub lists_end : (octets : List ℕ) (end at : ℕ) (old new : List ℕ) → end ≤ at → Lists (turns_below octets end) old new 0 at
+    → Lists (turns_below octets end) old new 0 end
+lists_end octets end at old new past lists = record {
+  places = lists.places;
+  appended = lists.appended;
+  rising = lists.rising;
+  only = λ i h.
+      let is = lists.only i h in (
+        is.0,
+        elim (cases_lt (get_or lists.places i 0) end) [
+          | inl lt ↦ lt
+          | inr le ↦ absurd (true≢false (sym is.2 ∙ past_end octets end (get_or lists.places i 0) le))
+        ],
+        is.2,
+      );
+  all = λ k low h e. lists.all k low (omega arith) e;
+}
+
+-- what stood in a list before its places is its front
+pub front_kept : (old out places : List ℕ) (next : ℕ) → next ≤ length out → take next out ≡ old ++ places → take (length old) out ≡ old
+front_kept old out places next within is =
+    let long : length old ≤ next = omega (arith, sym (length-take-le next out within) ∙ (ap length is ∙ length-append old places)) in
+    sym (take-take (length old) next out long) ∙ (ap (take (length old)) is ∙ take_at old places (length old) refl)

@@ -1,6 +1,6 @@
 //! Bits that are kept eight an octet, in either order.
 
-ghost use Rattle.raster.specs.Changes.{AreChanges};
+ghost use Rattle.raster.specs.Changes.{AppendsChanges};
 ghost use Rattle.raster.specs.Pixels.{colors};
 ghost use Rattle.raster.specs.Packed.{bit_in, bits_in, bits_of, place_in, IsPacked, Bits, FillsOctets};
 ghost use Rattle.raster.specs.Runs.{colored};
@@ -214,14 +214,15 @@ impl PackedBits {
         first_other(&self.octets, from, self.count as u32, bit)
     }
 
-    /// All changing positions of the bits as a row.
+    /// Appends all changing positions of the bits as a row.
     #[tactic(auto, using(crate::proofs::PackedLemmas::views))]
-    pub(crate) fn changes(&self, alloc: Global) -> Result<Vec<u32>, AllocError>
+    pub(crate) fn changes(&self, out: &mut Vec<u32>) -> Result<(), AllocError>
         requires order { self.now.order ≡ Order.MsbFirst }
         requires small { length self.now.bits ≤ 2432 }
-        ensures { IfOk result (λ places. AreChanges (colors self.now.bits) places.items) }
+        ensures ok { OnOk result (AppendsChanges (colors self.now.bits) out.old.items out.new.items) }
+        ensures err { OnErr result (out.new.items ≡ out.old.items) }
     {
-        changes(alloc, &self.octets, self.count as u32)
+        changes(&self.octets, self.count as u32, out)
     }
 
     /// The octets that hold the bits, lent, the last one filled with 0 bits.

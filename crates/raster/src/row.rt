@@ -1,6 +1,6 @@
 //! Rows of pixels.
 
-ghost use Rattle.raster.specs.Changes.{AppendsChanges, AreChanges, IsNextChange};
+ghost use Rattle.raster.specs.Changes.{AppendsChanges, IsNextChange};
 ghost use Rattle.raster.specs.Pbm.{row_pixels};
 ghost use Rattle.raster.specs.PbmText.{HoldsRow};
 ghost use Rattle.raster.specs.Pixels.{other, color_of, colors, IsWidth};
@@ -152,17 +152,6 @@ impl Row {
         self.pixels.first_other(from, before)
     }
 
-    /// All changing positions of the row.
-    #[tactic(auto, using(crate::proofs::RowLemmas::lengths))]
-    fn collected_changes(&self, alloc: Global) -> Result<Vec<u32>, AllocError>
-        ensures { IfOk result (λ places. AreChanges self.now places.items) }
-    {
-        if self.next_change(0) >= self.width() {
-            return Ok(Vec::new(alloc)); // a white row has none
-        }
-        self.pixels.changes(alloc)
-    }
-
     /// Appends all changing positions of the row, in rising order (ITU-T T.6, 2.2.1). Errs where memory
     /// is refused, which changes nothing.
     #[tactic(auto, using(crate::proofs::RowLemmas::lengths))]
@@ -170,12 +159,8 @@ impl Row {
         ensures ok { OnOk result (AppendsChanges self.now out.old.items out.new.items) }
         ensures err { OnErr result (out.new.items ≡ out.old.items) }
     {
-        let places = self.collected_changes(alloc)?;
-        if out.is_empty() {
-            *out = places;
-            return Ok(());
-        }
-        out.extend_from_slice(&places)
+        let _width = self.width();
+        self.pixels.changes(out)
     }
 
     /// The end of the run of a color that goes on at a place: the first place from there on with the

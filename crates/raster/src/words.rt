@@ -238,6 +238,7 @@ pub(crate) fn set_run(order: Order, octets: &mut Vec<u8>, at: usize, within: u32
 }
 
 /// The first place of a word from a place on whose bit is another, or 64.
+#[inline(always)]
 pub(crate) fn first_in_word(word: u64, from: u32, bit: bool) -> u32
     requires { from < 64 }
     ensures { IsFirstInWord word from bit result }
@@ -264,7 +265,7 @@ fn first_in_piece(octets: &[u8], at: usize, bit: bool) -> (u32, u32)
 }
 
 /// The first place of octets from an octet on whose bit is another, or the end.
-fn first_other_after(octets: &[u8], from: u32, end: u32, bit: bool) -> u32
+pub(crate) fn first_other_after(octets: &[u8], from: u32, end: u32, bit: bool) -> u32
     requires order { 8 * from ≤ end }
     requires within { end ≤ 8 * length octets.now }
     requires small { end ≤ 2432 }
