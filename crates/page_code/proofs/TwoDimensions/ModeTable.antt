@@ -1,34 +1,44 @@
 -- The mode code that the next 7 bits give is the one that begins the bits that are left, if it isn't longer than they are.
 use Rattle.std.proofs.Common.{ℕ, ◌≡◌, ◌/◌, ◌^◌, ◌<◌, ◌≤◌, Bool, true, false, List, length, get_or, Some, None, inl, inr, nat_eq, refl, ap}
 use Rattle.std.proofs.Common.{sym, ◌∙◌, arith}
-use Rattle.std.specs.Prelude.{Option}
+use Rattle.std.specs.Prelude.{Option, IfSome}
 use Rattle.std.proofs.lemmas.Bool.{cases_Bool}
 use Rattle.std.proofs.lemmas.List.FromFn.{get_or-map-range_with_len, length-map-range_with_len}
 use Rattle.std.proofs.lemmas.List.{length-map}
 use Rattle.run_tables.specs.Codes.{text}
-use Rattle.run_tables.specs.Numbers.{IsFirst64, number_text, first_bits}
+use Rattle.run_tables.specs.Numbers.{AreFirst, number_text, first_bits}
 use Rattle.run_tables.specs.Texts.{begins, pick}
 use Rattle.run_tables.proofs.BeginsLemmas.{pick_begins, pick_begun}
-use Rattle.run_tables.proofs.NumberLemmas.{word_first, begins_filled, begins_unfilled, begins_within}
+use Rattle.run_tables.proofs.NumberLemmas.{front_first, begins_filled, begins_unfilled, begins_within}
 use Rattle.page_code.specs.declared.t6.mode.ModeCode.{ModeCode}
 use Rattle.page_code.specs.declared.t6.mode.ModeCode.TheVariants.{Pass, Horizontal, Vertical}
 use Rattle.page_code.specs.declared.t6.mode.Shift.TheVariants.{V0, VR1, VR2, VR3, VL1, VL2, VL3}
 use Rattle.page_code.specs.TwoDimensions.Fronts.{mode_word, mode_codes}
-use Rattle.page_code.specs.TwoDimensions.ModeTable.{mode_entries}
+use Rattle.page_code.specs.TwoDimensions.ModeTable.{mode_entries, with_length}
 use Rattle.page_code.proofs.TwoDimensions.PageLook.{modes_apart}
 use Rattle.page_code.proofs.TwoDimensions.StepsOn.{mode_stands}
 
 -- the table's length
-pub held_modes : (held : List (Option ModeCode)) → held ≡ mode_entries → length held ≡ 128
+pub held_modes : (held : List (Option ModeCode × ℕ)) → held ≡ mode_entries → length held ≡ 128
 unfolding mode_entries
-held_modes held e = ap length e ∙ length-map-range_with_len (λ next. pick mode_word mode_codes (number_text 7 next)) 0 128
+held_modes held e = ap length e ∙
+    length-map-range_with_len (λ next. with_length (pick mode_word mode_codes (number_text 7 next))) 0 128
 
 -- its entries
-pub mode_entry : (held : List (Option ModeCode)) (next : ℕ) (d : Option ModeCode) → held ≡ mode_entries → next < 128
-    → get_or held next d ≡ pick mode_word mode_codes (number_text 7 next)
+pub mode_entry : (held : List (Option ModeCode × ℕ)) (next : ℕ) (d : Option ModeCode × ℕ) → held ≡ mode_entries → next < 128
+    → get_or held next d ≡ with_length (pick mode_word mode_codes (number_text 7 next))
 unfolding mode_entries
-mode_entry held next d e h = ap (λ (es : List (Option ModeCode)). get_or es next d) e ∙
-    get_or-map-range_with_len (λ next. pick mode_word mode_codes (number_text 7 next)) 0 128 next next d h (omega arith)
+mode_entry held next d e h = ap (λ (es : List (Option ModeCode × ℕ)). get_or es next d) e ∙
+    get_or-map-range_with_len (λ next. with_length (pick mode_word mode_codes (number_text 7 next))) 0 128 next next d h (omega arith)
+
+-- the code of an entry, and its length
+pub entry_code : (o : Option ModeCode) → (with_length o).0 ≡ o
+entry_code None = refl
+entry_code (Some code) = refl
+
+pub entry_length : (o : Option ModeCode) → IfSome (with_length o).0 (λ code. (with_length o).1 ≡ length (mode_word code))
+entry_length None = tt
+entry_length (Some code) = refl
 
 -- each mode code has a bit, and at most 7
 pub mode_some : (code : ModeCode) → (0 < length (mode_word code)) × (length (mode_word code) ≤ 7)
@@ -47,9 +57,9 @@ pub digits_count : (code : ModeCode) (digits : List ℕ) → text digits ≡ mod
 digits_count code digits is = sym (length-map digits (λ (digit : ℕ). nat_eq digit 49)) ∙ ap length is
 
 -- the entry of the first 7 bits
-mode_seen : (x : List Bool) (word : ℕ) (o : Option ModeCode) → IsFirst64 x word
+mode_seen : (x : List Bool) (word : ℕ) (o : Option ModeCode) → AreFirst 57 x word
     → o ≡ pick mode_word mode_codes (number_text 7 (word / 2 ^ 57)) → o ≡ pick mode_word mode_codes (first_bits 7 x)
-mode_seen x word o first e = e ∙ ap (pick mode_word mode_codes) (word_first 7 57 x word refl first)
+mode_seen x word o first e = e ∙ ap (pick mode_word mode_codes) (front_first 7 57 57 x word refl (omega arith) first)
 
 -- a mode code that begins the bits is the one that is found
 mode_begun : (x : List Bool) (code : ModeCode) → begins (mode_word code) x ≡ true → pick mode_word mode_codes (first_bits 7 x) ≡ Some code
@@ -57,7 +67,7 @@ mode_begun x code e = pick_begun mode_word mode_codes code (first_bits 7 x) mode
     (begins_filled (mode_word code) x 7 (mode_some code).1 e)
 
 -- where none is found none begins the bits
-pub none_seen : (x : List Bool) (word : ℕ) (o : Option ModeCode) → IsFirst64 x word
+pub none_seen : (x : List Bool) (word : ℕ) (o : Option ModeCode) → AreFirst 57 x word
     → o ≡ pick mode_word mode_codes (number_text 7 (word / 2 ^ 57)) → o ≡ None → (code : ModeCode) → begins (mode_word code) x ≡ false
 none_seen x word o first e none code = elim (cases_Bool (begins (mode_word code) x)) [
   | inl t ↦
@@ -67,7 +77,7 @@ none_seen x word o first e none code = elim (cases_Bool (begins (mode_word code)
 ]
 
 -- where the bits end inside the one that is found none begins them
-pub cut_seen : (x : List Bool) (word : ℕ) (o : Option ModeCode) (found : ModeCode) → IsFirst64 x word
+pub cut_seen : (x : List Bool) (word : ℕ) (o : Option ModeCode) (found : ModeCode) → AreFirst 57 x word
     → o ≡ pick mode_word mode_codes (number_text 7 (word / 2 ^ 57)) → o ≡ Some found → length x < length (mode_word found)
     → (code : ModeCode) → begins (mode_word code) x ≡ false
 cut_seen x word o found first e is short code = elim (cases_Bool (begins (mode_word code) x)) [
@@ -79,7 +89,7 @@ cut_seen x word o found first e is short code = elim (cases_Bool (begins (mode_w
 ]
 
 -- the one that is found begins the bits, where it isn't longer
-pub found_seen : (x : List Bool) (word : ℕ) (o : Option ModeCode) (found : ModeCode) → IsFirst64 x word
+pub found_seen : (x : List Bool) (word : ℕ) (o : Option ModeCode) (found : ModeCode) → AreFirst 57 x word
     → o ≡ pick mode_word mode_codes (number_text 7 (word / 2 ^ 57)) → o ≡ Some found → length (mode_word found) ≤ length x
     → begins (mode_word found) x ≡ true
 found_seen x word o found first e is fits =

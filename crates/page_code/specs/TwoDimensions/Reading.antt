@@ -54,6 +54,11 @@ ReadsMode old new (Ok code) = (begins (mode_word code) (rest_of old) ≡ true) �
 ReadsMode old new (Err fault) = (fault ≡ record { place = old.place; kind = missing_mode (rest_of old) }) × ((code : ModeCode)
     → begins (mode_word code) (rest_of old) ≡ false)
 
+-- a mode code was read, or none begins the bits that are left and the reader stays
+abbrev pub FindsMode : Reading → Reading → Option ModeCode → Type 0
+FindsMode old new (Some code) = (begins (mode_word code) (rest_of old) ≡ true) × (new ≡ after (mode_word code) old)
+FindsMode old new None = (new ≡ old) × ((code : ModeCode) → begins (mode_word code) (rest_of old) ≡ false)
+
 -- a run of this color has to be there, with room for so many pixels
 abbrev pub HasRoom : ℕ → CodingLine → Option ℕ → Color → ℕ → Type 0
 HasRoom width line first color room = (run_color line first ≡ color) × (length line.pixels + amount first + room ≡ width)

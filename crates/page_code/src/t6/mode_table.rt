@@ -1,36 +1,39 @@
 //! The table by which mode codes are read (ITU-T T.6, 2.2.2, table 1): from the next 7 bits to the mode
-//! code that begins them.
+//! code that begins them and its length.
 
 ghost use Rattle.page_code.specs.TwoDimensions.Fronts.{mode_word, mode_codes};
 ghost use Rattle.page_code.specs.TwoDimensions.ModeTable.{mode_entries};
 ghost use Rattle.run_tables.specs.Numbers.{number_text};
 ghost use Rattle.run_tables.specs.Texts.{pick};
-ghost use Rattle.std.specs.Prelude.{◌≡◌, ◌<◌};
+ghost use Rattle.std.specs.Prelude.{◌≡◌, ◌<◌, IfSome, length};
 
 use crate::t6::mode::{ModeCode, Shift};
 
-const NO: Option<ModeCode> = None;
+/// A mode code and how many bits it has, or none and 0.
+type Entry = (Option<ModeCode>, u8);
 
-const P: Option<ModeCode> = Some(ModeCode::Pass);
+const NO: Entry = (None, 0);
 
-const H: Option<ModeCode> = Some(ModeCode::Horizontal);
+const P: Entry = (Some(ModeCode::Pass), 4);
 
-const V0: Option<ModeCode> = Some(ModeCode::Vertical(Shift::V0));
+const H: Entry = (Some(ModeCode::Horizontal), 3);
 
-const R1: Option<ModeCode> = Some(ModeCode::Vertical(Shift::VR1));
+const V0: Entry = (Some(ModeCode::Vertical(Shift::V0)), 1);
 
-const R2: Option<ModeCode> = Some(ModeCode::Vertical(Shift::VR2));
+const R1: Entry = (Some(ModeCode::Vertical(Shift::VR1)), 3);
 
-const R3: Option<ModeCode> = Some(ModeCode::Vertical(Shift::VR3));
+const R2: Entry = (Some(ModeCode::Vertical(Shift::VR2)), 6);
 
-const L1: Option<ModeCode> = Some(ModeCode::Vertical(Shift::VL1));
+const R3: Entry = (Some(ModeCode::Vertical(Shift::VR3)), 7);
 
-const L2: Option<ModeCode> = Some(ModeCode::Vertical(Shift::VL2));
+const L1: Entry = (Some(ModeCode::Vertical(Shift::VL1)), 3);
 
-const L3: Option<ModeCode> = Some(ModeCode::Vertical(Shift::VL3));
+const L2: Entry = (Some(ModeCode::Vertical(Shift::VL2)), 6);
+
+const L3: Entry = (Some(ModeCode::Vertical(Shift::VL3)), 7);
 
 /// By the number that 7 bits write, the first the most significant.
-const BY_7: [Option<ModeCode>; 128] = [
+const BY_7: [Entry; 128] = [
     NO, NO, L3, R3, L2, L2, R2, R2, P, P, P, P, P, P, P, P, H, H, H, H, H, H, H, H, H, H, H, H, H,
     H, H, H, L1, L1, L1, L1, L1, L1, L1, L1, L1, L1, L1, L1, L1, L1, L1, L1, R1, R1, R1, R1, R1,
     R1, R1, R1, R1, R1, R1, R1, R1, R1, R1, R1, V0, V0, V0, V0, V0, V0, V0, V0, V0, V0, V0, V0, V0,
@@ -39,17 +42,19 @@ const BY_7: [Option<ModeCode>; 128] = [
     V0, V0, V0,
 ];
 
-/// The mode code that begins each text of 7 bits, or none.
-fn entries() -> &'static [Option<ModeCode>]
+/// The entry of each text of 7 bits.
+fn entries() -> &'static [(Option<ModeCode>, u8)]
     ensures { result.now ≡ mode_entries }
 {
     &BY_7
 }
 
-/// The mode code that begins the 7 bits that a number writes, or none.
-pub(crate) fn mode_of(next: u32) -> Option<ModeCode>
+/// The mode code that begins the 7 bits that a number writes, and how many bits it has; or none.
+#[inline(always)]
+pub(crate) fn mode_of(next: u32) -> (Option<ModeCode>, u8)
     requires { next < 128 }
-    ensures { result ≡ pick mode_word mode_codes (number_text 7 next) }
+    ensures code { result.0 ≡ pick mode_word mode_codes (number_text 7 next) }
+    ensures length { IfSome result.0 (λ code. result.1 ≡ length (mode_word code)) }
 {
     let entries = entries();
     entries[next as usize]

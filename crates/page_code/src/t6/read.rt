@@ -3,7 +3,7 @@
 ghost use Rattle.page_code.specs.RowsSoFar.{IsReadTo, ReadsOn};
 ghost use Rattle.page_code.specs.TwoDimensions.Fronts.{mode_word, mode_codes};
 ghost use Rattle.page_code.specs.TwoDimensions.Modes.{eofb};
-ghost use Rattle.page_code.specs.TwoDimensions.Reading.{LeadsOn, MovesTo, ReadsHorizontal, ReadsMode};
+ghost use Rattle.page_code.specs.TwoDimensions.Reading.{FindsMode, LeadsOn, MovesTo, ReadsHorizontal};
 ghost use Rattle.page_code.specs.TwoDimensions.Reading.{ReadsRow, SeesStart, StepsOn, missing_mode};
 ghost use Rattle.page_code.specs.TwoDimensions.Writing.{reference_at};
 ghost use Rattle.raster.specs.Packed.{bits_of};
@@ -118,21 +118,22 @@ fn no_mode(reader: &BitReader) -> CodeFault
     CodeFault::new(reader.place(), kind)
 }
 
-/// The next mode code (ITU-T T.6, 2.2.2).
+/// The next mode code (ITU-T T.6, 2.2.2), or none where none begins the bits that are left.
 #[inline(always)]
-fn next_mode(reader: &mut BitReader) -> Result<ModeCode, CodeFault>
-    ensures { ReadsMode reader.old reader.new result }
+fn next_mode(reader: &mut BitReader) -> Option<ModeCode>
+    ensures { FindsMode reader.old reader.new result }
 {
     let _start = reader.place(); // tells the proof that it is within the bits
-    let Some(code) = mode_of((reader.peek() >> 57) as u32) else {
-        return Err(no_mode(reader));
+    let (mode, count) = mode_of((reader.peek_57() >> 57) as u32);
+    let length = count as usize % 8;
+    let Some(code) = mode else {
+        return None;
     };
-    let length = code.digits().len();
     let Some(_last) = reader.ahead(length - 1) else {
-        return Err(no_mode(reader));
+        return None;
     };
     reader.skip(length);
-    Ok(code)
+    Some(code)
 }
 
 /// Pass mode: a0 goes under b2.
@@ -161,12 +162,11 @@ fn vertical(
     let a0 = *line.a0();
     let from = a0.right();
     let (b1, _b2) = a0.b1_b2(reference);
-    let right = shift.right();
-    let left = shift.left();
-    if b1 + right < from + left {
+    let reach = b1 + shift.reach();
+    if reach < from + 3 {
         return Err(CodeFault::new(place, CodeFaultKind::Backwards));
     }
-    let a1 = b1 + right - left;
+    let a1 = reach - 3;
     if a1 > reference.width() {
         return Err(CodeFault::new(place, CodeFaultKind::PastEnd));
     }
@@ -205,7 +205,9 @@ fn read_mode(
     ensures same { reference.new ≡ reference.old }
 {
     let place = reader.place();
-    let code = next_mode(reader)?;
+    let Some(code) = next_mode(reader) else {
+        return Err(no_mode(reader));
+    };
     match code {
         ModeCode::Pass => Ok(pass(reference, line)?),
         ModeCode::Horizontal => horizontal(reader, reference.width(), line),
