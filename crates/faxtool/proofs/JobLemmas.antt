@@ -1,12 +1,9 @@
 -- What a parse of the program's words says of its width, and of the words themselves.
-use Rattle.std.proofs.Common.{◌≡◌, ◌≤◌, ◌∙◌, ◌∷◌, [], ℕ, List, Option, Some, None, Result, Ok, Err, true, ap, subst, sym, codes}
+use Rattle.std.proofs.Common.{◌≡◌, ◌≤◌, ◌∙◌, ℕ, List, Option, Some, None, Result, Ok, Err, true, ap, subst, sym, codes}
 use Rattle.std.proofs.Common.{slice_index, inl, inr, unwrap_or, arith, refl}
 use Rattle.std.specs.Str.Parse.{ParsesUnsigned, digits_value, without_leading_plus}
-use Rattle.std.specs.Prelude.{IfOk, false}
-use Rattle.clap.specs.Words.{AddsSubcommand, App, HasKind, IsAmong, ReadsOne, Row, Text, app_of, fault_of, is_simple}
-use Rattle.clap.specs.Words.{is_simple_and_free, kind_of, one_text, rows_of, shape_of, subcommand_of, with_subcommand}
-use Rattle.clap.specs.declared.builder.command.Command.{Command}
-use Rattle.clap.specs.declared.builder.command.Command.TheViews.{out-Command as fields_of}
+use Rattle.clap.specs.Words.{App, HasKind, IsAmong, ReadsOne, Row, Text, fault_of, is_simple}
+use Rattle.clap.specs.Words.{is_simple_and_free, kind_of, one_text, rows_of, subcommand_of}
 use Rattle.clap.specs.declared.parser.matches.Found.{Found}
 use Rattle.clap.specs.declared.error.Error.{Error}
 use Rattle.clap.specs.declared.builder.value_parser.ValueParser.{ValueParser}
@@ -16,7 +13,7 @@ use Rattle.faxtool.specs.declared.words.Job.TheVariants.{Call, Code, Decode, Fra
 use Rattle.faxtool.specs.declared.words.Outcome.{Outcome}
 use Rattle.faxtool.specs.declared.words.Outcome.TheVariants.{Done, Fault, Lacking, Words}
 use Rattle.faxtool.specs.Jobs.{AreOptionsIn, HasNoJob, HasNoOptions, IsFaxtool, IsOutcomeOf, IsRefusalOf, IsWidthIn, ReadsNumber}
-use Rattle.faxtool.specs.Jobs.{TakesNames, call_app, faxtool_app, page_app}
+use Rattle.faxtool.specs.Jobs.{faxtool_app}
 
 -- ---- the width
 
@@ -74,30 +71,6 @@ is_faxtool_simple a is = ap is_simple is.commands ∙ faxtool_simple is.codings 
 
 pub is_faxtool_free : (a : App) → IsFaxtool a → is_simple_and_free a ≡ true
 is_faxtool_free a is = ap is_simple_and_free is.commands ∙ faxtool_free is.codings is.orders is.sizes is.modems
-
--- the commands of pages, and then that of a call
-pub is_faxtool : {E : Type 0} (codings orders sizes modems : ValueParser) → TakesNames codings (codes "mh" ∷ codes "mmr" ∷ [])
-    → TakesNames orders (codes "msb" ∷ codes "lsb" ∷ []) → TakesNames sizes (codes "256" ∷ codes "64" ∷ [])
-    → TakesNames modems (codes "v17" ∷ codes "v27v29" ∷ codes "v29" ∷ codes "v27" ∷ codes "fallback" ∷ [])
-    → (pages call : Command) → app_of pages ≡ page_app codings orders → app_of call ≡ call_app codings sizes modems
-    → (fields_of call).has_globals ≡ false → (r : Result Command E) → IfOk r (λ new. AddsSubcommand pages call new)
-    → IfOk r (λ command. IsFaxtool (app_of command))
-is_faxtool {E} codings orders sizes modems takes_codings takes_orders takes_sizes takes_modems pages call pages_are call_is local (Ok new)
-    adds = record {
-      codings = codings;
-      orders = orders;
-      sizes = sizes;
-      modems = modems;
-      takes_codings = takes_codings;
-      takes_orders = takes_orders;
-      takes_sizes = takes_sizes;
-      takes_modems = takes_modems;
-      commands = adds.shape local
-          ∙ (ap (λ (a : App). with_subcommand a (shape_of call)) pages_are
-          ∙ ap (λ (a : App). with_subcommand (page_app codings orders) a.top) call_is);
-    }
-is_faxtool {E} codings orders sizes modems takes_codings takes_orders takes_sizes takes_modems pages call pages_are call_is local (Err e)
-    adds = tt
 
 -- clap's own refusal
 pub refused_by_kind : (words : List Text) (a : App) (error : Error) (outcome : Outcome) → IsFaxtool a

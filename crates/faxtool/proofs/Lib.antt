@@ -1,2 +1,3 @@
 -- The lemmas of the program.
+mod CommandLemmas
 mod JobLemmas

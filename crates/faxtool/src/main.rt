@@ -7,11 +7,12 @@ ghost use Rattle.faxtool.specs.Jobs.{HasWidth};
 ghost use Rattle.raster.specs.Pixels.{IsWidth};
 ghost use Rattle.std.specs.Prelude.{IfSome};
 
+mod commands;
 mod faults;
 mod files;
 mod notes;
-mod options;
 mod progress;
+mod table;
 mod words;
 
 use engines::{
@@ -222,28 +223,7 @@ fn run_job(rt: &HostRuntime, job: &Job, notes: &mut Notes) -> Result<Outcome, To
             width,
             input,
         } => show_file(rt, *coding, *order, *width, input, notes)?,
-        Job::Decode {
-            coding,
-            order,
-            width,
-            fine,
-            salvage,
-            repair,
-            verbose,
-            input,
-            output,
-        } => {
-            if *repair {
-                repair_file(rt, *order, *width, *fine, *verbose, input, output, notes)?;
-                return Ok(Outcome::Done);
-            }
-            let decoded = if *salvage {
-                salvage_file(rt, *coding, *order, *width, *fine, input, output, notes)
-            } else {
-                decode_file(rt, *coding, *order, *width, *fine, input, output, notes)
-            };
-            tell(rt, *verbose, decoded)?;
-        }
+        Job::Decode { .. } => decode_job(rt, job, notes)?,
         Job::Frames {
             most,
             pages: None,
@@ -266,6 +246,35 @@ fn run_job(rt: &HostRuntime, job: &Job, notes: &mut Notes) -> Result<Outcome, To
         } => call_file(rt, script, options, out.as_deref(), input, notes)?,
     }
     Ok(Outcome::Done)
+}
+
+/// Does a job that decodes a page, in the way that it asks for; another job isn't done.
+fn decode_job(rt: &HostRuntime, job: &Job, notes: &mut Notes) -> Result<(), ToolFault>
+    requires { HasWidth job.now }
+{
+    let Job::Decode {
+        coding,
+        order,
+        width,
+        fine,
+        salvage,
+        repair,
+        verbose,
+        input,
+        output,
+    } = job
+    else {
+        return Ok(());
+    };
+    if *repair {
+        return repair_file(rt, *order, *width, *fine, *verbose, input, output, notes);
+    }
+    let decoded = if *salvage {
+        salvage_file(rt, *coding, *order, *width, *fine, input, output, notes)
+    } else {
+        decode_file(rt, *coding, *order, *width, *fine, input, output, notes)
+    };
+    tell(rt, *verbose, decoded)
 }
 
 /// Codes an image's file. The output's file is opened only once its whole content is made.

@@ -1,0 +1,262 @@
+//! The program's commands with their options and files, as a table.
+ghost use Rattle.faxtool.specs.Jobs.{IsFaxtool, empty_app};
+ghost use Rattle.faxtool.specs.Table.{with_commands};
+
+use clap::ArgAction;
+use clap::builder::ValueParser;
+
+/// An option of a command, or the name of a file.
+#[derive(Clone, Copy)]
+pub(crate) struct Argument<'a> {
+    /// What its value is read by; of an option it is the name too.
+    pub(crate) id: &'a str,
+    pub(crate) is_option: bool,
+    /// What the help calls its value, if it has one.
+    pub(crate) shown: &'a [&'a str],
+    pub(crate) action: ArgAction,
+    pub(crate) required: bool,
+    /// The value where it isn't given, if there is one.
+    pub(crate) defaults: &'a [&'a str],
+    /// What its value has to be, if not any text.
+    pub(crate) parser: Option<ValueParser<'a>>,
+    pub(crate) help: &'a str,
+}
+
+/// A command with its arguments.
+#[derive(Clone, Copy)]
+pub(crate) struct Entry<'a> {
+    pub(crate) name: &'a str,
+    pub(crate) about: &'a str,
+    pub(crate) arguments: &'a [Argument<'a>],
+}
+
+/// An option that has no value.
+const FLAG: Argument<'static> = Argument {
+    id: "",
+    is_option: true,
+    shown: &[],
+    action: ArgAction::SetTrue,
+    required: false,
+    defaults: &[],
+    parser: None,
+    help: "",
+};
+
+/// An option with the name of a file.
+const FILE_OPTION: Argument<'static> = Argument {
+    shown: &["FILE"],
+    action: ArgAction::Set,
+    ..FLAG
+};
+
+/// An option that is one of several names.
+const CHOICE: Argument<'static> = Argument {
+    shown: &["NAME"],
+    ..FILE_OPTION
+};
+
+/// The name of a file, which is required.
+const FILE: Argument<'static> = Argument {
+    is_option: false,
+    required: true,
+    ..FILE_OPTION
+};
+
+const CODINGS: Option<ValueParser<'static>> = Some(ValueParser::Names(&["mh", "mmr"]));
+
+const CODE: Argument<'static> = Argument {
+    id: "code",
+    shown: &["CODE"],
+    required: true,
+    parser: CODINGS,
+    help: "The code of the page: mh codes each row by its runs alone, mmr after the row above",
+    ..FILE_OPTION
+};
+
+const WIDTH: Argument<'static> = Argument {
+    id: "width",
+    shown: &["N"],
+    required: true,
+    parser: Some(ValueParser::Signed(1, 2432)),
+    help: "The width of the page in pixels, 1 to 2432",
+    ..FILE_OPTION
+};
+
+const ORDER: Argument<'static> = Argument {
+    id: "order",
+    shown: &["ORDER"],
+    defaults: &["msb"],
+    parser: Some(ValueParser::Names(&["msb", "lsb"])),
+    help: "Which bit of an octet of the code comes first, the most or the least significant",
+    ..FILE_OPTION
+};
+
+const CODED_PAGE: Argument<'static> = Argument {
+    id: "file",
+    help: "The file of the coded page; - is standard input",
+    ..FILE
+};
+
+const EXPLAIN: Argument<'static> = Argument {
+    id: "explain",
+    help: "Tells a fault in words too, on a second line; a terminal always gets it",
+    ..FLAG
+};
+
+const CODE_ARGUMENTS: &[Argument<'static>] = &[
+    CODE,
+    ORDER,
+    Argument {
+        id: "in",
+        shown: &["IN"],
+        help: "The file of the image, a PBM; - is standard input",
+        ..FILE
+    },
+    Argument {
+        id: "out",
+        shown: &["OUT"],
+        help: "The file that the code is written to; - is standard output",
+        ..FILE
+    },
+    EXPLAIN,
+];
+
+const SHOW_ARGUMENTS: &[Argument<'static>] = &[CODE, WIDTH, ORDER, CODED_PAGE, EXPLAIN];
+
+const DECODE_ARGUMENTS: &[Argument<'static>] = &[
+    CODE,
+    WIDTH,
+    ORDER,
+    Argument {
+        id: "fine",
+        help: "The page has 7.7 lines a millimetre in place of 3.85",
+        ..FLAG
+    },
+    Argument {
+        id: "salvage",
+        help: "Writes the whole rows before the bit where the page can't be read, if there is one",
+        ..FLAG
+    },
+    Argument {
+        id: "repair",
+        help: "Gives each row that can't be read as the one before it, and names it (mh alone)",
+        ..FLAG
+    },
+    Argument {
+        id: "verbose",
+        help: "Tells the page's rows and the bits of its code",
+        ..FLAG
+    },
+    CODED_PAGE,
+    Argument {
+        id: "out",
+        shown: &["OUT"],
+        help: "The file that the image is written to; - is standard output",
+        ..FILE
+    },
+    EXPLAIN,
+];
+
+const FRAMES_ARGUMENTS: &[Argument<'static>] = &[
+    Argument {
+        id: "data",
+        shown: &["N"],
+        parser: Some(ValueParser::Signed(0, 300)),
+        help: "Shows at most N octets of a content, and `..` where it has more",
+        ..FILE_OPTION
+    },
+    Argument {
+        id: "pages",
+        help: "The folder that the pages in the frames are written to, as page-1.pbm and so on",
+        ..FILE_OPTION
+    },
+    Argument {
+        id: "file",
+        help: "The file of the bits; - is standard input",
+        ..FILE
+    },
+    EXPLAIN,
+];
+
+const CALL_ARGUMENTS: &[Argument<'static>] = &[
+    Argument {
+        id: "script",
+        required: true,
+        help: "The file of the script: what happens on the line",
+        ..FILE_OPTION
+    },
+    Argument {
+        id: "code",
+        defaults: &["mmr"],
+        parser: CODINGS,
+        help: "The code of the pages",
+        ..CHOICE
+    },
+    Argument {
+        id: "frame",
+        defaults: &["256"],
+        parser: Some(ValueParser::Names(&["256", "64"])),
+        help: "The octets of data in a frame",
+        ..CHOICE
+    },
+    Argument {
+        id: "modems",
+        defaults: &["v17"],
+        parser: Some(ValueParser::Names(&["v17", "v27v29", "v29", "v27", "fallback"])),
+        help: "The modems of both stations",
+        ..CHOICE
+    },
+    Argument {
+        id: "fine",
+        help: "Sends 7.7 lines a millimetre in place of 3.85",
+        ..FLAG
+    },
+    Argument {
+        id: "out",
+        help: "The file that the stored pages are written to, as PBM",
+        ..FILE_OPTION
+    },
+    Argument {
+        id: "in",
+        shown: &["IN"],
+        help: "The file of the document, a PBM; - is standard input",
+        ..FILE
+    },
+    EXPLAIN,
+];
+
+/// The commands, in the order of the help.
+static COMMANDS: [Entry<'static>; 5] = [
+    Entry {
+        name: "code",
+        about: "Writes the code of an image into a file",
+        arguments: CODE_ARGUMENTS,
+    },
+    Entry {
+        name: "show",
+        about: "Prints the first page in a file as text",
+        arguments: SHOW_ARGUMENTS,
+    },
+    Entry {
+        name: "decode",
+        about: "Writes the first page in a file as a PBM",
+        arguments: DECODE_ARGUMENTS,
+    },
+    Entry {
+        name: "frames",
+        about: "Lists the frames in a file of bits, the least significant of an octet first",
+        arguments: FRAMES_ARGUMENTS,
+    },
+    Entry {
+        name: "call",
+        about: "Runs a call by a script, and prints its transcript",
+        arguments: CALL_ARGUMENTS,
+    },
+];
+
+/// The program's commands.
+pub(crate) fn commands<'a>() -> &'a [Entry<'a>]
+    ensures { IsFaxtool (with_commands empty_app result.now) }
+{
+    &COMMANDS
+}
