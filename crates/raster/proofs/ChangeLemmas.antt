@@ -7,7 +7,7 @@ use Rattle.std.proofs.lemmas.List.{append-nil, get_or_append_left, get_or-append
 use Rattle.std.proofs.lemmas.List.Elements.{Contains-append_left, Contains-append_right}
 use Rattle.std.proofs.lemmas.Nat.Bits.{bit_at-lt, bit_at_above, bit_at_and, bit_at_or, bit_at_xor, bit_at_not, bit_at_ones}
 use Rattle.std.proofs.lemmas.Nat.Bits.{bit_at_ones_above, ones_shr, same_from_bits_below, bit_at-zero}
-use Rattle.std.proofs.lemmas.Bool.{cases_lt, and_parts, lt-ltb, le-ltb, true≢false}
+use Rattle.std.proofs.lemmas.Bool.{cases_lt, and_parts, lt-ltb, le-ltb, ltb-true, true≢false}
 use Rattle.std.proofs.lemmas.Nat.{shr-shr, and_le_l, and_le_r, pow_pos}
 use Rattle.raster.specs.Packed.{bit_in, bits_in}
 use Rattle.raster.specs.Pixels.{color_of, colors}
@@ -422,3 +422,17 @@ lists_word octets end at turned word old xs new turn inside after before lists =
               (ap (turns_at octets) (sym back) ∙ (sym (turn (k - 8 * at) (omega arith)) ∙ sym (inside (k - 8 * at) (omega arith))))
           | inr le ↦ rw (le-ltb k end le) (sym (after (k - 8 * at) (omega arith) (omega arith)))
         ]
+
+-- past the end there are none
+pub lists_end : (octets : List ℕ) (end mid : ℕ) (old new : List ℕ) → end ≤ mid → Lists (turns_below octets end) old new 0 mid
+    → Lists (turns_below octets end) old new 0 end
+lists_end octets end mid old new fits lists = record {
+  places = lists.places;
+  appended = lists.appended;
+  rising = lists.rising;
+  only = λ i h. let is = lists.only i h in (is.0, below (get_or lists.places i 0) is.2, is.2);
+  all = λ k low h e. lists.all k low (omega arith) e;
+}
+  where
+    below : (k : ℕ) → turns_below octets end k ≡ true → k < end
+    below k is = ltb-true k end (and_parts (nat_lt k end) (turns_at octets k) is).0

@@ -64,11 +64,12 @@ fn push_turns(octets: &[u8], end: u32, out: &mut Vec<u32>) -> Result<(), AllocEr
     ensures { OnOk result (Lists (λ place. nat_lt place end && turns_at octets.now place) out.old.items out.new.items 0 end) }
 {
     let mut at: u32 = 0;
-    while 8 * at < end {
-        let word = first_bits(turns(octets, at as usize), end - 8 * at);
-        push_places(word, 8 * at, out)?;
+    while 8 * at + 64 <= end {
+        push_places(turns(octets, at as usize), 8 * at, out)?;
         at += 8;
     }
+    let last = first_bits(turns(octets, at as usize), end - 8 * at);
+    push_places(last, 8 * at, out)?;
     Ok(())
 }
 

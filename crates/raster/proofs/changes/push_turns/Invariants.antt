@@ -5,7 +5,7 @@ use Rattle.raster.proofs.changes.push_turns.Given as goal
 
 abbrev pub invariant-loop-at : goal.invariant-loop-at
 invariant-loop-at l = record {
-  few : 8 * l.at ≤ l.end + 64;
+  few : 8 * l.at ≤ l.end;
   listed : Lists (turns_below l.octets l.end) l.fn.out.items l.out.items 0 (8 * l.at);
 }
 
