@@ -42,12 +42,21 @@ impl<'a> BitReader<'a> {
         let mut color = Color::White;
         let mut room = width;
         while room > 0 {
-            let Some(run) = ahead.quick_run(color, room) else {
+            let Some(white) = ahead.quick_run(Color::White, room) else {
                 break;
             };
-            runs.push(run)?;
-            room -= run;
-            color = color.other();
+            runs.push(white)?;
+            room -= white;
+            color = Color::Black;
+            if room == 0 {
+                break;
+            }
+            let Some(black) = ahead.quick_run(Color::Black, room) else {
+                break;
+            };
+            runs.push(black)?;
+            room -= black;
+            color = Color::White;
         }
         *self = ahead;
         Ok(RunsSoFar { runs, color, room })
