@@ -53,7 +53,8 @@ loop-room-preserved c =
 pub returns : goal.returns
 returns c = elim c.loop-room-test.branch [
   | else-loop-room-test w ↦ rw (w.ahead-is, w.runs-is, w.color-is, w.room-is) c.loop-room.invariant.row
-  | then-loop-room-test+in_default w ↦ rw (w.ahead-is, w.runs-is, w.color-is, w.room-is, w.in_default.ensures.none) c.loop-room.invariant.row
+  | then-loop-room-test+in_default w ↦
+      rw (w.ahead-is, w.runs-is, w.color-is, w.room-is, w.in_default.ensures.none) c.loop-room.invariant.row
   | then-loop-room-test+in-Some+in_ok-push+then-room-eq0 w ↦
       let first = in_row_more c.args.width c.args.self.now c.loop-room.ahead w.quick_run.new.self c.loop-room.runs.items White
       c.loop-room.room w.in-Some.white w.loop-room-test.true (rw c.loop-room.invariant.white at c.loop-room.invariant.row)
