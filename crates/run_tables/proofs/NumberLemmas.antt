@@ -192,7 +192,8 @@ pub word_first : (a b : ℕ) (x : List Bool) (word : ℕ) → a + b ≡ 64 → I
 word_first a b x word sum is = front_first a b 64 x word sum (omega arith) is
 
 -- a bit of octets from a place on
-pub bit_rest : (order : Order) (octets : List ℕ) (place k : ℕ) → bit_in order octets (place + k) ≡ get_or (drop place (bits_of order octets))
+pub bit_rest : (order : Order) (octets : List ℕ) (place k : ℕ)
+    → bit_in order octets (place + k) ≡ get_or (drop place (bits_of order octets))
     k false
 unfolding bits_in
 bit_rest order octets place k = sym (get_or-drop place (bits_of order octets) k false ∙ at (cases_lt (place + k) (8 * length octets)))
@@ -254,7 +255,8 @@ text_begins a b count x word value sum enough fits small is e =
     )
 
 -- and the other way round
-pub begins_text : (a b count : ℕ) (x : List Bool) (word value : ℕ) → a + b ≡ 64 → a ≤ count → AreFirst count x word → a ≤ length x → word / 2 ^ b ≡ value
+pub begins_text : (a b count : ℕ) (x : List Bool) (word value : ℕ) → a + b ≡ 64 → a ≤ count → AreFirst count x word
+    → a ≤ length x → word / 2 ^ b ≡ value
     → begins (number_text a value) x ≡ true
 begins_text a b count x word value sum enough is fits e =
     let few : length (number_text a value) ≤ a = omega (arith, length-number_text a value) in

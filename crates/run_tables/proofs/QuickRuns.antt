@@ -1,5 +1,6 @@
 -- Runs that are told from the next bits as a number.
-use Rattle.std.proofs.Common.{ℕ, ◌≡◌, ◌+◌, ◌-◌, ◌*◌, ◌/◌, ◌%◌, ◌^◌, ◌<◌, ◌≤◌, Bool, List, length, drop, Some, None, refl, ap, sym, ◌∙◌, inl, inr, arith}
+use Rattle.std.proofs.Common.{ℕ, ◌≡◌, ◌+◌, ◌-◌, ◌*◌, ◌/◌, ◌%◌, ◌^◌, ◌<◌, ◌≤◌, Bool, List, length, drop, Some, None}
+use Rattle.std.proofs.Common.{refl, ap, sym, ◌∙◌, inl, inr, arith}
 use Rattle.std.specs.Prelude.{Option, Ok}
 use Rattle.std.proofs.lemmas.List.{length-drop}
 use Rattle.raster.specs.declared.row.Color.{Color}
@@ -52,7 +53,8 @@ quick_high color room past old new word high bits low more is first left short s
     let rest : rest_of between ≡ drop bits (rest_of old) =
     rest_after (code_word color high) old ∙ ap (λ (n : ℕ). drop n (rest_of old)) (sym seen.1) in
     let long : more ≤ length (drop bits (rest_of old)) = rw length-drop (omega arith) in
-    let next = code_seen color (57 - bits) (drop bits (rest_of old)) (word * 2 ^ bits % 2 ^ 64) low more more_is (front_moved bits 57 (rest_of
+    let next = code_seen color (57 - bits) (drop bits (rest_of old)) (word * 2 ^ bits % 2 ^ 64) low more more_is (front_moved bits 57
+    (rest_of
     old) word (omega arith) (omega arith) first) (omega arith) more_some long in
     let there : new ≡ after (code_word color low) between =
     moved ∙ ap (λ (n : ℕ). record old { place = n }) (omega (arith, seen.1, next.1)) in

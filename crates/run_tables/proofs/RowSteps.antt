@@ -1,5 +1,5 @@
 -- The runs of a row, one after the other.
-use Rattle.std.proofs.Common.{ℕ, ◌≡◌, ◌+◌, ◌-◌, ◌<◌, ◌++◌, ◌∷◌, [], List, length, replicate, arith, ap, sym, ◌∙◌, length-append}
+use Rattle.std.proofs.Common.{ℕ, ◌≤◌, ◌-◌, ◌<◌, ◌++◌, ◌∷◌, [], List, length, replicate, arith, ap, sym, ◌∙◌, length-append}
 use Rattle.std.specs.Prelude.{Ok}
 use Rattle.std.proofs.lemmas.List.{length-replicate}
 use Rattle.raster.specs.declared.row.Color.{Color}
@@ -16,29 +16,29 @@ use Rattle.run_tables.specs.RowReading.{IsInRow}
 use Rattle.run_tables.proofs.RowReads.{within_row, run_on}
 
 -- one run more
-pub in_row_more : (width : ℕ) (old mid new : Reading) (runs : List ℕ) (color : Color) (pixels run : ℕ) → pixels < width → IsInRow width old mid runs color
-    pixels → ReadsRunWithin color (width - pixels) RunTooLong mid new (Ok run) → IsInRow width old new (runs ++ run ∷ []) (other color)
-    (pixels + run) × (mid.place < new.place)
-in_row_more width old mid new runs color pixels run some row reads =
+pub in_row_more : (width : ℕ) (old mid new : Reading) (runs : List ℕ) (color : Color) (room run : ℕ) → 0 < room
+    → IsInRow width old mid runs color room → ReadsRunWithin color room RunTooLong mid new (Ok run)
+    → IsInRow width old new (runs ++ run ∷ []) (other color) (room - run) × (mid.place < new.place) × (run ≤ room)
+in_row_more width old mid new runs color room run some row reads =
     let drawn : List Color = colored White runs in
-    let room : length drawn + (width - pixels) ≡ width = omega (arith, row.pixels_are, row.short) in
-    let within = within_row color (width - pixels) mid new (Ok run) reads in
+    let within = within_row color room mid new (Ok run) reads in
     let more = colored_push runs run color row.follows in
-    let on = run_on width drawn (width - pixels) color mid new run room (omega (arith, row.pixels_are)) within in (
+    let on = run_on width drawn room color mid new run row.left some within in (
       record {
         bits = within.1 ∙ row.bits;
         within = within.3;
-        pixels_are = omega (
+        left = omega (
           arith,
-          row.pixels_are,
+          row.left,
+          within.0,
           ap length more,
           length-append drawn (replicate run color),
           length-replicate run color,
         );
-        short = omega (arith, within.0, row.short);
         follows = follows_push runs run color row.follows;
         reads = row.reads ∙ (on ∙ ap (λ (p : List Color). reading width (run_ended whole inside width p (other color)) new.place (rest_of
             new)) (sym more));
       },
       within.2,
+      within.0,
     )

@@ -39,12 +39,11 @@ RunWithin color room old new (Err fault) =
       fault.kind,
     )
 
--- runs of a row were read, of so many pixels, and a run of this color is next: reading the row is reading on after them
-pub record IsInRow (width : ℕ) (old new : Reading) (runs : List ℕ) (color : Color) (pixels : ℕ) : Type 0 where
+-- runs of a row were read, so many pixels are left, and a run of this color is next: reading the row is reading on after them
+pub record IsInRow (width : ℕ) (old new : Reading) (runs : List ℕ) (color : Color) (room : ℕ) : Type 0 where
   pub bits : new.bits ≡ old.bits
   pub within : new.place ≤ length new.bits
-  pub pixels_are : pixels ≡ length (colored White runs)
-  pub short : pixels ≤ width
+  pub left : length (colored White runs) + room ≡ width
   pub follows : (tail : List ℕ) → colored White (runs ++ tail) ≡ colored White runs ++ colored color tail
   pub reads : reading width row_begin old.place (rest_of old) ≡ reading width (run_ended whole inside width (colored White runs) color)
       new.place (rest_of new)

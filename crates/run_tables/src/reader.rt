@@ -10,8 +10,8 @@ ghost use Rattle.run_tables.specs.ReadTables.{entry_for};
 ghost use Rattle.run_tables.specs.Reading.{rest_of};
 ghost use Rattle.run_tables.specs.Texts.{begins, is_cut, pick};
 ghost use Rattle.std.specs.Bool.{OnFalse, OnTrue};
-ghost use Rattle.std.specs.Prelude.{None, Ok, OnSome, Some, IfNone, IfSome, if◌then◌else◌, is_some, length, slice_get, ◌*◌, ◌+◌, ◌^◌, ◌/◌, ◌<◌};
-ghost use Rattle.std.specs.Prelude.{◌≡◌, ◌≤◌};
+ghost use Rattle.std.specs.Prelude.{None, Ok, OnSome, Some, IfNone, IfSome, if◌then◌else◌, is_some, length, slice_get};
+ghost use Rattle.std.specs.Prelude.{◌*◌, ◌+◌, ◌^◌, ◌/◌, ◌<◌, ◌≡◌, ◌≤◌};
 
 use crate::fault::{CodeFault, CodeFaultKind};
 use crate::read_table::entry;
@@ -81,7 +81,10 @@ impl<'a> Model for BitReader<'a> {
 
     ghost view = { λ reader. record { bits = bits_of reader.order reader.octets.now; place = 8 * reader.at + reader.within } };
 
-    ghost invariant = { λ reader. record { place : 8 * reader.at + reader.within ≤ 8 * length reader.octets.now; bit : reader.within < 8 } };
+    ghost invariant = { λ reader. record {
+      place : 8 * reader.at + reader.within ≤ 8 * length reader.octets.now;
+      bit : reader.within < 8;
+    } };
 }
 
 impl<'a> BitReader<'a> {

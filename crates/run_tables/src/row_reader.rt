@@ -22,39 +22,44 @@ fn row_of(alloc: Global, runs: &[u32]) -> Result<Row, AllocError>
     }
 }
 
-/// The runs of a row that were read, the color of the next one, and how many pixels they are.
+/// The runs of a row that were read, the color of the next one, and how many pixels are left.
 #[derive(Drop)]
 struct RunsSoFar {
     runs: Vec<u32>,
     color: Color,
-    pixels: u32,
+    room: u32,
 }
 
 impl<'a> BitReader<'a> {
     /// The first runs of a row, as many as can be told quickly.
     fn quick_runs(&mut self, alloc: Global, width: u32) -> Result<RunsSoFar, AllocError>
         requires { IsWidth width }
-        ensures { IfOk result (λ row. IsInRow width self.old self.new row.runs.items row.color row.pixels) }
+        ensures { IfOk result (λ row. IsInRow width self.old self.new row.runs.items row.color row.room) }
     {
         let _place = self.place(); // tells the proof that it is within the bits
         let mut ahead = self.look_ahead();
         let mut runs = Vec::with_capacity(alloc, 128)?;
         let mut color = Color::White;
-        let mut pixels = 0;
-        while pixels < width {
-            let Some(run) = ahead.quick_run(color, width - pixels) else {
+        let mut room = width;
+        while room > 0 {
+            let Some(white) = ahead.quick_run(Color::White, room) else {
                 break;
             };
-            runs.push(run)?;
-            pixels += run;
-            color = color.other();
+            runs.push(white)?;
+            room -= white;
+            color = Color::Black;
+            if room == 0 {
+                break;
+            }
+            let Some(black) = ahead.quick_run(Color::Black, room) else {
+                break;
+            };
+            runs.push(black)?;
+            room -= black;
+            color = Color::White;
         }
         *self = ahead;
-        Ok(RunsSoFar {
-            runs,
-            color,
-            pixels,
-        })
+        Ok(RunsSoFar { runs, color, room })
     }
 
     /// The runs of a row of this width. After an error the reader is somewhere in the row.
@@ -65,12 +70,12 @@ impl<'a> BitReader<'a> {
         let RunsSoFar {
             mut runs,
             mut color,
-            mut pixels,
+            mut room,
         } = self.quick_runs(alloc, width)?;
-        while pixels < width {
-            let run = self.read_run_by_codes(color, width - pixels, CodeFaultKind::RunTooLong)?;
+        while room > 0 {
+            let run = self.read_run_by_codes(color, room, CodeFaultKind::RunTooLong)?;
             runs.push(run)?;
-            pixels += run;
+            room -= run;
             color = color.other();
         }
         Ok(runs)

@@ -1,24 +1,70 @@
-use Rattle.std.proofs.Common.{◌≡◌, ◌++◌, ◌∷◌, [], arith}
+use Rattle.std.proofs.Common.{◌≡◌, ◌++◌, ◌∷◌, [], ◌-◌, refl, arith}
 use Rattle.std.proofs.lemmas.Grind.{common_steps}
+use Rattle.raster.specs.declared.row.Color.TheVariants.{White, Black}
 use Rattle.run_tables.specs.declared.fault.CodeFaultKind.TheVariants.{RunTooLong}
 use Rattle.run_tables.proofs.RowSteps.{in_row_more}
 use Rattle.run_tables.proofs.reader.BitReader.quick_runs.Goals as goal
+use Rattle.run_tables.proofs.reader.BitReader.quick_runs.Goals.{else-loop-room-test, then-loop-room-test+in_default}
+use Rattle.run_tables.proofs.reader.BitReader.quick_runs.Goals.{then-loop-room-test+in-Some+in_ok-push+then-room-eq0}
+use Rattle.run_tables.proofs.reader.BitReader.quick_runs.Goals.{then-loop-room-test+in-Some+in_ok-push+else-room-eq0+in_default-quick_run}
 
-pub overflow_add-pixels : goal.overflow_add-pixels
-overflow_add-pixels c =
-    let more = in_row_more c.args.width c.args.self.now c.loop-pixels.ahead c.quick_run.new.self c.loop-pixels.runs.items
-    c.loop-pixels.color c.loop-pixels.pixels c.in-Some.run' c.loop-pixels-test.true c.loop-pixels.invariant (c.in-Some.ensures.some RunTooLong) in
-    omega (arith, more.0.short)
+pub overflow_sub-room : goal.overflow_sub-room
+overflow_sub-room c =
+    let more = in_row_more c.args.width c.args.self.now c.loop-room.ahead c.quick_run.new.self c.loop-room.runs.items White
+    c.loop-room.room c.in-Some.white c.loop-room-test.true (rw c.loop-room.invariant.white at c.loop-room.invariant.row)
+    (c.in-Some.ensures.some RunTooLong) in
+    more.2
 
-pub loop-pixels-smaller : goal.loop-pixels-smaller
-loop-pixels-smaller c =
-    let more = in_row_more c.args.width c.args.self.now c.loop-pixels.ahead c.quick_run.new.self c.loop-pixels.runs.items
-    c.loop-pixels.color c.loop-pixels.pixels c.in-Some.run' c.loop-pixels-test.true c.loop-pixels.invariant (c.in-Some.ensures.some RunTooLong) in
-    rw (more.0.bits, c.loop-pixels.invariant.bits) (omega (arith, more.1, rw more.0.bits at more.0.within))
+pub overflow_sub-room-in-loop-room : goal.overflow_sub-room-in-loop-room
+overflow_sub-room-in-loop-room c =
+    let first = in_row_more c.args.width c.args.self.now c.loop-room.ahead c.quick_run.new.self c.loop-room.runs.items White
+    c.loop-room.room c.in-Some.white c.loop-room-test.true (rw c.loop-room.invariant.white at c.loop-room.invariant.row)
+    (c.in-Some.ensures.some RunTooLong) in
+    let second = in_row_more c.args.width c.args.self.now c.quick_run.new.self c.quick_run-in-loop-room.new.self (c.loop-room.runs.items ++
+    c.in-Some.white ∷ []) Black (c.loop-room.room - c.in-Some.white) c.in-Some-quick_run.black (omega (arith, c.if-room-eq0.false))
+    first.0 (c.in-Some-quick_run.ensures.some RunTooLong) in
+    second.2
 
-pub loop-pixels-preserved : goal.loop-pixels-preserved
-loop-pixels-preserved c =
-    let more = in_row_more c.args.width c.args.self.now c.loop-pixels.ahead c.quick_run.new.self c.loop-pixels.runs.items
-    c.loop-pixels.color c.loop-pixels.pixels c.in-Some.run' c.loop-pixels-test.true c.loop-pixels.invariant (c.in-Some.ensures.some RunTooLong) in
-    let pushed : c.push.new.self.items ≡ c.loop-pixels.runs.items ++ c.in-Some.run' ∷ [] = grind (arith, common_steps) in
-    rw (pushed, c.other-color.ensures) more.0
+pub loop-room-smaller : goal.loop-room-smaller
+loop-room-smaller c =
+    let first = in_row_more c.args.width c.args.self.now c.loop-room.ahead c.quick_run.new.self c.loop-room.runs.items White
+    c.loop-room.room c.in-Some.white c.loop-room-test.true (rw c.loop-room.invariant.white at c.loop-room.invariant.row)
+    (c.in-Some.ensures.some RunTooLong) in
+    let second = in_row_more c.args.width c.args.self.now c.quick_run.new.self c.quick_run-in-loop-room.new.self (c.loop-room.runs.items ++
+    c.in-Some.white ∷ []) Black (c.loop-room.room - c.in-Some.white) c.in-Some-quick_run.black (omega (arith, c.if-room-eq0.false))
+    first.0 (c.in-Some-quick_run.ensures.some RunTooLong) in
+    rw (second.0.bits, c.loop-room.invariant.row.bits) (omega (arith, first.1, second.1, rw second.0.bits at second.0.within))
+
+pub loop-room-preserved : goal.loop-room-preserved
+loop-room-preserved c =
+    let first = in_row_more c.args.width c.args.self.now c.loop-room.ahead c.quick_run.new.self c.loop-room.runs.items White
+    c.loop-room.room c.in-Some.white c.loop-room-test.true (rw c.loop-room.invariant.white at c.loop-room.invariant.row)
+    (c.in-Some.ensures.some RunTooLong) in
+    let second = in_row_more c.args.width c.args.self.now c.quick_run.new.self c.quick_run-in-loop-room.new.self (c.loop-room.runs.items ++
+    c.in-Some.white ∷ []) Black (c.loop-room.room - c.in-Some.white) c.in-Some-quick_run.black (omega (arith, c.if-room-eq0.false))
+    first.0 (c.in-Some-quick_run.ensures.some RunTooLong) in
+    let pushed : c.push.new.self.items ≡ c.loop-room.runs.items ++ c.in-Some.white ∷ [] = grind (arith, common_steps) in
+    let pushed_too : c.push-in-loop-room.new.self.items ≡ c.push.new.self.items ++ c.in-Some-quick_run.black ∷ [] = grind (
+      arith,
+      common_steps,
+    ) in
+    record { row = rw (pushed_too, pushed) second.0; white = refl }
+
+pub returns : goal.returns
+returns c = elim c.loop-room-test.branch [
+  | else-loop-room-test w ↦ rw (w.ahead-is, w.runs-is, w.color-is, w.room-is) c.loop-room.invariant.row
+  | then-loop-room-test+in_default w ↦
+      rw (w.ahead-is, w.runs-is, w.color-is, w.room-is, w.in_default.ensures.none) c.loop-room.invariant.row
+  | then-loop-room-test+in-Some+in_ok-push+then-room-eq0 w ↦
+      let first = in_row_more c.args.width c.args.self.now c.loop-room.ahead w.quick_run.new.self c.loop-room.runs.items White
+      c.loop-room.room w.in-Some.white w.loop-room-test.true (rw c.loop-room.invariant.white at c.loop-room.invariant.row)
+      (w.in-Some.ensures.some RunTooLong) in
+      let pushed : w.push.new.self.items ≡ c.loop-room.runs.items ++ w.in-Some.white ∷ [] = grind (arith, common_steps) in
+      rw (w.ahead-is, w.runs-is, w.color-is, w.room-is, pushed) first.0
+  | then-loop-room-test+in-Some+in_ok-push+else-room-eq0+in_default-quick_run w ↦
+      let first = in_row_more c.args.width c.args.self.now c.loop-room.ahead w.quick_run.new.self c.loop-room.runs.items White
+      c.loop-room.room w.in-Some.white w.loop-room-test.true (rw c.loop-room.invariant.white at c.loop-room.invariant.row)
+      (w.in-Some.ensures.some RunTooLong) in
+      let pushed : w.push.new.self.items ≡ c.loop-room.runs.items ++ w.in-Some.white ∷ [] = grind (arith, common_steps) in
+      rw (w.ahead-is, w.runs-is, w.color-is, w.room-is, w.in_default-quick_run.ensures.none, pushed) first.0
+]

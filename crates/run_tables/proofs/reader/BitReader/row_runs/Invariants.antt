@@ -2,8 +2,8 @@ use Rattle.std.proofs.Common.{◌-◌, length}
 use Rattle.run_tables.specs.RowReading.{IsInRow}
 use Rattle.run_tables.proofs.reader.BitReader.row_runs.Given as goal
 
-abbrev pub invariant-loop-pixels : goal.invariant-loop-pixels
-invariant-loop-pixels l = IsInRow l.width l.fn.self l.self l.runs.items l.color l.pixels
+abbrev pub invariant-loop-room : goal.invariant-loop-room
+invariant-loop-room l = IsInRow l.width l.fn.self l.self l.runs.items l.color l.room
 
-abbrev pub decreases-loop-pixels : goal.decreases-loop-pixels
-decreases-loop-pixels l = length l.self.bits - l.self.place
+abbrev pub decreases-loop-room : goal.decreases-loop-room
+decreases-loop-room l = length l.self.bits - l.self.place

@@ -5,7 +5,8 @@ use Rattle.run_tables.proofs.NumberLemmas.{starts_past, starts_same}
 use Rattle.run_tables.proofs.reader.BitReader.starts_with.Goals as goal
 
 pub returns-then-not-fits : goal.returns-then-not-fits
-returns-then-not-fits c = starts_past c.args.count c.args.value (rest_of c.args.self.now) (OnFalse_at c.if-not-fits.true c.has-fits.ensures.no)
+returns-then-not-fits c = starts_past c.args.count c.args.value (rest_of c.args.self.now)
+    (OnFalse_at c.if-not-fits.true c.has-fits.ensures.no)
 
 pub returns : goal.returns
 returns c =
