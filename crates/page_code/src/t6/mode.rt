@@ -4,7 +4,7 @@ ghost use Rattle.page_code.specs.TwoDimensions.Fronts.{mode_word};
 ghost use Rattle.page_code.specs.TwoDimensions.Modes.{to_left, to_right, vertical_word};
 ghost use Rattle.raster.specs.Words.{number_bits};
 ghost use Rattle.run_tables.specs.Codes.{text};
-ghost use Rattle.std.specs.Prelude.{◌≡◌, ◌≤◌};
+ghost use Rattle.std.specs.Prelude.{◌≡◌, ◌≤◌, ◌+◌};
 
 /// The end of the facsimile block: twice eleven 0 bits and a 1 (ITU-T T.6, 2.4).
 pub(crate) const EOFB: &[u8] = b"000000000001000000000001";
@@ -56,6 +56,23 @@ impl Shift {
             Shift::VL2 => 2,
             Shift::VL3 => 3,
             Shift::V0 | Shift::VR1 | Shift::VR2 | Shift::VR3 => 0,
+        }
+    }
+
+    /// How far the pixel 3 to the right of a1 is to the right of b1.
+    #[inline(always)]
+    pub(crate) fn reach(self) -> u32
+        ensures reach { result + to_left self ≡ to_right self + 3 }
+        ensures range { result ≤ 6 }
+    {
+        match self {
+            Shift::V0 => 3,
+            Shift::VR1 => 4,
+            Shift::VR2 => 5,
+            Shift::VR3 => 6,
+            Shift::VL1 => 2,
+            Shift::VL2 => 1,
+            Shift::VL3 => 0,
         }
     }
 

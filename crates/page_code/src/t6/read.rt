@@ -124,14 +124,15 @@ fn next_mode(reader: &mut BitReader) -> Option<ModeCode>
     ensures { FindsMode reader.old reader.new result }
 {
     let _start = reader.place(); // tells the proof that it is within the bits
-    let (mode, length) = mode_of((reader.peek_57() >> 57) as u32);
+    let (mode, count) = mode_of((reader.peek_57() >> 57) as u32);
+    let length = count as usize % 8;
     let Some(code) = mode else {
         return None;
     };
-    let Some(_last) = reader.ahead(length as usize - 1) else {
+    let Some(_last) = reader.ahead(length - 1) else {
         return None;
     };
-    reader.skip(length as usize);
+    reader.skip(length);
     Some(code)
 }
 
@@ -161,12 +162,11 @@ fn vertical(
     let a0 = *line.a0();
     let from = a0.right();
     let (b1, _b2) = a0.b1_b2(reference);
-    let right = shift.right();
-    let left = shift.left();
-    if b1 + right < from + left {
+    let reach = b1 + shift.reach();
+    if reach < from + 3 {
         return Err(CodeFault::new(place, CodeFaultKind::Backwards));
     }
-    let a1 = b1 + right - left;
+    let a1 = reach - 3;
     if a1 > reference.width() {
         return Err(CodeFault::new(place, CodeFaultKind::PastEnd));
     }

@@ -6,14 +6,13 @@ use Rattle.page_code.specs.TwoDimensions.Modes.{to_right, to_left}
 use Rattle.page_code.proofs.TwoDimensions.StepsOn.{backwards_leads, past_leads, vertical_leads}
 use Rattle.page_code.proofs.t6.read.vertical.Goals as goal
 
-pub returns-then-b1-right-clause-moves : goal.returns-then-b1-right-clause-moves
-returns-then-b1-right-clause-moves c =
+pub returns-then-reach-from-clause-moves : goal.returns-then-reach-from-clause-moves
+returns-then-reach-from-clause-moves c =
     let from : c.right-from.result ≡ right_of_a0 c.args.line.now = c.right-from.ensures ∙ ap right_of c.a0-a0.ensures.is in
     let back : c.b1_b2-b1.result.0 + to_right c.args.shift < right_of_a0 c.args.line.now + to_left c.args.shift = omega (
       arith,
-      c.if-b1-right.true,
-      c.right-right.ensures.right,
-      c.left-left.ensures.left,
+      c.if-reach-from.true,
+      c.reach.ensures.reach,
       from,
     ) in
     rw c.new.ensures (backwards_leads c.args.reference.now c.args.line.now c.requires c.a0-a0.result.now c.a0-a0.ensures.is c.b1_b2-b1.result.0
@@ -24,16 +23,14 @@ returns-then-a1-width-clause-moves c =
     let from : c.right-from.result ≡ right_of_a0 c.args.line.now = c.right-from.ensures ∙ ap right_of c.a0-a0.ensures.is in
     let right : right_of_a0 c.args.line.now + to_left c.args.shift ≤ c.b1_b2-b1.result.0 + to_right c.args.shift = omega (
       arith,
-      c.if-b1-right.false,
-      c.right-right.ensures.right,
-      c.left-left.ensures.left,
+      c.if-reach-from.false,
+      c.reach.ensures.reach,
       from,
     ) in
     let past : length c.args.reference.now + to_left c.args.shift < c.b1_b2-b1.result.0 + to_right c.args.shift = omega (
       arith,
       c.if-a1-width.true,
-      c.right-right.ensures.right,
-      c.left-left.ensures.left,
+      c.reach.ensures.reach,
       c.width.ensures.width,
       ap length c.b1_b2-b1.ensures.same,
     ) in
@@ -51,19 +48,18 @@ returns-clause-moves c =
     let place : c.a0-a0.result.now.place ≡ length c.args.line.now.pixels = ap (λ (a : A0). a.place) c.a0-a0.ensures.is in
     let right : right_of_a0 c.args.line.now + to_left c.args.shift ≤ c.b1_b2-b1.result.0 + to_right c.args.shift = omega (
       arith,
-      c.if-b1-right.false,
-      c.right-right.ensures.right,
-      c.left-left.ensures.left,
+      c.if-reach-from.false,
+      c.reach.ensures.reach,
       from,
     ) in
-    let there : c.b1_b2-b1.result.0 + c.right-right.result - c.left-left.result ≡ c.b1_b2-b1.result.0 + to_right c.args.shift - to_left c.args.shift =
-    omega (arith, c.right-right.ensures.right, c.left-left.ensures.left) in
-    let within : c.b1_b2-b1.result.0 + c.right-right.result - c.left-left.result ≤ length c.args.reference.now = omega (
+    let there : c.b1_b2-b1.result.0 + c.reach.result - 3 ≡ c.b1_b2-b1.result.0 + to_right c.args.shift - to_left c.args.shift =
+    omega (arith, c.reach.ensures.reach, right) in
+    let within : c.b1_b2-b1.result.0 + c.reach.result - 3 ≤ length c.args.reference.now = omega (
       arith,
       c.if-a1-width.false,
       c.width.ensures.width,
       ap length c.b1_b2-b1.ensures.same,
     ) in
     vertical_leads c.args.reference.now c.args.line.now c.requires c.a0-a0.result.now c.a0-a0.ensures.is c.b1_b2-b1.result.0 c.b1_b2-b1.ensures.first
-    c.args.shift (c.b1_b2-b1.result.0 + c.right-right.result - c.left-left.result) c.a0-a0.result.now.place c.push_run.new.self there right
+    c.args.shift (c.b1_b2-b1.result.0 + c.reach.result - 3) c.a0-a0.result.now.place c.push_run.new.self there right
     within place c.in_ok-push_run.ensures
