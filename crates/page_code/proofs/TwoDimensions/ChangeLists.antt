@@ -1,5 +1,6 @@
 -- A row's changing elements as a list: the next one from a place.
-use Rattle.std.proofs.Common.{ℕ, zero, suc, ◌≡◌, ◌≢◌, ◌+◌, ◌-◌, ◌%◌, ◌<◌, ◌≤◌, inl, inr, List, length, arith, refl, sym, ap, subst, ◌∙◌}
+use Rattle.std.proofs.Common.{ℕ, zero, suc, ◌≡◌, ◌≢◌, ◌+◌, ◌-◌, ◌%◌, ◌<◌, ◌≤◌, ◌++◌, ◌∷◌, [], inl, inr, List, length, length-append, arith, refl}
+use Rattle.std.proofs.Common.{sym, ap, subst, ◌∙◌}
 use Rattle.std.specs.Prelude.{slice_index_or}
 use Rattle.std.proofs.lemmas.Bool.{cases_lt, cases_eq}
 use Rattle.std.proofs.lemmas.List.{get_or_default, get_or_past}
@@ -10,7 +11,7 @@ use Rattle.raster.specs.Pixels.{other}
 use Rattle.raster.proofs.RowLemmas.{other_from_ne}
 use Rattle.run_tables.proofs.RowWriting.{change_after, first_change}
 use Rattle.page_code.proofs.TwoDimensions.Prescribed.{before_next, before_to}
-use Rattle.page_code.specs.TwoDimensions.Changes.{IsFirstFrom, IsIndexOf, turned}
+use Rattle.page_code.specs.TwoDimensions.Changes.{AreHeld, IsFirstFrom, IsFirstHeld, IsIndexOf, turned}
 use Rattle.page_code.specs.TwoDimensions.Positions.{IsFirstTo}
 use Rattle.page_code.proofs.TwoDimensions.WritesMode.{first_to_next}
 
@@ -198,3 +199,95 @@ next_at row places index place next all is next_is = elim (cases_lt index (lengt
         least = λ k low below changing. absurd (omega (arith, low, below, end, after));
       }
 ]
+
+-- ---- the width held after the places
+
+-- a row whose first changing element is its end has none
+pub none_changing : (row : List Color) (place : ℕ) → IsNextChange row 0 place → length row ≤ place → AreChanges row []
+none_changing row place next past = record {
+  rising = λ i j before inside. absurd (omega arith);
+  changing = λ i inside. absurd (omega arith);
+  all = λ k changing. absurd (next.least k (omega arith) (omega (arith, changing.0)) changing);
+}
+
+held_at : (places : List ℕ) (width index d : ℕ) → index < length places + 3
+    → slice_index_or (places ++ width ∷ width ∷ width ∷ []) index d ≡ slice_index_or places index width
+held_at [] width zero d h = refl
+held_at [] width (suc zero) d h = refl
+held_at [] width (suc (suc zero)) d h = refl
+held_at [] width (suc (suc (suc index))) d h = absurd (omega arith)
+held_at (x ∷ places) width zero d h = refl
+held_at (x ∷ places) width (suc index) d h = held_at places width index d (omega arith)
+
+-- how many are held
+pub count_held : (row : List Color) (held : List ℕ) (is : AreHeld row held) → length held ≡ length is.places + 3
+count_held row held is = ap length is.ends ∙ length-append is.places (length row ∷ length row ∷ length row ∷ [])
+
+-- what is held at an index
+at_held : (row : List Color) (held : List ℕ) (is : AreHeld row held) (index d : ℕ) → index < length held
+    → slice_index_or held index d ≡ slice_index_or is.places index (length row)
+at_held row held is index d h = ap (λ (l : List ℕ). slice_index_or l index d) is.ends ∙
+    held_at is.places (length row) index d (omega (arith, h, count_held row held is))
+
+-- the third place from the end is the width
+pub stops_held : (row : List Color) (held : List ℕ) → AreHeld row held → slice_index_or held (length held - 3) 0 ≡ length row
+stops_held row held is = at_held row held is (length held - 3) 0 (omega (arith, count_held row held is)) ∙
+    get_or_past is.places (length held - 3) (length row) (omega (arith, count_held row held is))
+
+-- a search goes no further than that
+pub not_past : (held : List ℕ) (from at : ℕ) → at + 3 ≤ length held → from ≤ slice_index_or held (length held - 3) 0
+    → slice_index_or held at 0 < from → at + 4 ≤ length held
+not_past held from at within stops below = elim (cases_eq at (length held - 3)) [
+  | inl e ↦ absurd (omega (arith, stops, below, ap (λ (i : ℕ). slice_index_or held i 0) e))
+  | inr ne ↦ omega (arith, within, ne)
+]
+
+first_held : (row : List Color) (held : List ℕ) (is : AreHeld row held) (from at : ℕ) → IsFirstHeld held from at
+    → IsFirstFrom is.places from at
+first_held row held is from at first =
+    let count = count_held row held is in
+    record {
+      within = omega (arith, count, first.within);
+      left = λ some. omega (
+        arith,
+        first.left some,
+        at_held row held is (at - 1) 0 (omega (arith, count, first.within)),
+        get_or_default is.places (at - 1) (length row) 0 (omega (arith, some, count, first.within)),
+      );
+      reached = λ inside. omega (
+        arith,
+        first.reached,
+        at_held row held is at 0 (omega (arith, count, first.within)),
+        get_or_default is.places at (length row) 0 inside,
+      );
+    }
+
+-- the first two changing elements from a place on
+pub two_held : (row : List Color) (held : List ℕ) (from at one two : ℕ) → AreHeld row held → IsFirstHeld held from at
+    → one ≡ slice_index_or held at 0 → two ≡ slice_index_or held (at + 1) 0 → IsNextChange row from one × IsNextChange row (one + 1) two
+two_held row held from at one two is first one_is two_is =
+    let here : one ≡ slice_index_or is.places at (length row) = one_is ∙ at_held row held is at 0 (omega (arith, first.within)) in
+    let next : two ≡ slice_index_or is.places (at + 1) (length row) = two_is ∙ at_held row held is (at + 1) 0 (omega (arith, first.within))
+    in (
+      change_at row is.places from at one is.changes (first_held row held is from at first) here,
+      next_at row is.places at one two is.changes here next,
+    )
+
+-- the first one of a color from a place on, and the next
+pub two_held_to : (row : List Color) (held : List ℕ) (color : Color) (from at index one two : ℕ) → AreHeld row held
+    → IsFirstHeld held from at → IsIndexOf color at index → index ≤ at + 1 → one ≡ slice_index_or held index 0
+    → two ≡ slice_index_or held (index + 1) 0 → IsFirstTo row color from one × IsNextChange row (one + 1) two
+two_held_to row held color from at index one two is first index_is near one_is two_is =
+    let here : one ≡ slice_index_or is.places index (length row) = one_is ∙ at_held row held is index 0 (omega (
+      arith,
+      near,
+      first.within,
+    )) in
+    let next : two ≡ slice_index_or is.places (index + 1) (length row) = two_is ∙ at_held row held is (index + 1) 0 (omega (
+      arith,
+      near,
+      first.within,
+    )) in (
+      first_to_at row is.places color from at index one is.changes (first_held row held is from at first) index_is here,
+      next_at row is.places index one two is.changes here next,
+    )

@@ -1,7 +1,8 @@
 -- Places in rising order, such as those of a row's changing elements, and the first of them from a place on (ITU-T T.6, 2.2.1).
-use Rattle.std.specs.Prelude.{ℕ, zero, suc, ◌≡◌, ◌+◌, ◌-◌, ◌<◌, ◌≤◌, ◌⊎◌, List, length, slice_index_or}
+use Rattle.std.specs.Prelude.{ℕ, zero, suc, ◌≡◌, ◌+◌, ◌-◌, ◌<◌, ◌≤◌, ◌⊎◌, ◌++◌, ◌∷◌, [], List, length, slice_index_or}
 use Rattle.raster.specs.declared.row.Color.{Color}
 use Rattle.raster.specs.declared.row.Color.TheVariants.{Black}
+use Rattle.raster.specs.Changes.{AreChanges}
 use Rattle.raster.specs.Pixels.{other}
 
 -- of places in rising order, the one before an index is to the left of a place
@@ -13,6 +14,18 @@ pub record IsFirstFrom (places : List ℕ) (from at : ℕ) : Type 0 where
   pub within : at ≤ length places
   pub left : IsLeftBefore places from at
   pub reached : at < length places → from ≤ slice_index_or places at 0
+
+-- the places of a row's changing elements in rising order, and then the row's width three times
+pub record AreHeld (row : List Color) (held : List ℕ) : Type 0 where
+  pub places : List ℕ
+  pub changes : AreChanges row places
+  pub ends : held ≡ places ++ length row ∷ length row ∷ length row ∷ []
+
+-- the index of the first of some held places that is not to the left of a place
+pub record IsFirstHeld (held : List ℕ) (from at : ℕ) : Type 0 where
+  pub within : at + 3 ≤ length held
+  pub left : IsLeftBefore held from at
+  pub reached : from ≤ slice_index_or held at 0
 
 -- the color of a row's changing element at an index: they alternate, black first, since a row begins after white
 abbrev pub turned : ℕ → Color

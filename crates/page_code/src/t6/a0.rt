@@ -2,7 +2,7 @@
 
 ghost use Rattle.page_code.specs.TwoDimensions.Positions.{IsB2, IsFirstTo, right_of};
 ghost use Rattle.raster.specs.Pixels.{max_width, other};
-ghost use Rattle.std.specs.Prelude.{◌≡◌, ◌≤◌, length, true, false};
+ghost use Rattle.std.specs.Prelude.{◌≡◌, ◌≤◌, ◌<◌, ◌+◌, length, true, false};
 
 use crate::t6::changes::Changes;
 use raster::Color;
@@ -41,7 +41,8 @@ impl A0 {
     #[inline(always)]
     pub(crate) fn right(self) -> u32
         requires { self.place ≤ max_width }
-        ensures { result ≡ right_of self }
+        ensures right { result ≡ right_of self }
+        ensures most { result ≤ 1 + self.place }
     {
         if self.begun {
             self.place + 1
@@ -54,7 +55,7 @@ impl A0 {
     /// b2: the next changing element to the right of b1. Each is the line's end where there is none.
     #[inline(always)]
     pub(crate) fn b1_b2(self, reference: &mut Changes) -> (u32, u32)
-        requires { self.place ≤ max_width }
+        requires { self.place < length reference.old }
         ensures first { IsFirstTo reference.old (other self.color) (right_of self) result.0 }
         ensures next { IsB2 reference.old result.0 result.1 }
         ensures range { (result.0 ≤ max_width) × (result.1 ≤ max_width) }

@@ -1,22 +1,39 @@
 //! The changing elements of a line as a list, in which a0 goes on (ITU-T T.6, 2.2.1).
 
-ghost use Rattle.page_code.specs.TwoDimensions.Changes.{IsFirstFrom, IsIndexOf, IsLeftBefore};
+ghost use Rattle.page_code.specs.TwoDimensions.Changes.{AreHeld, IsFirstHeld, IsIndexOf, IsLeftBefore};
 ghost use Rattle.page_code.specs.TwoDimensions.Positions.{IsFirstTo};
 ghost use Rattle.raster.specs.Changes.{AreChanges, IsNextChange};
 ghost use Rattle.raster.specs.Pixels.{IsWidth};
-ghost use Rattle.std.specs.Prelude.{◌≡◌, ◌≤◌, ◌<◌, ◌+◌, ◌^◌, IfOk, length, slice_index_or};
+ghost use Rattle.std.specs.Prelude.{◌≡◌, ◌≤◌, ◌<◌, ◌+◌, ◌-◌, ◌^◌, IfOk, length, slice_index_or};
 
 use raster::{Color, Row};
 use std::alloc::{AllocError, Global};
 use std::marker::Model;
 
-/// The places of a row's changing elements, from left to right (ITU-T T.6, 2.2.1), in the memory of a list.
-fn changes_of(alloc: Global, row: &Row, mut places: Vec<u32>) -> Result<Vec<u32>, AllocError>
+/// The places of a row's changing elements, from left to right (ITU-T T.6, 2.2.1), in the memory of a
+/// list: a white row, which has none, takes no other.
+fn listed(alloc: Global, row: &Row, mut places: Vec<u32>) -> Result<Vec<u32>, AllocError>
     ensures { IfOk result (λ places. AreChanges row.now places.items) }
 {
     places.clear();
+    if row.next_change(0) >= row.width() {
+        return Ok(places);
+    }
     row.changes(alloc, &mut places)?;
     Ok(places)
+}
+
+/// The places of a row's changing elements, and then its width three times, so that no search passes
+/// the list's end; in the memory of a list.
+fn changes_of(alloc: Global, row: &Row, places: Vec<u32>) -> Result<Vec<u32>, AllocError>
+    ensures { IfOk result (λ held. AreHeld row.now held.items) }
+{
+    let mut held = listed(alloc, row, places)?;
+    let width = row.width();
+    held.push(width)?;
+    held.push(width)?;
+    held.push(width)?;
+    Ok(held)
 }
 
 /// An index at or below `start` before which a place is to the left of `from`, if there is one before it.
@@ -33,37 +50,38 @@ fn step_back(places: &[u32], from: u32, start: usize) -> usize
     at
 }
 
-/// The index of the first place that isn't to the left of `from`, at or above `start`.
+/// The index of the first place that isn't to the left of `from`, at or above `start`, where the third
+/// place before the list's end isn't.
 #[inline(always)]
 fn step_on(places: &[u32], from: u32, start: usize) -> usize
-    requires within { start ≤ length places.now }
+    requires within { start + 3 ≤ length places.now }
     requires left { IsLeftBefore places.now from start }
-    ensures { IsFirstFrom places.now from result }
+    requires stops { from ≤ slice_index_or places.now (length places.now - 3) 0 }
+    ensures { IsFirstHeld places.now from result }
 {
     let mut at = start;
-    while at < places.len() && places[at] < from {
+    while places[at] < from {
         at += 1;
     }
     at
 }
 
-/// The place at an index, or the width where there is none.
+/// The place at an index and the next one.
 #[inline(always)]
-fn place_at(places: &[u32], index: usize, width: u32) -> u32
-    ensures { result ≡ slice_index_or places.now index width }
+fn two_at(places: &[u32], index: usize) -> (u32, u32)
+    requires { index + 1 < length places.now }
+    ensures one { result.0 ≡ slice_index_or places.now index 0 }
+    ensures two { result.1 ≡ slice_index_or places.now (index + 1) 0 }
 {
-    if index < places.len() {
-        places[index]
-    } else {
-        width
-    }
+    (places[index], places[index + 1])
 }
 
 /// The index of the first changing element of a color at or above an index: colors alternate, black first.
 #[inline(always)]
 fn index_of(at: usize, color: Color) -> usize
     requires { at < 2 ^ 63 }
-    ensures { IsIndexOf color at result }
+    ensures index { IsIndexOf color at result }
+    ensures range { result ≤ at + 1 }
 {
     match color {
         Color::Black => at + at % 2,
@@ -81,15 +99,15 @@ pub(crate) struct Changes<'a> {
 }
 
 impl<'a> Model for Changes<'a> {
-    ghost use Rattle.std.specs.Prelude.{◌≤◌, List, length};
+    ghost use Rattle.std.specs.Prelude.{◌≤◌, ◌+◌, List, length};
     ghost use Rattle.raster.specs.declared.row.Color.{Color};
-    ghost use Rattle.raster.specs.Changes.{AreChanges};
+    ghost use Rattle.page_code.specs.TwoDimensions.Changes.{AreHeld};
 
     ghost Value = { List Color };
 
     ghost view = { λ changes. changes.row.now };
 
-    ghost invariant = { λ changes. AreChanges changes.row.now changes.places.items × (changes.at ≤ length changes.places.items) };
+    ghost invariant = { λ changes. AreHeld changes.row.now changes.places.items × (changes.at + 3 ≤ length changes.places.items) };
 }
 
 impl<'a> Changes<'a> {
@@ -128,34 +146,30 @@ impl<'a> Changes<'a> {
     /// it, each the width where there is none.
     #[inline(always)]
     pub(crate) fn next_two_to(&mut self, color: Color, from: u32) -> (u32, u32)
+        requires { from ≤ length self.old }
         ensures first { IsFirstTo self.old color from result.0 }
         ensures next { IsNextChange self.old (result.0 + 1) result.1 }
         ensures same { self.new ≡ self.old }
     {
-        let width = self.row.width();
         let back = step_back(&self.places, from, self.at);
         let at = step_on(&self.places, from, back);
         self.at = at;
         let index = index_of(at, color);
-        let one = place_at(&self.places, index, width);
-        let two = place_at(&self.places, index + 1, width);
-        (one, two)
+        two_at(&self.places, index)
     }
 
     /// The first changing element at or above a place and the next one after it, each the width where
     /// there is none.
     #[inline(always)]
     pub(crate) fn next_two(&mut self, from: u32) -> (u32, u32)
+        requires { from ≤ length self.old }
         ensures first { IsNextChange self.old from result.0 }
         ensures next { IsNextChange self.old (result.0 + 1) result.1 }
         ensures same { self.new ≡ self.old }
     {
-        let width = self.row.width();
         let back = step_back(&self.places, from, self.at);
         let at = step_on(&self.places, from, back);
         self.at = at;
-        let one = place_at(&self.places, at, width);
-        let two = place_at(&self.places, at + 1, width);
-        (one, two)
+        two_at(&self.places, at)
     }
 }

@@ -1,10 +1,10 @@
-use Rattle.std.proofs.Common.{◌≤◌, ◌-◌, length}
+use Rattle.std.proofs.Common.{◌≤◌, ◌+◌, ◌-◌, length}
 use Rattle.page_code.specs.TwoDimensions.Changes.{IsLeftBefore}
 use Rattle.page_code.proofs.t6.changes.step_on.Given as goal
 
 abbrev pub invariant-loop-at : goal.invariant-loop-at
 invariant-loop-at l = record {
-  within : l.at ≤ length l.places;
+  within : l.at + 3 ≤ length l.places;
   left : IsLeftBefore l.places l.from l.at;
 }
 

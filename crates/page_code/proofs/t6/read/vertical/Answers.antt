@@ -8,7 +8,7 @@ use Rattle.page_code.proofs.t6.read.vertical.Goals as goal
 
 pub returns-then-reach-from-clause-moves : goal.returns-then-reach-from-clause-moves
 returns-then-reach-from-clause-moves c =
-    let from : c.right-from.result ≡ right_of_a0 c.args.line.now = c.right-from.ensures ∙ ap right_of c.a0-a0.ensures.is in
+    let from : c.right-from.result ≡ right_of_a0 c.args.line.now = c.right-from.ensures.right ∙ ap right_of c.a0-a0.ensures.is in
     let back : c.b1_b2-b1.result.0 + to_right c.args.shift < right_of_a0 c.args.line.now + to_left c.args.shift = omega (
       arith,
       c.if-reach-from.true,
@@ -20,7 +20,7 @@ returns-then-reach-from-clause-moves c =
 
 pub returns-then-a1-width-clause-moves : goal.returns-then-a1-width-clause-moves
 returns-then-a1-width-clause-moves c =
-    let from : c.right-from.result ≡ right_of_a0 c.args.line.now = c.right-from.ensures ∙ ap right_of c.a0-a0.ensures.is in
+    let from : c.right-from.result ≡ right_of_a0 c.args.line.now = c.right-from.ensures.right ∙ ap right_of c.a0-a0.ensures.is in
     let right : right_of_a0 c.args.line.now + to_left c.args.shift ≤ c.b1_b2-b1.result.0 + to_right c.args.shift = omega (
       arith,
       c.if-reach-from.false,
@@ -44,7 +44,7 @@ returns-in_err-push_run-clause-moves c =
 
 pub returns-clause-moves : goal.returns-clause-moves
 returns-clause-moves c =
-    let from : c.right-from.result ≡ right_of_a0 c.args.line.now = c.right-from.ensures ∙ ap right_of c.a0-a0.ensures.is in
+    let from : c.right-from.result ≡ right_of_a0 c.args.line.now = c.right-from.ensures.right ∙ ap right_of c.a0-a0.ensures.is in
     let place : c.a0-a0.result.now.place ≡ length c.args.line.now.pixels = ap (λ (a : A0). a.place) c.a0-a0.ensures.is in
     let right : right_of_a0 c.args.line.now + to_left c.args.shift ≤ c.b1_b2-b1.result.0 + to_right c.args.shift = omega (
       arith,
