@@ -8,9 +8,8 @@ use Rattle.std.proofs.lemmas.List.{append-nil, get_or_append_left, get_or-append
 use Rattle.std.proofs.lemmas.List.Elements.{Contains-append_left, Contains-append_right}
 use Rattle.std.proofs.lemmas.Nat.Bits.{bit_at-lt, bit_at_above, bit_at_and, bit_at_or, bit_at_xor, bit_at_not, bit_at_ones}
 use Rattle.std.proofs.lemmas.Nat.Bits.{bit_at_ones_above, ones_shr, same_from_bits_below, bit_at-zero}
-use Rattle.std.proofs.lemmas.Bool.{cases_lt, and_parts, eqb-true, lt-ltb, le-ltb, true≢false}
-use Rattle.std.proofs.lemmas.Nat.{shr-shr, and_le_l, and_le_r, pow_below, pow_pos, xor_lt}
-use Rattle.std.proofs.Math.Nat.{mod-eq_of_lt}
+use Rattle.std.proofs.lemmas.Bool.{cases_lt, and_parts, lt-ltb, le-ltb, true≢false}
+use Rattle.std.proofs.lemmas.Nat.{shr-shr, and_le_l, and_le_r, pow_pos}
 use Rattle.raster.specs.Packed.{bit_in, bits_in}
 use Rattle.raster.specs.Pixels.{color_of, colors}
 use Rattle.raster.specs.Words.{IsWordAt, IsFirstInWord, IsFirstOther, bit_of_word}
@@ -224,76 +223,6 @@ fewer rest place inside first =
       )
     ]
 
-is_one : (b : ℕ) → nat_eq b 1 ≡ true → b ≡ 1
-is_one b e = eqb-true b 1 e
-
-is_not_one : (b : ℕ) → b < 2 → nat_eq b 1 ≡ false → b ≡ 0
-is_not_one zero lt e = refl
-is_not_one (suc zero) lt e = absurd (true≢false e)
-is_not_one (suc (suc b)) lt e = absurd (omega arith)
-
--- the first 1 bit turned is the word after it
-pub turned_first : (rest place : ℕ) → rest < 2 ^ 64 → place < 64 → IsFirstInWord rest 0 false place
-    → bit_xor rest (1 * 2 ^ (63 - place)) ≡ after_place rest place
-turned_first rest place fits inside first =
-    same_from_bits_below 64 (bit_xor rest (1 * 2 ^ (63 - place))) (after_place rest place) (xor_lt 64 rest (1 * 2 ^ (63 - place)) fits one_fits)
-    (omega (arith, and_le_l rest ((2 ^ 64 - 1) / 2 ^ place / 2 ^ 1), fits)) same
-  where
-    one_fits : 1 * 2 ^ (63 - place) < 2 ^ 64
-    one_fits = omega (arith, pow_below (63 - place) 64 (omega arith))
-
-    low : (i : ℕ) → i < 63 - place → bit_at (bit_xor rest (1 * 2 ^ (63 - place))) i ≡ bit_at (after_place rest place) i
-    low i h =
-        omega (
-          arith,
-          bit_at_xor rest (1 * 2 ^ (63 - place)) i,
-          bit_at_shl_low 1 (63 - place) i h,
-          bit_at_and rest ((2 ^ 64 - 1) / 2 ^ place / 2 ^ 1) i,
-          ap (λ m. bit_at m i) (after_mask place inside) ∙ bit_at_ones (63 - place) i h,
-          bit_at-lt rest i,
-        )
-
-    here : bit_at (bit_xor rest (1 * 2 ^ (63 - place))) (63 - place) ≡ bit_at (after_place rest place) (63 - place)
-    here =
-        let none : (63 - place) - (63 - place) ≡ 0 = omega arith in
-        let one : bit_at (1 * 2 ^ (63 - place)) (63 - place) ≡ 1 = bit_at_shl_high 1 (63 - place) (63 - place) (omega arith)
-        ∙ ap (bit_at 1) none in
-        omega (
-          arith,
-          bit_at_xor rest (1 * 2 ^ (63 - place)) (63 - place),
-          one,
-          is_one (bit_at rest (63 - place)) (first.hit inside),
-          bit_at_and rest ((2 ^ 64 - 1) / 2 ^ place / 2 ^ 1) (63 - place),
-          ap (λ m. bit_at m (63 - place)) (after_mask place inside) ∙ bit_at_ones_above (63 - place) (63 - place) (omega arith),
-        )
-
-    high : (i : ℕ) → 63 - place < i → i < 64 → bit_at (bit_xor rest (1 * 2 ^ (63 - place))) i ≡ bit_at (after_place rest place) i
-    high i h lt =
-        let back : 63 - (63 - i) ≡ i = omega arith in
-        let none : bit_at rest i ≡ 0 = is_not_one (bit_at rest i) (bit_at-lt rest i)
-        (ap (λ j. nat_eq (bit_at rest j) 1) (sym back) ∙ first.before (63 - i) (omega arith) (omega arith)) in
-        omega (
-          arith,
-          bit_at_xor rest (1 * 2 ^ (63 - place)) i,
-          bit_at_shl_high 1 (63 - place) i (omega arith),
-          bit_at_above 1 1 (i - (63 - place)) (omega arith) (omega arith),
-          none,
-          bit_at_and rest ((2 ^ 64 - 1) / 2 ^ place / 2 ^ 1) i,
-        )
-
-    same : (i : ℕ) → i < 64 → bit_at (bit_xor rest (1 * 2 ^ (63 - place))) i ≡ bit_at (after_place rest place) i
-    same i h =
-        elim (cases_lt i (63 - place)) [
-          | inl lt ↦ low i lt
-          | inr le ↦
-              elim (cases_lt (63 - place) i) [
-                | inl lt ↦ high i lt h
-                | inr ge ↦
-                    let e : i ≡ 63 - place = omega arith in
-                    rw e here
-              ]
-        ]
-
 first_of_rest : (word base rest place : ℕ) (old out : List ℕ) (pushed : Pushed word base rest old out) → place < 64
     → IsFirstInWord rest 0 false place → IsFirstInWord word pushed.at false place
 first_of_rest word base rest place old out pushed inside first =
@@ -335,13 +264,6 @@ put_more word base rest place old out index next put inside first =
       };
       few = omega (arith, put.few, in_word.low);
     }
-
--- the word that the code makes
-pub turned_off : (rest place : ℕ) → rest < 2 ^ 64 → place < 64 → IsFirstInWord rest 0 false place
-    → bit_xor rest (1 * 2 ^ (63 - place) % 2 ^ 64) ≡ after_place rest place
-turned_off rest place fits inside first =
-    let small : 1 * 2 ^ (63 - place) < 2 ^ 64 = omega (arith, pow_below (63 - place) 64 (omega arith)) in
-    ap (bit_xor rest) (mod-eq_of_lt small) ∙ turned_first rest place fits inside first
 
 pub put_all : (word base : ℕ) (old out : List ℕ) (index next : ℕ) → Put word base 0 old out index next → next ≤ index + 64
 put_all word base old out index next put = omega (arith, put.few, put.pushed.few)

@@ -129,7 +129,7 @@ fn put_places(word: u64, base: u32, out: &mut Vec<u32>, index: usize) -> usize
         let place = first_in_word(rest, 0, false);
         out[next] = base + place;
         next += 1;
-        rest ^= 1 << (63 - place);
+        rest &= u64::MAX >> place >> 1;
     }
     next
 }

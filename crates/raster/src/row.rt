@@ -54,14 +54,14 @@ pub const MAX_WIDTH: u32 = 2432;
 fn total_width(runs: &[u32]) -> Option<u32>
     ensures { SomeIff result (IsWidth (sum runs.now)) (sum runs.now) }
 {
-    let mut width: u32 = 0;
+    let mut width: u128 = 0; // no sum of runs in memory is too large for it
     for run in runs {
-        if *run > MAX_WIDTH - width {
-            return None;
-        }
-        width += *run;
+        width += *run as u128;
     }
-    if width == 0 { None } else { Some(width) }
+    if width == 0 || width > MAX_WIDTH as u128 {
+        return None;
+    }
+    Some(width as u32)
 }
 
 /// A row of 1 to 2,432 pixels, seen as their list, leftmost first. It is kept packed, eight pixels
