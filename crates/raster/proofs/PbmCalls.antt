@@ -1,5 +1,5 @@
 -- What the public calls that read PBM files say of the octets that the reader has.
-use Rattle.std.proofs.Common.{◌≡◌, ℕ, Bool, true, false, List, [], ◌∷◌, length, Ok, Err}
+use Rattle.std.proofs.Common.{◌≡◌, ℕ, Bool, true, false, List, ◌∷◌, length, Ok, Err}
 use Rattle.std.specs.Prelude.{Option, Some, None, IfSome, slice_get}
 use Rattle.raster.specs.declared.fault.RasterFault.{RasterFault}
 use Rattle.raster.specs.Pages.{PagePixels}

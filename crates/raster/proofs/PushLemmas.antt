@@ -1,13 +1,13 @@
 -- Bits that grow at their end.
-use Rattle.std.proofs.Common.{◌≡◌, ℕ, ◌+◌, ◌-◌, ◌*◌, ◌/◌, ◌%◌, ◌<◌, ◌≤◌, ◌||◌, Bool, true, false, List, [], ◌∷◌, ◌++◌, refl, sym, ap, ◌∙◌}
-use Rattle.std.proofs.Common.{get_or, nat_eq, arith, zero, suc, inl, inr, length, map, replicate, append_assoc}
+use Rattle.std.proofs.Common.{◌≡◌, ℕ, ◌+◌, ◌-◌, ◌*◌, ◌/◌, ◌<◌, ◌≤◌, ◌||◌, Bool, true, false, List, [], ◌∷◌, ◌++◌, refl, sym, ap, ◌∙◌}
+use Rattle.std.proofs.Common.{get_or, nat_eq, arith, zero, suc, inl, inr, map, replicate, append_assoc}
 use Rattle.std.specs.Int.{bit_at}
 use Rattle.std.specs.List.{range_with_len}
-use Rattle.std.proofs.lemmas.List.{append-nil, get_or_past}
+use Rattle.std.proofs.lemmas.List.{append-nil}
 use Rattle.std.proofs.lemmas.List.FromFn.{map-range_with_len_more}
 use Rattle.std.proofs.lemmas.Bool.{cases_lt}
-use Rattle.raster.specs.Packed.{bit_in, bits_in, place_in, IsPacked}
-use Rattle.raster.specs.Words.{bit_of_word, number_bits, AreOred}
+use Rattle.raster.specs.Packed.{bit_in, bits_in, place_in}
+use Rattle.raster.specs.Words.{bit_of_word, AreOred}
 use Rattle.raster.proofs.PackedLemmas.{bits_in-same, bits_in_more}
 use Rattle.raster.specs.declared.packed.Order.{Order}
 

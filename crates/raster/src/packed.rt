@@ -130,7 +130,7 @@ fn cut(order: Order, octets: &mut Vec<u8>, count: u128)
 
 /// A list of bits, kept eight an octet.
 #[derive(Debug, Drop)]
-pub struct PackedBits {
+pub(crate) struct PackedBits {
     octets: Vec<u8>,
     order: Order,
     count: u128,
@@ -188,7 +188,7 @@ impl PackedBits {
 
     /// The number of bits.
     #[tactic(auto, using(crate::proofs::PackedLemmas::views))]
-    pub fn len(&self) -> u128
+    pub(crate) fn len(&self) -> u128
         ensures { result ≡ length self.now.bits }
     {
         self.count
@@ -196,7 +196,7 @@ impl PackedBits {
 
     /// The bit at a place, from 0.
     #[tactic(auto, using(crate::proofs::PackedLemmas::views))]
-    pub fn bit(&self, place: u128) -> bool
+    pub(crate) fn bit(&self, place: u128) -> bool
         requires { place < length self.now.bits }
         ensures { slice_get self.now.bits place ≡ Some result }
     {
@@ -226,7 +226,7 @@ impl PackedBits {
     }
 
     /// The octets that hold the bits, lent, the last one filled with 0 bits.
-    pub fn octets(&self) -> &[u8]
+    pub(crate) fn octets(&self) -> &[u8]
         ensures { FillsOctets self.now.order self.now.bits result.now }
     {
         &self.octets[..octets_for(self.count)]
