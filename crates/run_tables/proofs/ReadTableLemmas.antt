@@ -7,13 +7,14 @@ use Rattle.std.specs.List.{range_with_len, list_all}
 use Rattle.std.proofs.lemmas.Bool.{ltb-true, and_parts, and_from, false≢true}
 use Rattle.std.proofs.lemmas.List.FromFn.{get_or-map-range_with_len, get_or-range_with_len, length-range_with_len}
 use Rattle.std.proofs.lemmas.List.FromFn.{length-map-range_with_len}
+use Rattle.std.proofs.lemmas.List.{get_or_append_left, get_or-append-add, length-append}
 use Rattle.raster.specs.declared.row.Color.{Color}
 use Rattle.raster.specs.declared.row.Color.TheVariants.{White, Black}
 use Rattle.run_tables.specs.declared.reader.Among.TheVariants.{AllCodes}
 use Rattle.run_tables.specs.Codes.{codes_of, code_word, run_at}
 use Rattle.run_tables.specs.CodeReading.{first_runs}
 use Rattle.run_tables.specs.Numbers.{number_text}
-use Rattle.run_tables.specs.ReadTables.{entry_of, entries, short_bits, long_zeros, entry_picked, entry_for}
+use Rattle.run_tables.specs.ReadTables.{entry_of, entries, held_entries, short_bits, long_zeros, entry_picked, entry_for}
 use Rattle.run_tables.specs.Texts.{begins, pick}
 use Rattle.run_tables.proofs.BeginsLemmas.{list_all_at, pick_begins}
 use Rattle.run_tables.proofs.CodeReads.{pick_stands}
@@ -124,3 +125,30 @@ pub held_long : (color : Color) (held : List (ℕ × ℕ)) → held ≡ entries 
 unfolding entries
 held_long color held e = ap length e ∙ length-map-range_with_len (λ key. entry_of (codes_of color) (replicate (long_zeros color) false
     ++ number_text (13 - long_zeros color) key)) 0 (2 ^ (13 - long_zeros color))
+
+-- ---- both tables, one after the other
+
+pub held_both : (color : Color) (held : List (ℕ × ℕ)) → held ≡ held_entries color
+    → length held ≡ 2 ^ (13 - long_zeros color) + 2 ^ short_bits color
+held_both color held e =
+    let long : List (ℕ × ℕ) = entries (codes_of color) (long_zeros color) (13 - long_zeros color) in
+    let short : List (ℕ × ℕ) = entries (codes_of color) 0 (short_bits color) in
+    rw (e, length-append, held_long color long refl, held_short color short refl) refl
+
+pub long_held : (color : Color) (held : List (ℕ × ℕ)) (next : ℕ) (d : ℕ × ℕ) → held ≡ held_entries color
+    → next < 2 ^ (13 - long_zeros color) → long_zeros color + (13 - long_zeros color) ≡ 13
+    → get_or held next d ≡ entry_for color (number_text 13 next)
+long_held color held next d e h sum =
+    let long : List (ℕ × ℕ) = entries (codes_of color) (long_zeros color) (13 - long_zeros color) in
+    let short : List (ℕ × ℕ) = entries (codes_of color) 0 (short_bits color) in
+    rw e (get_or_append_left long short d next (rw (held_long color long refl) h) ∙ long_entry color long next d refl h sum)
+
+pub short_held : (color : Color) (held : List (ℕ × ℕ)) (rest next key place : ℕ) (d : ℕ × ℕ) → held ≡ held_entries color
+    → short_bits color + rest ≡ 13 → next / 2 ^ rest ≡ key → 4 ≤ key → key < 2 ^ short_bits color
+    → place ≡ 2 ^ (13 - long_zeros color) + key
+    → get_or held place d ≡ entry_for color (number_text 13 next)
+short_held color held rest next key place d e sum is l h there =
+    let long : List (ℕ × ℕ) = entries (codes_of color) (long_zeros color) (13 - long_zeros color) in
+    let short : List (ℕ × ℕ) = entries (codes_of color) 0 (short_bits color) in
+    let at : place ≡ length long + key = there ∙ ap (λ n. n + key) (sym (held_long color long refl)) in
+    rw (e, at) (get_or-append-add long short key d ∙ short_entry color short rest next key d refl sum is l h)

@@ -1,9 +1,9 @@
 -- The tables by which run codes are read: an entry for each text of so many bits (ITU-T T.4, 4.1.1, tables 2 and 3).
-use Rattle.std.specs.Prelude.{ℕ, ◌^◌, ◌++◌, Bool, false, List, [], ◌∷◌, map, length, replicate, Option, Some, None, if◌then◌else◌}
+use Rattle.std.specs.Prelude.{ℕ, ◌-◌, ◌^◌, ◌++◌, Bool, false, List, [], ◌∷◌, map, length, replicate, Option, Some, None, if◌then◌else◌}
 use Rattle.std.specs.List.{range_with_len}
 use Rattle.raster.specs.declared.row.Color.{Color}
 use Rattle.raster.specs.declared.row.Color.TheVariants.{White, Black}
-use Rattle.run_tables.specs.Codes.{code_word}
+use Rattle.run_tables.specs.Codes.{code_word, codes_of}
 use Rattle.run_tables.specs.CodeReading.{first_runs}
 use Rattle.run_tables.specs.Numbers.{number_text}
 use Rattle.run_tables.specs.Texts.{begins, pick}
@@ -26,6 +26,10 @@ short_bits Black = 6
 abbrev pub long_zeros : Color → ℕ
 long_zeros White = 7
 long_zeros Black = 4
+
+-- the long table of a color, and then its short one
+abbrev pub held_entries : Color → List (ℕ × ℕ)
+held_entries color = entries (codes_of color) (long_zeros color) (13 - long_zeros color) ++ entries (codes_of color) 0 (short_bits color)
 
 -- the run that was picked and the length of its code word, or 0 and 0
 abbrev pub entry_picked : Color → Option ℕ → ℕ × ℕ

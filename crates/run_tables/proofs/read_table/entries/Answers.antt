@@ -1,7 +1,7 @@
 use Rattle.std.proofs.Common.{refl}
 use Rattle.run_tables.specs.Numbers.{number_text}
 use Rattle.run_tables.specs.ReadTables.{entries, entry_of}
-use Rattle.run_tables.proofs.read_table.short_entries.Goals as goal
+use Rattle.run_tables.proofs.read_table.entries.Goals as goal
 
 pub returns-in-White : goal.returns-in-White
 unfolding entries entry_of number_text
