@@ -152,3 +152,7 @@ short_held color held rest next key place d e sum is l h there =
     let short : List (ℕ × ℕ) = entries (codes_of color) 0 (short_bits color) in
     let at : place ≡ length long + key = there ∙ ap (λ n. n + key) (sym (held_long color long refl)) in
     rw (e, at) (get_or-append-add long short key d ∙ short_entry color short rest next key d refl sum is l h)
+
+pub long_places : (color : Color) → long_zeros color + (13 - long_zeros color) ≡ 13
+long_places White = refl
+long_places Black = refl
