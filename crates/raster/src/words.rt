@@ -249,6 +249,7 @@ pub(crate) fn first_in_word(word: u64, from: u32, bit: bool) -> u32
 
 /// The first place of a piece of octets whose bit is another, or its end, counted from the piece's
 /// first bit; and the octets of the piece: 32 where as many are left, and else 8, which are 0 past the end.
+#[inline(always)]
 fn first_in_piece(octets: &[u8], at: usize, bit: bool) -> (u32, u32)
     requires { at ≤ length octets.now }
     ensures some { 0 < result.1 }
@@ -265,7 +266,8 @@ fn first_in_piece(octets: &[u8], at: usize, bit: bool) -> (u32, u32)
 }
 
 /// The first place of octets from an octet on whose bit is another, or the end.
-pub(crate) fn first_other_after(octets: &[u8], from: u32, end: u32, bit: bool) -> u32
+#[inline(always)]
+fn other_after(octets: &[u8], from: u32, end: u32, bit: bool) -> u32
     requires order { 8 * from ≤ end }
     requires within { end ≤ 8 * length octets.now }
     requires small { end ≤ 2432 }
@@ -280,6 +282,19 @@ pub(crate) fn first_other_after(octets: &[u8], from: u32, end: u32, bit: bool) -
         at += size;
     }
     end
+}
+
+/// The first place of octets from an octet on whose bit is another, or the end: a loop for each bit.
+pub(crate) fn first_other_after(octets: &[u8], from: u32, end: u32, bit: bool) -> u32
+    requires order { 8 * from ≤ end }
+    requires within { end ≤ 8 * length octets.now }
+    requires small { end ≤ 2432 }
+    ensures { IsFirstOther octets.now (8 * from) end bit result }
+{
+    if bit {
+        return other_after(octets, from, end, true);
+    }
+    other_after(octets, from, end, false)
 }
 
 /// The first place of octets from a place on whose bit is another, or the end.
