@@ -1,0 +1,14 @@
+use Rattle.std.proofs.Common.{◌-◌, ◌*◌, ◌≤◌, ◌<◌, ◌≡◌, ℕ}
+use Rattle.raster.specs.Packed.{bit_in}
+use Rattle.raster.specs.declared.packed.Order.TheVariants.{MsbFirst}
+use Rattle.raster.proofs.words.other_in_blocks.Given as goal
+
+abbrev pub invariant-loop-at : goal.invariant-loop-at
+invariant-loop-at l = record {
+  low : l.from ≤ l.at;
+  high : 8 * l.at ≤ l.end;
+  before : (k : ℕ) → 8 * l.from ≤ k → k < 8 * l.at → bit_in MsbFirst l.octets k ≡ l.bit;
+}
+
+abbrev pub decreases-loop-at : goal.decreases-loop-at
+decreases-loop-at l = l.end - l.at
