@@ -95,12 +95,13 @@ fn next_row(octets: &[u8], order: Order, to: &Progress) -> Start
     }
 }
 
-/// Reads the row at a place.
+/// Reads the row at a place, in the memory of a list.
 fn read_row(
     alloc: Global,
     octets: &[u8],
     order: Order,
     place: u128,
+    list: &mut Vec<u32>,
     to: &mut Progress,
 ) -> Result<(), CodeFault>
     requires within { place ≤ 8 * length octets.now }
@@ -109,7 +110,7 @@ fn read_row(
     ensures { ReadsRowOfPage (bits_of order octets.now) place to.old to.new result }
 {
     let mut reader = BitReader::at(octets, order, place);
-    let row = reader.read_row_1d(alloc, to.page.width())?;
+    let row = reader.read_row_1d_in(alloc, to.page.width(), list)?;
     push_row(&mut to.page, row)?;
     to.place = reader.place();
     Ok(())
@@ -127,9 +128,10 @@ pub(crate) fn read_on(
     requires read { IsReadTo Coding.OneDim to.old.page.width (bits_of order octets.now) to.old.page.rows to.old.place }
     ensures { ReadsOn Coding.OneDim (bits_of order octets.now) to.old to.new result }
 {
+    let mut list = Vec::new(alloc);
     loop {
         match next_row(octets, order, to) {
-            Start::Row(place) => read_row(alloc, octets, order, place, to)?,
+            Start::Row(place) => read_row(alloc, octets, order, place, &mut list, to)?,
             Start::End(used) => return Ok(used),
             Start::Refused(fault) => return Err(fault),
         }
@@ -151,9 +153,10 @@ fn write_rows(alloc: Global, rows: &[Row], bits: &mut BitWriter) -> Result<(), A
     requires { All (λ row. 0 < length row) rows.now }
     ensures { OnOk result (bits.new ≡ record bits.old { bits = bits.old.bits ++ rows_words rows.now }) }
 {
+    let mut list = Vec::new(alloc);
     for row in rows {
         bits.write_eol()?;
-        bits.write_row_1d(alloc, row)?;
+        bits.write_row_1d_in(alloc, row, &mut list)?;
     }
     Ok(())
 }

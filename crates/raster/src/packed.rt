@@ -6,7 +6,8 @@ ghost use Rattle.raster.specs.Packed.{bit_in, bits_in, bits_of, place_in, IsPack
 ghost use Rattle.raster.specs.Runs.{colored};
 ghost use Rattle.raster.specs.Words.{IsWordAt, IsFirstOtherBit, bit_of_word};
 ghost use Rattle.raster.specs.declared.row.Color.{Color};
-ghost use Rattle.std.specs.Prelude.{false, ◌≢◌, ℕ, ◌≡◌, ◌≤◌, ◌<◌, ◌+◌, ◌-◌, ◌*◌, ◌^◌, ◌/◌, ◌++◌, length};
+ghost use Rattle.std.specs.Int.{bit_at};
+ghost use Rattle.std.specs.Prelude.{ℕ, ◌≡◌, ◌≤◌, ◌<◌, ◌+◌, ◌-◌, ◌*◌, ◌^◌, ◌/◌, ◌++◌, length};
 ghost use Rattle.std.specs.Prelude.{replicate, sum, slice_get, IfOk, OnOk, OnErr};
 
 use crate::changes::changes;
@@ -86,25 +87,26 @@ pub fn word_of_eight(order: Order, octets: &[u8], at: usize, within: u32) -> u64
     moved_word(order, octets, at, within)
 }
 
-fn clear_bit(order: Order, octets: &mut Vec<u8>, place: u128)
-    requires { place < 8 * length octets.old.items }
-    ensures length { length octets.new.items ≡ length octets.old.items }
-    ensures cleared { bit_in order octets.new.items place ≡ false }
-    ensures others { (k : ℕ) → k ≢ place → bit_in order octets.new.items k ≡ bit_in order octets.old.items k }
+/// The first bits of an octet, and 0 bits after them.
+fn first_of_octet(order: Order, octet: u8, count: u32) -> u8
+    requires some { 0 < count }
+    requires few { count < 8 }
+    ensures inside { (k : ℕ) → k < count → bit_at result (place_in order k) ≡ bit_at octet (place_in order k) }
+    ensures after { (k : ℕ) → count ≤ k → k < 8 → bit_at result (place_in order k) ≡ 0 }
 {
-    octets[(place / 8) as usize] &= !(1 << shift_of(order, place));
+    match order {
+        Order::LsbFirst => octet & (u8::MAX >> (8 - count)),
+        Order::MsbFirst => octet & !(u8::MAX >> count),
+    }
 }
 
-/// So many octets, the new ones 0.
-#[cold]
-fn grow(octets: &mut Vec<u8>, needed: usize) -> Result<(), AllocError>
-    requires { length octets.old.items ≤ needed }
-    ensures room { OnOk result (length octets.new.items ≡ needed) }
-    ensures same { (order : Order) (k : ℕ) → bit_in order octets.new.items k ≡ bit_in order octets.old.items k }
-    ensures err { OnErr result (octets.new.items ≡ octets.old.items) }
+/// So many octets of 0.
+fn zeros(alloc: Global, count: usize) -> Result<Vec<u8>, AllocError>
+    ensures { IfOk result (λ octets. octets.items ≡ replicate count 0) }
 {
-    octets.resize(needed, 0)?;
-    Ok(())
+    let mut octets = Vec::with_capacity(alloc, count)?;
+    octets.resize(count, 0)?;
+    Ok(octets)
 }
 
 /// The number of octets that so many bits fill, the last of them in part.
@@ -115,17 +117,17 @@ fn octets_for(count: u128) -> usize
     ((count + 7) / 8) as usize
 }
 
-/// Keeps the first bits, and clears the others of the last octet.
-fn cut(order: Order, octets: &mut Vec<u8>, count: u128)
-    requires { count ≤ 8 * length octets.old.items }
+/// Clears the bits of the last octet that come after so many bits.
+fn clear_after(order: Order, octets: &mut Vec<u8>, count: u32)
+    requires { length octets.old.items ≡ (count + 7) / 8 }
     ensures packed { IsPacked order octets.new.items count }
     ensures same { (k : ℕ) → k < count → bit_in order octets.new.items k ≡ bit_in order octets.old.items k }
 {
-    octets.truncate(octets_for(count));
-    let end = 8 * octets.len() as u128;
-    for place in count..end {
-        clear_bit(order, octets, place);
+    if count % 8 == 0 {
+        return;
     }
+    let last = (count / 8) as usize;
+    octets[last] = first_of_octet(order, octets[last], count % 8);
 }
 
 /// A list of bits, kept eight an octet.
@@ -155,8 +157,7 @@ impl PackedBits {
         ensures colors { IfOk result (λ p. colors p.bits ≡ colored Color.White runs.now) }
         ensures order { IfOk result (λ p. p.order ≡ Order.MsbFirst) }
     {
-        let mut octets = Vec::new(alloc);
-        grow(&mut octets, width as usize / 8 + 9)?;
+        let mut octets = zeros(alloc, width as usize / 8 + 9)?;
         paint(&mut octets, runs, width);
         Ok(PackedBits {
             octets,
@@ -176,9 +177,10 @@ impl PackedBits {
         requires { count ≤ 8 * length octets.now }
         ensures { IfOk result (λ p. p ≡ record { order = order; bits = bits_in order octets.now count }) }
     {
-        let mut kept = Vec::new(alloc);
-        kept.extend_from_slice(&octets[..count.div_ceil(8) as usize])?;
-        cut(order, &mut kept, count as u128);
+        let needed = count.div_ceil(8) as usize;
+        let mut kept = Vec::with_capacity(alloc, needed)?;
+        kept.extend_from_slice(&octets[..needed])?;
+        clear_after(order, &mut kept, count);
         Ok(PackedBits {
             octets: kept,
             order,

@@ -3,7 +3,7 @@
 ghost use Rattle.raster.specs.Packed.{bit_in, place_in};
 ghost use Rattle.raster.specs.Words.{bit_of_word, turned_octet, IsWordAt, IsFirstInWord, IsFirstOther, AreOred};
 ghost use Rattle.std.specs.Int.{bit_at};
-ghost use Rattle.std.specs.Prelude.{ℕ, true, false, ◌≡◌, ◌≤◌, ◌<◌, ◌+◌, ◌-◌, ◌*◌, ◌/◌, ◌%◌, length, nat_eq, slice_index};
+ghost use Rattle.std.specs.Prelude.{ℕ, true, false, ◌≡◌, ◌≤◌, ◌<◌, ◌+◌, ◌-◌, ◌*◌, ◌/◌, ◌%◌, length, nat_eq, slice_index, IfErr, IfOk};
 
 use crate::blocks::block_change;
 use crate::packed::Order;
@@ -247,25 +247,55 @@ pub(crate) fn first_in_word(word: u64, from: u32, bit: bool) -> u32
     (turned & (u64::MAX >> from)).leading_zeros()
 }
 
-/// The first place of a piece of octets whose bit is another, or its end, counted from the piece's
-/// first bit; and the octets of the piece: 32 where as many are left, and else 8, which are 0 past the end.
-fn first_in_piece(octets: &[u8], at: usize, bit: bool) -> (u32, u32)
-    requires { at ≤ length octets.now }
-    ensures some { 0 < result.1 }
-    ensures few { result.1 ≤ 32 }
-    ensures first { IsFirstOther octets.now (8 * at) (8 * at + 8 * result.1) bit (8 * at + result.0) }
+/// The first place of 32 octets from one of them on whose bit is another, or 256.
+#[inline(always)]
+fn first_in_block(octets: &[u8], at: usize, bit: bool) -> u32
+    requires { at + 32 ≤ length octets.now }
+    ensures { IsFirstOther octets.now (8 * at) (8 * at + 256) bit (8 * at + result) }
 {
     match octets[at..].first_chunk::<32>() {
-        Some(block) => (block_change(block, Color::of_bit(bit)), 32),
-        None => {
-            let word = octet_word(Order::MsbFirst, octets, at);
-            (first_in_word(word, 0, bit), 8)
-        }
+        Some(block) => block_change(block, Color::of_bit(bit)),
+        None => unreachable!(),
     }
 }
 
-/// The first place of octets from an octet on whose bit is another, or the end.
-pub(crate) fn first_other_after(octets: &[u8], from: u32, end: u32, bit: bool) -> u32
+/// The first place of eight octets from one of them on whose bit is another, or 64; past the octets
+/// the bits are 0.
+#[inline(always)]
+fn first_in_eight(octets: &[u8], at: usize, bit: bool) -> u32
+    requires { at ≤ length octets.now }
+    ensures { IsFirstOther octets.now (8 * at) (8 * at + 64) bit (8 * at + result) }
+{
+    let word = octet_word(Order::MsbFirst, octets, at);
+    first_in_word(word, 0, bit)
+}
+
+/// The first place of octets from an octet on whose bit is another, or the end, where one of the whole
+/// blocks of 32 octets tells; and else the octet after them.
+#[inline(always)]
+fn other_in_blocks(octets: &[u8], from: u32, end: u32, bit: bool) -> Result<u32, u32>
+    requires order { 8 * from ≤ end }
+    requires within { end ≤ 8 * length octets.now }
+    requires small { end ≤ 2432 }
+    ensures told { IfOk result (λ place. IsFirstOther octets.now (8 * from) end bit place) }
+    ensures low { IfErr result (λ at. from ≤ at) }
+    ensures high { IfErr result (λ at. 8 * at ≤ end) }
+    ensures before { IfErr result (λ at. (k : ℕ) → 8 * from ≤ k → k < 8 * at → bit_in Order.MsbFirst octets.now k ≡ bit) }
+{
+    let mut at = from;
+    while octets.len() - at as usize >= 32 {
+        let place = first_in_block(octets, at as usize, bit);
+        if place < 256 || 8 * at + 256 >= end {
+            return Ok((8 * at + place).min(end));
+        }
+        at += 32;
+    }
+    Err(at)
+}
+
+/// The first place of octets from an octet on whose bit is another, or the end, eight octets at a time.
+#[inline(always)]
+fn other_in_words(octets: &[u8], from: u32, end: u32, bit: bool) -> u32
     requires order { 8 * from ≤ end }
     requires within { end ≤ 8 * length octets.now }
     requires small { end ≤ 2432 }
@@ -273,13 +303,40 @@ pub(crate) fn first_other_after(octets: &[u8], from: u32, end: u32, bit: bool) -
 {
     let mut at = from;
     while 8 * at < end {
-        let (place, size) = first_in_piece(octets, at as usize, bit);
-        if place < 8 * size {
+        let place = first_in_eight(octets, at as usize, bit);
+        if place < 64 {
             return (8 * at + place).min(end);
         }
-        at += size;
+        at += 8;
     }
     end
+}
+
+/// The first place of octets from an octet on whose bit is another, or the end.
+#[inline(always)]
+fn other_after(octets: &[u8], from: u32, end: u32, bit: bool) -> u32
+    requires order { 8 * from ≤ end }
+    requires within { end ≤ 8 * length octets.now }
+    requires small { end ≤ 2432 }
+    ensures { IsFirstOther octets.now (8 * from) end bit result }
+{
+    match other_in_blocks(octets, from, end, bit) {
+        Ok(place) => place,
+        Err(at) => other_in_words(octets, at, end, bit),
+    }
+}
+
+/// The first place of octets from an octet on whose bit is another, or the end: a loop for each bit.
+pub(crate) fn first_other_after(octets: &[u8], from: u32, end: u32, bit: bool) -> u32
+    requires order { 8 * from ≤ end }
+    requires within { end ≤ 8 * length octets.now }
+    requires small { end ≤ 2432 }
+    ensures { IsFirstOther octets.now (8 * from) end bit result }
+{
+    if bit {
+        return other_after(octets, from, end, true);
+    }
+    other_after(octets, from, end, false)
 }
 
 /// The first place of octets from a place on whose bit is another, or the end.

@@ -9,6 +9,7 @@ use crate::fault::{CodeFault, CodeFaultKind};
 use crate::reader::BitReader;
 use raster::{Color, RasterFault, Row};
 use std::alloc::{AllocError, Global};
+use std::mem::replace;
 
 /// The row of these runs, white first, which add up to a width. Errs where memory is refused.
 fn row_of(alloc: Global, runs: &[u32]) -> Result<Row, AllocError>
@@ -31,14 +32,15 @@ struct RunsSoFar {
 }
 
 impl<'a> BitReader<'a> {
-    /// The first runs of a row, as many as can be told quickly.
-    fn quick_runs(&mut self, alloc: Global, width: u32) -> Result<RunsSoFar, AllocError>
+    /// The first runs of a row, as many as can be told quickly, in the list's memory.
+    fn quick_runs(&mut self, list: Vec<u32>, width: u32) -> Result<RunsSoFar, AllocError>
         requires { IsWidth width }
         ensures { IfOk result (λ row. IsInRow width self.old self.new row.runs.items row.color row.room) }
     {
         let _place = self.place(); // tells the proof that it is within the bits
         let mut ahead = self.look_ahead();
-        let mut runs = Vec::with_capacity(alloc, 128)?;
+        let mut runs = list;
+        runs.clear();
         let mut color = Color::White;
         let mut room = width;
         while room > 0 {
@@ -62,8 +64,9 @@ impl<'a> BitReader<'a> {
         Ok(RunsSoFar { runs, color, room })
     }
 
-    /// The runs of a row of this width. After an error the reader is somewhere in the row.
-    fn row_runs(&mut self, alloc: Global, width: u32) -> Result<Vec<u32>, CodeFault>
+    /// The runs of a row of this width, in the list's memory. After an error the reader is somewhere in
+    /// the row.
+    fn row_runs(&mut self, list: Vec<u32>, width: u32) -> Result<Vec<u32>, CodeFault>
         requires { IsWidth width }
         ensures { RowRuns width self.old self.new result }
     {
@@ -71,7 +74,7 @@ impl<'a> BitReader<'a> {
             mut runs,
             mut color,
             mut room,
-        } = self.quick_runs(alloc, width)?;
+        } = self.quick_runs(list, width)?;
         while room > 0 {
             let run = self.read_run_by_codes(color, room, CodeFaultKind::RunTooLong)?;
             runs.push(run)?;
@@ -81,13 +84,21 @@ impl<'a> BitReader<'a> {
         Ok(runs)
     }
 
-    /// The row of this width. After an error the reader is somewhere in the row.
-    fn whole_row(&mut self, alloc: Global, width: u32) -> Result<Row, CodeFault>
+    /// The row of this width, which leaves its runs in the list. After an error the reader is somewhere
+    /// in the row.
+    fn whole_row(
+        &mut self,
+        alloc: Global,
+        width: u32,
+        list: &mut Vec<u32>,
+    ) -> Result<Row, CodeFault>
         requires { IsWidth width }
         ensures { WholeRow width self.old self.new result }
     {
-        let runs = self.row_runs(alloc, width)?;
-        Ok(row_of(alloc, &runs)?)
+        let runs = self.row_runs(replace(list, Vec::new(alloc)), width)?;
+        let row = row_of(alloc, &runs)?;
+        *list = runs;
+        Ok(row)
     }
 
     /// The next row in one dimension, 1 to 2,432 pixels wide: its run codes, white first (ITU-T T.4,
@@ -101,8 +112,26 @@ impl<'a> BitReader<'a> {
         ensures memory { IfErr result (λ fault. fault.kind ≡ CodeFaultKind.NoMemory → fault.place ≡ self.old.place) }
         ensures stays { OnErr result (self.new ≡ self.old) }
     {
+        let mut list = Vec::new(alloc);
+        self.read_row_1d_in(alloc, width, &mut list)
+    }
+
+    /// As `read_row_1d`, in the memory of a list, for rows one after the other. What the list holds
+    /// before is forgotten, and what it holds after is no matter.
+    pub fn read_row_1d_in(
+        &mut self,
+        alloc: Global,
+        width: u32,
+        list: &mut Vec<u32>,
+    ) -> Result<Row, CodeFault>
+        requires { IsWidth width }
+        ensures reads { IfOk result (ReadsRow width self.old self.new) }
+        ensures refuses { IfErr result (λ fault. fault.kind ≢ CodeFaultKind.NoMemory → RefusesRow width self.old fault) }
+        ensures memory { IfErr result (λ fault. fault.kind ≡ CodeFaultKind.NoMemory → fault.place ≡ self.old.place) }
+        ensures stays { OnErr result (self.new ≡ self.old) }
+    {
         let mut ahead = self.look_ahead();
-        match ahead.whole_row(alloc, width) {
+        match ahead.whole_row(alloc, width, list) {
             Ok(row) => {
                 *self = ahead;
                 Ok(row)

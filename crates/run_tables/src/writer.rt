@@ -299,17 +299,32 @@ impl BitWriter {
         ensures ok { OnOk result (AppendsRow row.now self.old self.new) }
         ensures err { OnErr result (self.new ≡ self.old) }
     {
+        let mut changes = Vec::new(alloc);
+        self.write_row_1d_in(alloc, row, &mut changes)
+    }
+
+    /// As `write_row_1d`, in the memory of a list, for rows one after the other. What the list holds
+    /// before is forgotten, and what it holds after is no matter.
+    pub fn write_row_1d_in(
+        &mut self,
+        alloc: Global,
+        row: &Row,
+        changes: &mut Vec<u32>,
+    ) -> Result<(), AllocError>
+        ensures ok { OnOk result (AppendsRow row.now self.old self.new) }
+        ensures err { OnErr result (self.new ≡ self.old) }
+    {
         let start = self.bits();
         let width = row.width();
-        let mut changes = Vec::new(alloc);
-        row.changes(alloc, &mut changes)?;
+        changes.clear();
+        row.changes(alloc, changes)?;
         let mut color = Color::White;
         let mut index = 1;
-        let mut at = place_at(&changes, 0, width);
+        let mut at = place_at(changes, 0, width);
         self.write_run(color, at)?;
         while at < width {
             color = color.other();
-            let end = end_of_run(&changes, index, at, width);
+            let end = end_of_run(changes, index, at, width);
             if let Err(refused) = self.write_run(color, end - at) {
                 self.truncate(start);
                 return Err(refused);

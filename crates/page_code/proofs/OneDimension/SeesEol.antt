@@ -1,18 +1,15 @@
 -- Reading an EOL, bit by bit.
-use Rattle.std.proofs.Common.{◌⊎◌, inl, inr, subst, ℕ, suc, ◌≡◌, ◌+◌, ◌-◌, ◌*◌, ◌<◌, ◌≤◌, Bool, true, false, List, ◌∷◌, length, drop, Some}
-use Rattle.std.proofs.Common.{None, refl, ap, sym, ◌∙◌, arith, drop-drop, ◌++◌, length-append}
+use Rattle.std.proofs.Common.{◌⊎◌, inl, inr, subst, ℕ, suc, ◌≡◌, ◌+◌, ◌-◌, ◌*◌, ◌<◌, ◌≤◌, Bool, true, false, List, ◌∷◌, length, drop, Some, zero}
+use Rattle.std.proofs.Common.{None, refl, ap, sym, ◌∙◌, arith, drop-drop}
 use Rattle.std.specs.Prelude.{Option}
 use Rattle.std.specs.Option.{option_map}
 use Rattle.std.proofs.lemmas.List.{drop_more, drop_all, length-drop}
 use Rattle.std.proofs.lemmas.Option.{get_or_from_slice_get}
 use Rattle.raster.specs.declared.packed.Order.{Order}
 use Rattle.raster.specs.Packed.{bit_in, bits_of}
-use Rattle.raster.specs.Words.{number_bits}
-use Rattle.run_tables.specs.Texts.{begins}
-use Rattle.run_tables.proofs.BeginsLemmas.{begins_split}
-use Rattle.page_code.specs.OneDimension.Pages.{eol_word}
-use Rattle.page_code.proofs.OneDimension.ZerosBefore.{zeros_eol}
-use Rattle.raster.proofs.PackedLemmas.{length-bits_in, slice_get-bits_in}
+use Rattle.raster.specs.Words.{IsFirstInWord, IsWordAt}
+use Rattle.raster.proofs.PackedLemmas.{bit_in-past, length-bits_in, slice_get-bits_in}
+use Rattle.std.proofs.lemmas.Bool.{cases_lt, true≢false}
 use Rattle.page_code.specs.OneDimension.Fronts.{zeros_before, bits_of_eols, bits_of_five, CodeBegins}
 use Rattle.page_code.specs.OneDimension.Reading.{SeesEol}
 use Rattle.page_code.specs.declared.one_dim.eol.Eol.{Eol}
@@ -61,6 +58,46 @@ none_left order octets place at h before =
     let past : length (bits_of order octets) ≤ at = rw length-bits_in h in
     sym (before ∙ ap (λ (x : List Bool). more_zeros (at - place) (zeros_before x)) (drop_all at (bits_of order octets) past))
 
+-- so many 0 bits go on, the bits past the end too
+pub zeros_on : (order : Order) (octets : List ℕ) (place at n : ℕ) → place ≤ at → ((k : ℕ) → k < n → bit_in order octets (at + k) ≡ false)
+    → zeros_before (drop place (bits_of order octets)) ≡ more_zeros (at - place) (zeros_before (drop at (bits_of order octets)))
+    → zeros_before (drop place (bits_of order octets)) ≡ more_zeros (at + n - place) (zeros_before (drop (at + n) (bits_of order octets)))
+zeros_on order octets place at zero past bits before = let same : at + 0 ≡ at = omega arith in rw same before
+zeros_on order octets place at (suc n) past bits before =
+    let so_far = zeros_on order octets place at n past (λ k h. bits k (omega arith)) before in
+    let next : at + suc n ≡ at + n + 1 = omega arith in
+    rw next (elim (cases_lt (at + n) (8 * length octets)) [
+      | inl h ↦ zero_on order octets place (at + n) (omega arith) h (bits n (omega arith)) so_far
+      | inr h ↦
+          let over : length (bits_of order octets) ≤ at + n + 1 = rw length-bits_in (omega arith) in
+          sym (none_left order octets place (at + n) h so_far) ∙ sym (ap (λ (x : List Bool). more_zeros (at + n + 1 - place)
+          (zeros_before x)) (drop_all (at + n + 1) (bits_of order octets) over))
+    ])
+
+-- a word of 0 bits
+pub word_on : (order : Order) (octets : List ℕ) (place at word count : ℕ) → place ≤ at → IsWordAt order octets at word
+    → IsFirstInWord word 0 false count → 64 ≤ count
+    → zeros_before (drop place (bits_of order octets)) ≡ more_zeros (at - place) (zeros_before (drop at (bits_of order octets)))
+    → zeros_before (drop place (bits_of order octets)) ≡ more_zeros (at + 64 - place) (zeros_before (drop (at + 64) (bits_of order octets)))
+word_on order octets place at word count past is first none before =
+    zeros_on order octets place at 64 past (λ k h. sym (is k h) ∙ first.before k (omega arith) (omega arith)) before
+
+-- a word with a 1: it is one of the bits, and ends the 0 bits
+pub word_ends : (order : Order) (octets : List ℕ) (place at word count : ℕ) → place ≤ at → IsWordAt order octets at word
+    → IsFirstInWord word 0 false count → count < 64
+    → zeros_before (drop place (bits_of order octets)) ≡ more_zeros (at - place) (zeros_before (drop at (bits_of order octets)))
+    → (at + count < 8 * length octets) × (Some (at - place + count) ≡ zeros_before (drop place (bits_of order octets)))
+word_ends order octets place at word count past is first some before =
+    let one : bit_in order octets (at + count) ≡ true = sym (is count some) ∙ first.hit some in
+    let within : at + count < 8 * length octets = elim (cases_lt (at + count) (8 * length octets)) [
+      | inl h ↦ h
+      | inr h ↦ absurd (true≢false (sym one ∙ bit_in-past order octets (at + count) h))
+    ] in
+    let there = one_ends order octets place (at + count) within one (zeros_on order octets place at count past
+    (λ k h. sym (is k (omega arith)) ∙ first.before k (omega arith) h) before) in
+    let same : at - place + count ≡ at + count - place = omega arith in
+    (within, rw same there)
+
 -- the bits of the EOLs that are there, so many at most
 unfoldable pub counted : ℕ → List Bool → ℕ
 counted most x = bits_of_eols most x
@@ -108,15 +145,3 @@ eol_counted order octets all after counter bits few within sees before =
 pub eols_end : (most : ℕ) (x : List Bool) (eol : Eol) → SeesEol x eol → (eol ≡ Absent) ⊎ (eol ≡ OnlyZeros) → counted most x ≡ 0
 eols_end most x eol sees (inl e) = counted_other most x (subst (λ (seen : Eol). SeesEol x seen) e sees)
 eols_end most x eol sees (inr e) = counted_none most x (subst (λ (seen : Eol). SeesEol x seen) e sees)
-
--- an EOL with no 0 bits before it is there
-pub eol_begun : (x : List Bool) → begins (number_bits 12 1) x ≡ true → SeesEol x (Present 12)
-eol_begun x e =
-    let split : x ≡ eol_word 11 ++ drop 12 x = begins_split (eol_word 11) x e in
-    let word : length (eol_word 11) ≡ 12 = refl in (
-      11,
-      ap zeros_before split ∙ zeros_eol 11 (drop 12 x),
-      omega arith,
-      refl,
-      omega (arith, ap length split, length-append (eol_word 11) (drop 12 x), word),
-    )

@@ -3,10 +3,10 @@
 ghost use Rattle.page_code.specs.OneDimension.Fronts.{zeros_before, bits_of_five};
 ghost use Rattle.page_code.specs.OneDimension.Reading.{SeesEol};
 ghost use Rattle.raster.specs.Packed.{bits_of};
-ghost use Rattle.std.specs.Prelude.{◌≡◌, ◌≤◌, ◌<◌, ◌+◌, ◌*◌, drop, length, IfSome};
+ghost use Rattle.raster.specs.Words.{IsFirstInWord};
+ghost use Rattle.std.specs.Prelude.{◌≡◌, ◌≤◌, ◌<◌, ◌+◌, ◌*◌, drop, false, length, IfSome};
 
-use raster::packed::{Order, bit_of};
-use run_tables::BitReader;
+use raster::packed::{Order, word_at};
 
 /// What is found where an end of line may come (ITU-T T.4, 4.1.2).
 #[derive(Clone, Copy, Debug, PartialEq, Eq)]
@@ -19,6 +19,14 @@ pub(crate) enum Eol {
     OnlyZeros,
 }
 
+/// The number of 0 bits before the first 1 of a word, or 64.
+#[inline(always)]
+fn zeros_of(word: u64) -> u32
+    ensures { IsFirstInWord word 0 false result }
+{
+    word.leading_zeros()
+}
+
 /// The number of 0 bits before the first 1 from a place on, or none where there is no 1.
 pub(crate) fn zeros_from(octets: &[u8], order: Order, place: u128) -> Option<u128>
     requires { place ≤ 8 * length octets.now }
@@ -26,10 +34,13 @@ pub(crate) fn zeros_from(octets: &[u8], order: Order, place: u128) -> Option<u12
     ensures within { IfSome result (λ zeros. place + zeros < 8 * length octets.now) }
 {
     let end = 8 * octets.len() as u128;
-    for at in place..end {
-        if bit_of(order, octets, at) {
-            return Some(at - place);
+    let mut at = place;
+    while at < end {
+        let zeros = zeros_of(word_at(order, octets, at));
+        if zeros < 64 {
+            return Some(at - place + zeros as u128);
         }
+        at += 64;
     }
     None
 }
@@ -39,9 +50,6 @@ pub(crate) fn eol_at(octets: &[u8], order: Order, place: u128) -> Eol
     requires { place ≤ 8 * length octets.now }
     ensures { SeesEol (drop place (bits_of order octets.now)) result }
 {
-    if BitReader::at(octets, order, place).starts_with(1, 12) {
-        return Eol::Present(12); // with no 0 bits before it, as most are
-    }
     match zeros_from(octets, order, place) {
         None => Eol::OnlyZeros,
         Some(zeros) => {

@@ -1,14 +1,23 @@
-use Rattle.std.proofs.Common.{sym, ◌∙◌}
-use Rattle.page_code.proofs.OneDimension.SeesEol.{zero_on, one_ends, none_left}
+use Rattle.std.proofs.Common.{arith}
+use Rattle.page_code.proofs.OneDimension.SeesEol.{none_left, word_ends, word_on}
 use Rattle.page_code.proofs.one_dim.eol.zeros_from.Goals as goal
 
-pub returns-then-bit_of-clause-zeros : goal.returns-then-bit_of-clause-zeros
-returns-then-bit_of-clause-zeros c = one_ends c.args.order c.args.octets.now c.args.place c.loop-at.at c.loop-at-test.true (sym
-    c.bit_of.ensures ∙ c.if-bit_of.true) c.loop-at.invariant
+pub returns-then-zeros-lt64-clause-zeros : goal.returns-then-zeros-lt64-clause-zeros
+returns-then-zeros-lt64-clause-zeros c = (word_ends c.args.order c.args.octets.now c.args.place c.loop-at.at c.word_at.result c.zeros_of-zeros.result
+    c.loop-at.invariant.past c.word_at.ensures c.zeros_of-zeros.ensures c.if-zeros-lt64.true c.loop-at.invariant.zeros).1
+
+pub returns-then-zeros-lt64-clause-within : goal.returns-then-zeros-lt64-clause-within
+returns-then-zeros-lt64-clause-within c =
+    let ends = word_ends c.args.order c.args.octets.now c.args.place c.loop-at.at c.word_at.result c.zeros_of-zeros.result
+    c.loop-at.invariant.past c.word_at.ensures c.zeros_of-zeros.ensures c.if-zeros-lt64.true c.loop-at.invariant.zeros in
+    omega (arith, ends.0, c.loop-at.invariant.past)
 
 pub loop-at-preserved : goal.loop-at-preserved
-loop-at-preserved c = zero_on c.args.order c.args.octets.now c.args.place c.loop-at.at c.loop-at.auto.at c.loop-at-test.true (sym
-    c.bit_of.ensures ∙ c.if-bit_of.false) c.loop-at.invariant
+loop-at-preserved c = record {
+  past = omega (arith, c.loop-at.invariant.past);
+  zeros = word_on c.args.order c.args.octets.now c.args.place c.loop-at.at c.word_at.result c.zeros_of-zeros.result
+      c.loop-at.invariant.past c.word_at.ensures c.zeros_of-zeros.ensures (omega arith) c.loop-at.invariant.zeros;
+}
 
 pub returns-clause-zeros : goal.returns-clause-zeros
-returns-clause-zeros c = none_left c.args.order c.args.octets.now c.args.place c.loop-at.at c.loop-at-test.false c.loop-at.invariant
+returns-clause-zeros c = none_left c.args.order c.args.octets.now c.args.place c.loop-at.at (omega arith) c.loop-at.invariant.zeros

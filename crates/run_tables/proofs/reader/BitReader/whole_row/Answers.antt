@@ -13,5 +13,5 @@ returns-in_err-runs c =
 
 pub returns : goal.returns
 returns c =
-    runs_read Global c.args.width c.args.self.now c.row_runs.new.self c.in_ok-runs.runs c.in_ok-row_of.field-0 c.requires
-    c.in_ok-runs.ensures (c.in_ok-row_of.ensures ∙ ap (colored White) c.deref.ensures.value)
+    runs_read Global c.args.width c.args.self.now c.row_runs.new.self c.in_ok-runs.runs c.in_ok-row.row c.requires
+    c.in_ok-runs.ensures (c.in_ok-row.ensures ∙ ap (colored White) c.deref.ensures.value)

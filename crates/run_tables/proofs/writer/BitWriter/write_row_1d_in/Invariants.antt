@@ -2,7 +2,7 @@ use Rattle.std.proofs.Common.{◌≡◌, ◌-◌, ◌<◌}
 use Rattle.std.specs.Prelude.{slice_index_or}
 use Rattle.raster.specs.Pixels.{other}
 use Rattle.run_tables.proofs.RowWriting.{WritesTo}
-use Rattle.run_tables.proofs.writer.BitWriter.write_row_1d.Given as goal
+use Rattle.run_tables.proofs.writer.BitWriter.write_row_1d_in.Given as goal
 
 -- the runs up to a place are written, which is the changing position before an index
 abbrev pub invariant-loop-at : goal.invariant-loop-at

@@ -1,5 +1,5 @@
 use Rattle.run_tables.proofs.RowReads.{begun_refuses, begun_memory}
-use Rattle.run_tables.proofs.reader.BitReader.read_row_1d.Goals as goal
+use Rattle.run_tables.proofs.reader.BitReader.read_row_1d_in.Goals as goal
 
 pub returns-in-Err-clause-refuses : goal.returns-in-Err-clause-refuses
 returns-in-Err-clause-refuses c = begun_refuses c.args.width c.args.self.now c.place.result c.in-Err.fault c.begun_at.result

@@ -5,11 +5,11 @@ use Rattle.raster.specs.Pixels.{other}
 use Rattle.run_tables.specs.Codes.{run_words}
 use Rattle.run_tables.specs.Written.{Appends}
 use Rattle.run_tables.proofs.RowWriting.{first_written, next_written, first_change, is_after}
-use Rattle.run_tables.proofs.writer.BitWriter.write_row_1d.Goals as goal
+use Rattle.run_tables.proofs.writer.BitWriter.write_row_1d_in.Goals as goal
 
 pub loop-at-init : goal.loop-at-init
 loop-at-init c =
-    let all : AreChanges c.args.row.now c.changes.new.out.items = rw (c.in_ok-changes.ensures.ok.1, c.new-changes.ensures.items)
+    let all : AreChanges c.args.row.now c.changes.new.out.items = rw (c.in_ok-changes.ensures.ok.1, c.clear.ensures.items)
     c.in_ok-changes.ensures.ok.2 in
     let place : c.place_at-at.result ≡ slice_index_or c.changes.new.out.items 0 c.width-width.result = c.place_at-at.ensures
     ∙ ap (λ (xs : List ℕ). slice_index_or xs 0 c.width-width.result) c.deref.ensures.value in
@@ -29,7 +29,7 @@ end_of_run-end-requires-clause-place c =
 
 pub overflow_sub-end : goal.overflow_sub-end
 overflow_sub-end c =
-    let all : AreChanges c.args.row.now c.changes.new.out.items = rw (c.in_ok-changes.ensures.ok.1, c.new-changes.ensures.items)
+    let all : AreChanges c.args.row.now c.changes.new.out.items = rw (c.in_ok-changes.ensures.ok.1, c.clear.ensures.items)
     c.in_ok-changes.ensures.ok.2 in
     let next : IsNextChange c.args.row.now (c.loop-at.at + 1) c.end_of_run-end.result = c.end_of_run-end.ensures.next c.args.row.now (rw
     c.deref-in-loop-at.ensures.value all) (sym c.width-width.ensures.width) in
@@ -44,7 +44,7 @@ overflow_sub-end c =
 
 pub write_run-requires-in-loop-at : goal.write_run-requires-in-loop-at
 write_run-requires-in-loop-at c =
-    let all : AreChanges c.args.row.now c.changes.new.out.items = rw (c.in_ok-changes.ensures.ok.1, c.new-changes.ensures.items)
+    let all : AreChanges c.args.row.now c.changes.new.out.items = rw (c.in_ok-changes.ensures.ok.1, c.clear.ensures.items)
     c.in_ok-changes.ensures.ok.2 in
     let next : IsNextChange c.args.row.now (c.loop-at.at + 1) c.end_of_run-end.result = c.end_of_run-end.ensures.next c.args.row.now (rw
     c.deref-in-loop-at.ensures.value all) (sym c.width-width.ensures.width) in
@@ -52,7 +52,7 @@ write_run-requires-in-loop-at c =
 
 pub loop-at-smaller : goal.loop-at-smaller
 loop-at-smaller c =
-    let all : AreChanges c.args.row.now c.changes.new.out.items = rw (c.in_ok-changes.ensures.ok.1, c.new-changes.ensures.items)
+    let all : AreChanges c.args.row.now c.changes.new.out.items = rw (c.in_ok-changes.ensures.ok.1, c.clear.ensures.items)
     c.in_ok-changes.ensures.ok.2 in
     let next : IsNextChange c.args.row.now (c.loop-at.at + 1) c.end_of_run-end.result = c.end_of_run-end.ensures.next c.args.row.now (rw
     c.deref-in-loop-at.ensures.value all) (sym c.width-width.ensures.width) in
@@ -63,7 +63,7 @@ loop-at-smaller c =
 
 pub loop-at-preserved : goal.loop-at-preserved
 loop-at-preserved c =
-    let all : AreChanges c.args.row.now c.changes.new.out.items = rw (c.in_ok-changes.ensures.ok.1, c.new-changes.ensures.items)
+    let all : AreChanges c.args.row.now c.changes.new.out.items = rw (c.in_ok-changes.ensures.ok.1, c.clear.ensures.items)
     c.in_ok-changes.ensures.ok.2 in
     let next : IsNextChange c.args.row.now (c.loop-at.at + 1) c.end_of_run-end.result = c.end_of_run-end.ensures.next c.args.row.now (rw
     c.deref-in-loop-at.ensures.value all) (sym c.width-width.ensures.width) in
