@@ -207,8 +207,9 @@ impl<'a> BitReader<'a> {
     /// Whether the next 57 bits are left: where eight octets are, that of the next bit included.
     #[inline(always)]
     #[tactic(auto, using(raster::proofs::PackedLemmas::views))]
-    fn has_57(&self) -> bool
-        ensures { OnTrue result (57 ≤ length (rest_of self.now)) }
+    pub fn has_57(&self) -> bool
+        ensures yes { OnTrue result (57 ≤ length (rest_of self.now)) }
+        ensures no { OnFalse result (length (rest_of self.now) < 57) }
     {
         self.octets.len() - self.at >= 8
     }
@@ -378,8 +379,9 @@ impl<'a> BitReader<'a> {
     /// A run of a color, of at most so many pixels, where it can be told from the next 57 bits. Else
     /// none, and nothing changed.
     #[inline(always)]
-    pub(crate) fn quick_run(&mut self, color: Color, room: u32) -> Option<u32>
+    pub fn quick_run(&mut self, color: Color, room: u32) -> Option<u32>
         ensures some { IfSome result (λ run. (past : CodeFaultKind) → ReadsRunWithin color room past self.old self.new (Ok run)) }
+        ensures most { IfSome result (λ run. run ≤ room) }
         ensures none { IfNone result (self.new ≡ self.old) }
     {
         let enough = self.has_57();

@@ -36,7 +36,7 @@ use Rattle.page_code.specs.TwoDimensions.Fronts.{run_color, run_ended, after_run
 use Rattle.page_code.specs.TwoDimensions.Fronts.PageItem.{run_item}
 use Rattle.page_code.specs.TwoDimensions.Fronts.PageState.{inside, running}
 use Rattle.page_code.specs.TwoDimensions.Reading.{row_reading, ReadsMode, HasRoom, ReadsRun, LeadsOn, MovesTo, ReadsHorizontal, StepsOn}
-use Rattle.page_code.specs.TwoDimensions.Reading.{missing_mode}
+use Rattle.page_code.specs.TwoDimensions.Reading.{FindsA1, LeadsQuickly, RunsQuickly, StepsQuickly, missing_mode}
 use Rattle.page_code.specs.TwoDimensions.Writing.{reference_at}
 use Rattle.page_code.proofs.TwoDimensions.Positions.{b1_is, b2_is}
 use Rattle.page_code.proofs.TwoDimensions.Prescribed.{other_twice}
@@ -377,54 +377,44 @@ module _ (reference : List Color) (line : CodingLine) (short : length line.pixel
     b1_there : b1 ≡ b1_of reference line
     b1_there = b1_is reference line b1 is_b1
 
-    pub backwards_leads : (place : ℕ) (next : CodingLine) → b1 + to_right shift < right_of_a0 line + to_left shift
-        → MovesTo reference place line next (Vertical shift) (Err (record { place = place; kind = Backwards }))
+    pub backwards_leads : b1 + to_right shift < right_of_a0 line + to_left shift → FindsA1 reference line shift (Err Backwards)
     unfolding after_mode
-    backwards_leads place next back = inr (
-      refl,
-      λ page is. rw (
-        is,
-        ← b1_there,
-        lt-ltb (b1 + to_right shift) (right_of_a0 line + to_left
-            shift) back,
-      ) refl,
-    )
+    backwards_leads back page is = rw (
+      is,
+      ← b1_there,
+      lt-ltb (b1 + to_right shift) (right_of_a0 line + to_left
+          shift) back,
+    ) refl
 
-    pub past_leads : (place : ℕ) (next : CodingLine) → right_of_a0 line + to_left shift ≤ b1 + to_right shift
-        → length reference + to_left shift < b1 + to_right shift
-        → MovesTo reference place line next (Vertical shift) (Err (record { place = place; kind = PastEnd }))
+    pub past_leads : right_of_a0 line + to_left shift ≤ b1 + to_right shift → length reference + to_left shift < b1 + to_right shift
+        → FindsA1 reference line shift (Err PastEnd)
     unfolding after_mode
-    past_leads place next right past = inr (
-      refl,
-      λ page is. rw (
-        is,
-        ← b1_there,
-        le-ltb (b1 + to_right shift) (right_of_a0 line + to_left
-            shift) right,
-        lt-ltb (length reference + to_left shift) (b1 + to_right shift) past,
-      ) refl,
-    )
+    past_leads right past page is = rw (
+      is,
+      ← b1_there,
+      le-ltb (b1 + to_right shift) (right_of_a0 line + to_left
+          shift) right,
+      lt-ltb (length reference + to_left shift) (b1 + to_right shift) past,
+    ) refl
 
-    pub vertical_leads : (a1 place : ℕ) (next : CodingLine) → a1 ≡ b1 + to_right shift - to_left shift
-        → right_of_a0 line + to_left shift ≤ b1 + to_right shift → a1 ≤ length reference → place ≡ length line.pixels
-        → next ≡ record { pixels = line.pixels ++ replicate (a1 - place) line.color; begun = true; color = other line.color }
-        → LeadsOn reference line next (Vertical shift)
+    pub vertical_leads : (a1 : ℕ) → a1 ≡ b1 + to_right shift - to_left shift → right_of_a0 line + to_left shift ≤ b1 + to_right shift
+        → a1 ≤ length reference → FindsA1 reference line shift (Ok a1)
     unfolding after_mode
-    vertical_leads a1 place next a1_is right within place_is is_next =
-        let after : CodingLine = record { pixels = filled_to line a1; begun = true; color = other line.color } in
-        let there : next ≡ after = is_next ∙
-        ap (λ n. record { pixels = line.pixels ++ replicate (a1 - n) line.color; begun = true; color = other line.color }) place_is in
-        let low : length line.pixels ≤ a1 = omega (arith, (right_bounds line).0) in
-        subst (λ (n : CodingLine). LeadsOn reference line n (Vertical shift)) (sym there) (
-          omega (arith, count_filled line a1 low),
-          λ page is. rw (
-            is,
-            ← b1_there,
-            le-ltb (b1 + to_right shift) (right_of_a0 line + to_left shift) right,
-            le-ltb (length reference +
-                to_left shift) (b1 + to_right shift) (omega arith),
-            ← a1_is,
-          ) refl,
+    vertical_leads a1 a1_is right within =
+        let low : length line.pixels ≤ a1 = omega (arith, (right_bounds line).0) in (
+          low,
+          within,
+          λ next is_next. subst (λ (n : CodingLine). LeadsOn reference line n (Vertical shift)) (sym is_next) (
+            omega (arith, count_filled line a1 low),
+            λ page is. rw (
+              is,
+              ← b1_there,
+              le-ltb (b1 + to_right shift) (right_of_a0 line + to_left shift) right,
+              le-ltb (length reference +
+                  to_left shift) (b1 + to_right shift) (omega arith),
+              ← a1_is,
+            ) refl,
+          ),
         )
 
 -- Horizontal mode
@@ -590,6 +580,42 @@ horizontal_steps reference old mid new line next (Ok done) within reads runs =
 horizontal_steps reference old mid new line next (Err fault) within reads (inl memory) = inl memory
 horizontal_steps reference old mid new line next (Err fault) within reads (inr runs) = inr (λ page is. flag_read (length reference) page
     line old mid reads ∙ runs page)
+
+-- Modes that are read quickly
+
+pub leads_done : (reference : List Color) (line next : CodingLine) (code : ModeCode) (done : Bool) → done ≡ true
+    → LeadsQuickly reference line next code done → LeadsOn reference line next code
+leads_done reference line next code true e leads = leads
+leads_done reference line next code false e leads = cc
+
+pub quick_stays : (reference : List Color) (old new : Reading) (line next : CodingLine) (done : Bool) → done ≡ false
+    → StepsQuickly reference old new line next done → (new ≡ old) × (next ≡ line)
+quick_stays reference old new line next false e steps = steps
+quick_stays reference old new line next true e steps = cc
+
+-- the mode code that was found is gone over
+pub quick_steps : (reference : List Color) (old mid : Reading) (line next : CodingLine) (code : ModeCode) (count : ℕ)
+    → begins (mode_word code) (rest_of old) ≡ true → count ≡ length (mode_word code) → old.place + count ≤ length old.bits
+    → mid ≡ record { bits = old.bits; place = old.place + count } → LeadsOn reference line next code
+    → StepsOn reference old mid line next (Ok tt)
+quick_steps reference old mid line next code count begun is within on leads = mode_steps reference old mid line next code (omega (
+  arith,
+  within,
+)) (begun, on ∙ ap (λ (n : ℕ). record { bits = old.bits; place = old.place + n }) is) leads
+
+pub quick_runs : (reference : List Color) (old mid new : Reading) (line next : CodingLine) (code : ModeCode) (count : ℕ) (done : Bool)
+    → code ≡ Horizontal → begins (mode_word code) (rest_of old) ≡ true → count ≡ length (mode_word code)
+    → old.place + count ≤ length old.bits → mid ≡ record { bits = old.bits; place = old.place + count } → done ≡ true
+    → RunsQuickly (length reference) mid new line next done → StepsOn reference old new line next (Ok tt)
+quick_runs reference old mid new line next code count true is_code begun is within on e runs =
+    let reads : ReadsMode old mid (Ok code) = (begun, on ∙ ap (λ (n : ℕ). record { bits = old.bits; place = old.place + n }) is) in
+    horizontal_steps reference old mid new line next (Ok tt) (omega (arith, within)) (rw is_code at reads) runs
+quick_runs reference old mid new line next code count false is_code begun is within on e runs = cc
+
+pub runs_kept : (width : ℕ) (old new : Reading) (line next : CodingLine) (done : Bool) → done ≡ false
+    → RunsQuickly width old new line next done → next ≡ line
+runs_kept width old new line next false e runs = runs
+runs_kept width old new line next true e runs = cc
 
 -- Rows
 

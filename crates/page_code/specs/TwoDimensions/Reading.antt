@@ -1,10 +1,11 @@
 -- What the parts of a T.6 page's reader answer (ITU-T T.6, 2.2).
 use Rattle.std.specs.Prelude.{ℕ, suc, ◌≡◌, ◌+◌, ◌<◌, ◌≤◌, ◌⊎◌, Bool, true, false, List, [], ◌∷◌, ◌++◌, length, if◌then◌else◌, Option, None}
-use Rattle.std.specs.Prelude.{Some, Result, Ok, Err}
+use Rattle.std.specs.Prelude.{Some, Result, Ok, Err, ◌-◌, replicate}
 use Rattle.raster.specs.declared.row.Color.{Color}
 use Rattle.raster.specs.declared.row.Color.TheVariants.{White}
 use Rattle.raster.specs.Runs.{colored}
 use Rattle.raster.specs.Pages.{max_rows}
+use Rattle.raster.specs.Pixels.{other}
 use Rattle.run_tables.specs.declared.fault.CodeFault.{CodeFault}
 use Rattle.run_tables.specs.declared.fault.CodeFaultKind.{CodeFaultKind}
 use Rattle.run_tables.specs.declared.fault.CodeFaultKind.TheVariants.{NoMemory, EmptyHorizontal, Extension, Truncated, BadCode}
@@ -14,6 +15,8 @@ use Rattle.run_tables.specs.Texts.{begins, all_zero, is_cut}
 use Rattle.run_tables.specs.Fronts.{read_from}
 use Rattle.run_tables.specs.Fronts.Look.{stop, refuse}
 use Rattle.page_code.specs.declared.t6.mode.ModeCode.{ModeCode}
+use Rattle.page_code.specs.declared.t6.mode.ModeCode.TheVariants.{Vertical}
+use Rattle.page_code.specs.declared.t6.mode.Shift.{Shift}
 use Rattle.page_code.specs.declared.t6.read.Start.{Start}
 use Rattle.page_code.specs.declared.t6.read.Start.TheVariants.{Row, End, Refused}
 use Rattle.page_code.specs.TwoDimensions.Positions.{CodingLine, line_begin}
@@ -82,6 +85,14 @@ LeadsOn reference line next code =
     (length next.pixels ≤ length reference) × ((page : PageSoFar) → page.reference ≡ reference
     → after_mode (length reference) page line code ≡ Ok (mode_ended (length reference) page next))
 
+-- a1 of a vertical mode, to which the line leads on; or the mode is refused
+abbrev pub FindsA1 : List Color → CodingLine → Shift → Result ℕ CodeFaultKind → Type 0
+FindsA1 reference line shift (Ok a1) = (length line.pixels ≤ a1) × (a1 ≤ length reference) × ((next : CodingLine)
+    → next ≡ record { pixels = line.pixels ++ replicate (a1 - length line.pixels) line.color; begun = true; color = other line.color }
+    → LeadsOn reference line next (Vertical shift))
+FindsA1 reference line shift (Err kind) = (page : PageSoFar) → page.reference ≡ reference
+    → after_mode (length reference) page line (Vertical shift) ≡ Err kind
+
 -- the mode code at a place leads on, or is refused there, or memory is
 abbrev pub MovesTo : List Color → ℕ → CodingLine → CodingLine → ModeCode → Result (Unit {0}) CodeFault → Type 0
 MovesTo reference place line next code (Ok done) = LeadsOn reference line next code
@@ -111,6 +122,21 @@ StepsOn reference old new line next (Ok done) =
 StepsOn reference old new line next (Err fault) =
     (fault.kind ≡ NoMemory) ⊎ ((page : PageSoFar) → page.reference ≡ reference
     → row_reading (length reference) (inside page line) old.place (rest_of old) ≡ Err (fault.place, fault.kind))
+
+-- one mode was read, or it wasn't, and nothing changed
+abbrev pub StepsQuickly : List Color → Reading → Reading → CodingLine → CodingLine → Bool → Type 0
+StepsQuickly reference old new line next true = StepsOn reference old new line next (Ok tt)
+StepsQuickly reference old new line next false = (new ≡ old) × (next ≡ line)
+
+-- the mode code leads on, or it wasn't tried, and nothing changed
+abbrev pub LeadsQuickly : List Color → CodingLine → CodingLine → ModeCode → Bool → Type 0
+LeadsQuickly reference line next code true = LeadsOn reference line next code
+LeadsQuickly reference line next code false = next ≡ line
+
+-- the two runs of horizontal mode were read, or not both, and the line is as it was
+abbrev pub RunsQuickly : ℕ → Reading → Reading → CodingLine → CodingLine → Bool → Type 0
+RunsQuickly width old new line next true = ReadsHorizontal width old new line next (Ok tt)
+RunsQuickly width old new line next false = next ≡ line
 
 -- one row was read, or it is refused, or memory is
 abbrev pub ReadsRow : List Color → Reading → Reading → Result (List Color) CodeFault → Type 0

@@ -3,14 +3,14 @@
 ghost use Rattle.page_code.specs.RowsSoFar.{IsReadTo, ReadsOn};
 ghost use Rattle.page_code.specs.TwoDimensions.Fronts.{mode_word, mode_codes};
 ghost use Rattle.page_code.specs.TwoDimensions.Modes.{eofb};
-ghost use Rattle.page_code.specs.TwoDimensions.Reading.{FindsMode, LeadsOn, MovesTo, ReadsHorizontal};
-ghost use Rattle.page_code.specs.TwoDimensions.Reading.{ReadsRow, SeesStart, StepsOn, missing_mode};
+ghost use Rattle.page_code.specs.TwoDimensions.Reading.{FindsA1, FindsMode, LeadsOn, LeadsQuickly, MovesTo, ReadsHorizontal};
+ghost use Rattle.page_code.specs.TwoDimensions.Reading.{ReadsRow, RunsQuickly, SeesStart, StepsOn, StepsQuickly, missing_mode};
 ghost use Rattle.page_code.specs.TwoDimensions.Writing.{reference_at};
 ghost use Rattle.raster.specs.Packed.{bits_of};
 ghost use Rattle.raster.specs.Pixels.{IsWidth, max_width};
 ghost use Rattle.run_tables.specs.Reading.{rest_of};
 ghost use Rattle.run_tables.specs.Texts.{all_zero, begins, is_cut};
-ghost use Rattle.std.specs.Prelude.{◌≡◌, ◌≤◌, ◌<◌, ◌+◌, [], OnOk, length};
+ghost use Rattle.std.specs.Prelude.{◌≡◌, ◌≤◌, ◌<◌, ◌+◌, [], IfOk, IfSome, OnOk, length, true};
 
 use crate::coding::Coding;
 use crate::page::{Progress, push_row, row_of};
@@ -119,7 +119,6 @@ fn no_mode(reader: &BitReader) -> CodeFault
 }
 
 /// The next mode code (ITU-T T.6, 2.2.2), or none where none begins the bits that are left.
-#[inline(always)]
 fn next_mode(reader: &mut BitReader) -> Option<ModeCode>
     ensures { FindsMode reader.old reader.new result }
 {
@@ -137,6 +136,7 @@ fn next_mode(reader: &mut BitReader) -> Option<ModeCode>
 }
 
 /// Pass mode: a0 goes under b2.
+#[inline(always)]
 fn pass(reference: &mut Changes, line: &mut Line) -> Result<(), AllocError>
     requires { length line.old.pixels < length reference.old }
     ensures leads { OnOk result (LeadsOn reference.old line.old line.new ModeCode.Pass) }
@@ -146,6 +146,27 @@ fn pass(reference: &mut Changes, line: &mut Line) -> Result<(), AllocError>
     let (_b1, b2) = a0.b1_b2(reference);
     line.push_run(b2 - a0.place)?;
     line.push_run(0)
+}
+
+/// a1 of a vertical mode, or why the mode is refused.
+#[inline(always)]
+fn a1_of(reference: &mut Changes, shift: Shift, line: &Line) -> Result<u32, CodeFaultKind>
+    requires { length line.now.pixels < length reference.old }
+    ensures finds { FindsA1 reference.old line.now shift result }
+    ensures same { reference.new ≡ reference.old }
+{
+    let a0 = *line.a0();
+    let from = a0.right();
+    let (b1, _b2) = a0.b1_b2(reference);
+    let reach = b1 + shift.reach();
+    if reach < from + 3 {
+        return Err(CodeFaultKind::Backwards);
+    }
+    let a1 = reach - 3;
+    if a1 > reference.width() {
+        return Err(CodeFaultKind::PastEnd);
+    }
+    Ok(a1)
 }
 
 /// The vertical mode at a bit: a0 goes to a1.
@@ -159,19 +180,33 @@ fn vertical(
     ensures moves { MovesTo reference.old place line.old line.new (ModeCode.Vertical shift) result }
     ensures same { reference.new ≡ reference.old }
 {
-    let a0 = *line.a0();
-    let from = a0.right();
-    let (b1, _b2) = a0.b1_b2(reference);
-    let reach = b1 + shift.reach();
-    if reach < from + 3 {
-        return Err(CodeFault::new(place, CodeFaultKind::Backwards));
+    let _width = reference.width(); // tells the proof that it is at most 2,432
+    match a1_of(reference, shift, line) {
+        Ok(a1) => {
+            line.push_run(a1 - line.a0().place)?;
+            Ok(())
+        }
+        Err(kind) => Err(CodeFault::new(place, kind)),
     }
-    let a1 = reach - 3;
-    if a1 > reference.width() {
-        return Err(CodeFault::new(place, CodeFaultKind::PastEnd));
-    }
-    line.push_run(a1 - a0.place)?;
-    Ok(())
+}
+
+/// A vertical mode, where it isn't refused. Answers whether it was done; else nothing changed.
+#[inline(always)]
+fn quick_vertical(
+    reference: &mut Changes,
+    shift: Shift,
+    line: &mut Line,
+) -> Result<bool, AllocError>
+    requires { length line.old.pixels < length reference.old }
+    ensures leads { IfOk result (LeadsQuickly reference.old line.old line.new (ModeCode.Vertical shift)) }
+    ensures same { reference.new ≡ reference.old }
+{
+    let _width = reference.width(); // tells the proof that it is at most 2,432
+    let Ok(a1) = a1_of(reference, shift, line) else {
+        return Ok(false);
+    };
+    line.push_run(a1 - line.a0().place)?;
+    Ok(true)
 }
 
 /// The two runs of horizontal mode: a0 goes to a2.
@@ -194,7 +229,89 @@ fn horizontal(reader: &mut BitReader, width: u32, line: &mut Line) -> Result<(),
     Ok(())
 }
 
+/// The mode code that begins the next 57 bits, and its length, where so many are left.
+#[inline(always)]
+fn quick_code(reader: &BitReader) -> Option<(ModeCode, usize)>
+    ensures begins { IfSome result (λ found. begins (mode_word found.0) (rest_of reader.now) ≡ true) }
+    ensures length { IfSome result (λ found. found.1 ≡ length (mode_word found.0)) }
+    ensures within { IfSome result (λ found. reader.now.place + found.1 ≤ length reader.now.bits) }
+{
+    let enough = reader.has_57();
+    if !enough {
+        return None;
+    }
+    let (mode, count) = mode_of((reader.peek_57() >> 57) as u32);
+    match mode {
+        Some(code) => Some((code, count as usize % 8)),
+        None => None,
+    }
+}
+
+/// The two runs of horizontal mode, where they can be told quickly and aren't refused. Answers whether
+/// both were read; else the line is as it was.
+#[inline(always)]
+fn quick_horizontal(reader: &mut BitReader, width: u32, line: &mut Line) -> Result<bool, AllocError>
+    requires short { length line.old.pixels < width }
+    requires width { width ≤ max_width }
+    ensures { IfOk result (RunsQuickly width reader.old reader.new line.old line.new) }
+{
+    let a0 = *line.a0();
+    let other = a0.color.other();
+    let room = width - a0.place;
+    let Some(a0a1) = reader.quick_run(a0.color, room) else {
+        return Ok(false);
+    };
+    let Some(a1a2) = reader.quick_run(other, room - a0a1) else {
+        return Ok(false);
+    };
+    if a0a1 + a1a2 == 0 {
+        return Ok(false);
+    }
+    line.push_run(a0a1)?;
+    line.push_run(a1a2)?;
+    Ok(true)
+}
+
+/// One mode of a row, where it can be told from the next 57 bits. Answers whether it was read; else
+/// nothing changed.
+#[inline(always)]
+fn quick_mode(
+    reader: &mut BitReader,
+    reference: &mut Changes,
+    line: &mut Line,
+) -> Result<bool, AllocError>
+    requires { length line.old.pixels < length reference.old }
+    ensures steps { IfOk result (StepsQuickly reference.old reader.old reader.new line.old line.new) }
+    ensures same { reference.new ≡ reference.old }
+{
+    let Some((code, count)) = quick_code(reader) else {
+        return Ok(false);
+    };
+    match code {
+        ModeCode::Pass => pass(reference, line)?,
+        ModeCode::Horizontal => {
+            let mut ahead = reader.look_ahead();
+            ahead.skip(count);
+            let done = quick_horizontal(&mut ahead, reference.width(), line)?;
+            if done {
+                *reader = ahead;
+                return Ok(true);
+            }
+            return Ok(false);
+        }
+        ModeCode::Vertical(shift) => {
+            let done = quick_vertical(reference, shift, line)?;
+            if !done {
+                return Ok(false);
+            }
+        }
+    }
+    reader.skip(count);
+    Ok(true)
+}
+
 /// One mode of a row (ITU-T T.6, 2.2.2).
+#[inline(never)]
 fn read_mode(
     reader: &mut BitReader,
     reference: &mut Changes,
@@ -229,7 +346,10 @@ fn read_row(
     let mut changes = Changes::of(alloc, reference)?;
     line.begin();
     while line.a0().place < width {
-        read_mode(reader, &mut changes, line)?;
+        let done = quick_mode(reader, &mut changes, line)?;
+        if !done {
+            read_mode(reader, &mut changes, line)?;
+        }
     }
     Ok(line.row(alloc)?)
 }

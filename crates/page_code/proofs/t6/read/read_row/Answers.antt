@@ -1,7 +1,7 @@
 use Rattle.std.proofs.Common.{arith, ap, inl, refl, ◌≡◌, ◌<◌, ◌∙◌, length}
 use Rattle.std.proofs.lemmas.Result.{err_from_is_err_and}
 use Rattle.page_code.specs.declared.t6.a0.A0.{A0}
-use Rattle.page_code.proofs.TwoDimensions.StepsOn.{row_ends, row_stays}
+use Rattle.page_code.proofs.TwoDimensions.StepsOn.{quick_stays, row_ends, row_stays}
 use Rattle.page_code.proofs.t6.read.read_row.Goals as goal
 
 pub returns-in_err-changes : goal.returns-in_err-changes
@@ -19,9 +19,15 @@ returns-in_err-read_mode c =
       c.loop-reader-test.true,
       c.width-width.ensures.width,
     ) in
+    let kept = quick_stays c.loop-reader.changes c.loop-reader.reader c.quick_mode.new.reader c.loop-reader.line c.quick_mode.new.line
+    c.in_ok-done.done c.if-not-done.true c.in_ok-done.ensures.steps in
     rw (p.1, p.2) (row_stays c.args.reference.now c.args.reader.now c.loop-reader.reader c.read_mode.new.reader c.loop-reader.line
-    c.read_mode.new.line c.in_err-read_mode.field-0.0 short c.loop-reader.invariant.reads (rw c.loop-reader.invariant.same at
-    c.in_err-read_mode.ensures.steps))
+    c.read_mode.new.line c.in_err-read_mode.field-0.0 short c.loop-reader.invariant.reads (rw (
+      kept.0,
+      kept.1,
+      c.in_ok-done.ensures.same,
+      c.loop-reader.invariant.same,
+    ) at c.in_err-read_mode.ensures.steps))
 
 pub returns-in_err-row : goal.returns-in_err-row
 returns-in_err-row c =
