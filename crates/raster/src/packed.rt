@@ -7,7 +7,7 @@ ghost use Rattle.raster.specs.Runs.{colored};
 ghost use Rattle.raster.specs.Words.{IsWordAt, IsFirstOtherBit, bit_of_word};
 ghost use Rattle.raster.specs.declared.row.Color.{Color};
 ghost use Rattle.std.specs.Int.{bit_at};
-ghost use Rattle.std.specs.Prelude.{ℕ, ◌≡◌, ◌≤◌, ◌<◌, ◌+◌, ◌-◌, ◌*◌, ◌^◌, ◌/◌, ◌++◌, length};
+ghost use Rattle.std.specs.Prelude.{ℕ, ◌≡◌, ◌≤◌, ◌<◌, ◌+◌, ◌-◌, ◌*◌, ◌/◌, ◌++◌, length};
 ghost use Rattle.std.specs.Prelude.{replicate, sum, slice_get, IfOk, OnOk, OnErr};
 
 use crate::changes::changes;
@@ -110,11 +110,10 @@ fn zeros(alloc: Global, count: usize) -> Result<Vec<u8>, AllocError>
 }
 
 /// The number of octets that so many bits fill, the last of them in part.
-fn octets_for(count: u128) -> usize
-    requires { count < 2 ^ 66 }
+fn octets_for(count: u32) -> usize
     ensures { result ≡ (count + 7) / 8 }
 {
-    ((count + 7) / 8) as usize
+    (count as usize + 7) / 8
 }
 
 /// Clears the bits of the last octet that come after so many bits.
@@ -135,7 +134,7 @@ fn clear_after(order: Order, octets: &mut Vec<u8>, count: u32)
 pub(crate) struct PackedBits {
     octets: Vec<u8>,
     order: Order,
-    count: u128,
+    count: u32,
 }
 
 impl Model for PackedBits {
@@ -162,7 +161,7 @@ impl PackedBits {
         Ok(PackedBits {
             octets,
             order: Order::MsbFirst,
-            count: width as u128,
+            count: width,
         })
     }
 
@@ -177,20 +176,20 @@ impl PackedBits {
         requires { count ≤ 8 * length octets.now }
         ensures { IfOk result (λ p. p ≡ record { order = order; bits = bits_in order octets.now count }) }
     {
-        let needed = count.div_ceil(8) as usize;
+        let needed = octets_for(count);
         let mut kept = Vec::with_capacity(alloc, needed)?;
         kept.extend_from_slice(&octets[..needed])?;
         clear_after(order, &mut kept, count);
         Ok(PackedBits {
             octets: kept,
             order,
-            count: count as u128,
+            count,
         })
     }
 
     /// The number of bits.
     #[tactic(auto, using(crate::proofs::PackedLemmas::views))]
-    pub(crate) fn len(&self) -> u128
+    pub(crate) fn len(&self) -> u32
         ensures { result ≡ length self.now.bits }
     {
         self.count
@@ -213,7 +212,7 @@ impl PackedBits {
         requires small { length self.now.bits ≤ 2432 }
         ensures { IsFirstOtherBit self.now.bits from bit result }
     {
-        first_other(&self.octets, from, self.count as u32, bit)
+        first_other(&self.octets, from, self.count, bit)
     }
 
     /// Appends all changing positions of the bits as a row.
@@ -224,7 +223,7 @@ impl PackedBits {
         ensures ok { OnOk result (AppendsChanges (colors self.now.bits) out.old.items out.new.items) }
         ensures err { OnErr result (out.new.items ≡ out.old.items) }
     {
-        changes(&self.octets, self.count as u32, out)
+        changes(&self.octets, self.count, out)
     }
 
     /// The octets that hold the bits, lent, the last one filled with 0 bits.

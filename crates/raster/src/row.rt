@@ -117,7 +117,7 @@ impl Row {
         ensures width { result ≡ length self.now }
         ensures range { IsWidth result }
     {
-        self.pixels.len() as u32
+        self.pixels.len()
     }
 
     /// The pixel at a place, from 0 at the left.
