@@ -37,7 +37,7 @@ fn changes_of(alloc: Global, row: &Row, places: Vec<u32>) -> Result<Vec<u32>, Al
 }
 
 /// An index at or below `start` before which a place is to the left of `from`, if there is one before it.
-#[inline(always)]
+#[cold]
 fn step_back(places: &[u32], from: u32, start: usize) -> usize
     requires { start ≤ length places.now }
     ensures within { result ≤ start }
@@ -48,6 +48,19 @@ fn step_back(places: &[u32], from: u32, start: usize) -> usize
         at -= 1;
     }
     at
+}
+
+/// `step_back`, quick where `start` is such an index.
+#[inline(always)]
+fn begin_at(places: &[u32], from: u32, start: usize) -> usize
+    requires { start ≤ length places.now }
+    ensures within { result ≤ start }
+    ensures left { IsLeftBefore places.now from result }
+{
+    if start > 0 && places[start - 1] >= from {
+        return step_back(places, from, start);
+    }
+    start
 }
 
 /// The index of the first place that isn't to the left of `from`, at or above `start`, where the third
@@ -119,6 +132,19 @@ impl<'a> Changes<'a> {
         Ok(Changes { row, places, at: 0 })
     }
 
+    /// The changing elements of a row, in the memory of a list.
+    pub(crate) fn of_list(alloc: Global, row: &'a Row, list: Vec<u32>) -> Result<Self, AllocError>
+        ensures { IfOk result (λ changes. changes ≡ row.now) }
+    {
+        let places = changes_of(alloc, row, list)?;
+        Ok(Changes { row, places, at: 0 })
+    }
+
+    /// The list, for its memory.
+    pub(crate) fn into_list(self) -> Vec<u32> {
+        self.places
+    }
+
     /// The changing elements of another row, in the same memory.
     pub(crate) fn of_next(self, alloc: Global, row: &'a Row) -> Result<Self, AllocError>
         ensures { IfOk result (λ changes. changes ≡ row.now) }
@@ -151,7 +177,7 @@ impl<'a> Changes<'a> {
         ensures next { IsNextChange self.old (result.0 + 1) result.1 }
         ensures same { self.new ≡ self.old }
     {
-        let back = step_back(&self.places, from, self.at);
+        let back = begin_at(&self.places, from, self.at);
         let at = step_on(&self.places, from, back);
         self.at = at;
         let index = index_of(at, color);
@@ -167,7 +193,7 @@ impl<'a> Changes<'a> {
         ensures next { IsNextChange self.old (result.0 + 1) result.1 }
         ensures same { self.new ≡ self.old }
     {
-        let back = step_back(&self.places, from, self.at);
+        let back = begin_at(&self.places, from, self.at);
         let at = step_on(&self.places, from, back);
         self.at = at;
         two_at(&self.places, at)

@@ -9,12 +9,15 @@ use crate::t6::a0::A0;
 use raster::Row;
 use std::alloc::{AllocError, Global};
 use std::marker::Model;
+use std::mem;
 
-/// A coding line up to a0 (ITU-T T.6, 2.2.1), kept as the runs of its pixels, white first.
+/// A coding line up to a0 (ITU-T T.6, 2.2.1), kept as the runs of its pixels, white first. Between rows
+/// it keeps the memory of the list of its reference line's changing elements too.
 #[derive(Drop)]
 pub(crate) struct Line {
     runs: Vec<u32>,
     a0: A0,
+    list: Vec<u32>,
 }
 
 impl Model for Line {
@@ -41,7 +44,22 @@ impl Line {
         Line {
             runs: Vec::new(alloc),
             a0: A0::begin(),
+            list: Vec::new(alloc),
         }
+    }
+
+    /// Takes the list that it keeps.
+    pub(crate) fn take_list(&mut self, alloc: Global) -> Vec<u32>
+        ensures { self.new ≡ self.old }
+    {
+        mem::replace(&mut self.list, Vec::new(alloc))
+    }
+
+    /// Keeps a list.
+    pub(crate) fn keep_list(&mut self, list: Vec<u32>)
+        ensures { self.new ≡ self.old }
+    {
+        self.list = list;
     }
 
     /// a0, which is after the pixels so far.

@@ -343,7 +343,7 @@ fn read_row(
 {
     let _start = reader.place(); // tells the proof that it is within the bits
     let width = reference.width();
-    let mut changes = Changes::of(alloc, reference)?;
+    let mut changes = Changes::of_list(alloc, reference, line.take_list(alloc))?;
     line.begin();
     while line.a0().place < width {
         let done = quick_mode(reader, &mut changes, line)?;
@@ -351,6 +351,7 @@ fn read_row(
             read_mode(reader, &mut changes, line)?;
         }
     }
+    line.keep_list(changes.into_list());
     Ok(line.row(alloc)?)
 }
 

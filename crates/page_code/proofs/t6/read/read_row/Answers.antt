@@ -1,6 +1,7 @@
 use Rattle.std.proofs.Common.{arith, ap, inl, refl, ◌≡◌, ◌<◌, ◌∙◌, length}
 use Rattle.std.proofs.lemmas.Result.{err_from_is_err_and}
 use Rattle.page_code.specs.declared.t6.a0.A0.{A0}
+use Rattle.page_code.specs.TwoDimensions.Positions.{CodingLine}
 use Rattle.page_code.proofs.TwoDimensions.StepsOn.{quick_stays, row_ends, row_stays}
 use Rattle.page_code.proofs.t6.read.read_row.Goals as goal
 
@@ -43,10 +44,11 @@ returns c =
       c.loop-reader-test.false,
       c.width-width.ensures.width,
       c.loop-reader.invariant.short,
-    ) in (
-      ap length c.in_ok-row.ensures ∙ full,
+    ) in
+    let row = c.in_ok-row.ensures ∙ ap (λ (line : CodingLine). line.pixels) c.keep_list.ensures in (
+      ap length row ∙ full,
       c.loop-reader.invariant.bits,
       c.loop-reader.invariant.within,
       row_ends c.args.reference.now c.args.reader.now c.loop-reader.reader c.loop-reader.line c.in_ok-row.field-0
-          c.in_ok-row.ensures full c.loop-reader.invariant.reads,
+          row full c.loop-reader.invariant.reads,
     )
