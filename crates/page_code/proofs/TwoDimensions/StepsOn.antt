@@ -612,11 +612,6 @@ quick_runs reference old mid new line next code count true is_code begun is with
     horizontal_steps reference old mid new line next (Ok tt) (omega (arith, within)) (rw is_code at reads) runs
 quick_runs reference old mid new line next code count false is_code begun is within on e runs = cc
 
-pub runs_kept : (width : ℕ) (old new : Reading) (line next : CodingLine) (done : Bool) → done ≡ false
-    → RunsQuickly width old new line next done → next ≡ line
-runs_kept width old new line next false e runs = runs
-runs_kept width old new line next true e runs = cc
-
 -- Rows
 
 pub row_stays : (reference : List Color) (start old new : Reading) (line next : CodingLine) (fault : CodeFault)

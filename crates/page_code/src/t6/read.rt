@@ -311,7 +311,7 @@ fn quick_mode(
 }
 
 /// One mode of a row (ITU-T T.6, 2.2.2).
-#[inline(never)]
+#[cold]
 fn read_mode(
     reader: &mut BitReader,
     reference: &mut Changes,

@@ -7,7 +7,8 @@ pub returns-then-count-eq0-clause-packed : goal.returns-then-count-eq0-clause-pa
 returns-then-count-eq0-clause-packed c = packed_whole c.args.order c.args.octets.now.items c.args.count c.requires (omega arith)
 
 pub returns-clause-packed : goal.returns-clause-packed
-returns-clause-packed c = packed_cut c.args.order c.args.octets.now.items c.args.count _ c.requires (omega arith) c.first_of_octet.ensures.after
+returns-clause-packed c = packed_cut c.args.order c.args.octets.now.items c.args.count _ c.requires (omega arith)
+    c.first_of_octet.ensures.after
 
 pub returns-clause-same : goal.returns-clause-same
 returns-clause-same c k h =
