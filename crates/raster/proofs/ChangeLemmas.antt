@@ -13,7 +13,8 @@ use Rattle.std.proofs.lemmas.Nat.{shr-shr, and_le_l, and_le_r, pow_pos}
 use Rattle.raster.specs.Packed.{bit_in, bits_in}
 use Rattle.raster.specs.Pixels.{color_of, colors}
 use Rattle.raster.specs.Words.{IsWordAt, IsFirstInWord, IsFirstOther, bit_of_word}
-use Rattle.raster.specs.Changes.{color_at, color_before, AppendsChanges, AreChanges, Lists, NextTurns, differ, bit_before, turns_at, turns_below}
+use Rattle.raster.specs.Changes.{color_at, color_before, AppendsChanges, AreChanges, Lists, NextTurns, differ, bit_before}
+use Rattle.raster.specs.Changes.{turns_at, turns_below}
 use Rattle.raster.specs.declared.packed.Order.TheVariants.{MsbFirst}
 use Rattle.raster.proofs.PackedLemmas.{slice_get-bits_in, length-bits_in}
 use Rattle.raster.proofs.RowLemmas.{slice_get-colors, color_at_get, length-colors}

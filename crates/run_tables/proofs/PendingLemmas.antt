@@ -1,6 +1,7 @@
 -- Bits that a writer holds in octets and in a word.
 use Rattle.std.proofs.Common.{◌≡◌, ℕ, ◌+◌, ◌-◌, ◌*◌, ◌/◌, ◌%◌, ◌^◌, ◌<◌, ◌≤◌, ◌||◌, Bool, true, false, List, [], ◌∷◌, ◌++◌}
-use Rattle.std.proofs.Common.{refl, sym, ap, ◌∙◌, nat_eq, arith, zero, suc, inl, inr, length, map, take, replicate, append_assoc, bit_or, zero-add}
+use Rattle.std.proofs.Common.{refl, sym, ap, ◌∙◌, nat_eq, arith, zero, suc, inl, inr, length, map, take, replicate, append_assoc}
+use Rattle.std.proofs.Common.{bit_or, zero-add}
 use Rattle.std.specs.Int.{bit_at}
 use Rattle.std.specs.List.{range_with_len}
 use Rattle.std.proofs.lemmas.List.{append-nil, length-append, length-take-le}

@@ -4,7 +4,8 @@ use Rattle.page_code.proofs.one_dim.eol.zeros_from.Goals as goal
 
 pub returns-then-zeros-lt64-clause-zeros : goal.returns-then-zeros-lt64-clause-zeros
 returns-then-zeros-lt64-clause-zeros c = (word_ends c.args.order c.args.octets.now c.args.place c.loop-at.at c.word_at.result
-    c.zeros_of-zeros.result c.loop-at.invariant.past c.word_at.ensures c.zeros_of-zeros.ensures c.if-zeros-lt64.true c.loop-at.invariant.zeros).1
+    c.zeros_of-zeros.result c.loop-at.invariant.past c.word_at.ensures c.zeros_of-zeros.ensures c.if-zeros-lt64.true
+    c.loop-at.invariant.zeros).1
 
 pub returns-then-zeros-lt64-clause-within : goal.returns-then-zeros-lt64-clause-within
 returns-then-zeros-lt64-clause-within c =

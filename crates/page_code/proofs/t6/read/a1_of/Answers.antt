@@ -52,5 +52,6 @@ returns-clause-finds c =
       c.width.ensures.width,
       ap length c.b1_b2-b1.ensures.same,
     ) in
-    vertical_leads c.args.reference.now c.args.line.now c.requires c.a0-a0.result.now c.a0-a0.ensures.is c.b1_b2-b1.result.0 c.b1_b2-b1.ensures.first
+    vertical_leads c.args.reference.now c.args.line.now c.requires c.a0-a0.result.now c.a0-a0.ensures.is c.b1_b2-b1.result.0
+    c.b1_b2-b1.ensures.first
     c.args.shift (c.b1_b2-b1.result.0 + c.reach.result - 3) there right within

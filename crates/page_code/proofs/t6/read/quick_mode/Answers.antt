@@ -8,7 +8,8 @@ returns-clause-steps c = elim c.match-code.branch [
   | in-Pass+in_ok-pass-in-Pass w ↦ quick_steps c.args.reference.now c.args.reader.now c.skip-2.new.self c.args.line.now c.match-code.line
       c.in-Some.code c.in-Some.count c.in-Some.ensures.begins c.in-Some.ensures.length c.in-Some.ensures.within c.skip-2.ensures
       (rw (w.in-Pass.is, w.line-is) w.in_ok-pass-in-Pass.ensures.leads)
-  | in-Vertical+in_ok-done-in-Vertical+else-not-done w ↦ quick_steps c.args.reference.now c.args.reader.now c.skip-2.new.self c.args.line.now
+  | in-Vertical+in_ok-done-in-Vertical+else-not-done w ↦ quick_steps c.args.reference.now c.args.reader.now c.skip-2.new.self
+      c.args.line.now
       c.match-code.line c.in-Some.code c.in-Some.count c.in-Some.ensures.begins c.in-Some.ensures.length c.in-Some.ensures.within
       c.skip-2.ensures (rw (w.in-Vertical.is, w.line-is) (leads_done c.args.reference.now c.args.line.now w.quick_vertical.new.line
       (Vertical w.in-Vertical.shift) w.in_ok-done-in-Vertical.done w.if-not-done.false w.in_ok-done-in-Vertical.ensures.leads))

@@ -23,7 +23,8 @@ returns-in_ok-pass-in-Pass-clause-steps c =
       c.place-place.ensures.place,
       c.place-place.ensures.within,
     ) in
-    mode_steps c.args.reference.now c.args.reader.now c.next_mode.new.reader c.args.line.now c.pass.new.line Pass within (rw (c.in-Some.is, c.in-Pass.is) at c.next_mode.ensures) c.in_ok-pass-in-Pass.ensures.leads
+    mode_steps c.args.reference.now c.args.reader.now c.next_mode.new.reader c.args.line.now c.pass.new.line Pass within
+    (rw (c.in-Some.is, c.in-Pass.is) at c.next_mode.ensures) c.in_ok-pass-in-Pass.ensures.leads
 
 pub returns-in-Horizontal-clause-steps : goal.returns-in-Horizontal-clause-steps
 returns-in-Horizontal-clause-steps c =
@@ -33,7 +34,8 @@ returns-in-Horizontal-clause-steps c =
       c.place-place.ensures.within,
     ) in
     horizontal_steps c.args.reference.now c.args.reader.now c.next_mode.new.reader c.horizontal.new.reader c.args.line.now
-    c.horizontal.new.line c.horizontal.result within (rw (c.in-Some.is, c.in-Horizontal.is) at c.next_mode.ensures) (rw c.width.ensures.width at
+    c.horizontal.new.line c.horizontal.result within (rw (c.in-Some.is, c.in-Horizontal.is) at c.next_mode.ensures)
+    (rw c.width.ensures.width at
     c.horizontal.ensures)
 
 pub returns-in-Vertical-clause-steps : goal.returns-in-Vertical-clause-steps
@@ -44,5 +46,6 @@ returns-in-Vertical-clause-steps c =
       c.place-place.ensures.within,
     ) in
     vertical_steps c.args.reference.now c.place-place.result c.args.reader.now c.next_mode.new.reader c.args.line.now c.vertical.new.line
-    (Vertical c.in-Vertical.shift) c.vertical.result c.place-place.ensures.place within (rw (c.in-Some.is, c.in-Vertical.is) at c.next_mode.ensures)
+    (Vertical c.in-Vertical.shift) c.vertical.result c.place-place.ensures.place within
+    (rw (c.in-Some.is, c.in-Vertical.is) at c.next_mode.ensures)
     c.vertical.ensures.moves
