@@ -12,34 +12,36 @@ use crate::t6::mode::{ModeCode, Shift};
 /// A mode code and how many bits it has, or none and 0.
 type Entry = (Option<ModeCode>, u8);
 
-const NO: Entry = (None, 0);
+const NONE: Entry = (None, 0);
 
-const P: Entry = (Some(ModeCode::Pass), 4);
+const PASS: Entry = (Some(ModeCode::Pass), 4);
 
-const H: Entry = (Some(ModeCode::Horizontal), 3);
+const HORIZONTAL: Entry = (Some(ModeCode::Horizontal), 3);
 
 const V0: Entry = (Some(ModeCode::Vertical(Shift::V0)), 1);
 
-const R1: Entry = (Some(ModeCode::Vertical(Shift::VR1)), 3);
+const VR1: Entry = (Some(ModeCode::Vertical(Shift::VR1)), 3);
 
-const R2: Entry = (Some(ModeCode::Vertical(Shift::VR2)), 6);
+const VR2: Entry = (Some(ModeCode::Vertical(Shift::VR2)), 6);
 
-const R3: Entry = (Some(ModeCode::Vertical(Shift::VR3)), 7);
+const VR3: Entry = (Some(ModeCode::Vertical(Shift::VR3)), 7);
 
-const L1: Entry = (Some(ModeCode::Vertical(Shift::VL1)), 3);
+const VL1: Entry = (Some(ModeCode::Vertical(Shift::VL1)), 3);
 
-const L2: Entry = (Some(ModeCode::Vertical(Shift::VL2)), 6);
+const VL2: Entry = (Some(ModeCode::Vertical(Shift::VL2)), 6);
 
-const L3: Entry = (Some(ModeCode::Vertical(Shift::VL3)), 7);
+const VL3: Entry = (Some(ModeCode::Vertical(Shift::VL3)), 7);
 
 /// By the number that 7 bits write, the first the most significant.
 const BY_7: [Entry; 128] = [
-    NO, NO, L3, R3, L2, L2, R2, R2, P, P, P, P, P, P, P, P, H, H, H, H, H, H, H, H, H, H, H, H, H,
-    H, H, H, L1, L1, L1, L1, L1, L1, L1, L1, L1, L1, L1, L1, L1, L1, L1, L1, R1, R1, R1, R1, R1,
-    R1, R1, R1, R1, R1, R1, R1, R1, R1, R1, R1, V0, V0, V0, V0, V0, V0, V0, V0, V0, V0, V0, V0, V0,
+    NONE, NONE, VL3, VR3, VL2, VL2, VR2, VR2, PASS, PASS, PASS, PASS, PASS, PASS, PASS, PASS,
+    HORIZONTAL, HORIZONTAL, HORIZONTAL, HORIZONTAL, HORIZONTAL, HORIZONTAL, HORIZONTAL, HORIZONTAL,
+    HORIZONTAL, HORIZONTAL, HORIZONTAL, HORIZONTAL, HORIZONTAL, HORIZONTAL, HORIZONTAL, HORIZONTAL,
+    VL1, VL1, VL1, VL1, VL1, VL1, VL1, VL1, VL1, VL1, VL1, VL1, VL1, VL1, VL1, VL1, VR1, VR1, VR1,
+    VR1, VR1, VR1, VR1, VR1, VR1, VR1, VR1, VR1, VR1, VR1, VR1, VR1, V0, V0, V0, V0, V0, V0, V0,
     V0, V0, V0, V0, V0, V0, V0, V0, V0, V0, V0, V0, V0, V0, V0, V0, V0, V0, V0, V0, V0, V0, V0, V0,
     V0, V0, V0, V0, V0, V0, V0, V0, V0, V0, V0, V0, V0, V0, V0, V0, V0, V0, V0, V0, V0, V0, V0, V0,
-    V0, V0, V0,
+    V0, V0, V0, V0, V0, V0, V0, V0, V0,
 ];
 
 /// The entry of each text of 7 bits.
