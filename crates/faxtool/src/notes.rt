@@ -1,5 +1,7 @@
 //! What is noted of a job while it is done, for the words that explain its fault.
 
+ghost use Rattle.std.specs.Prelude.{◌≡◌, [], None, Some};
+
 use std::alloc::Global;
 use std::io::ErrorKind;
 
@@ -31,7 +33,12 @@ pub struct Notes {
 
 impl Notes {
     /// Nothing is noted yet. At most so many octets of the input will be kept.
-    pub fn new(alloc: Global, most: usize, long: bool) -> Notes {
+    pub fn new(alloc: Global, most: usize, long: bool) -> Notes
+        ensures failed { result.failed ≡ None }
+        ensures most { result.most ≡ most }
+        ensures long { result.long ≡ long }
+        ensures octets { result.octets.items ≡ [] }
+    {
         Notes {
             failed: None,
             most,
@@ -41,7 +48,9 @@ impl Notes {
     }
 
     /// Notes why a file could not be read or written.
-    pub fn blame(&mut self, part: Part, kind: ErrorKind) {
+    pub fn blame(&mut self, part: Part, kind: ErrorKind)
+        ensures { self.new ≡ record self.old { failed = Some (part, kind) } }
+    {
         self.failed = Some((part, kind));
     }
 }
