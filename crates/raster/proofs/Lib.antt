@@ -7,6 +7,7 @@ pub mod OctetBits
 pub mod OctetLemmas
 pub mod RowLemmas
 pub mod ChangeLemmas
+pub mod TurningLemmas
 pub mod TextLemmas
 pub mod PbmParts
 pub mod PbmImages

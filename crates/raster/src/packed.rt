@@ -1,6 +1,6 @@
 //! Bits that are kept eight an octet, in either order.
 
-ghost use Rattle.raster.specs.Changes.{AppendsChanges};
+ghost use Rattle.raster.specs.Changes.{AppendsChanges, IsRising, turning};
 ghost use Rattle.raster.specs.Pixels.{colors};
 ghost use Rattle.raster.specs.Packed.{bit_in, bits_in, bits_of, place_in, IsPacked, Bits, FillsOctets};
 ghost use Rattle.raster.specs.Runs.{colored};
@@ -8,10 +8,10 @@ ghost use Rattle.raster.specs.Words.{IsWordAt, IsFirstOtherBit, bit_of_word};
 ghost use Rattle.raster.specs.declared.row.Color.{Color};
 ghost use Rattle.std.specs.Int.{bit_at};
 ghost use Rattle.std.specs.Prelude.{ℕ, ◌≡◌, ◌≤◌, ◌<◌, ◌+◌, ◌-◌, ◌*◌, ◌/◌, ◌++◌, length};
-ghost use Rattle.std.specs.Prelude.{replicate, sum, slice_get, IfOk, OnOk, OnErr};
+ghost use Rattle.std.specs.Prelude.{replicate, sum, slice_get, All, IfOk, OnOk, OnErr};
 
 use crate::changes::changes;
-use crate::painting::paint;
+use crate::painting::{paint, paint_turns};
 use crate::words::{first_other, in_order, moved_word, shifted_word};
 use std::alloc::{AllocError, Global};
 use std::marker::Model;
@@ -158,6 +158,25 @@ impl PackedBits {
     {
         let mut octets = zeros(alloc, width as usize / 8 + 9)?;
         paint(&mut octets, runs, width);
+        Ok(PackedBits {
+            octets,
+            order: Order::MsbFirst,
+            count: width,
+        })
+    }
+
+    /// The bits up to a width that turn at rising places, a 0 bit first, in the order of a row.
+    #[tactic(auto, using(crate::proofs::PackedLemmas::views))]
+    pub(crate) fn of_turns(alloc: Global, places: &[u32], width: u32) -> Result<Self, AllocError>
+        requires rising { IsRising places.now }
+        requires below { All (λ place. place < width) places.now }
+        requires small { width ≤ 2432 }
+        ensures colors { IfOk result (λ p. colors p.bits ≡ turning Color.White 0 places.now width) }
+        ensures order { IfOk result (λ p. p.order ≡ Order.MsbFirst) }
+        ensures length { IfOk result (λ p. length p.bits ≡ width) }
+    {
+        let mut octets = zeros(alloc, width as usize / 8 + 9)?;
+        paint_turns(&mut octets, places, width);
         Ok(PackedBits {
             octets,
             order: Order::MsbFirst,

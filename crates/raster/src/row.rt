@@ -1,13 +1,13 @@
 //! Rows of pixels.
 
-ghost use Rattle.raster.specs.Changes.{AppendsChanges, IsNextChange};
+ghost use Rattle.raster.specs.Changes.{AppendsChanges, AreChanges, IsNextChange, IsRising, turning};
 ghost use Rattle.raster.specs.Pbm.{row_pixels};
 ghost use Rattle.raster.specs.PbmText.{HoldsRow};
 ghost use Rattle.raster.specs.Pixels.{other, color_of, colors, IsWidth};
 ghost use Rattle.raster.specs.Runs.{colored, FromRuns, AppendsRuns, AreOwnRuns};
 ghost use Rattle.raster.specs.Words.{EndsRun};
 ghost use Rattle.std.specs.Prelude.{◌≡◌, ◌≤◌, ◌<◌, ◌+◌, ◌*◌, ◌^◌, ◌↔◌, ℕ, ◌++◌, ◌∷◌, [], replicate, length, slice_get, sum, OnOk, OnErr};
-ghost use Rattle.std.specs.Prelude.{IfOk, IfErr, SomeIff, IsOkUnless, IsTrue};
+ghost use Rattle.std.specs.Prelude.{All, IfOk, IfErr, SomeIff, IsOkUnless, IsTrue};
 
 use crate::fault::RasterFault;
 use crate::packed::{Order, PackedBits};
@@ -95,6 +95,20 @@ impl Row {
             return Err(RasterFault::BadWidth);
         };
         let pixels = PackedBits::of_runs(alloc, runs, width)?;
+        Ok(Row { pixels })
+    }
+
+    /// The row of a width, in pixels, whose changing positions are these, in rising order (ITU-T T.6,
+    /// 2.2.1). Errs where memory is refused.
+    #[tactic(auto, using(crate::proofs::RowLemmas::lengths))]
+    pub fn from_changes(alloc: Global, places: &[u32], width: u32) -> Result<Row, AllocError>
+        requires width { IsWidth width }
+        requires rising { IsRising places.now }
+        requires below { All (λ place. place < width) places.now }
+        ensures row { IfOk result (λ row. row ≡ turning Color.White 0 places.now width) }
+        ensures changes { IfOk result (λ row. AreChanges row places.now) }
+    {
+        let pixels = PackedBits::of_turns(alloc, places, width)?;
         Ok(Row { pixels })
     }
 

@@ -217,6 +217,24 @@ fn set_long(order: Order, octets: &mut Vec<u8>, at: usize, within: u32, count: u
     }
 }
 
+/// Sets so many bits, one or more, from a place within an octet on.
+#[inline(always)]
+pub(crate) fn set_some(order: Order, octets: &mut Vec<u8>, at: usize, within: u32, count: u32)
+    requires some { 0 < count }
+    requires within { within < 8 }
+    requires inside { 8 * at + within + count + 64 ≤ 8 * length octets.old.items }
+    ensures length { length octets.new.items ≡ length octets.old.items }
+    ensures before { (k : ℕ) → k < 8 * at + within → bit_in order octets.new.items k ≡ bit_in order octets.old.items k }
+    ensures set { (k : ℕ) → 8 * at + within ≤ k → k < 8 * at + within + count → bit_in order octets.new.items k ≡ true }
+    ensures after { (k : ℕ) → 8 * at + within + count ≤ k → bit_in order octets.new.items k ≡ bit_in order octets.old.items k }
+{
+    if count > 64 - within {
+        set_long(order, octets, at, within, count);
+        return;
+    }
+    set_within(order, octets, at, within, count);
+}
+
 /// Sets so many bits from a place within an octet on.
 #[inline(always)]
 pub(crate) fn set_run(order: Order, octets: &mut Vec<u8>, at: usize, within: u32, count: u32)
@@ -227,14 +245,9 @@ pub(crate) fn set_run(order: Order, octets: &mut Vec<u8>, at: usize, within: u32
     ensures set { (k : ℕ) → 8 * at + within ≤ k → k < 8 * at + within + count → bit_in order octets.new.items k ≡ true }
     ensures after { (k : ℕ) → 8 * at + within + count ≤ k → bit_in order octets.new.items k ≡ bit_in order octets.old.items k }
 {
-    if count == 0 {
-        return;
+    if count > 0 {
+        set_some(order, octets, at, within, count);
     }
-    if count > 64 - within {
-        set_long(order, octets, at, within, count);
-        return;
-    }
-    set_within(order, octets, at, within, count);
 }
 
 /// The first place of a word from a place on whose bit is another, or 64.
