@@ -8,6 +8,7 @@ pub mod OctetLemmas
 pub mod RowLemmas
 pub mod ChangeLemmas
 pub mod TurningLemmas
+pub mod AlikeLemmas
 pub mod TextLemmas
 pub mod PbmParts
 pub mod PbmImages

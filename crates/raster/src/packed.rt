@@ -2,17 +2,17 @@
 
 ghost use Rattle.raster.specs.Changes.{AppendsChanges, IsRising, turning};
 ghost use Rattle.raster.specs.Pixels.{colors};
-ghost use Rattle.raster.specs.Packed.{bit_in, bits_in, bits_of, place_in, IsPacked, Bits, FillsOctets};
+ghost use Rattle.raster.specs.Packed.{bit_in, bits_in, bits_of, place_in, AreAlike, IsPacked, Bits, FillsOctets};
 ghost use Rattle.raster.specs.Runs.{colored};
 ghost use Rattle.raster.specs.Words.{IsWordAt, IsFirstOtherBit, bit_of_word};
 ghost use Rattle.raster.specs.declared.row.Color.{Color};
 ghost use Rattle.std.specs.Int.{bit_at};
 ghost use Rattle.std.specs.Prelude.{ℕ, ◌≡◌, ◌≤◌, ◌<◌, ◌+◌, ◌-◌, ◌*◌, ◌/◌, ◌++◌, length};
-ghost use Rattle.std.specs.Prelude.{replicate, sum, slice_get, All, IfOk, OnOk, OnErr};
+ghost use Rattle.std.specs.Prelude.{if◌then◌else◌, replicate, sum, slice_get, All, IfOk, OnOk, OnErr};
 
 use crate::changes::changes;
 use crate::painting::{paint, paint_turns};
-use crate::words::{first_other, in_order, moved_word, shifted_word};
+use crate::words::{bit_of_all, first_other, in_order, moved_word, shifted_word};
 use std::alloc::{AllocError, Global};
 use std::marker::Model;
 
@@ -100,6 +100,16 @@ fn first_of_octet(order: Order, octet: u8, count: u32) -> u8
     }
 }
 
+/// The octets of the widest row of 0 bits, and of 1 bits.
+const ALIKE: [[u8; 304]; 2] = [[0; 304], [0xFF; 304]];
+
+/// The octets of the widest row whose bits all are this one.
+fn octets_alike(bit: bool) -> &'static [u8]
+    ensures { result.now ≡ replicate 304 (if bit then 255 else 0) }
+{
+    if bit { &ALIKE[1] } else { &ALIKE[0] }
+}
+
 /// So many octets of 0.
 fn zeros(alloc: Global, count: usize) -> Result<Vec<u8>, AllocError>
     ensures { IfOk result (λ octets. octets.items ≡ replicate count 0) }
@@ -129,25 +139,40 @@ fn clear_after(order: Order, octets: &mut Vec<u8>, count: u32)
     octets[last] = first_of_octet(order, octets[last], count % 8);
 }
 
-/// A list of bits, kept eight an octet.
+/// A list of bits, kept eight an octet; where they all are alike, as one bit and with no octets.
 #[derive(Debug, Drop)]
 pub(crate) struct PackedBits {
     octets: Vec<u8>,
+    alike: Option<bool>,
     order: Order,
     count: u32,
 }
 
 impl Model for PackedBits {
-    ghost use Rattle.raster.specs.Packed.{bits_in, IsPacked, Bits};
+    ghost use Rattle.raster.specs.Packed.{kept_bits, AreKept, Bits};
 
     ghost Value = { Bits };
 
-    ghost view = { λ p. record { order = p.order; bits = bits_in p.order p.octets.items p.count } };
+    ghost view = { λ p. record { order = p.order; bits = kept_bits p.alike p.order p.octets.items p.count } };
 
-    ghost invariant = { λ p. IsPacked p.order p.octets.items p.count };
+    ghost invariant = { λ p. AreKept p.alike p.order p.octets.items p.count };
 }
 
 impl PackedBits {
+    /// So many bits of a row, all this one. Takes no memory.
+    #[inline(always)]
+    fn of_one(alloc: Global, bit: bool, count: u32) -> Self
+        requires { AreAlike bit count }
+        ensures { result ≡ record { order = Order.MsbFirst; bits = replicate count bit } }
+    {
+        PackedBits {
+            octets: Vec::new(alloc),
+            alike: Some(bit),
+            order: Order::MsbFirst,
+            count,
+        }
+    }
+
     /// The bits of alternating runs that add up to a width, 0 bits first, in the order of a row.
     #[tactic(auto, using(crate::proofs::PackedLemmas::views))]
     pub(crate) fn of_runs(alloc: Global, runs: &[u32], width: u32) -> Result<Self, AllocError>
@@ -156,10 +181,17 @@ impl PackedBits {
         ensures colors { IfOk result (λ p. colors p.bits ≡ colored Color.White runs.now) }
         ensures order { IfOk result (λ p. p.order ≡ Order.MsbFirst) }
     {
+        if runs.len() == 1 {
+            return Ok(PackedBits::of_one(alloc, false, width));
+        }
+        if runs.len() == 2 && runs[0] == 0 && width % 8 == 0 {
+            return Ok(PackedBits::of_one(alloc, true, width));
+        }
         let mut octets = zeros(alloc, width as usize / 8 + 9)?;
         paint(&mut octets, runs, width);
         Ok(PackedBits {
             octets,
+            alike: None,
             order: Order::MsbFirst,
             count: width,
         })
@@ -175,33 +207,41 @@ impl PackedBits {
         ensures order { IfOk result (λ p. p.order ≡ Order.MsbFirst) }
         ensures length { IfOk result (λ p. length p.bits ≡ width) }
     {
+        if places.is_empty() {
+            return Ok(PackedBits::of_one(alloc, false, width));
+        }
+        if places.len() == 1 && places[0] == 0 && width % 8 == 0 {
+            return Ok(PackedBits::of_one(alloc, true, width));
+        }
         let mut octets = zeros(alloc, width as usize / 8 + 9)?;
         paint_turns(&mut octets, places, width);
         Ok(PackedBits {
             octets,
+            alike: None,
             order: Order::MsbFirst,
             count: width,
         })
     }
 
-    /// The first bits of octets.
+    /// The first bits of octets, in the order of a row.
     #[tactic(auto, using(crate::proofs::PackedLemmas::views))]
-    pub(crate) fn copied(
-        alloc: Global,
-        order: Order,
-        octets: &[u8],
-        count: u32,
-    ) -> Result<Self, AllocError>
-        requires { count ≤ 8 * length octets.now }
-        ensures { IfOk result (λ p. p ≡ record { order = order; bits = bits_in order octets.now count }) }
+    pub(crate) fn copied(alloc: Global, octets: &[u8], count: u32) -> Result<Self, AllocError>
+        requires some { 0 < count }
+        requires within { count ≤ 8 * length octets.now }
+        requires small { count ≤ 2432 }
+        ensures { IfOk result (λ p. p ≡ record { order = Order.MsbFirst; bits = bits_in Order.MsbFirst octets.now count }) }
     {
+        if let Some(bit) = bit_of_all(octets, count) {
+            return Ok(PackedBits::of_one(alloc, bit, count));
+        }
         let needed = octets_for(count);
         let mut kept = Vec::with_capacity(alloc, needed)?;
         kept.extend_from_slice(&octets[..needed])?;
-        clear_after(order, &mut kept, count);
+        clear_after(Order::MsbFirst, &mut kept, count);
         Ok(PackedBits {
             octets: kept,
-            order,
+            alike: None,
+            order: Order::MsbFirst,
             count,
         })
     }
@@ -220,7 +260,10 @@ impl PackedBits {
         requires { place < length self.now.bits }
         ensures { slice_get self.now.bits place ≡ Some result }
     {
-        bit_of(self.order, &self.octets, place)
+        match self.alike {
+            Some(bit) => bit,
+            None => bit_of(self.order, &self.octets, place),
+        }
     }
 
     /// The first place from a place on whose bit is another, or the number of bits.
@@ -231,24 +274,38 @@ impl PackedBits {
         requires small { length self.now.bits ≤ 2432 }
         ensures { IsFirstOtherBit self.now.bits from bit result }
     {
-        first_other(&self.octets, from, self.count, bit)
+        match self.alike {
+            Some(same) if same == bit => self.count,
+            Some(_) => from,
+            None => first_other(&self.octets, from, self.count, bit),
+        }
     }
 
     /// Appends all changing positions of the bits as a row.
     #[tactic(auto, using(crate::proofs::PackedLemmas::views))]
     pub(crate) fn changes(&self, out: &mut Vec<u32>) -> Result<(), AllocError>
         requires order { self.now.order ≡ Order.MsbFirst }
+        requires some { 0 < length self.now.bits }
         requires small { length self.now.bits ≤ 2432 }
         ensures ok { OnOk result (AppendsChanges (colors self.now.bits) out.old.items out.new.items) }
         ensures err { OnErr result (out.new.items ≡ out.old.items) }
     {
-        changes(&self.octets, self.count, out)
+        let Some(bit) = self.alike else {
+            return changes(&self.octets, self.count, out);
+        };
+        if bit {
+            out.push(0)?;
+        }
+        Ok(())
     }
 
     /// The octets that hold the bits, lent, the last one filled with 0 bits.
     pub(crate) fn octets(&self) -> &[u8]
         ensures { FillsOctets self.now.order self.now.bits result.now }
     {
-        &self.octets[..octets_for(self.count)]
+        match self.alike {
+            Some(bit) => &octets_alike(bit)[..octets_for(self.count)],
+            None => &self.octets[..octets_for(self.count)],
+        }
     }
 }

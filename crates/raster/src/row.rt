@@ -65,7 +65,8 @@ fn total_width(runs: &[u32]) -> Option<u32>
 }
 
 /// A row of 1 to 2,432 pixels, seen as their list, leftmost first. It is kept packed, eight pixels
-/// an octet, the leftmost in the highest bit.
+/// an octet, the leftmost in the highest bit; a white row, and a black one that fills its octets,
+/// takes no memory of its own.
 #[derive(Debug, Drop)]
 pub struct Row {
     pixels: PackedBits,
@@ -121,7 +122,7 @@ impl Row {
         ensures ok { IfOk result (λ row. row ≡ row_pixels width octets.now) }
         ensures only { IsOkUnless result RasterFault.NoMemory }
     {
-        let pixels = PackedBits::copied(alloc, Order::MsbFirst, octets, width)?;
+        let pixels = PackedBits::copied(alloc, octets, width)?;
         Ok(Row { pixels })
     }
 

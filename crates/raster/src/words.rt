@@ -1,9 +1,9 @@
 //! Bits of octets, up to 64 at a time.
 
-ghost use Rattle.raster.specs.Packed.{bit_in, place_in};
+ghost use Rattle.raster.specs.Packed.{bit_in, place_in, AreAlike};
 ghost use Rattle.raster.specs.Words.{bit_of_word, turned_octet, IsWordAt, IsFirstInWord, IsFirstOther, AreOred};
 ghost use Rattle.std.specs.Int.{bit_at};
-ghost use Rattle.std.specs.Prelude.{ℕ, true, false, ◌≡◌, ◌≤◌, ◌<◌, ◌+◌, ◌-◌, ◌*◌, ◌/◌, ◌%◌, length, nat_eq, slice_index, IfErr, IfOk};
+ghost use Rattle.std.specs.Prelude.{ℕ, true, false, ◌≡◌, ◌≤◌, ◌<◌, ◌+◌, ◌-◌, ◌*◌, ◌/◌, ◌%◌, length, nat_eq, slice_index, IfErr, IfOk, IfSome, IsTrue};
 
 use crate::blocks::block_change;
 use crate::packed::Order;
@@ -369,4 +369,74 @@ pub(crate) fn first_other(octets: &[u8], from: u32, end: u32, bit: bool) -> u32
         return end;
     }
     first_other_after(octets, from / 8 + 8, end, bit)
+}
+
+/// Whether all bits of eight octets from one of them on are this one.
+#[inline(always)]
+fn eight_are(octets: &[u8], at: usize, bit: bool) -> bool
+    requires { at + 8 ≤ length octets.now }
+    ensures { IsTrue result → (k : ℕ) → 8 * at ≤ k → k < 8 * at + 64 → bit_in Order.MsbFirst octets.now k ≡ bit }
+{
+    first_in_word(whole_word(octets, at), 0, bit) == 64
+}
+
+/// Whether all bits of 64 octets from one of them on are this one.
+#[inline(always)]
+fn block_is(octets: &[u8], at: usize, bit: bool) -> bool
+    requires { at + 64 ≤ length octets.now }
+    ensures { IsTrue result → (k : ℕ) → 8 * at ≤ k → k < 8 * at + 512 → bit_in Order.MsbFirst octets.now k ≡ bit }
+{
+    let mut all = true;
+    let mut next = 0;
+    while next < 64 {
+        all = all & eight_are(octets, at + next, bit);
+        next += 8;
+    }
+    all
+}
+
+/// Whether the first bits of octets all are this one: whole blocks of 64 octets, the last of them
+/// ending with the last whole octet.
+#[inline(always)]
+fn are_bits(octets: &[u8], count: u32, bit: bool) -> bool
+    requires within { count ≤ 8 * length octets.now }
+    requires small { count ≤ 2432 }
+    ensures { IsTrue result → (k : ℕ) → k < count → bit_in Order.MsbFirst octets.now k ≡ bit }
+{
+    let whole = (count / 8) as usize;
+    if whole < 64 {
+        return first_other(octets, 0, count, bit) == count;
+    }
+    let mut at = 0;
+    while at + 64 < whole {
+        if !block_is(octets, at, bit) {
+            return false;
+        }
+        at += 64;
+    }
+    block_is(octets, whole - 64, bit)
+        && (count % 8 == 0 || first_other(octets, count - count % 8, count, bit) == count)
+}
+
+/// The bit that the first bits of octets all are, unless it is 1 and the last octet is filled in part.
+/// None where they differ.
+pub(crate) fn bit_of_all(octets: &[u8], count: u32) -> Option<bool>
+    requires some { 0 < count }
+    requires within { count ≤ 8 * length octets.now }
+    requires small { count ≤ 2432 }
+    ensures alike { IfSome result (λ bit. AreAlike bit count) }
+    ensures all { IfSome result (λ bit. (k : ℕ) → k < count → bit_in Order.MsbFirst octets.now k ≡ bit) }
+{
+    if octets[0] < 0x80 {
+        return if are_bits(octets, count, false) {
+            Some(false)
+        } else {
+            None
+        };
+    }
+    if count % 8 == 0 && are_bits(octets, count, true) {
+        Some(true)
+    } else {
+        None
+    }
 }

@@ -1,11 +1,23 @@
-use Rattle.std.proofs.Common.{arith, ap, ◌∙◌, Bool, List}
+use Rattle.std.proofs.Common.{arith, ap, sym, ◌∙◌, Bool, List}
 use Rattle.raster.specs.Packed.{Bits}
+use Rattle.raster.specs.declared.packed.Order.TheVariants.{MsbFirst}
+use Rattle.raster.proofs.AlikeLemmas.{bits_alike}
 use Rattle.raster.proofs.PackedLemmas.{bits_in-same, bit_in-take}
 use Rattle.raster.proofs.packed.PackedBits.copied.Goals as goal
 
+-- these bits in the order of a row
+abbrev with_bits : List Bool → Bits
+with_bits bits = record {
+  order = MsbFirst;
+  bits = bits;
+}
+
+pub returns-in-Some : goal.returns-in-Some
+returns-in-Some c = c.of_one.ensures ∙ ap with_bits (sym (bits_alike MsbFirst c.args.octets.now c.args.count c.in-Some.bit
+    c.in-Some.ensures.all))
+
 pub returns : goal.returns
 returns c =
-    let with_bits : List Bool → Bits = λ bits. record { order = c.args.order; bits = bits } in
-    ap with_bits (bits_in-same c.args.order _ c.args.octets.now c.args.count
+    ap with_bits (bits_in-same MsbFirst _ c.args.octets.now c.args.count
     (λ k h. c.clear_after.ensures.same k h ∙ rw (c.in_ok-extend_from_slice.ensures.items, c.in_ok-kept.ensures.items) (bit_in-take
-    c.args.order c.args.octets.now c.octets_for-needed.result k (omega arith))))
+    MsbFirst c.args.octets.now c.octets_for-needed.result k (omega arith))))
