@@ -1,5 +1,5 @@
 -- Bits that all are the same.
-use Rattle.std.proofs.Common.{◌≡◌, ℕ, ◌+◌, ◌-◌, ◌*◌, ◌/◌, ◌<◌, Bool, true, false, List, [], ◌∷◌, ◌++◌, length, replicate, sum, get_or, take}
+use Rattle.std.proofs.Common.{◌≡◌, ℕ, ◌+◌, ◌-◌, ◌*◌, ◌/◌, ◌<◌, Bool, true, false, List, [], ◌∷◌, ◌++◌, length, replicate, get_or, take}
 use Rattle.std.proofs.Common.{Some, None, refl, sym, ap, ◌∙◌, arith, nat_eq}
 use Rattle.std.specs.Prelude.{if◌then◌else◌, Option}
 use Rattle.std.specs.Int.{bit_at}
@@ -37,22 +37,18 @@ colors_alike count bit color is =
 
 -- ---- what is one run
 
-pub white_run : (runs : List ℕ) (width : ℕ) → length runs ≡ 1 → sum runs ≡ width → colors (replicate width false) ≡ colored White runs
-white_run [] width one total = absurd (omega arith)
-white_run (run ∷ []) width one total =
-    let whole : width ≡ run = omega arith in
-    rw whole (colors_alike run false White refl ∙ sym (append-nil (replicate run White)))
-white_run (run ∷ next ∷ runs) width one total = absurd (omega arith)
+pub white_run : (runs : List ℕ) → length runs ≡ 1 → colors (replicate (get_or runs 0 0) false) ≡ colored White runs
+white_run [] one = absurd (omega arith)
+white_run (run ∷ []) one = colors_alike run false White refl ∙ sym (append-nil (replicate run White))
+white_run (run ∷ next ∷ runs) one = absurd (omega arith)
 
-pub black_run : (runs : List ℕ) (width : ℕ) → length runs ≡ 2 → get_or runs 0 0 ≡ 0 → sum runs ≡ width
-    → colors (replicate width true) ≡ colored White runs
-black_run [] width two none total = absurd (omega arith)
-black_run (run ∷ []) width two none total = absurd (omega arith)
-black_run (run ∷ next ∷ []) width two none total =
+pub black_run : (runs : List ℕ) → length runs ≡ 2 → get_or runs 0 0 ≡ 0 → colors (replicate (get_or runs 1 0) true) ≡ colored White runs
+black_run [] two none = absurd (omega arith)
+black_run (run ∷ []) two none = absurd (omega arith)
+black_run (run ∷ next ∷ []) two none =
     let empty : run ≡ 0 = none in
-    let whole : width ≡ next = omega arith in
-    rw (whole, empty) (colors_alike next true Black refl ∙ sym (append-nil (replicate next Black)))
-black_run (run ∷ next ∷ more ∷ runs) width two none total = absurd (omega arith)
+    rw empty (colors_alike next true Black refl ∙ sym (append-nil (replicate next Black)))
+black_run (run ∷ next ∷ more ∷ runs) two none = absurd (omega arith)
 
 pub white_turning : (places : List ℕ) (width : ℕ) → length places ≡ 0 → colors (replicate width false) ≡ turning White 0 places width
 white_turning [] width none =

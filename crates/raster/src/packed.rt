@@ -1,14 +1,14 @@
 //! Bits that are kept eight an octet, in either order.
 
 ghost use Rattle.raster.specs.Changes.{AppendsChanges, IsRising, turning};
-ghost use Rattle.raster.specs.Pixels.{colors};
+ghost use Rattle.raster.specs.Pixels.{colors, IsWidth};
 ghost use Rattle.raster.specs.Packed.{bit_in, bits_in, bits_of, place_in, AreAlike, IsPacked, Bits, FillsOctets};
 ghost use Rattle.raster.specs.Runs.{colored};
 ghost use Rattle.raster.specs.Words.{IsWordAt, IsFirstOtherBit, bit_of_word};
 ghost use Rattle.raster.specs.declared.row.Color.{Color};
 ghost use Rattle.std.specs.Int.{bit_at};
 ghost use Rattle.std.specs.Prelude.{ℕ, ◌≡◌, ◌≤◌, ◌<◌, ◌+◌, ◌-◌, ◌*◌, ◌/◌, ◌++◌, length};
-ghost use Rattle.std.specs.Prelude.{if◌then◌else◌, replicate, sum, slice_get, All, IfOk, OnOk, OnErr};
+ghost use Rattle.std.specs.Prelude.{if◌then◌else◌, replicate, sum, slice_get, All, IfOk, IfSome, OnOk, OnErr};
 
 use crate::changes::changes;
 use crate::painting::{paint, paint_turns};
@@ -173,6 +173,25 @@ impl PackedBits {
         }
     }
 
+    /// The bits of alternating runs, 0 bits first, where they are one run that a row may be kept as. Takes
+    /// no memory.
+    #[inline(always)]
+    #[tactic(auto, using(crate::proofs::PackedLemmas::views))]
+    pub(crate) fn of_one_run(alloc: Global, runs: &[u32]) -> Option<Self>
+        ensures sum { IfSome result (λ p. length p.bits ≡ sum runs.now) }
+        ensures width { IfSome result (λ p. IsWidth (length p.bits)) }
+        ensures colors { IfSome result (λ p. colors p.bits ≡ colored Color.White runs.now) }
+        ensures order { IfSome result (λ p. p.order ≡ Order.MsbFirst) }
+    {
+        if runs.len() == 1 && runs[0] > 0 && runs[0] <= 2432 {
+            return Some(PackedBits::of_one(alloc, false, runs[0]));
+        }
+        if runs.len() == 2 && runs[0] == 0 && runs[1] > 0 && runs[1] <= 2432 && runs[1] % 8 == 0 {
+            return Some(PackedBits::of_one(alloc, true, runs[1]));
+        }
+        None
+    }
+
     /// The bits of alternating runs that add up to a width, 0 bits first, in the order of a row.
     #[tactic(auto, using(crate::proofs::PackedLemmas::views))]
     pub(crate) fn of_runs(alloc: Global, runs: &[u32], width: u32) -> Result<Self, AllocError>
@@ -181,12 +200,6 @@ impl PackedBits {
         ensures colors { IfOk result (λ p. colors p.bits ≡ colored Color.White runs.now) }
         ensures order { IfOk result (λ p. p.order ≡ Order.MsbFirst) }
     {
-        if runs.len() == 1 {
-            return Ok(PackedBits::of_one(alloc, false, width));
-        }
-        if runs.len() == 2 && runs[0] == 0 && width % 8 == 0 {
-            return Ok(PackedBits::of_one(alloc, true, width));
-        }
         let mut octets = zeros(alloc, width as usize / 8 + 9)?;
         paint(&mut octets, runs, width);
         Ok(PackedBits {
@@ -195,6 +208,25 @@ impl PackedBits {
             order: Order::MsbFirst,
             count: width,
         })
+    }
+
+    /// The bits up to a width that turn at rising places, a 0 bit first, where they are one run that a row
+    /// may be kept as. Takes no memory.
+    #[inline(always)]
+    #[tactic(auto, using(crate::proofs::PackedLemmas::views))]
+    pub(crate) fn of_no_turn(alloc: Global, places: &[u32], width: u32) -> Option<Self>
+        requires small { width ≤ 2432 }
+        ensures colors { IfSome result (λ p. colors p.bits ≡ turning Color.White 0 places.now width) }
+        ensures order { IfSome result (λ p. p.order ≡ Order.MsbFirst) }
+        ensures length { IfSome result (λ p. length p.bits ≡ width) }
+    {
+        if places.len() == 0 {
+            return Some(PackedBits::of_one(alloc, false, width));
+        }
+        if places.len() == 1 && places[0] == 0 && width % 8 == 0 {
+            return Some(PackedBits::of_one(alloc, true, width));
+        }
+        None
     }
 
     /// The bits up to a width that turn at rising places, a 0 bit first, in the order of a row.
@@ -207,12 +239,6 @@ impl PackedBits {
         ensures order { IfOk result (λ p. p.order ≡ Order.MsbFirst) }
         ensures length { IfOk result (λ p. length p.bits ≡ width) }
     {
-        if places.is_empty() {
-            return Ok(PackedBits::of_one(alloc, false, width));
-        }
-        if places.len() == 1 && places[0] == 0 && width % 8 == 0 {
-            return Ok(PackedBits::of_one(alloc, true, width));
-        }
         let mut octets = zeros(alloc, width as usize / 8 + 9)?;
         paint_turns(&mut octets, places, width);
         Ok(PackedBits {
@@ -282,6 +308,7 @@ impl PackedBits {
     }
 
     /// Appends all changing positions of the bits as a row.
+    #[inline(always)]
     #[tactic(auto, using(crate::proofs::PackedLemmas::views))]
     pub(crate) fn changes(&self, out: &mut Vec<u32>) -> Result<(), AllocError>
         requires order { self.now.order ≡ Order.MsbFirst }

@@ -88,8 +88,21 @@ impl Model for Row {
 impl Row {
     /// The row of alternating runs, white first; runs of 0 are allowed. Errs with `BadWidth` where
     /// the runs don't add up to 1 to 2,432 pixels, and with `NoMemory`.
+    #[inline(never)]
     #[tactic(auto, using(crate::proofs::RowLemmas::lengths))]
     pub fn from_runs(alloc: Global, runs: &[u32]) -> Result<Row, RasterFault>
+        ensures { FromRuns runs.now result }
+    {
+        match PackedBits::of_one_run(alloc, runs) {
+            Some(pixels) => Ok(Row { pixels }),
+            None => Row::painted(alloc, runs),
+        }
+    }
+
+    /// The row of alternating runs, white first, painted.
+    #[inline(never)]
+    #[tactic(auto, using(crate::proofs::RowLemmas::lengths))]
+    fn painted(alloc: Global, runs: &[u32]) -> Result<Row, RasterFault>
         ensures { FromRuns runs.now result }
     {
         let Some(width) = total_width(runs) else {
@@ -101,8 +114,25 @@ impl Row {
 
     /// The row of a width, in pixels, whose changing positions are these, in rising order (ITU-T T.6,
     /// 2.2.1). Errs where memory is refused.
+    #[inline(never)]
     #[tactic(auto, using(crate::proofs::RowLemmas::lengths))]
     pub fn from_changes(alloc: Global, places: &[u32], width: u32) -> Result<Row, AllocError>
+        requires width { IsWidth width }
+        requires rising { IsRising places.now }
+        requires below { All (λ place. place < width) places.now }
+        ensures row { IfOk result (λ row. row ≡ turning Color.White 0 places.now width) }
+        ensures changes { IfOk result (λ row. AreChanges row places.now) }
+    {
+        match PackedBits::of_no_turn(alloc, places, width) {
+            Some(pixels) => Ok(Row { pixels }),
+            None => Row::painted_turns(alloc, places, width),
+        }
+    }
+
+    /// The row of changing positions, painted.
+    #[inline(never)]
+    #[tactic(auto, using(crate::proofs::RowLemmas::lengths))]
+    fn painted_turns(alloc: Global, places: &[u32], width: u32) -> Result<Row, AllocError>
         requires width { IsWidth width }
         requires rising { IsRising places.now }
         requires below { All (λ place. place < width) places.now }
@@ -169,6 +199,7 @@ impl Row {
 
     /// Appends all changing positions of the row, in rising order (ITU-T T.6, 2.2.1). Errs where memory
     /// is refused, which changes nothing.
+    #[inline(always)]
     #[tactic(auto, using(crate::proofs::RowLemmas::lengths))]
     pub fn changes(&self, alloc: Global, out: &mut Vec<u32>) -> Result<(), AllocError>
         ensures ok { OnOk result (AppendsChanges self.now out.old.items out.new.items) }
