@@ -145,7 +145,8 @@ pub(crate) fn moved_word(order: Order, octets: &[u8], at: usize, within: u32) ->
 }
 
 /// Writes eight octets over those from a place on.
-fn put_octets(octets: &mut [u8], at: usize, eight: [u8; 8])
+#[inline(always)]
+pub(crate) fn put_octets(octets: &mut [u8], at: usize, eight: [u8; 8])
     requires { at + 8 ≤ length octets.old }
     ensures length { length octets.new ≡ length octets.old }
     ensures before { (j : ℕ) → j < at → slice_index octets.new j ≡ slice_index octets.old j }
