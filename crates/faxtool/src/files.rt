@@ -108,6 +108,9 @@ pub fn open<'a>(
     })
 }
 
+/// How many octets of what is printed are written at once.
+const PRINTED_AT_ONCE: usize = 65536;
+
 /// Standard output, with why it failed.
 #[derive(Drop)]
 pub struct Printed<'a> {
@@ -132,7 +135,11 @@ pub fn print(rt: &HostRuntime) -> Result<BufWriter<Printed<'_>>, ToolFault>
     ensures { IfErr result IsOutside }
 {
     let printed = Printed { rt, failed: None };
-    Ok(BufWriter::new(rt.alloc(), printed)?)
+    Ok(BufWriter::with_capacity(
+        rt.alloc(),
+        PRINTED_AT_ONCE,
+        printed,
+    )?)
 }
 
 /// Ends what was printed: the rest is written where all of it was done, and why it failed is noted. Errs with 8 where
