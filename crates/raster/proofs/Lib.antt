@@ -11,6 +11,7 @@ pub mod TurningLemmas
 pub mod AlikeLemmas
 pub mod TextLemmas
 pub mod PbmParts
+pub mod PbmPieces
 pub mod PbmImages
 pub mod PbmReading
 pub mod PbmWriting
