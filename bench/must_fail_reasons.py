@@ -16,6 +16,8 @@ TRIED = re.compile(r"(?:rt: )?must-fail (\S+): (.*)")
 FALSE_GOAL = re.compile(
     r"it is not proved that |the two types (first )?differ"
     r"|`omega`: the goal does not follow|`search`: no proof of "
+    # What `cc` says where the equations at hand don't give the goal.
+    r"|list the missing equation with its arguments"
 )
 # A name, a field or a file that is gone, and edits that tried no contract.
 GONE = re.compile(

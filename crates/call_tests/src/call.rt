@@ -1,7 +1,7 @@
 //! What no clause says: a call that is run to its end, and readers and writers that fail.
 
 use crate::streams::{Narrow, OneByOne};
-use engines::{CallOptions, FAILED, ToolFault, call_engine};
+use engines::{CallOptions, FAILED, NO_MEMORY, ToolFault, call_engine};
 use page_code::Coding;
 use signals::Modems;
 use std::alloc::Global;
@@ -62,4 +62,19 @@ fn readers_and_writers_that_fail_are_fault_8(rt: HostRuntime) {
     assert_eq!(rt; fault_of(alloc, false, true, 100), Some(FAILED));
     assert_eq!(rt; fault_of(alloc, false, false, 51), Some(FAILED));
     assert_eq!(rt; fault_of(alloc, false, false, 52), None);
+}
+
+// Run with an allocation refused, it ends in pages, no more than one, or in the fault of memory.
+#[test]
+fn refused_memory_is_a_fault(rt: HostRuntime) {
+    let alloc = rt.alloc();
+    let mut image = [0; 226];
+    image[..10].copy_from_slice(HEADER);
+    let mut said = b"busy 2\npolite 11".as_slice();
+    let mut images = image.as_slice();
+    let mut text = Vec::new(alloc);
+    match call_engine(alloc, &mut said, &mut images, &mut text, &OPTIONS) {
+        Ok(pages) => assert!(rt; pages.len() <= 1),
+        Err(fault) => assert!(rt; fault == NO_MEMORY),
+    }
 }

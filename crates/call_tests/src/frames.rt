@@ -44,14 +44,14 @@ fn a_confirmation_is_listed(rt: HostRuntime) -> Result<(), Fail> {
         left: &FRAME,
         fails: false,
     };
-    frames_engine(alloc, &mut octets, &mut text)?;
+    frames_engine(alloc, &mut octets, &mut text, None)?;
     assert_eq!(rt; text.as_slice(), LISTING);
     let mut text = Vec::with_capacity(alloc, 1000)?;
     let mut octets = Interrupted {
         left: &FRAME,
         ready: true,
     };
-    frames_engine(alloc, &mut octets, &mut text)?;
+    frames_engine(alloc, &mut octets, &mut text, None)?;
     assert_eq!(rt; text.as_slice(), LISTING);
     Ok(())
 }
@@ -65,7 +65,7 @@ fn a_failing_reader_is_fault_8(rt: HostRuntime) {
             fails: true,
         };
         let mut text = Vec::new(alloc);
-        let done = frames_engine(alloc, &mut octets, &mut text);
+        let done = frames_engine(alloc, &mut octets, &mut text, None);
         assert_eq!(rt; done, Err(FAILED), "{given} octets");
     }
 }
@@ -79,7 +79,7 @@ fn a_failing_writer_is_fault_8(rt: HostRuntime) {
             taken: Vec::new(alloc),
             room,
         };
-        let done = frames_engine(alloc, &mut octets, &mut text);
+        let done = frames_engine(alloc, &mut octets, &mut text, None);
         assert_eq!(rt; done, Err(FAILED), "room for {room}");
     }
 }
@@ -90,7 +90,7 @@ fn refused_memory_is_a_fault(rt: HostRuntime) {
     let alloc = rt.alloc();
     let mut octets = FRAME.as_slice();
     let mut text = Vec::new(alloc);
-    match frames_engine(alloc, &mut octets, &mut text) {
+    match frames_engine(alloc, &mut octets, &mut text, None) {
         Ok(()) => assert_eq!(rt; text.as_slice(), LISTING),
         Err(fault) => assert_eq!(rt; fault, NO_MEMORY),
     }

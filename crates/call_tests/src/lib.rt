@@ -12,14 +12,10 @@ mod frames;
 #[cfg(test)]
 mod pages;
 #[cfg(test)]
-mod script;
-#[cfg(test)]
 mod seams;
 #[cfg(test)]
 mod stream;
 #[cfg(test)]
 mod streams;
-#[cfg(test)]
-mod transcript;
 #[cfg(test)]
 mod world;

@@ -1,11 +1,12 @@
 -- What the command that runs a call prints of it.
-use Rattle.std.specs.Prelude.{ℕ, ◌+◌, ◌++◌, ◌∷◌, [], Bool, true, false, List, Option, Some, None, codes, length}
+use Rattle.std.specs.Prelude.{ℕ, ◌≡◌, ◌+◌, ◌++◌, ◌∷◌, [], Bool, true, false, List, Option, Some, None, codes, length}
 use Rattle.std.specs.Fmt.{decimal}
 use Rattle.stations.specs.declared.turn.End.{End}
 use Rattle.stations.specs.declared.turn.End.TheVariants as end
 use Rattle.stations.specs.declared.turn.Turn.{Turn}
 use Rattle.stations.specs.declared.turn.Turn.TheVariants as turn
 use Rattle.line_sim.specs.declared.event.Entry.{Entry}
+use Rattle.line_sim.specs.declared.event.Event.TheVariants.{DeliverToAnswerer, DeliverToCaller, CallerT5}
 use Rattle.line_sim.specs.declared.event.Kind.{Kind}
 use Rattle.line_sim.specs.declared.event.Kind.TheVariants as kind
 use Rattle.line_sim.specs.declared.report.Report.{Report}
@@ -85,3 +86,19 @@ answerer_line ending pages = line (codes "answerer" ∷ end_text ending ∷ code
 abbrev pub report_text : Report → List ℕ
 report_text report = entry_lines 1 report.transcript.items
     ++ (caller_line report.caller_end report.confirmed ++ answerer_line report.answerer_end (length report.pages.items))
+
+-- written-out lines of events: a burst, an FCD that came where memory was refused, a PPS that was answered by PPR; and the words
+-- of the ends that no call of a script has
+pub record ArePrintedLines : Type 0 where
+  pub burst : (map : List ℕ)
+      → entry_line 0 (record { event = DeliverToCaller; item = Some kind.Cfr; turn = turn.Burst map; fcds = 256; refused = false })
+      ≡ codes "0 to-caller CFR BURST:256\n"
+  pub refused_frame :
+      entry_line 1 (record { event = DeliverToAnswerer; item = Some (kind.Fcd 255); turn = turn.Silent; fcds = 0; refused = true })
+      ≡ codes "1 to-answerer FCD:255 - !\n"
+  pub refused_input : (map : List ℕ)
+      → entry_line 2 (record { event = CallerT5; item = None; turn = turn.Ppr map; fcds = 0; refused = true })
+      ≡ codes "2 caller-t5 - PPR !\n"
+  pub not_compatible : end_text (Some end.NotCompatible) ≡ codes "not-compatible"
+  pub bad_page : end_text (Some end.BadPage) ≡ codes "bad-page"
+  pub page_too_long : end_text (Some end.PageTooLong) ≡ codes "page-too-long"

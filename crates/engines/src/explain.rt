@@ -1,13 +1,12 @@
 //! What a fault line means, in words: which file, where in it, and what is wrong there.
 
-ghost use Rattle.engines.specs.Explanations.{IsOneLine, code_words, explained, image_words, is_shown, missing_code, no_raw_pbm};
+ghost use Rattle.engines.specs.Explanations.{code_words, image_words, is_shown, missing_code, no_raw_pbm};
 ghost use Rattle.engines.specs.Explanations.{reason_words, whole_words};
 ghost use Rattle.std.specs.List.{list_all};
-ghost use Rattle.std.specs.Prelude.{◌≡◌, None, []};
+ghost use Rattle.std.specs.Prelude.{◌≡◌};
 
 use crate::fault::ToolFault;
 use raster::Color;
-use run_tables::{BitReader, Order};
 use std::fmt;
 use std::io::ErrorKind;
 
@@ -26,40 +25,14 @@ pub struct Known<'a> {
     pub color: Option<Color>,
 }
 
-impl<'a> Known<'a> {
-    /// No more is known than the file's name.
-    pub fn file(file: &'a str) -> Known<'a>
-        ensures known { result ≡ record { file = file.entry; reason = None; begins = result.begins; row = None; color = None } }
-        ensures begins { result.begins.now ≡ [] }
-    {
-        Known {
-            file,
-            reason: None,
-            begins: &[],
-            row: None,
-            color: None,
-        }
-    }
-}
-
-/// A fault in words.
+/// A fault in words: one line, with no LF and no other control character, that depends on the fault and on what is
+/// known of it alone.
 #[derive(Clone, Copy, Debug, PartialEq, Eq)]
 pub struct Explained<'a> {
     /// The fault.
     pub fault: ToolFault,
     /// What is known of it.
     pub known: Known<'a>,
-}
-
-impl<'a> Explained<'a> {
-    /// A fault in words: one line, with no LF and no other control character, that depends on the fault and on
-    /// what is known of it alone.
-    pub fn new(fault: ToolFault, known: Known<'a>) -> Explained<'a>
-        ensures what { result ≡ record { fault = fault; known = known.entry } }
-        ensures line { IsOneLine (explained fault known.entry) }
-    {
-        Explained { fault, known }
-    }
 }
 
 impl fmt::Display for Explained<'_> {

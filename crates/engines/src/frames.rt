@@ -97,23 +97,10 @@ pub(crate) fn read_some<R: Read>(reader: &mut R, piece: &mut [u8]) -> Result<usi
 
 /// Reads bits, the least significant of each octet first, and writes a line for each good frame in
 /// them, with its number from 1, its content in hex and what it says, and then a line with the counts
-/// of all gaps. Each line is written, and the writer flushed, as soon as its frame was read. Errs with 8 where the
+/// of all gaps. At most so many octets of a content are shown, and a line has `..` after them where it has more.
+/// Each line is written, and the writer flushed, as soon as its frame was read. Errs with 8 where the
 /// reader or the writer fails, or the reader doesn't end in 2^64 reads, and with 9.
 pub fn frames_engine<R: Read, W: Write>(
-    alloc: Global,
-    reader: &mut R,
-    writer: &mut W,
-) -> Result<(), ToolFault>
-    ensures listed { OnOk result (IfSome (R.remaining reader.old) (λ octets.
-        Appends (W.contents writer.old) (W.contents writer.new) (listing None (bits_of LsbFirst octets)))) }
-    ensures fault { IfErr result IsOutside }
-{
-    list_frames(alloc, reader, writer, None)
-}
-
-/// What `frames_engine` does, with at most so many octets of a content shown: a line has `..` after
-/// them where the content has more.
-pub fn list_frames<R: Read, W: Write>(
     alloc: Global,
     reader: &mut R,
     writer: &mut W,

@@ -3,16 +3,40 @@
 ghost use Rattle.engines.specs.Explanations.{IsRefusedRow, IsRefusedRun};
 ghost use Rattle.raster.specs.Packed.{bits_of};
 ghost use Rattle.raster.specs.Pixels.{IsWidth};
-ghost use Rattle.std.specs.Prelude.{◌≡◌, ◌≤◌, ◌*◌, IfSome, length};
+ghost use Rattle.page_code.specs.declared.coding.Coding.TheVariants.{T6};
+ghost use Rattle.std.specs.Prelude.{◌≡◌, ◌≤◌, ◌*◌, IfSome, None, length};
 
 use page_code::Coding;
 use raster::Color;
 use run_tables::{BitReader, Order};
 use std::alloc::Global;
 
+/// Where a page of this width in pixels is refused at a bit: its row, counted from 1, which is the one after all whole
+/// rows of the octets, and none where memory is refused; and in the one-dimensional code the color of the run that is
+/// refused there, and none where another thing is.
+pub fn refused_at(
+    alloc: Global,
+    octets: &[u8],
+    coding: Coding,
+    order: Order,
+    width: u32,
+    place: u128,
+) -> (Option<usize>, Option<Color>)
+    requires { IsWidth width }
+    ensures row { IfSome result.0 (IsRefusedRow coding width (bits_of order octets.now)) }
+    ensures color { IfSome result.1 (IsRefusedRun (bits_of order octets.now) place) }
+    ensures of_runs { coding ≡ T6 → result.1 ≡ None }
+{
+    let row = refused_row(alloc, octets, coding, order, width);
+    match coding {
+        Coding::OneDim => (row, refused_color(octets, order, width, place)),
+        Coding::T6 => (row, None),
+    }
+}
+
 /// The row in which a page of this width in pixels is refused, counted from 1: the one after all whole rows of
 /// the octets. None where memory is refused.
-pub fn refused_row(
+fn refused_row(
     alloc: Global,
     octets: &[u8],
     coding: Coding,
@@ -30,7 +54,7 @@ pub fn refused_row(
 
 /// The color of the run that is refused at a bit of a page in the one-dimensional code, as the runs of its row are
 /// read from the last EOL on. None where another thing is refused there.
-pub fn refused_color(octets: &[u8], order: Order, width: u32, place: u128) -> Option<Color>
+fn refused_color(octets: &[u8], order: Order, width: u32, place: u128) -> Option<Color>
     ensures { IfSome result (IsRefusedRun (bits_of order octets.now) place) }
 {
     if place > 8 * octets.len() as u128 {

@@ -127,7 +127,7 @@ fn split_line(text: &[u8]) -> Option<(&[u8], &[u8])>
 /// The commands that a script says, in order. A line ends with LF, the last one with or without.
 ///
 /// Errs with the fault of a script at the first line that isn't one of a script, and with 9.
-pub fn read_script(alloc: Global, text: &[u8]) -> Result<Vec<Command>, ToolFault>
+pub(crate) fn read_script(alloc: Global, text: &[u8]) -> Result<Vec<Command>, ToolFault>
     ensures says { MatchResult result (λ commands. IsScript text.now commands.items) (RefusesScript text.now) }
     ensures only { (script : List CommandValue) → IsScript text.now script
         → MatchResult result (λ commands. commands.items ≡ script) (λ fault. fault ≡ No 9) }

@@ -32,7 +32,7 @@ fn event_word(event: Event) -> &'static str
 }
 
 /// The word of why a call ended for a station, or that it goes on: `normal`, `no-reply`, .., `running`.
-pub fn end_word(ending: Option<End>) -> &'static str
+fn end_word(ending: Option<End>) -> &'static str
     ensures { result.now ≡ end_text ending }
 {
     match ending {
@@ -110,7 +110,7 @@ impl fmt::Display for TurnText {
 
 /// Writes the line of an event: its number, its word, the item, the turn, and ` !` where a growth was
 /// refused in it. Errs where the writer fails.
-pub fn write_entry<W: Write>(number: usize, entry: &Entry, writer: &mut W) -> Result<(), ToolFault>
+fn write_entry<W: Write>(number: usize, entry: &Entry, writer: &mut W) -> Result<(), ToolFault>
     ensures line { OnOk result (Appends (W.contents writer.old) (W.contents writer.new) (entry_line number entry.now)) }
     ensures fault { IfErr result IsOutside }
 {
@@ -139,7 +139,7 @@ fn write_entries<W: Write>(entries: &[Entry], writer: &mut W) -> Result<(), Tool
 /// Writes what has become of a call: a line for each event, numbered from 1, and then how it ended for
 /// the caller, with the number of pages that it counts as confirmed, and for the answerer, with the
 /// number of pages that it has stored. Errs with 8 where the writer fails, and with 9.
-pub fn write_report<W: Write>(report: &Report, writer: &mut W) -> Result<(), ToolFault>
+pub(crate) fn write_report<W: Write>(report: &Report, writer: &mut W) -> Result<(), ToolFault>
     ensures text { OnOk result (Appends (W.contents writer.old) (W.contents writer.new) (report_text report.now)) }
     ensures fault { IfErr result IsOutside }
 {

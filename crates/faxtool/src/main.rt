@@ -17,8 +17,8 @@ mod words;
 
 use engines::{
     CallOptions, Captured, Explained, FAILED, Known, NO_MEMORY, ToolFault, call_engine,
-    captured_pages, code_engine, decode_engine, list_frames, refused_color, refused_row,
-    repair_engine, salvage_engine, show_engine,
+    captured_pages, code_engine, decode_engine, frames_engine, refused_at, repair_engine,
+    salvage_engine, show_engine,
 };
 use notes::{Notes, Part};
 use page_code::Coding;
@@ -65,7 +65,14 @@ fn given_words(rt: &HostRuntime) -> io::Result<Vec<String>> {
 fn refused(rt: &HostRuntime, fault: ToolFault, file: &str) -> Outcome {
     let _shown = eprintln!(rt; "{fault}");
     if rt.stderr().is_terminal() {
-        let words = Explained::new(fault, Known::file(file));
+        let known = Known {
+            file,
+            reason: None,
+            begins: &[],
+            row: None,
+            color: None,
+        };
+        let words = Explained { fault, known };
         let _explained = eprintln!(rt; "{words}");
     }
     Outcome::Fault(fault)
@@ -110,7 +117,7 @@ fn is_long(job: &Job) -> bool {
 fn explain<'a>(rt: &HostRuntime, job: &'a Job, fault: ToolFault, notes: &'a Notes)
     requires { HasWidth job.now }
 {
-    let (row, color) = refused_at(rt, job, fault, notes);
+    let (row, color) = refused_place(rt, job, fault, notes);
     let known = Known {
         file: file_of(job, part_of(fault, notes)),
         reason: notes.failed.map(|failed| failed.1),
@@ -118,13 +125,13 @@ fn explain<'a>(rt: &HostRuntime, job: &'a Job, fault: ToolFault, notes: &'a Note
         row,
         color,
     };
-    let words = Explained::new(fault, known);
+    let words = Explained { fault, known };
     let _explained = eprintln!(rt; "{words}");
 }
 
 /// The row, counted from 1, and the color of the run in which the page that a job reads is refused, as far as they are
 /// known.
-fn refused_at(
+fn refused_place(
     rt: &HostRuntime,
     job: &Job,
     fault: ToolFault,
@@ -139,11 +146,7 @@ fn refused_at(
         return (None, None);
     };
     let octets = notes.octets.as_slice();
-    let row = refused_row(rt.alloc(), octets, coding, order, width);
-    match coding {
-        Coding::OneDim => (row, refused_color(octets, order, width, place)),
-        Coding::T6 => (row, None),
-    }
+    refused_at(rt.alloc(), octets, coding, order, width, place)
 }
 
 /// The code, the order of bits and the width of the page that a job reads.
@@ -438,7 +441,7 @@ fn list_file(
     let mut reader = files::open(rt, input, Part::Input, notes)?;
     let mut writer = files::print(rt)?;
     let most = most.map(|most| most as usize);
-    let listed = list_frames(rt.alloc(), &mut reader, &mut writer, most);
+    let listed = frames_engine(rt.alloc(), &mut reader, &mut writer, most);
     reader.close(notes);
     let printed = files::end_print(writer, listed.is_ok(), notes);
     listed?;
@@ -462,7 +465,7 @@ fn frames_file(
     let mut writer = files::print(rt)?;
     let most = most.map(|most| most as usize);
     let mut bits = octets.as_slice();
-    let listed = list_frames(rt.alloc(), &mut bits, &mut writer, most);
+    let listed = frames_engine(rt.alloc(), &mut bits, &mut writer, most);
     let printed = files::end_print(writer, listed.is_ok(), notes);
     listed?;
     printed?;

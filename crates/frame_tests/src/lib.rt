@@ -1,8 +1,6 @@
-//! What no clause of `hdlc`, `signals` and `partial_page` says: worked frames and contents, blocks at size, and refused memory.
+//! What no clause of `hdlc` and `partial_page` says: worked frames, blocks at size, and refused memory.
 #![tactic(auto)]
 
-#[cfg(test)]
-mod agreement;
 #[cfg(test)]
 mod blocks;
 #[cfg(test)]
@@ -11,5 +9,3 @@ mod check_sequence;
 mod deframer;
 #[cfg(test)]
 mod frame;
-#[cfg(test)]
-mod signal;

@@ -25,7 +25,7 @@ pub enum Class {
 
 impl Class {
     /// Whether this is a good frame.
-    pub fn is_good(self) -> bool
+    pub(crate) fn is_good(self) -> bool
         ensures { result ≡ is_class Class.Good self }
     {
         matches!(self, Class::Good)

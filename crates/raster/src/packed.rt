@@ -65,17 +65,6 @@ pub fn word_octets(order: Order, word: u64) -> [u8; 8]
     in_order(order, word).to_be_bytes()
 }
 
-/// The 64 bits of the octets from a bit within an octet on, the first of them the most significant.
-/// Bits past the octets are 0.
-#[inline(always)]
-pub fn word_within(order: Order, octets: &[u8], at: usize, within: u32) -> u64
-    requires at { at ≤ length octets.now }
-    requires within { within < 8 }
-    ensures { IsWordAt order octets.now (8 * at + within) result }
-{
-    shifted_word(order, octets, at, within)
-}
-
 /// The bits of eight octets from a bit within the first of them on, the first of them the most
 /// significant: 57 to 64 bits.
 #[inline(always)]

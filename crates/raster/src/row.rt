@@ -23,7 +23,7 @@ pub enum Color {
 
 impl Color {
     /// Whether it is this color.
-    pub fn is(self, color: Color) -> bool
+    pub(crate) fn is(self, color: Color) -> bool
         ensures { IsTrue result ↔ (self ≡ color) }
     {
         self == color

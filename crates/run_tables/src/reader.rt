@@ -17,7 +17,7 @@ use crate::fault::{CodeFault, CodeFaultKind};
 use crate::read_table::entry;
 use crate::table::code_at;
 use raster::Color;
-use raster::packed::{Order, bit_of, word_of_eight, word_within};
+use raster::packed::{Order, bit_of, word_at, word_of_eight};
 use std::marker::Model;
 
 /// Which codes of a color may be at a place.
@@ -161,23 +161,6 @@ impl<'a> BitReader<'a> {
         self.within = bit % 8;
     }
 
-    /// Whether what the digits `0` and `1` write begins the bits that are left.
-    pub fn begins_with(&self, digits: &[u8]) -> bool
-        ensures begun { result ≡ begins (text digits.now) (rest_of self.now) }
-        ensures fits { OnTrue result (self.now.place + length digits.now ≤ length self.now.bits) }
-    {
-        let _start = self.place(); // tells the proof that it is within the bits
-        for (by, digit) in digits.iter().enumerate() {
-            let Some(bit) = self.ahead(by) else {
-                return false;
-            };
-            if bit != (*digit == b'1') {
-                return false;
-            }
-        }
-        true
-    }
-
     /// Whether the bits that are left are a beginning of what the digits `0` and `1` write, or all of
     /// it.
     pub fn is_cut_of(&self, digits: &[u8]) -> bool
@@ -229,10 +212,11 @@ impl<'a> BitReader<'a> {
 
     /// The next 64 bits as a number, the first of them the most significant; past the end they are 0.
     #[inline(always)]
-    pub fn peek(&self) -> u64
+    fn peek(&self) -> u64
         ensures { IsFirst64 (rest_of self.now) result }
     {
-        word_within(self.order, self.octets, self.at, self.within)
+        let place = 8 * self.at as u128 + self.within as u128;
+        word_at(self.order, self.octets, place)
     }
 
     /// `peek` where fewer than eight octets are left.
@@ -332,7 +316,7 @@ impl<'a> BitReader<'a> {
     /// them begins the bits that are left: with `Truncated` where these are a beginning of one, none
     /// left included, and else with `BadCode`. An error changes nothing.
     #[inline(always)]
-    pub fn next_code(&mut self, color: Color, among: Among) -> Result<u32, CodeFault>
+    pub(crate) fn next_code(&mut self, color: Color, among: Among) -> Result<u32, CodeFault>
         ensures reads { ReadsCode color among self.old self.new result }
         ensures picks { PicksCode color among self.old self.new result }
     {

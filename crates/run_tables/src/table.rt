@@ -239,7 +239,7 @@ pub fn codes(color: Color) -> &'static [Code]
 
 /// The code at a place of a color's table, from 0: places 0 to 63 hold the terminating codes, the
 /// 40 places from 64 on the make-up codes.
-pub fn code_at(color: Color, place: usize) -> Code
+pub(crate) fn code_at(color: Color, place: usize) -> Code
     requires { place < 104 }
     ensures { pair_of result ≡ (run_at place, code_word color (run_at place)) }
 {

@@ -7,7 +7,7 @@ ghost use Rattle.run_tables.specs.Codes.{run_words, text};
 ghost use Rattle.run_tables.specs.Pending.{word_bits, IsClear, IsStored};
 ghost use Rattle.run_tables.specs.Written.{Appends, AppendsRow, eol};
 ghost use Rattle.raster.specs.declared.row.Color.{Color};
-ghost use Rattle.std.specs.Prelude.{ℕ, List, ◌≡◌, ◌≤◌, ◌<◌, ◌+◌, ◌-◌, ◌*◌, ◌++◌, ◌∷◌, [], length, replicate};
+ghost use Rattle.std.specs.Prelude.{ℕ, List, ◌≡◌, ◌≤◌, ◌<◌, ◌+◌, ◌-◌, ◌*◌, ◌++◌, ◌∷◌, [], length};
 ghost use Rattle.std.specs.Prelude.{slice_index_or, take, OnOk, OnErr};
 
 use crate::write_table::run_word;
@@ -93,14 +93,6 @@ fn last_place(at: usize, bits: u128) -> (usize, u32)
 {
     let first = (bits / 8).min(at as u128) as usize;
     (first, (bits - 8 * first as u128) as u32)
-}
-
-/// A number whose lowest bits are all the same.
-#[inline(always)]
-fn same_bits(bit: bool) -> u32
-    ensures { (count : ℕ) → count ≤ 32 → number_bits count result ≡ replicate count bit }
-{
-    if bit { u32::MAX } else { 0 }
 }
 
 /// A list of bits that grows at its end, and the order in which octets are to hold them. The last bits
@@ -197,25 +189,6 @@ impl BitWriter {
         }
         self.word |= all >> self.filled;
         self.filled = filled;
-        Ok(())
-    }
-
-    /// Appends a bit so many times. Errs where memory is refused, which changes nothing.
-    pub fn push_run(&mut self, bit: bool, count: u32) -> Result<(), AllocError>
-        ensures ok { OnOk result (Appends (replicate count bit) self.old self.new) }
-        ensures err { OnErr result (self.new ≡ self.old) }
-    {
-        let start = self.bits();
-        let value = same_bits(bit);
-        let mut left = count;
-        while left > 0 {
-            let some = left.min(32);
-            if let Err(refused) = self.push_bits(value, some) {
-                self.truncate(start);
-                return Err(refused);
-            }
-            left -= some;
-        }
         Ok(())
     }
 

@@ -68,7 +68,7 @@ pub enum Modems {
 
 impl Modems {
     /// Whether the modems have the speed.
-    pub fn supports(self, speed: Speed) -> bool
+    pub(crate) fn supports(self, speed: Speed) -> bool
         ensures { result ≡ supports_speed self speed }
     {
         match self {

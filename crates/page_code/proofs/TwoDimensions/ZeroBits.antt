@@ -1,10 +1,11 @@
 -- Only 0 bits, as a number of 64 bits.
-use Rattle.std.proofs.Common.{ℕ, zero, suc, ◌≡◌, ◌≢◌, ◌-◌, ◌^◌, ◌<◌, Bool, true, false, List, [], ◌∷◌, nat_eq, refl, sym, ◌∙◌, arith}
+use Rattle.std.proofs.Common.{ℕ, zero, suc, ◌≡◌, ◌≢◌, ◌-◌, ◌^◌, ◌/◌, ◌+◌, ◌<◌, Bool, true, false, List, [], ◌∷◌, nat_eq, refl, sym, ◌∙◌, arith}
 use Rattle.std.specs.Prelude.{slice_index_or}
 use Rattle.std.specs.Int.{bit_at}
 use Rattle.std.proofs.lemmas.Bool.{false≢true}
 use Rattle.std.proofs.lemmas.Nat.Bits.{bit_at-lt, bit_at-zero, same_from_bits_below}
-use Rattle.run_tables.specs.Numbers.{IsFirst64}
+use Rattle.raster.proofs.WordLemmas.{bit_at_shr}
+use Rattle.run_tables.specs.Numbers.{AreFirst}
 use Rattle.run_tables.specs.Texts.{all_zero}
 
 -- of only 0 bits, each is a 0 bit
@@ -14,8 +15,8 @@ zero_at (true ∷ x) k e = absurd (false≢true e)
 zero_at (false ∷ x) zero e = refl
 zero_at (false ∷ x) (suc k) e = zero_at x k e
 
--- bits whose first 64 are not the number 0 are not only 0 bits
-pub some_one : (x : List Bool) (word : ℕ) → word < 2 ^ 64 → IsFirst64 x word → word ≢ 0 → all_zero x ≡ false
+-- bits of which a number has the first 57, not all of them 0, are not only 0 bits
+pub some_one : (x : List Bool) (word : ℕ) → word < 2 ^ 64 → AreFirst 57 x word → word / 2 ^ 7 ≢ 0 → all_zero x ≡ false
 some_one x word small first some = seen (all_zero x) refl
   where
     not_one : (b : ℕ) → b < 2 → nat_eq b 1 ≡ false → b ≡ 0
@@ -23,12 +24,12 @@ some_one x word small first some = seen (all_zero x) refl
     not_one (suc zero) h e = absurd (false≢true (sym e))
     not_one (suc (suc b)) h e = absurd (omega arith)
 
-    none : all_zero x ≡ true → (i : ℕ) → i < 64 → bit_at word i ≡ bit_at 0 i
+    none : all_zero x ≡ true → (i : ℕ) → i < 57 → bit_at (word / 2 ^ 7) i ≡ bit_at 0 i
     none e i h =
-        let back : 63 - (63 - i) ≡ i = omega arith in
-        let zero_bit : nat_eq (bit_at word i) 1 ≡ false = rw back at (first (63 - i) (omega arith) ∙ zero_at x (63 - i) e) in
-        not_one (bit_at word i) (bit_at-lt word i) zero_bit ∙ sym (bit_at-zero i)
+        let back : 63 - (56 - i) ≡ 7 + i = omega arith in
+        let zero_bit : nat_eq (bit_at word (7 + i)) 1 ≡ false = rw back at (first (56 - i) (omega arith) ∙ zero_at x (56 - i) e) in
+        bit_at_shr word 7 i ∙ (not_one (bit_at word (7 + i)) (bit_at-lt word (7 + i)) zero_bit ∙ sym (bit_at-zero i))
 
     seen : (b : Bool) → all_zero x ≡ b → all_zero x ≡ false
-    seen true e = absurd (some (same_from_bits_below 64 word 0 small (omega arith) (none e)))
+    seen true e = absurd (some (same_from_bits_below 57 (word / 2 ^ 7) 0 (omega (arith, small)) (omega arith) (none e)))
     seen false e = e

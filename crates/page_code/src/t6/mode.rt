@@ -34,7 +34,7 @@ pub enum Shift {
 
 impl Shift {
     /// How far a1 is to the right of b1.
-    pub fn right(self) -> u32
+    pub(crate) fn right(self) -> u32
         ensures right { result ≡ to_right self }
         ensures range { result ≤ 3 }
     {
@@ -47,7 +47,7 @@ impl Shift {
     }
 
     /// How far a1 is to the left of b1.
-    pub fn left(self) -> u32
+    pub(crate) fn left(self) -> u32
         ensures left { result ≡ to_left self }
         ensures range { result ≤ 3 }
     {
@@ -77,7 +77,7 @@ impl Shift {
     }
 
     /// The digits of the mode's code (ITU-T T.6, table 1).
-    pub fn digits(self) -> &'static [u8]
+    pub(crate) fn digits(self) -> &'static [u8]
         ensures { text result.now ≡ vertical_word self }
     {
         match self {
@@ -119,7 +119,7 @@ pub enum ModeCode {
 
 impl ModeCode {
     /// The digits of the code (ITU-T T.6, table 1).
-    pub fn digits(self) -> &'static [u8]
+    pub(crate) fn digits(self) -> &'static [u8]
         ensures { text result.now ≡ mode_word self }
     {
         match self {

@@ -57,7 +57,8 @@ fn is_at_eofb(reader: &BitReader) -> bool
 fn only_zeros(reader: &BitReader) -> bool
     ensures { result ≡ all_zero (rest_of reader.now) }
 {
-    if reader.peek() != 0 {
+    let first = reader.peek_57() >> 7;
+    if first != 0 {
         return false;
     }
     let mut ahead = reader.look_ahead();
@@ -108,7 +109,7 @@ fn is_cut_mode(reader: &BitReader) -> bool
 fn no_mode(reader: &BitReader) -> CodeFault
     ensures { result ≡ record { place = reader.now.place; kind = missing_mode (rest_of reader.now) } }
 {
-    let kind = if reader.begins_with(b"0000001") {
+    let kind = if reader.starts_with(1, 7) {
         CodeFaultKind::Extension
     } else if is_cut_mode(reader) {
         CodeFaultKind::Truncated

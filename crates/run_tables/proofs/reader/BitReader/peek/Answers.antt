@@ -5,4 +5,4 @@ use Rattle.run_tables.proofs.reader.BitReader.peek.Goals as goal
 pub returns : goal.returns
 returns c =
     rw (← c.self.view_is) (word_rest c.self.inside.order c.self.inside.octets.now (8 * c.self.inside.at + c.self.inside.within)
-    c.word_within.result c.word_within.ensures)
+    c.word_at.result c.word_at.ensures)

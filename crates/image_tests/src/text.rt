@@ -1,0 +1,72 @@
+//! Pages as text, and writers that fail.
+
+use raster::{Document, Page, RasterFault, Row, write_text};
+use std::alloc::Global;
+use std::io;
+use std::io::Write;
+use std::test::Fail;
+
+/// A writer that takes so many octets, one a write, and then fails.
+#[derive(Drop)]
+pub struct Failing {
+    pub taken: Vec<u8>,
+    pub room: usize,
+}
+
+impl Write for Failing {
+    fn write(&mut self, octets: &[u8]) -> io::Result<usize> {
+        if octets.is_empty() {
+            return Ok(0);
+        }
+        if self.taken.len() >= self.room {
+            return Err(io::Error::from(io::ErrorKind::Other));
+        }
+        self.taken
+            .push(octets[0])
+            .map_err(std::alloc::AllocError::from)?;
+        Ok(1)
+    }
+
+    fn flush(&mut self) -> io::Result<()> {
+        Ok(())
+    }
+}
+
+fn page_of_three(alloc: Global) -> Result<Page, RasterFault> {
+    let mut page = Page::new(alloc, 8, false)?;
+    for runs in [[2, 2, 4], [0, 8, 0], [5, 0, 3]] {
+        page.push_row(Row::from_runs(alloc, &runs)?)?;
+    }
+    Ok(page)
+}
+
+const THREE_ROWS: &str = "..##....\n########\n........\n";
+
+#[test]
+fn a_page_is_written_as_text(rt: HostRuntime) -> Result<(), Fail> {
+    let alloc = rt.alloc();
+    let page = page_of_three(alloc)?;
+    let mut text = Vec::with_capacity(alloc, 27)?;
+    write_text(&page, &mut text)?;
+    assert_eq!(rt; text.as_slice(), THREE_ROWS.as_bytes());
+    let mut document = Document::new(alloc, page)?;
+    document.push(page_of_three(alloc)?)?;
+    assert_eq!(rt; document.pages().len(), 2);
+    Ok(())
+}
+
+#[test]
+fn a_failing_writer_is_a_fault(rt: HostRuntime) -> Result<(), Fail> {
+    let alloc = rt.alloc();
+    let page = page_of_three(alloc)?;
+    for room in 0..28 {
+        let mut writer = Failing {
+            taken: Vec::with_capacity(alloc, 27)?,
+            room,
+        };
+        let written = write_text(&page, &mut writer);
+        assert_eq!(rt; written.is_ok(), room == 27, "room for {room}");
+        assert_eq!(rt; writer.taken.as_slice(), &THREE_ROWS.as_bytes()[..room]);
+    }
+    Ok(())
+}
