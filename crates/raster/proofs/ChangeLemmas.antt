@@ -1,5 +1,5 @@
 -- Lists of places, and the changing positions of a row.
-use Rattle.std.proofs.Common.{◌≡◌, ◌≢◌, ℕ, ◌+◌, ◌-◌, ◌*◌, ◌/◌, ◌%◌, ◌^◌, ◌<◌, ◌≤◌, Bool, true, false, List, [], ◌∷◌, ◌++◌, refl, sym}
+use Rattle.std.proofs.Common.{◌≡◌, ◌≢◌, ℕ, ◌+◌, ◌-◌, ◌*◌, ◌/◌, ◌%◌, ◌^◌, ◌<◌, ◌≤◌, Bool, true, false, List, [], ◌∷◌, ◌++◌, refl, sym, ◌&&◌}
 use Rattle.std.proofs.Common.{ap, ◌∙◌, get_or, length, nat_eq, nat_lt, arith, bit_and, bit_or, bit_xor, zero, suc, inl, inr, w64}
 use Rattle.std.proofs.Common.{append_assoc, length-append}
 use Rattle.std.specs.Int.{bit_at, bit_not}
@@ -12,7 +12,7 @@ use Rattle.std.proofs.lemmas.Bool.{cases_lt, and_parts, lt-ltb, le-ltb, true≢f
 use Rattle.std.proofs.lemmas.Nat.{shr-shr, and_le_l, and_le_r, pow_pos}
 use Rattle.raster.specs.Packed.{bit_in, bits_in}
 use Rattle.raster.specs.Pixels.{color_of, colors}
-use Rattle.raster.specs.Words.{IsWordAt, IsFirstInWord, IsFirstOther, bit_of_word}
+use Rattle.raster.specs.Words.{IsWordAt, IsFirstInWord, bit_of_word}
 use Rattle.raster.specs.Changes.{color_at, color_before, AppendsChanges, AreChanges, Lists, NextTurns, differ, bit_before}
 use Rattle.raster.specs.Changes.{turns_at, turns_below}
 use Rattle.raster.specs.declared.packed.Order.TheVariants.{MsbFirst}
@@ -480,58 +480,42 @@ next_on octets end from at turned aligned is next = record {
   word = next.word;
 }
 
-bit_before_is : (octets : List ℕ) (place : ℕ) → 0 < place → bit_before octets place ≡ bit_in MsbFirst octets (place - 1)
-bit_before_is octets zero some = absurd (omega arith)
-bit_before_is octets (suc place) some = let e : suc place - 1 ≡ place = omega arith in ap (bit_in MsbFirst octets) (sym e)
+-- of a word whose bits all are as the bit before it none differs from the one before
+alike_before : (octets : List ℕ) (at word k : ℕ) (bit : Bool) → IsWordAt MsbFirst octets (8 * at) word
+    → ((i : ℕ) → i < 64 → bit_of_word word i ≡ bit) → bit_before octets (8 * at) ≡ bit → k ≤ 64 → bit_before octets (8 * at + k) ≡ bit
+alike_before octets at word zero bit is all before h = let here : 8 * at + 0 ≡ 8 * at = omega arith in rw here before
+alike_before octets at word (suc k) bit is all before h =
+    let next : 8 * at + suc k ≡ suc (8 * at + k) = omega arith in
+    rw next (sym (is k (omega arith)) ∙ all k (omega arith))
 
-alike : (a b bit : Bool) → a ≡ bit → b ≡ bit → differ a b ≡ false
-alike true true bit p q = refl
-alike false false bit p q = refl
-alike true false bit p q = absurd (true≢false (p ∙ sym q))
-alike false true bit p q = absurd (true≢false (q ∙ sym p))
+alike_turns : (octets : List ℕ) (end at word k : ℕ) (bit : Bool) → IsWordAt MsbFirst octets (8 * at) word
+    → ((i : ℕ) → i < 64 → bit_of_word word i ≡ bit) → bit_before octets (8 * at) ≡ bit → k < 64
+    → bit_of_word 0 k ≡ turns_below octets end (8 * at + k)
+alike_turns octets end at word k bit is all before h =
+    let here : bit_in MsbFirst octets (8 * at + k) ≡ bit = sym (is k h) ∙ all k h in
+    bit_of_none k ∙ sym (rw (here, alike_before octets at word k bit is all before (omega arith)) (none (nat_lt (8 * at + k) end) bit))
+  where
+    none : (b bit : Bool) → (b && differ bit bit) ≡ false
+    none true true = refl
+    none true false = refl
+    none false bit = refl
 
-no_change : (octets : List ℕ) (from end place k : ℕ) (bit : Bool) → 0 < from → bit_in MsbFirst octets (8 * from - 1) ≡ bit
-    → IsFirstOther octets (8 * from) end bit place → 8 * from ≤ k → k < place → turns_at octets k ≡ false
-no_change octets from end place k bit some before first low h =
-    alike (bit_in MsbFirst octets k) (bit_before octets k) bit (first.before k low h)
-    (bit_before_is octets k (omega arith) ∙
-    elim (cases_lt (8 * from) k) [
-      | inl lt ↦ first.before (k - 1) (omega arith) (omega arith)
-      | inr le ↦ let e : k - 1 ≡ 8 * from - 1 = omega arith in ap (bit_in MsbFirst octets) e ∙ before
-    ])
+-- such a word is passed over
+pub alike_on : (octets : List ℕ) (end from word next turned : ℕ) (bit : Bool) → from % 8 ≡ 0 → IsWordAt MsbFirst octets (8 * from) word
+    → ((i : ℕ) → i < 64 → bit_of_word word i ≡ bit) → bit_before octets (8 * from) ≡ bit → NextTurns octets end (from + 8) next turned
+    → NextTurns octets end from next turned
+alike_on octets end from word next turned bit aligned is all before later =
+    next_on octets end from next turned aligned (λ k h. alike_turns octets end from word k bit is all before h) later
 
-no_change_below : (octets : List ℕ) (from end place k : ℕ) (bit : Bool) → 0 < from → bit_in MsbFirst octets (8 * from - 1) ≡ bit
-    → IsFirstOther octets (8 * from) end bit place → 8 * from ≤ k → k < place → turns_below octets end k ≡ false
-no_change_below octets from end place k bit some before first low h =
-    rw (lt-ltb k end (omega (arith, first.high))) (no_change octets from end place k bit some before first low h)
+pub alike_after : (octets : List ℕ) (at word : ℕ) (bit : Bool) → IsWordAt MsbFirst octets (8 * at) word
+    → ((i : ℕ) → i < 64 → bit_of_word word i ≡ bit) → bit_before octets (8 * at) ≡ bit → bit_before octets (8 * (at + 8)) ≡ bit
+alike_after octets at word bit is all before =
+    let next : 8 * (at + 8) ≡ 8 * at + 64 = omega arith in
+    rw next (alike_before octets at word 64 bit is all before (omega arith))
 
--- no change up to the end
-pub next_none : (octets : List ℕ) (from end place : ℕ) (bit : Bool) → 0 < from → 8 * from < end
-    → bit_in MsbFirst octets (8 * from - 1) ≡ bit → IsFirstOther octets (8 * from) end bit place → end ≤ place
-    → NextTurns octets end from ((end + 63) / 64 * 8) 0
-next_none octets from end place bit some below before first past = record {
-  low = omega arith;
-  high = omega arith;
-  aligned = omega arith;
-  none = λ k low h.
-      elim (cases_lt k place) [
-        | inl lt ↦ no_change_below octets from end place k bit some before first low lt
-        | inr le ↦ past_end octets end k (omega arith)
-      ];
-  word = λ k h. bit_of_none k ∙ sym (past_end octets end ((8 * ((end + 63) / 64 * 8)) + k) (omega arith));
-}
-
--- the word with the next change
-pub next_found : (octets : List ℕ) (from end place turned : ℕ) (bit : Bool) → 0 < from → from % 8 ≡ 0
-    → bit_in MsbFirst octets (8 * from - 1) ≡ bit → IsFirstOther octets (8 * from) end bit place → place < end → ((k : ℕ) → k < 64
-    → bit_of_word turned k ≡ turns_below octets end (8 * (place / 64 * 8) + k)) → NextTurns octets end from (place / 64 * 8) turned
-next_found octets from end place turned bit some aligned before first inside is = record {
-  low = omega (arith, first.low);
-  high = omega arith;
-  aligned = omega arith;
-  none = λ k low h. no_change_below octets from end place k bit some before first low (omega arith);
-  word = is;
-}
+-- a word of 1 bits
+pub bit_of_all : (k : ℕ) → k < 64 → bit_of_word (2 ^ 64 - 1) k ≡ true
+bit_of_all k h = ap (λ b. nat_eq b 1) (bit_at_ones 64 (63 - k) (omega arith))
 
 -- the bits of a word below the end
 pub below_end : (octets : List ℕ) (end at turned word k : ℕ) → ((j : ℕ) → j < 64 → bit_of_word turned j ≡ turns_at octets (8 * at + j))

@@ -7,19 +7,28 @@ ghost use Rattle.raster.specs.Words.{bit_of_word};
 ghost use Rattle.std.specs.Int.{bit_at};
 ghost use Rattle.std.specs.Prelude.{ℕ, false, ◌≡◌, ◌≤◌, ◌<◌, ◌+◌, ◌-◌, ◌*◌, ◌%◌, OnErr, OnOk, length, nat_eq, take};
 
-use crate::packed::{Order, bit_of};
-use crate::words::{first_in_word, first_other_after, octet_word};
+use crate::packed::Order;
+use crate::words::{first_in_word, octet_word, whole_word};
 use std::alloc::AllocError;
 
 /// The bit before an octet as a number; before the first octet it is 0.
 fn last_before(octets: &[u8], at: usize) -> u64
     requires { at ≤ length octets.now }
-    ensures { nat_eq (bit_at result 0) 1 ≡ bit_before octets.now (8 * at) }
+    ensures bit { nat_eq (bit_at result 0) 1 ≡ bit_before octets.now (8 * at) }
+    ensures small { result ≤ 1 }
 {
     if at == 0 {
         return 0;
     }
     (octets[at - 1] & 1) as u64
+}
+
+/// The word whose bits all are this one.
+#[inline(always)]
+fn word_alike(bit: bool) -> u64
+    ensures { (k : ℕ) → k < 64 → bit_of_word result k ≡ bit }
+{
+    if bit { u64::MAX } else { 0 }
 }
 
 /// Which of the 64 bits from an octet on differ from the one before.
@@ -56,26 +65,26 @@ fn word_turns(octets: &[u8], at: u32, end: u32) -> u64
     first_bits(turns(octets, at as usize), end - 8 * at)
 }
 
-/// The next word with a bit that differs from the one before, after words with none.
-#[inline(never)]
-fn later_turns(octets: &[u8], from: u32, end: u32) -> (u32, u64)
-    requires some { 0 < from }
+/// The octet after the whole words from an octet on whose bits all are as the bit before them.
+#[inline(always)]
+fn after_alike(octets: &[u8], from: u32, end: u32, bit: bool) -> u32
     requires aligned { from % 8 ≡ 0 }
     requires within { end ≤ 8 * length octets.now }
     requires small { end ≤ 2432 }
-    requires low { 8 * from ≤ end + 128 }
-    ensures { NextTurns octets.now end from result.0 result.1 }
+    requires low { 8 * from ≤ end + 64 }
+    requires before { bit_before octets.now (8 * from) ≡ bit }
+    ensures aligned { result % 8 ≡ 0 }
+    ensures low { 8 * result ≤ end + 64 }
+    ensures further { from ≤ result }
+    ensures goes_on { (at turned : ℕ) → NextTurns octets.now end result at turned → NextTurns octets.now end from at turned }
 {
-    if 8 * from >= end {
-        return (from, 0);
+    let alike = word_alike(bit);
+    let whole = end / 64 * 8;
+    let mut at = from;
+    while at < whole && whole_word(octets, at as usize) == alike {
+        at += 8;
     }
-    let bit = bit_of(Order::MsbFirst, octets, 8 * from as u128 - 1);
-    let place = first_other_after(octets, from, end, bit);
-    if place >= end {
-        return (end.div_ceil(64) * 8, 0);
-    }
-    let at = place / 64 * 8;
-    (at, word_turns(octets, at, end))
+    at
 }
 
 /// The octet of the first word, of those that begin with each eighth octet from one on, with a bit
@@ -88,14 +97,23 @@ fn next_turns(octets: &[u8], from: u32, end: u32) -> (u32, u64)
     requires low { 8 * from ≤ end + 64 }
     ensures { NextTurns octets.now end from result.0 result.1 }
 {
-    if 8 * from >= end {
-        return (from, 0);
+    let mut at = from;
+    while 8 * at < end {
+        let turned = word_turns(octets, at, end);
+        if turned != 0 {
+            return (at, turned);
+        }
+        at += 8;
+        if 8 * at < end {
+            let last = last_before(octets, at as usize);
+            at = if last == 0 {
+                after_alike(octets, at, end, false)
+            } else {
+                after_alike(octets, at, end, true)
+            };
+        }
     }
-    let turned = word_turns(octets, from, end);
-    if turned != 0 {
-        return (from, turned);
-    }
-    later_turns(octets, from + 8, end)
+    (at, 0)
 }
 
 /// Room for 64 places after the first ones.

@@ -12,7 +12,7 @@ ghost use Rattle.std.specs.Prelude.{if◌then◌else◌, replicate, sum, slice_g
 
 use crate::changes::changes;
 use crate::painting::{paint, paint_turns};
-use crate::words::{bit_of_all, first_other, in_order, moved_word, shifted_word};
+use crate::words::{bit_of_all, first_other, in_order, moved_word, octets_of, shifted_word};
 use std::alloc::{AllocError, Global};
 use std::marker::Model;
 
@@ -62,7 +62,7 @@ pub fn word_at(order: Order, octets: &[u8], place: u128) -> u64
 pub fn word_octets(order: Order, word: u64) -> [u8; 8]
     ensures { (k : ℕ) → k < 64 → bit_in order result k ≡ bit_of_word word k }
 {
-    in_order(order, word).to_be_bytes()
+    octets_of(in_order(order, word))
 }
 
 /// The bits of eight octets from a bit within the first of them on, the first of them the most

@@ -114,7 +114,7 @@ impl Row {
 
     /// The row of a width, in pixels, whose changing positions are these, in rising order (ITU-T T.6,
     /// 2.2.1). Errs where memory is refused.
-    #[inline(never)]
+    #[inline(always)]
     #[tactic(auto, using(crate::proofs::RowLemmas::lengths))]
     pub fn from_changes(alloc: Global, places: &[u32], width: u32) -> Result<Row, AllocError>
         requires width { IsWidth width }

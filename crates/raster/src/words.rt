@@ -2,7 +2,7 @@
 
 ghost use Rattle.raster.specs.Packed.{bit_in, place_in, AreAlike};
 ghost use Rattle.raster.specs.Words.{bit_of_word, turned_octet, IsWordAt, IsFirstInWord, IsFirstOther, AreOred};
-ghost use Rattle.std.specs.Int.{bit_at};
+ghost use Rattle.std.specs.Int.{bit_at, to_be_bytes, w64};
 ghost use Rattle.std.specs.Prelude.{ℕ, true, false, ◌≡◌, ◌≤◌, ◌<◌, ◌+◌, ◌-◌, ◌*◌, ◌/◌, ◌%◌, length, nat_eq, slice_index, IfErr, IfOk, IfSome, IsTrue};
 
 use crate::blocks::block_change;
@@ -21,7 +21,7 @@ fn first_highest(order: Order, octet: u8) -> u8
 }
 
 /// The 64 bits of eight octets, the most significant bit of each first.
-fn whole_word(octets: &[u8], at: usize) -> u64
+pub(crate) fn whole_word(octets: &[u8], at: usize) -> u64
     requires { at + 8 ≤ length octets.now }
     ensures { IsWordAt Order.MsbFirst octets.now (8 * at) result }
 {
@@ -156,6 +156,14 @@ pub(crate) fn put_octets(octets: &mut [u8], at: usize, eight: [u8; 8])
     octets[at..at + 8].copy_from_slice(&eight);
 }
 
+/// The octets of a word, the most significant first.
+#[inline(always)]
+pub(crate) fn octets_of(word: u64) -> [u8; 8]
+    ensures { result ≡ to_be_bytes w64 word }
+{
+    word.swap_bytes().to_le_bytes()
+}
+
 /// Ors the bits of a word to those of eight octets from one of them on.
 #[inline(always)]
 pub(crate) fn or_word(order: Order, octets: &mut Vec<u8>, at: usize, word: u64)
@@ -163,7 +171,7 @@ pub(crate) fn or_word(order: Order, octets: &mut Vec<u8>, at: usize, word: u64)
     ensures { AreOred order octets.old.items word octets.new.items at }
 {
     let both = whole_word(octets, at) | in_order(order, word);
-    put_octets(octets, at, both.to_be_bytes());
+    put_octets(octets, at, octets_of(both));
 }
 
 /// The word whose bits from a place on are so many 1 bits, and else 0.

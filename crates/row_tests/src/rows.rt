@@ -3,7 +3,7 @@
 use raster::packed::Order;
 use raster::{Color, RasterFault, Row, block_change};
 use run_tables::BitWriter;
-use std::alloc::Global;
+use std::alloc::{AllocError, Global};
 use std::test::Fail;
 
 fn own_runs(alloc: Global, runs: &[u32]) -> Result<Vec<u32>, RasterFault> {

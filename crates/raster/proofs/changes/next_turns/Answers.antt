@@ -1,9 +1,41 @@
-use Rattle.std.proofs.Common.{arith, ◌≡◌}
-use Rattle.raster.proofs.ChangeLemmas.{next_on}
+use Rattle.std.proofs.Common.{◌≡◌, arith}
+use Rattle.raster.proofs.ChangeLemmas.{next_here, next_on, next_past}
 use Rattle.raster.proofs.changes.next_turns.Goals as goal
 
+pub returns-then-turned-ne0 : goal.returns-then-turned-ne0
+returns-then-turned-ne0 c = c.loop-at.invariant.goes_on c.loop-at.at c.word_turns-turned.result (next_here c.args.octets.now c.args.end
+    c.loop-at.at c.word_turns-turned.result c.loop-at.invariant.aligned c.loop-at-test.true c.word_turns-turned.ensures)
+
+pub loop-at-preserved-then-last-eq0 : goal.loop-at-preserved-then-last-eq0
+loop-at-preserved-then-last-eq0 c =
+    let none : c.word_turns-turned.result ≡ 0 = omega (arith, c.if-turned-ne0.false) in
+    record {
+      aligned = c.after_alike-at.ensures.aligned;
+      high = c.after_alike-at.ensures.low;
+      goes_on = λ next turned later. c.loop-at.invariant.goes_on next turned (next_on c.args.octets.now c.args.end c.loop-at.at next turned
+          c.loop-at.invariant.aligned (rw none at c.word_turns-turned.ensures) (c.after_alike-at.ensures.goes_on next turned later));
+    }
+
+pub loop-at-preserved-else-last-eq0 : goal.loop-at-preserved-else-last-eq0
+loop-at-preserved-else-last-eq0 c =
+    let none : c.word_turns-turned.result ≡ 0 = omega (arith, c.if-turned-ne0.false) in
+    record {
+      aligned = c.after_alike-at-else-last-eq0.ensures.aligned;
+      high = c.after_alike-at-else-last-eq0.ensures.low;
+      goes_on = λ next turned later. c.loop-at.invariant.goes_on next turned (next_on c.args.octets.now c.args.end c.loop-at.at next turned
+          c.loop-at.invariant.aligned (rw none at c.word_turns-turned.ensures) (c.after_alike-at-else-last-eq0.ensures.goes_on next turned later));
+    }
+
+pub loop-at-preserved : goal.loop-at-preserved
+loop-at-preserved c =
+    let none : c.word_turns-turned.result ≡ 0 = omega (arith, c.if-turned-ne0.false) in
+    record {
+      aligned = omega (arith, c.loop-at.invariant.aligned);
+      high = omega (arith, c.loop-at-test.true);
+      goes_on = λ next turned later. c.loop-at.invariant.goes_on next turned (next_on c.args.octets.now c.args.end c.loop-at.at next turned
+          c.loop-at.invariant.aligned (rw none at c.word_turns-turned.ensures) later);
+    }
+
 pub returns : goal.returns
-returns c =
-    let none : c.word_turns-turned.result ≡ 0 = omega arith in
-    next_on c.args.octets.now c.args.end c.args.from c.later_turns.result.0 c.later_turns.result.1 c.requires.aligned
-    (rw none at c.word_turns-turned.ensures) c.later_turns.ensures
+returns c = c.loop-at.invariant.goes_on c.loop-at.at 0 (next_past c.args.octets.now c.args.end c.loop-at.at c.loop-at.invariant.aligned
+    c.loop-at-test.false (omega (arith, c.loop-at.invariant.high)))

@@ -4,4 +4,4 @@ use Rattle.raster.proofs.changes.turns.Goals as goal
 
 pub returns : goal.returns
 returns c k h = turns_word c.args.octets.now c.args.at c.octet_word-word.result c.last_before-last.result k (search rules)
-    c.octet_word-word.ensures c.last_before-last.ensures h
+    c.octet_word-word.ensures c.last_before-last.ensures.bit h

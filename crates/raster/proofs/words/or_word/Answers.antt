@@ -10,7 +10,7 @@ returns c =
     c.in_order.result = record {
       held = rw c.deref.ensures.value at c.whole_word.ensures;
       more = c.in_order.ensures;
-      put = λ j h. c.put_octets.ensures.inside j h ∙ ap (λ (xs : List ℕ). get_or xs j 0) c.to_be_bytes.ensures;
+      put = λ j h. c.put_octets.ensures.inside j h ∙ ap (λ (xs : List ℕ). get_or xs j 0) c.octets_of.ensures;
     } in
     rw (take_at c.put_octets.new.octets (drop (length c.put_octets.new.octets) c.args.octets.now.items) c.args.octets.now.len long)
     (record {
