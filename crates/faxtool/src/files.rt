@@ -135,11 +135,7 @@ pub fn print(rt: &HostRuntime) -> Result<BufWriter<Printed<'_>>, ToolFault>
     ensures { IfErr result IsOutside }
 {
     let printed = Printed { rt, failed: None };
-    Ok(BufWriter::with_capacity(
-        rt.alloc(),
-        PRINTED_AT_ONCE,
-        printed,
-    )?)
+    Ok(BufWriter::with_capacity(rt.alloc(), PRINTED_AT_ONCE, printed)?)
 }
 
 /// Ends what was printed: the rest is written where all of it was done, and why it failed is noted. Errs with 8 where

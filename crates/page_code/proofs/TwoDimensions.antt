@@ -9,9 +9,13 @@ pub mod Laws
 pub mod Prescribed
 pub mod Reading
 pub mod ChangeLists
+pub mod Lines
 pub mod WritesMode
 pub mod RowReading
 pub mod StepsOn
+pub mod FrontSteps
+pub mod QuickModes
+pub mod BothLines
 pub mod ModeTable
 pub mod RowsOn
 pub mod ReadsItsCode

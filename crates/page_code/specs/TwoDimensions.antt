@@ -10,3 +10,4 @@ pub mod KindLaws
 pub mod Changes
 pub mod Writing
 pub mod Reading
+pub mod Lines

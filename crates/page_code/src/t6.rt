@@ -7,7 +7,8 @@ ghost use Rattle.raster.specs.Pixels.{IsWidth};
 
 mod a0;
 mod changes;
-mod line;
+mod front;
+mod lines;
 pub(crate) mod mode;
 mod mode_table;
 pub(crate) mod read;

@@ -17,7 +17,7 @@ use Rattle.page_code.specs.TwoDimensions.Positions.{IsFirstTo}
 use Rattle.page_code.proofs.TwoDimensions.WritesMode.{first_to_next}
 
 -- in a list in rising order, what is after another index isn't less
-not_less : (row : List Color) (places : List ℕ) (i j : ℕ) → AreChanges row places → i ≤ j → j < length places
+pub not_less : (row : List Color) (places : List ℕ) (i j : ℕ) → AreChanges row places → i ≤ j → j < length places
     → slice_index_or places i 0 ≤ slice_index_or places j 0
 not_less row places i j all up h = elim (cases_lt i j) [
   | inl l ↦ omega (arith, all.rising i j l h)
@@ -151,7 +151,7 @@ first_to_at row places color from at index place all first (inr other_one) is =
     ]
 
 -- an index of an even number is that of a black one
-turned_even : (index : ℕ) → index % 2 ≡ 0 → turned index ≡ Black
+pub turned_even : (index : ℕ) → index % 2 ≡ 0 → turned index ≡ Black
 turned_even zero e = refl
 turned_even (suc zero) e = absurd (omega arith)
 turned_even (suc (suc index)) e = twice (turned index) ∙ turned_even index (omega arith)
@@ -160,7 +160,7 @@ turned_even (suc (suc index)) e = twice (turned index) ∙ turned_even index (om
     twice White = refl
     twice Black = refl
 
-turned_odd : (index : ℕ) → index % 2 ≢ 0 → turned index ≡ White
+pub turned_odd : (index : ℕ) → index % 2 ≢ 0 → turned index ≡ White
 turned_odd zero ne = absurd (ne refl)
 turned_odd (suc zero) ne = refl
 turned_odd (suc (suc index)) ne = twice (turned index) ∙ turned_odd index (λ e. ne (omega arith))
@@ -225,7 +225,7 @@ pub count_held : (row : List Color) (held : List ℕ) (is : AreHeld row held) �
 count_held row held is = ap length is.ends ∙ length-append is.places (length row ∷ length row ∷ length row ∷ [])
 
 -- what is held at an index
-at_held : (row : List Color) (held : List ℕ) (is : AreHeld row held) (index d : ℕ) → index < length held
+pub at_held : (row : List Color) (held : List ℕ) (is : AreHeld row held) (index d : ℕ) → index < length held
     → slice_index_or held index d ≡ slice_index_or is.places index (length row)
 at_held row held is index d h = ap (λ (l : List ℕ). slice_index_or l index d) is.ends ∙
     held_at is.places (length row) index d (omega (arith, h, count_held row held is))

@@ -57,9 +57,9 @@ pub digits_count : (code : ModeCode) (digits : List ℕ) → text digits ≡ mod
 digits_count code digits is = sym (length-map digits (λ (digit : ℕ). nat_eq digit 49)) ∙ ap length is
 
 -- the entry of the first 7 bits
-mode_seen : (x : List Bool) (word : ℕ) (o : Option ModeCode) → AreFirst 57 x word
+mode_seen : (x : List Bool) (word : ℕ) (o : Option ModeCode) → AreFirst 7 x word
     → o ≡ pick mode_word mode_codes (number_text 7 (word / 2 ^ 57)) → o ≡ pick mode_word mode_codes (first_bits 7 x)
-mode_seen x word o first e = e ∙ ap (pick mode_word mode_codes) (front_first 7 57 57 x word refl (omega arith) first)
+mode_seen x word o first e = e ∙ ap (pick mode_word mode_codes) (front_first 7 57 7 x word refl (omega arith) first)
 
 -- a mode code that begins the bits is the one that is found
 mode_begun : (x : List Bool) (code : ModeCode) → begins (mode_word code) x ≡ true → pick mode_word mode_codes (first_bits 7 x) ≡ Some code
@@ -67,7 +67,7 @@ mode_begun x code e = pick_begun mode_word mode_codes code (first_bits 7 x) mode
     (begins_filled (mode_word code) x 7 (mode_some code).1 e)
 
 -- where none is found none begins the bits
-pub none_seen : (x : List Bool) (word : ℕ) (o : Option ModeCode) → AreFirst 57 x word
+pub none_seen : (x : List Bool) (word : ℕ) (o : Option ModeCode) → AreFirst 7 x word
     → o ≡ pick mode_word mode_codes (number_text 7 (word / 2 ^ 57)) → o ≡ None → (code : ModeCode) → begins (mode_word code) x ≡ false
 none_seen x word o first e none code = elim (cases_Bool (begins (mode_word code) x)) [
   | inl t ↦
@@ -77,7 +77,7 @@ none_seen x word o first e none code = elim (cases_Bool (begins (mode_word code)
 ]
 
 -- where the bits end inside the one that is found none begins them
-pub cut_seen : (x : List Bool) (word : ℕ) (o : Option ModeCode) (found : ModeCode) → AreFirst 57 x word
+pub cut_seen : (x : List Bool) (word : ℕ) (o : Option ModeCode) (found : ModeCode) → AreFirst 7 x word
     → o ≡ pick mode_word mode_codes (number_text 7 (word / 2 ^ 57)) → o ≡ Some found → length x < length (mode_word found)
     → (code : ModeCode) → begins (mode_word code) x ≡ false
 cut_seen x word o found first e is short code = elim (cases_Bool (begins (mode_word code) x)) [
@@ -89,7 +89,7 @@ cut_seen x word o found first e is short code = elim (cases_Bool (begins (mode_w
 ]
 
 -- the one that is found begins the bits, where it isn't longer
-pub found_seen : (x : List Bool) (word : ℕ) (o : Option ModeCode) (found : ModeCode) → AreFirst 57 x word
+pub found_seen : (x : List Bool) (word : ℕ) (o : Option ModeCode) (found : ModeCode) → AreFirst 7 x word
     → o ≡ pick mode_word mode_codes (number_text 7 (word / 2 ^ 57)) → o ≡ Some found → length (mode_word found) ≤ length x
     → begins (mode_word found) x ≡ true
 found_seen x word o found first e is fits =

@@ -1,9 +1,9 @@
 -- Reading a T.6 page row by row: which items lead over a row, where they end, and the whole rows before that.
-use Rattle.std.proofs.Common.{ltb, ℕ, suc, ◌≡◌, ◌+◌, ◌-◌, ◌*◌, ◌<◌, ◌≤◌, Bool, true, false, List, [], ◌∷◌, ◌++◌, length, drop, replicate}
+use Rattle.std.proofs.Common.{ltb, ℕ, suc, ◌≡◌, ◌+◌, ◌-◌, ◌*◌, ◌<◌, ◌≤◌, Bool, true, false, List, [], ◌∷◌, ◌++◌, length, drop}
 use Rattle.std.proofs.Common.{Some, None, inl, inr, refl, ap, sym, ◌∙◌, subst, arith, cond, nat_eq, length-append}
 use Rattle.std.specs.Prelude.{Option, Result, Ok, Err, All}
 use Rattle.std.proofs.lemmas.Bool.{lt-ltb}
-use Rattle.std.proofs.lemmas.List.{length_push, append-nil, append_cancel_left, append_cancel_right, length-replicate}
+use Rattle.std.proofs.lemmas.List.{length_push, append_cancel_left, append_cancel_right, length-replicate}
 use Rattle.std.proofs.lemmas.List.Elements.{All-head, All-tail}
 use Rattle.raster.specs.declared.row.Color.{Color}
 use Rattle.raster.specs.declared.packed.Order.{Order}
@@ -11,7 +11,6 @@ use Rattle.raster.specs.declared.row.Color.TheVariants.{White}
 use Rattle.raster.specs.Packed.{bits_of}
 use Rattle.raster.specs.Pages.{IsPage}
 use Rattle.raster.specs.Pixels.{IsWidth, other}
-use Rattle.raster.specs.Runs.{colored}
 use Rattle.raster.proofs.PackedLemmas.{length-bits_in}
 use Rattle.run_tables.specs.Reading.{Reading, rest_of}
 use Rattle.run_tables.specs.declared.fault.CodeFault.{CodeFault}
@@ -422,9 +421,6 @@ even : (width : ℕ) (white : List Color) (rows : List (List Color)) → length 
 even width white [] is all = is
 even width white (row ∷ rows) is all = even width row rows (All-head (λ r. length r ≡ width) row rows all) (All-tail (λ r. length r ≡
     width) row rows all)
-
-pub white_row : (width : ℕ) → colored White (width ∷ []) ≡ white_line width
-white_row width = append-nil (replicate width White)
 
 pub read_within : (width : ℕ) (order : Order) (octets : List ℕ) (rows : List (List Color)) (place : ℕ)
     → IsReadTo T6 width (bits_of order octets) rows place → place ≤ 8 * length octets

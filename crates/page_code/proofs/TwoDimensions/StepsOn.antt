@@ -36,7 +36,7 @@ use Rattle.page_code.specs.TwoDimensions.Fronts.{run_color, run_ended, after_run
 use Rattle.page_code.specs.TwoDimensions.Fronts.PageItem.{run_item}
 use Rattle.page_code.specs.TwoDimensions.Fronts.PageState.{inside, running}
 use Rattle.page_code.specs.TwoDimensions.Reading.{row_reading, ReadsMode, HasRoom, ReadsRun, LeadsOn, MovesTo, ReadsHorizontal, StepsOn}
-use Rattle.page_code.specs.TwoDimensions.Reading.{FindsA1, LeadsQuickly, RunsQuickly, StepsQuickly, missing_mode}
+use Rattle.page_code.specs.TwoDimensions.Reading.{FindsA1, missing_mode}
 use Rattle.page_code.specs.TwoDimensions.Writing.{reference_at}
 use Rattle.page_code.proofs.TwoDimensions.Positions.{b1_is, b2_is}
 use Rattle.page_code.proofs.TwoDimensions.Prescribed.{other_twice}
@@ -419,20 +419,11 @@ module _ (reference : List Color) (line : CodingLine) (short : length line.pixel
 
 -- Horizontal mode
 
-pub horizontal_read : (width place : ℕ) (line mid next : CodingLine) (old between_runs new : Reading) (color : Color) (a0a1 a1a2 : ℕ)
+pub horizontal_read : (width place : ℕ) (line next : CodingLine) (old between_runs new : Reading) (color : Color) (a0a1 a1a2 : ℕ)
     → place ≡ length line.pixels → place ≤ width → color ≡ other line.color
     → ReadsRun line.color (width - place) old between_runs (Ok a0a1) → ReadsRun color (width - place - a0a1) between_runs new (Ok a1a2)
-    → 0 < a0a1 + a1a2 → mid ≡ record { pixels = line.pixels ++ replicate a0a1 line.color; begun = true; color = other line.color }
-    → next ≡ record { pixels = mid.pixels ++ replicate a1a2 mid.color; begun = true; color = other mid.color }
-    → ReadsHorizontal width old new line next (Ok tt)
-horizontal_read width place line mid next old between_runs new color a0a1 a1a2 place_is within color_is one two some is_mid is_next =
-    let turned : next ≡ runs_added line a0a1 a1a2 = is_next ∙
-    (ap (λ (m : CodingLine). record { pixels = m.pixels ++ replicate a1a2 m.color; begun = true; color = other m.color }) is_mid ∙
-    ap (λ (c : Color). record {
-      pixels = line.pixels ++ replicate a0a1 line.color ++ replicate a1a2 (other line.color);
-      begun = true;
-      color = c;
-    }) (other_twice line.color)) in
+    → 0 < a0a1 + a1a2 → next ≡ runs_added line a0a1 a1a2 → ReadsHorizontal width old new line next (Ok tt)
+horizontal_read width place line next old between_runs new color a0a1 a1a2 place_is within color_is one two some turned =
     subst (λ (n : CodingLine). ReadsHorizontal width old new line n (Ok tt)) (sym turned) (
       two.1 ∙ one.1,
       omega (arith, one.2, two.2),
@@ -583,16 +574,6 @@ horizontal_steps reference old mid new line next (Err fault) within reads (inr r
 
 -- Modes that are read quickly
 
-pub leads_done : (reference : List Color) (line next : CodingLine) (code : ModeCode) (done : Bool) → done ≡ true
-    → LeadsQuickly reference line next code done → LeadsOn reference line next code
-leads_done reference line next code true e leads = leads
-leads_done reference line next code false e leads = cc
-
-pub quick_stays : (reference : List Color) (old new : Reading) (line next : CodingLine) (done : Bool) → done ≡ false
-    → StepsQuickly reference old new line next done → (new ≡ old) × (next ≡ line)
-quick_stays reference old new line next false e steps = steps
-quick_stays reference old new line next true e steps = cc
-
 -- the mode code that was found is gone over
 pub quick_steps : (reference : List Color) (old mid : Reading) (line next : CodingLine) (code : ModeCode) (count : ℕ)
     → begins (mode_word code) (rest_of old) ≡ true → count ≡ length (mode_word code) → old.place + count ≤ length old.bits
@@ -602,15 +583,6 @@ quick_steps reference old mid line next code count begun is within on leads = mo
   arith,
   within,
 )) (begun, on ∙ ap (λ (n : ℕ). record { bits = old.bits; place = old.place + n }) is) leads
-
-pub quick_runs : (reference : List Color) (old mid new : Reading) (line next : CodingLine) (code : ModeCode) (count : ℕ) (done : Bool)
-    → code ≡ Horizontal → begins (mode_word code) (rest_of old) ≡ true → count ≡ length (mode_word code)
-    → old.place + count ≤ length old.bits → mid ≡ record { bits = old.bits; place = old.place + count } → done ≡ true
-    → RunsQuickly (length reference) mid new line next done → StepsOn reference old new line next (Ok tt)
-quick_runs reference old mid new line next code count true is_code begun is within on e runs =
-    let reads : ReadsMode old mid (Ok code) = (begun, on ∙ ap (λ (n : ℕ). record { bits = old.bits; place = old.place + n }) is) in
-    horizontal_steps reference old mid new line next (Ok tt) (omega (arith, within)) (rw is_code at reads) runs
-quick_runs reference old mid new line next code count false is_code begun is within on e runs = cc
 
 -- Rows
 

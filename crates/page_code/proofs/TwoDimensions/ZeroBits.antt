@@ -1,12 +1,14 @@
 -- Only 0 bits, as a number of 64 bits.
-use Rattle.std.proofs.Common.{ℕ, zero, suc, ◌≡◌, ◌≢◌, ◌-◌, ◌^◌, ◌/◌, ◌+◌, ◌<◌, Bool, true, false, List, [], ◌∷◌, nat_eq, refl, sym, ◌∙◌, arith}
+use Rattle.std.proofs.Common.{ℕ, zero, suc, ◌≡◌, ◌≢◌, ◌-◌, ◌^◌, ◌/◌, ◌+◌, ◌<◌, Bool, true, false, List, [], ◌∷◌, length, ◌≤◌, nat_eq, refl, sym, ◌∙◌, arith}
 use Rattle.std.specs.Prelude.{slice_index_or}
 use Rattle.std.specs.Int.{bit_at}
 use Rattle.std.proofs.lemmas.Bool.{false≢true}
 use Rattle.std.proofs.lemmas.Nat.Bits.{bit_at-lt, bit_at-zero, same_from_bits_below}
 use Rattle.raster.proofs.WordLemmas.{bit_at_shr}
-use Rattle.run_tables.specs.Numbers.{AreFirst}
-use Rattle.run_tables.specs.Texts.{all_zero}
+use Rattle.run_tables.specs.Numbers.{AreFirst, number_text}
+use Rattle.run_tables.specs.Texts.{all_zero, begins}
+use Rattle.run_tables.proofs.NumberLemmas.{begins_within, text_begins}
+use Rattle.page_code.specs.TwoDimensions.Modes.{eofb}
 
 -- of only 0 bits, each is a 0 bit
 zero_at : (x : List Bool) (k : ℕ) → all_zero x ≡ true → slice_index_or x k false ≡ false
@@ -33,3 +35,19 @@ some_one x word small first some = seen (all_zero x) refl
     seen : (b : Bool) → all_zero x ≡ b → all_zero x ≡ false
     seen true e = absurd (some (same_from_bits_below 57 (word / 2 ^ 7) 0 (omega (arith, small)) (omega arith) (none e)))
     seen false e = e
+
+-- bits of which a number has the first 57, the first eleven not all 0, begin with no EOFB, have a 1 and are no part of EOFB
+pub row_begun : (x : List Bool) (word : ℕ) → word < 2 ^ 64 → AreFirst 57 x word → 57 ≤ length x → word / 2 ^ 53 ≢ 0
+    → (begins eofb x ≡ false) × (all_zero x ≡ false) × (begins x eofb ≡ false)
+unfolding number_text
+row_begun x word small first long some = (
+  not_true (begins eofb x) (λ e.
+      let both = text_begins 24 40 57 x word 4097 refl (omega arith) small (omega arith) first e in
+      some (omega (arith, both.1))),
+  some_one x word small first (λ none. some (omega (arith, none))),
+  not_true (begins x eofb) (λ e. omega (arith, long, begins_within x eofb e)),
+)
+  where
+    not_true : (b : Bool) → (b ≡ true → ⊥) → b ≡ false
+    not_true true h = absurd (h refl)
+    not_true false h = refl

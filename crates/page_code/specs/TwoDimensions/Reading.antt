@@ -123,20 +123,18 @@ StepsOn reference old new line next (Err fault) =
     (fault.kind ≡ NoMemory) ⊎ ((page : PageSoFar) → page.reference ≡ reference
     → row_reading (length reference) (inside page line) old.place (rest_of old) ≡ Err (fault.place, fault.kind))
 
+-- modes were read, or none: reading the page from before them is reading on after them
+abbrev pub StepsAlong : List Color → Reading → Reading → CodingLine → CodingLine → Type 0
+StepsAlong reference old new line next =
+    (new.bits ≡ old.bits) × (old.place ≤ new.place) × (new.place ≤ length new.bits) × (length next.pixels ≤ length reference) ×
+    ((page : PageSoFar) → page.reference ≡ reference
+    → row_reading (length reference) (mode_ended (length reference) page line) old.place (rest_of old) ≡ row_reading (length reference)
+    (mode_ended (length reference) page next) new.place (rest_of new))
+
 -- one mode was read, or it wasn't, and nothing changed
 abbrev pub StepsQuickly : List Color → Reading → Reading → CodingLine → CodingLine → Bool → Type 0
 StepsQuickly reference old new line next true = StepsOn reference old new line next (Ok tt)
 StepsQuickly reference old new line next false = (new ≡ old) × (next ≡ line)
-
--- the mode code leads on, or it wasn't tried, and nothing changed
-abbrev pub LeadsQuickly : List Color → CodingLine → CodingLine → ModeCode → Bool → Type 0
-LeadsQuickly reference line next code true = LeadsOn reference line next code
-LeadsQuickly reference line next code false = next ≡ line
-
--- the two runs of horizontal mode were read, or not both, and the line is as it was
-abbrev pub RunsQuickly : ℕ → Reading → Reading → CodingLine → CodingLine → Bool → Type 0
-RunsQuickly width old new line next true = ReadsHorizontal width old new line next (Ok tt)
-RunsQuickly width old new line next false = next ≡ line
 
 -- one row was read, or it is refused, or memory is
 abbrev pub ReadsRow : List Color → Reading → Reading → Result (List Color) CodeFault → Type 0

@@ -10,25 +10,14 @@ use raster::{Color, Row};
 use std::alloc::{AllocError, Global};
 use std::marker::Model;
 
-/// The places of a row's changing elements, from left to right (ITU-T T.6, 2.2.1), in the memory of a
-/// list: a white row, which has none, takes no other.
-fn listed(alloc: Global, row: &Row, mut places: Vec<u32>) -> Result<Vec<u32>, AllocError>
-    ensures { IfOk result (λ places. AreChanges row.now places.items) }
-{
-    places.clear();
-    if row.next_change(0) >= row.width() {
-        return Ok(places);
-    }
-    row.changes(alloc, &mut places)?;
-    Ok(places)
-}
-
 /// The places of a row's changing elements, and then its width three times, so that no search passes
 /// the list's end; in the memory of a list.
-fn changes_of(alloc: Global, row: &Row, places: Vec<u32>) -> Result<Vec<u32>, AllocError>
+fn changes_of(alloc: Global, row: &Row, list: Vec<u32>) -> Result<Vec<u32>, AllocError>
     ensures { IfOk result (λ held. AreHeld row.now held.items) }
 {
-    let mut held = listed(alloc, row, places)?;
+    let mut held = list;
+    held.clear();
+    row.changes(alloc, &mut held)?;
     let width = row.width();
     held.push(width)?;
     held.push(width)?;
@@ -130,19 +119,6 @@ impl<'a> Changes<'a> {
     {
         let places = changes_of(alloc, row, Vec::new(alloc))?;
         Ok(Changes { row, places, at: 0 })
-    }
-
-    /// The changing elements of a row, in the memory of a list.
-    pub(crate) fn of_list(alloc: Global, row: &'a Row, list: Vec<u32>) -> Result<Self, AllocError>
-        ensures { IfOk result (λ changes. changes ≡ row.now) }
-    {
-        let places = changes_of(alloc, row, list)?;
-        Ok(Changes { row, places, at: 0 })
-    }
-
-    /// The list, for its memory.
-    pub(crate) fn into_list(self) -> Vec<u32> {
-        self.places
     }
 
     /// The changing elements of another row, in the same memory.

@@ -2,24 +2,29 @@
 
 ghost use Rattle.page_code.specs.RowsSoFar.{IsReadTo, ReadsOn};
 ghost use Rattle.page_code.specs.TwoDimensions.Fronts.{mode_word, mode_codes};
+ghost use Rattle.page_code.specs.TwoDimensions.Changes.{AreHeld};
+ghost use Rattle.page_code.specs.TwoDimensions.Lines.{FitsLists, StepsBy, line_of};
 ghost use Rattle.page_code.specs.TwoDimensions.Modes.{eofb};
-ghost use Rattle.page_code.specs.TwoDimensions.Reading.{FindsA1, FindsMode, LeadsOn, LeadsQuickly, MovesTo, ReadsHorizontal};
-ghost use Rattle.page_code.specs.TwoDimensions.Reading.{ReadsRow, RunsQuickly, SeesStart, StepsOn, StepsQuickly, missing_mode};
+ghost use Rattle.page_code.specs.TwoDimensions.Positions.{white_line};
+ghost use Rattle.page_code.specs.TwoDimensions.Reading.{FindsMode, ReadsHorizontal, ReadsRow, SeesStart, StepsAlong, StepsOn, StepsQuickly};
+ghost use Rattle.page_code.specs.TwoDimensions.Reading.{missing_mode};
 ghost use Rattle.page_code.specs.TwoDimensions.Writing.{reference_at};
 ghost use Rattle.raster.specs.Packed.{bits_of};
-ghost use Rattle.raster.specs.Pixels.{IsWidth, max_width};
+ghost use Rattle.raster.specs.Pixels.{IsWidth};
+ghost use Rattle.raster.specs.declared.row.Color.{Color};
 ghost use Rattle.run_tables.specs.Reading.{rest_of};
 ghost use Rattle.run_tables.specs.Texts.{all_zero, begins, is_cut};
-ghost use Rattle.std.specs.Prelude.{◌≡◌, ◌≤◌, ◌<◌, ◌+◌, [], IfOk, IfSome, OnOk, length, true};
+ghost use Rattle.std.specs.Bool.{OnFalse, OnTrue};
+ghost use Rattle.std.specs.Prelude.{◌≡◌, ◌≤◌, ◌<◌, ◌+◌, [], List, IfNone, IfOk, IfSome, false, length, true};
 
 use crate::coding::Coding;
 use crate::page::{Progress, push_row, row_of};
-use crate::t6::changes::Changes;
-use crate::t6::line::Line;
+use crate::t6::front::{Front, to_a1, under_b1, under_b2};
+use crate::t6::lines::Lines;
 use crate::t6::mode::{EOFB, EOFB_NUMBER, ModeCode, Shift};
 use crate::t6::mode_table::mode_of;
 use raster::packed::Order;
-use raster::{MAX_ROWS, Row};
+use raster::{MAX_ROWS, Page, Row};
 use run_tables::{BitReader, CodeFault, CodeFaultKind};
 use std::alloc::{AllocError, Global};
 
@@ -70,10 +75,33 @@ fn only_zeros(reader: &BitReader) -> bool
     true
 }
 
+/// Whether 57 bits or more are left, and the first eleven of them aren't all 0 bits: then a row begins here,
+/// and no EOFB nor a part of it.
+#[inline(always)]
+fn begins_row(reader: &BitReader) -> bool
+    ensures eofb { OnTrue result (begins eofb (rest_of reader.now) ≡ false) }
+    ensures zeros { OnTrue result (all_zero (rest_of reader.now) ≡ false) }
+    ensures cut { OnTrue result (begins (rest_of reader.now) eofb ≡ false) }
+{
+    let enough = reader.has_57();
+    if !enough {
+        return false;
+    }
+    let first = reader.peek_57() >> 53;
+    if first == 0 {
+        return false;
+    }
+    true
+}
+
 /// What is found where a row may begin, after so many rows.
 fn start_at(reader: &BitReader, rows: usize) -> Start
     ensures { SeesStart (rest_of reader.now) rows result }
 {
+    let row = begins_row(reader);
+    if row && rows < MAX_ROWS {
+        return Start::Row;
+    }
     if is_at_eofb(reader) {
         if rows == 0 {
             return Start::Refused(CodeFaultKind::NoRows);
@@ -136,240 +164,191 @@ fn next_mode(reader: &mut BitReader) -> Option<ModeCode>
     Some(code)
 }
 
-/// Pass mode: a0 goes under b2.
+/// One vertical or pass mode that begins the first seven bits of a word. Answers the front after it and
+/// how many bits it has, or none where there is no such mode or it is refused.
 #[inline(always)]
-fn pass(reference: &mut Changes, line: &mut Line) -> Result<(), AllocError>
-    requires { length line.old.pixels < length reference.old }
-    ensures leads { OnOk result (LeadsOn reference.old line.old line.new ModeCode.Pass) }
-    ensures same { reference.new ≡ reference.old }
+fn quick_step(
+    word: u64,
+    held: &[u32],
+    list: &mut Vec<u32>,
+    width: u32,
+    front: Front,
+) -> Option<(Front, u32)>
+    requires fits { FitsLists held.now list.old.items width front }
+    requires short { front.from ≤ width }
+    ensures fits { IfSome result (λ step. FitsLists held.now list.new.items width step.0) }
+    ensures steps { IfSome result (λ step. StepsBy held.now word (line_of list.old.items front) (line_of list.new.items step.0) step.1) }
+    ensures none { IfNone result (list.new.items ≡ list.old.items) }
 {
-    let a0 = *line.a0();
-    let (_b1, b2) = a0.b1_b2(reference);
-    line.push_run(b2 - a0.place)?;
-    line.push_run(0)
-}
-
-/// a1 of a vertical mode, or why the mode is refused.
-#[inline(always)]
-fn a1_of(reference: &mut Changes, shift: Shift, line: &Line) -> Result<u32, CodeFaultKind>
-    requires { length line.now.pixels < length reference.old }
-    ensures finds { FindsA1 reference.old line.now shift result }
-    ensures same { reference.new ≡ reference.old }
-{
-    let a0 = *line.a0();
-    let from = a0.right();
-    let (b1, _b2) = a0.b1_b2(reference);
-    let reach = b1 + shift.reach();
-    if reach < from + 3 {
-        return Err(CodeFaultKind::Backwards);
+    if word >> 63 == 1 {
+        return Some((under_b1(held, list, width, front), 1));
     }
-    let a1 = reach - 3;
-    if a1 > reference.width() {
-        return Err(CodeFaultKind::PastEnd);
-    }
-    Ok(a1)
-}
-
-/// The vertical mode at a bit: a0 goes to a1.
-fn vertical(
-    place: u128,
-    reference: &mut Changes,
-    shift: Shift,
-    line: &mut Line,
-) -> Result<(), CodeFault>
-    requires { length line.old.pixels < length reference.old }
-    ensures moves { MovesTo reference.old place line.old line.new (ModeCode.Vertical shift) result }
-    ensures same { reference.new ≡ reference.old }
-{
-    let _width = reference.width(); // tells the proof that it is at most 2,432
-    match a1_of(reference, shift, line) {
-        Ok(a1) => {
-            line.push_run(a1 - line.a0().place)?;
-            Ok(())
-        }
-        Err(kind) => Err(CodeFault::new(place, kind)),
+    let (mode, count) = mode_of((word >> 57) as u32);
+    match mode? {
+        ModeCode::Pass => Some((under_b2(held, list, width, front), count as u32)),
+        ModeCode::Horizontal => None,
+        ModeCode::Vertical(shift) => match to_a1(held, list, width, front, shift) {
+            Ok(next) => Some((next, count as u32)),
+            Err(_) => None,
+        },
     }
 }
 
-/// A vertical mode, where it isn't refused. Answers whether it was done; else nothing changed.
+/// The vertical and pass modes of a row that can be told from the next 57 bits, up to another mode.
+/// Answers the front after them, and how many bits they have.
 #[inline(always)]
-fn quick_vertical(
-    reference: &mut Changes,
-    shift: Shift,
-    line: &mut Line,
-) -> Result<bool, AllocError>
-    requires { length line.old.pixels < length reference.old }
-    ensures leads { IfOk result (LeadsQuickly reference.old line.old line.new (ModeCode.Vertical shift)) }
-    ensures same { reference.new ≡ reference.old }
+pub(crate) fn quick_modes(
+    reader: &mut BitReader,
+    held: &[u32],
+    list: &mut Vec<u32>,
+    width: u32,
+    start: Front,
+) -> (Front, u32)
+    requires fits { FitsLists held.now list.old.items width start }
+    requires enough { 57 ≤ length (rest_of reader.old) }
+    ensures fits { FitsLists held.now list.new.items width result.0 }
+    ensures along { (reference : List Color) → AreHeld reference held.now
+        → StepsAlong reference reader.old reader.new (line_of list.old.items start) (line_of list.new.items result.0) }
+    ensures used { reader.new ≡ record reader.old { place = reader.old.place + result.1 } }
+    ensures none { result.1 ≡ 0 → (result.0 ≡ start) × (list.new.items ≡ list.old.items) }
 {
-    let _width = reference.width(); // tells the proof that it is at most 2,432
-    let Ok(a1) = a1_of(reference, shift, line) else {
-        return Ok(false);
-    };
-    line.push_run(a1 - line.a0().place)?;
-    Ok(true)
+    let mut front = start;
+    let mut word = reader.peek_57();
+    let mut used: u32 = 0;
+    while used <= 50 && front.from <= width {
+        let Some((next, count)) = quick_step(word, held, list, width, front) else {
+            break;
+        };
+        front = next;
+        word = word << count;
+        used += count;
+    }
+    reader.skip(used as usize);
+    (front, used)
 }
 
 /// The two runs of horizontal mode: a0 goes to a2.
-fn horizontal(reader: &mut BitReader, width: u32, line: &mut Line) -> Result<(), CodeFault>
-    requires short { length line.old.pixels < width }
-    requires width { width ≤ max_width }
-    ensures { ReadsHorizontal width reader.old reader.new line.old line.new result }
+fn horizontal(reader: &mut BitReader, lines: &mut Lines) -> Result<(), CodeFault>
+    requires { length lines.old.line.pixels < length lines.old.reference }
+    ensures runs { ReadsHorizontal (length lines.old.reference) reader.old reader.new lines.old.line lines.new.line result }
+    ensures same { lines.new.reference ≡ lines.old.reference }
 {
-    let a0 = *line.a0();
+    let a0 = lines.a0();
     let other = a0.color.other();
-    let room = width - a0.place;
+    let room = lines.width() - a0.place;
     let first = reader.read_run_within(a0.color, room, CodeFaultKind::PastEnd)?;
     let after = reader.place();
     let second = reader.read_run_within(other, room - first, CodeFaultKind::PastEnd)?;
     if first + second == 0 {
         return Err(CodeFault::new(after, CodeFaultKind::EmptyHorizontal));
     }
-    line.push_run(first)?;
-    line.push_run(second)?;
+    lines.push_runs(first, second);
     Ok(())
 }
 
-/// The mode code that begins the next 57 bits, and its length, where so many are left.
+/// Horizontal mode, whose flag begins the bits, where its two runs can be told quickly and aren't refused.
+/// Answers whether it was read; else nothing changed.
 #[inline(always)]
-fn quick_code(reader: &BitReader) -> Option<(ModeCode, usize)>
-    ensures begins { IfSome result (λ found. begins (mode_word found.0) (rest_of reader.now) ≡ true) }
-    ensures length { IfSome result (λ found. found.1 ≡ length (mode_word found.0)) }
-    ensures within { IfSome result (λ found. reader.now.place + found.1 ≤ length reader.now.bits) }
+fn quick_horizontal(reader: &mut BitReader, lines: &mut Lines) -> bool
+    requires short { length lines.old.line.pixels < length lines.old.reference }
+    requires begun { begins (mode_word ModeCode.Horizontal) (rest_of reader.old) ≡ true }
+    requires enough { 57 ≤ length (rest_of reader.old) }
+    ensures steps { StepsQuickly lines.old.reference reader.old reader.new lines.old.line lines.new.line result }
+    ensures same { lines.new.reference ≡ lines.old.reference }
 {
-    let enough = reader.has_57();
-    if !enough {
-        return None;
-    }
-    let (mode, count) = mode_of((reader.peek_57() >> 57) as u32);
-    match mode {
-        Some(code) => Some((code, count as usize % 8)),
-        None => None,
-    }
-}
-
-/// The two runs of horizontal mode, where they can be told quickly and aren't refused. Answers whether
-/// both were read; else the line is as it was.
-#[inline(always)]
-fn quick_horizontal(reader: &mut BitReader, width: u32, line: &mut Line) -> Result<bool, AllocError>
-    requires short { length line.old.pixels < width }
-    requires width { width ≤ max_width }
-    ensures { IfOk result (RunsQuickly width reader.old reader.new line.old line.new) }
-{
-    let a0 = *line.a0();
+    let mut ahead = reader.look_ahead();
+    ahead.skip(3);
+    let a0 = lines.a0();
     let other = a0.color.other();
-    let room = width - a0.place;
-    let Some(a0a1) = reader.quick_run(a0.color, room) else {
-        return Ok(false);
+    let room = lines.width() - a0.place;
+    let Some(a0a1) = ahead.quick_run(a0.color, room) else {
+        return false;
     };
-    let Some(a1a2) = reader.quick_run(other, room - a0a1) else {
-        return Ok(false);
+    let Some(a1a2) = ahead.quick_run(other, room - a0a1) else {
+        return false;
     };
     if a0a1 + a1a2 == 0 {
-        return Ok(false);
+        return false;
     }
-    line.push_run(a0a1)?;
-    line.push_run(a1a2)?;
-    Ok(true)
+    lines.push_runs(a0a1, a1a2);
+    *reader = ahead;
+    true
 }
 
-/// One mode of a row, where it can be told from the next 57 bits. Answers whether it was read; else
-/// nothing changed.
+/// Some modes of a row, where they can be told quickly. Answers whether there are any; else nothing
+/// changed.
 #[inline(always)]
-fn quick_mode(
-    reader: &mut BitReader,
-    reference: &mut Changes,
-    line: &mut Line,
-) -> Result<bool, AllocError>
-    requires { length line.old.pixels < length reference.old }
-    ensures steps { IfOk result (StepsQuickly reference.old reader.old reader.new line.old line.new) }
-    ensures same { reference.new ≡ reference.old }
+fn quick_part(reader: &mut BitReader, lines: &mut Lines) -> bool
+    requires { length lines.old.line.pixels < length lines.old.reference }
+    ensures along { StepsAlong lines.old.reference reader.old reader.new lines.old.line lines.new.line }
+    ensures same { lines.new.reference ≡ lines.old.reference }
+    ensures more { OnTrue result (reader.old.place < reader.new.place) }
+    ensures none { OnFalse result ((reader.new ≡ reader.old) × (lines.new.line ≡ lines.old.line)) }
 {
-    let Some((code, count)) = quick_code(reader) else {
-        return Ok(false);
-    };
-    match code {
-        ModeCode::Pass => pass(reference, line)?,
-        ModeCode::Horizontal => {
-            let mut ahead = reader.look_ahead();
-            ahead.skip(count);
-            let done = quick_horizontal(&mut ahead, reference.width(), line)?;
-            if done {
-                *reader = ahead;
-                return Ok(true);
-            }
-            return Ok(false);
-        }
-        ModeCode::Vertical(shift) => {
-            let done = quick_vertical(reference, shift, line)?;
-            if !done {
-                return Ok(false);
-            }
-        }
+    let _start = reader.place(); // tells the proof that it is within the bits
+    let enough = reader.has_57();
+    if !enough {
+        return false;
     }
-    reader.skip(count);
-    Ok(true)
+    if reader.peek_57() >> 61 == 0b001 {
+        return quick_horizontal(reader, lines);
+    }
+    let used = lines.quick_modes(reader);
+    used > 0
 }
 
 /// One mode of a row (ITU-T T.6, 2.2.2).
 #[cold]
-fn read_mode(
-    reader: &mut BitReader,
-    reference: &mut Changes,
-    line: &mut Line,
-) -> Result<(), CodeFault>
-    requires { length line.old.pixels < length reference.old }
-    ensures steps { StepsOn reference.old reader.old reader.new line.old line.new result }
-    ensures same { reference.new ≡ reference.old }
+fn read_mode(reader: &mut BitReader, lines: &mut Lines) -> Result<(), CodeFault>
+    requires { length lines.old.line.pixels < length lines.old.reference }
+    ensures steps { StepsOn lines.old.reference reader.old reader.new lines.old.line lines.new.line result }
+    ensures same { lines.new.reference ≡ lines.old.reference }
 {
     let place = reader.place();
     let Some(code) = next_mode(reader) else {
         return Err(no_mode(reader));
     };
     match code {
-        ModeCode::Pass => Ok(pass(reference, line)?),
-        ModeCode::Horizontal => horizontal(reader, reference.width(), line),
-        ModeCode::Vertical(shift) => vertical(place, reference, shift, line),
+        ModeCode::Pass => {
+            lines.pass();
+            Ok(())
+        }
+        ModeCode::Horizontal => horizontal(reader, lines),
+        ModeCode::Vertical(shift) => match lines.vertical(shift) {
+            Ok(()) => Ok(()),
+            Err(kind) => Err(CodeFault::new(place, kind)),
+        },
     }
 }
 
-/// One row after its reference row (ITU-T T.6, 2.2), by a line whose pixels don't matter.
-fn read_row(
-    alloc: Global,
-    reader: &mut BitReader,
-    reference: &Row,
-    line: &mut Line,
-) -> Result<Row, CodeFault>
-    ensures { ReadsRow reference.now reader.old reader.new result }
+/// One row after its reference row (ITU-T T.6, 2.2), which is the next one's reference row.
+fn read_row(alloc: Global, reader: &mut BitReader, lines: &mut Lines) -> Result<Row, CodeFault>
+    ensures reads { ReadsRow lines.old.reference reader.old reader.new result }
+    ensures next { IfOk result (λ row. lines.new.reference ≡ row) }
 {
     let _start = reader.place(); // tells the proof that it is within the bits
-    let width = reference.width();
-    let mut changes = Changes::of_list(alloc, reference, line.take_list(alloc))?;
-    line.begin();
-    while line.a0().place < width {
-        let done = quick_mode(reader, &mut changes, line)?;
+    let _width = lines.width(); // tells the proof that there are pixels to read
+    lines.begin();
+    while lines.is_short() {
+        let done = quick_part(reader, lines);
         if !done {
-            read_mode(reader, &mut changes, line)?;
+            read_mode(reader, lines)?;
         }
     }
-    line.keep_list(changes.into_list());
-    Ok(line.row(alloc)?)
+    Ok(lines.row(alloc)?)
 }
 
-/// The next row, after the last of these rows or after a white row, by a line whose pixels don't matter.
-fn next_row(
-    alloc: Global,
-    reader: &mut BitReader,
-    white: &Row,
-    rows: &[Row],
-    line: &mut Line,
-) -> Result<Row, CodeFault>
-    ensures { ReadsRow (reference_at white.now rows.now (length rows.now)) reader.old reader.new result }
+/// The lines of the row after these, or after a white row.
+fn lines_after(alloc: Global, page: &Page) -> Result<Lines, AllocError>
+    requires { IsWidth page.now.width }
+    ensures { IfOk result (λ lines. lines.reference ≡ reference_at (white_line page.now.width) page.now.rows (length page.now.rows)) }
 {
+    let rows = page.rows();
     if rows.is_empty() {
-        return read_row(alloc, reader, white, line);
+        let white = row_of(alloc, &[page.width()])?;
+        return Lines::after(alloc, &white);
     }
-    read_row(alloc, reader, &rows[rows.len() - 1], line)
+    Lines::after(alloc, &rows[rows.len() - 1])
 }
 
 /// Reads on from the rows read so far to the page's end, and answers how many bits the page uses. After
@@ -384,16 +363,15 @@ pub(crate) fn read_on(
     requires read { IsReadTo Coding.T6 to.old.page.width (bits_of order octets.now) to.old.page.rows to.old.place }
     ensures { ReadsOn Coding.T6 (bits_of order octets.now) to.old to.new result }
 {
-    let mut line = Line::new(alloc);
-    let white = row_of(alloc, &[to.page.width()])?;
+    let mut lines = lines_after(alloc, &to.page)?;
+    let mut reader = BitReader::at(octets, order, to.place);
     loop {
-        let mut reader = BitReader::at(octets, order, to.place);
         match start_at(&reader, to.page.rows().len()) {
             Start::Row => {}
             Start::End => return Ok(to.place + EOFB.len() as u128),
             Start::Refused(kind) => return Err(CodeFault::new(to.place, kind)),
         }
-        let row = next_row(alloc, &mut reader, &white, to.page.rows(), &mut line)?;
+        let row = read_row(alloc, &mut reader, &mut lines)?;
         push_row(&mut to.page, row)?;
         to.place = reader.place();
     }

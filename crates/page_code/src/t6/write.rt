@@ -22,6 +22,9 @@ fn shift_to(b1: u32, a1: u32) -> Option<Shift>
     requires a1 { a1 ≤ max_width }
     ensures { result ≡ vertical_to b1 a1 verticals }
 {
+    if a1 == b1 {
+        return Some(Shift::V0);
+    }
     if a1 + 3 < b1 {
         return None;
     }

@@ -8,7 +8,7 @@ use Rattle.page_code.proofs.t6.read.next_mode.Goals as goal
 pub returns-in_default : goal.returns-in_default
 returns-in_default c = (
   refl,
-  none_seen (rest_of c.args.reader.now) c.peek_57.result c.mode_of-mode.result.0 c.peek_57.ensures
+  none_seen (rest_of c.args.reader.now) c.peek_57.result c.mode_of-mode.result.0 (λ k h. c.peek_57.ensures k (omega arith))
       c.mode_of-mode.ensures.code c.in_default.is,
 )
 
@@ -18,7 +18,7 @@ returns-in_default-ahead c =
     let same : c.mode_of-mode.result.1 % 8 ≡ length (mode_word c.in-Some.code) = omega (arith, count, (mode_some c.in-Some.code).1) in (
       refl,
       cut_seen (rest_of c.args.reader.now) c.peek_57.result c.mode_of-mode.result.0 c.in-Some.code
-          c.peek_57.ensures c.mode_of-mode.ensures.code c.in-Some.is (omega (
+          (λ k h. c.peek_57.ensures k (omega arith)) c.mode_of-mode.ensures.code c.in-Some.is (omega (
             arith,
             same,
             (mode_some c.in-Some.code).0,
@@ -33,7 +33,7 @@ pub returns : goal.returns
 returns c =
     let count : c.mode_of-mode.result.1 ≡ length (mode_word c.in-Some.code) = rw c.in-Some.is at c.mode_of-mode.ensures.length in
     let same : c.mode_of-mode.result.1 % 8 ≡ length (mode_word c.in-Some.code) = omega (arith, count, (mode_some c.in-Some.code).1) in (
-      found_seen (rest_of c.args.reader.now) c.peek_57.result c.mode_of-mode.result.0 c.in-Some.code c.peek_57.ensures
+      found_seen (rest_of c.args.reader.now) c.peek_57.result c.mode_of-mode.result.0 c.in-Some.code (λ k h. c.peek_57.ensures k (omega arith))
           c.mode_of-mode.ensures.code c.in-Some.is (omega (
             arith,
             same,
