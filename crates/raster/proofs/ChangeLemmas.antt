@@ -1,12 +1,12 @@
 -- Lists of places, and the changing positions of a row.
 use Rattle.std.proofs.Common.{◌≡◌, ◌≢◌, ℕ, ◌+◌, ◌-◌, ◌*◌, ◌/◌, ◌%◌, ◌^◌, ◌<◌, ◌≤◌, Bool, true, false, List, [], ◌∷◌, ◌++◌, refl, sym, ◌&&◌}
-use Rattle.std.proofs.Common.{ap, ◌∙◌, get_or, length, nat_eq, nat_lt, arith, bit_and, bit_or, bit_xor, zero, suc, inl, inr, w64}
+use Rattle.std.proofs.Common.{ap, ◌∙◌, get_or, length, nat_eq, nat_lt, arith, bit_and, bit_or, bit_xor, zero, suc, inl, inr}
 use Rattle.std.proofs.Common.{append_assoc, length-append}
-use Rattle.std.specs.Int.{bit_at, bit_not}
+use Rattle.std.specs.Int.{bit_at}
 use Rattle.std.proofs.Common.{take}
 use Rattle.std.proofs.lemmas.List.{append-nil, get_or_append_left, get_or-append_right, length-take-le, take-take, take_at}
 use Rattle.std.proofs.lemmas.List.Elements.{Contains-append_left, Contains-append_right}
-use Rattle.std.proofs.lemmas.Nat.Bits.{bit_at-lt, bit_at_above, bit_at_and, bit_at_or, bit_at_xor, bit_at_not, bit_at_ones}
+use Rattle.std.proofs.lemmas.Nat.Bits.{bit_at-lt, bit_at_above, bit_at_and, bit_at_or, bit_at_xor, bit_at_ones}
 use Rattle.std.proofs.lemmas.Nat.Bits.{bit_at_ones_above, ones_shr, same_from_bits_below, bit_at-zero}
 use Rattle.std.proofs.lemmas.Bool.{cases_lt, and_parts, lt-ltb, le-ltb, true≢false}
 use Rattle.std.proofs.lemmas.Nat.{shr-shr, and_le_l, and_le_r, pow_pos}
@@ -146,16 +146,6 @@ pub record Pushed (word base rest : ℕ) (old out : List ℕ) : Type 0 where
   pub same : (k : ℕ) → at ≤ k → k < 64 → bit_of_word rest k ≡ bit_of_word word k
   pub listed : Lists (λ k. bit_of_word word (k - base)) old out base (base + at)
 
-pub pushed_none : (word base : ℕ) (old : List ℕ) → word < 2 ^ 64 → Pushed word base word old old
-pushed_none word base old fits = record {
-  at = 0;
-  few = omega arith;
-  fits = fits;
-  none = λ k h. absurd (omega arith);
-  same = λ k low h. refl;
-  listed = lists_none (λ k. bit_of_word word (k - base)) old base (base + 0) (λ k low h. absurd (omega arith));
-}
-
 -- the bits of a word after a place
 abbrev pub after_place : ℕ → ℕ → ℕ
 after_place rest place = bit_and rest ((2 ^ 64 - 1) / 2 ^ place / 2 ^ 1)
@@ -242,9 +232,6 @@ pub record Put (word base rest : ℕ) (old out : List ℕ) (index next : ℕ) : 
   pub pushed : Pushed word base rest old out
   pub few : next ≤ index + pushed.at
 
-pub put_none : (word base : ℕ) (old : List ℕ) (index : ℕ) → word < 2 ^ 64 → Put word base word old old index index
-put_none word base old index fits = record { pushed = pushed_none word base old fits; few = omega arith }
-
 pub put_within : (word base rest place : ℕ) (old out : List ℕ) (index next : ℕ) → Put word base rest old out index next → place < 64
     → IsFirstInWord rest 0 false place → next < index + 64
 put_within word base rest place old out index next put inside first =
@@ -268,14 +255,6 @@ put_more word base rest place old out index next put inside first =
 
 pub put_all : (word base : ℕ) (old out : List ℕ) (index next : ℕ) → Put word base 0 old out index next → next ≤ index + 64
 put_all word base old out index next put = omega (arith, put.few, put.pushed.few)
-
-pub pushed_all : (word base : ℕ) (old out : List ℕ) → Pushed word base 0 old out → Lists (λ k. bit_of_word word (k - base)) old out base
-    (base + 64)
-pushed_all word base old out pushed =
-    lists_join (λ k. bit_of_word word (k - base)) old out out base (base + pushed.at) (base + 64) (omega arith) (omega (arith, pushed.few))
-    pushed.listed
-    (lists_none (λ k. bit_of_word word (k - base)) out (base + pushed.at) (base + 64) (λ k low h. sym (pushed.same (k - base) (omega arith)
-    (omega arith)) ∙ ap (λ b. nat_eq b 1) (bit_at-zero (63 - (k - base)))))
 
 -- ---- bits that differ from the one before
 
@@ -340,42 +319,9 @@ last_bit octets at some =
     place)) ∙
     ap (bit_before octets) next
 
-pub kept_inside : (word count k : ℕ) → count < 64 → k < count → bit_of_word (bit_and word (bit_not w64 ((2 ^ 64 - 1) / 2 ^ count))) k ≡
-    bit_of_word word k
-kept_inside word count k few h =
-    let fits : (2 ^ 64 - 1) / 2 ^ count < 2 ^ 64 = omega arith in
-    let none : bit_at ((2 ^ 64 - 1) / 2 ^ count) (63 - k) ≡ 0 = ap (λ m. bit_at m (63 - k)) (ones_shr 64 count (omega arith))
-    ∙ bit_at_ones_above (64 - count) (63 - k) (omega arith) in
-    let kept : bit_at (bit_and word (bit_not w64 ((2 ^ 64 - 1) / 2 ^ count))) (63 - k) ≡ bit_at word (63 - k) =
-    omega (
-      arith,
-      bit_at_and word (bit_not w64 ((2 ^ 64 - 1) / 2 ^ count)) (63 - k),
-      bit_at_not w64 ((2 ^ 64 - 1) / 2 ^ count) (63 - k) fits
-          (omega arith),
-      none,
-      bit_at-lt word (63 - k),
-    ) in
-    ap (λ b. nat_eq b 1) kept
-
-pub kept_after : (word count k : ℕ) → count < 64 → count ≤ k → k < 64 → bit_of_word (bit_and word (bit_not w64 ((2 ^ 64 - 1) / 2 ^ count)))
-    k ≡ false
-kept_after word count k few low h =
-    let fits : (2 ^ 64 - 1) / 2 ^ count < 2 ^ 64 = omega arith in
-    let one : bit_at ((2 ^ 64 - 1) / 2 ^ count) (63 - k) ≡ 1 = ap (λ m. bit_at m (63 - k)) (ones_shr 64 count (omega arith))
-    ∙ bit_at_ones (64 - count) (63 - k) (omega arith) in
-    let none : bit_at (bit_and word (bit_not w64 ((2 ^ 64 - 1) / 2 ^ count))) (63 - k) ≡ 0 =
-    omega (
-      arith,
-      bit_at_and word (bit_not w64 ((2 ^ 64 - 1) / 2 ^ count)) (63 - k),
-      bit_at_not w64 ((2 ^ 64 - 1) / 2 ^ count) (63 - k) fits
-          (omega arith),
-      one,
-    ) in
-    ap (λ b. nat_eq b 1) none
-
 -- ---- a row
 
-color_at_bits : (octets : List ℕ) (width k : ℕ) → k < width → color_at (colors (bits_in MsbFirst octets width)) k ≡ color_of
+pub color_at_bits : (octets : List ℕ) (width k : ℕ) → k < width → color_at (colors (bits_in MsbFirst octets width)) k ≡ color_of
     (bit_in MsbFirst octets k)
 color_at_bits octets width k h =
     sym (color_at_get (colors (bits_in MsbFirst octets width)) k (color_of (bit_in MsbFirst octets k))
@@ -481,51 +427,42 @@ next_on octets end from at turned aligned is next = record {
 }
 
 -- of a word whose bits all are as the bit before it none differs from the one before
-alike_before : (octets : List ℕ) (at word k : ℕ) (bit : Bool) → IsWordAt MsbFirst octets (8 * at) word
-    → ((i : ℕ) → i < 64 → bit_of_word word i ≡ bit) → bit_before octets (8 * at) ≡ bit → k ≤ 64 → bit_before octets (8 * at + k) ≡ bit
-alike_before octets at word zero bit is all before h = let here : 8 * at + 0 ≡ 8 * at = omega arith in rw here before
-alike_before octets at word (suc k) bit is all before h =
+alike_before : (octets : List ℕ) (at k : ℕ) (bit : Bool) → ((i : ℕ) → 8 * at ≤ i → i < 8 * at + 64 → bit_in MsbFirst octets i ≡ bit)
+    → bit_before octets (8 * at) ≡ bit → k ≤ 64 → bit_before octets (8 * at + k) ≡ bit
+alike_before octets at zero bit all before h = let here : 8 * at + 0 ≡ 8 * at = omega arith in rw here before
+alike_before octets at (suc k) bit all before h =
     let next : 8 * at + suc k ≡ suc (8 * at + k) = omega arith in
-    rw next (sym (is k (omega arith)) ∙ all k (omega arith))
+    rw next (all (8 * at + k) (omega arith) (omega arith))
 
-alike_turns : (octets : List ℕ) (end at word k : ℕ) (bit : Bool) → IsWordAt MsbFirst octets (8 * at) word
-    → ((i : ℕ) → i < 64 → bit_of_word word i ≡ bit) → bit_before octets (8 * at) ≡ bit → k < 64
-    → bit_of_word 0 k ≡ turns_below octets end (8 * at + k)
-alike_turns octets end at word k bit is all before h =
-    let here : bit_in MsbFirst octets (8 * at + k) ≡ bit = sym (is k h) ∙ all k h in
-    bit_of_none k ∙ sym (rw (here, alike_before octets at word k bit is all before (omega arith)) (none (nat_lt (8 * at + k) end) bit))
+alike_turns : (octets : List ℕ) (end at k : ℕ) (bit : Bool) → ((i : ℕ) → 8 * at ≤ i → i < 8 * at + 64 → bit_in MsbFirst octets i ≡ bit)
+    → bit_before octets (8 * at) ≡ bit → k < 64 → bit_of_word 0 k ≡ turns_below octets end (8 * at + k)
+alike_turns octets end at k bit all before h =
+    let here : bit_in MsbFirst octets (8 * at + k) ≡ bit = all (8 * at + k) (omega arith) (omega arith) in
+    bit_of_none k ∙ sym (rw (here, alike_before octets at k bit all before (omega arith)) (none (nat_lt (8 * at + k) end) bit))
   where
     none : (b bit : Bool) → (b && differ bit bit) ≡ false
     none true true = refl
     none true false = refl
     none false bit = refl
 
--- such a word is passed over
-pub alike_on : (octets : List ℕ) (end from word next turned : ℕ) (bit : Bool) → from % 8 ≡ 0 → IsWordAt MsbFirst octets (8 * from) word
-    → ((i : ℕ) → i < 64 → bit_of_word word i ≡ bit) → bit_before octets (8 * from) ≡ bit → NextTurns octets end (from + 8) next turned
-    → NextTurns octets end from next turned
-alike_on octets end from word next turned bit aligned is all before later =
-    next_on octets end from next turned aligned (λ k h. alike_turns octets end from word k bit is all before h) later
+-- a word of bits that all are as the one before them is passed over
+pub alike_on : (octets : List ℕ) (end from next turned : ℕ) (bit : Bool) → from % 8 ≡ 0
+    → ((i : ℕ) → 8 * from ≤ i → i < 8 * from + 64 → bit_in MsbFirst octets i ≡ bit) → bit_before octets (8 * from) ≡ bit
+    → NextTurns octets end (from + 8) next turned → NextTurns octets end from next turned
+alike_on octets end from next turned bit aligned all before later =
+    next_on octets end from next turned aligned (λ k h. alike_turns octets end from k bit all before h) later
 
-pub alike_after : (octets : List ℕ) (at word : ℕ) (bit : Bool) → IsWordAt MsbFirst octets (8 * at) word
-    → ((i : ℕ) → i < 64 → bit_of_word word i ≡ bit) → bit_before octets (8 * at) ≡ bit → bit_before octets (8 * (at + 8)) ≡ bit
-alike_after octets at word bit is all before =
+pub alike_after : (octets : List ℕ) (at : ℕ) (bit : Bool) → ((i : ℕ) → 8 * at ≤ i → i < 8 * at + 64 → bit_in MsbFirst octets i ≡ bit)
+    → bit_before octets (8 * at) ≡ bit → bit_before octets (8 * (at + 8)) ≡ bit
+alike_after octets at bit all before =
     let next : 8 * (at + 8) ≡ 8 * at + 64 = omega arith in
-    rw next (alike_before octets at word 64 bit is all before (omega arith))
+    rw next (alike_before octets at 64 bit all before (omega arith))
 
--- a word of 1 bits
-pub bit_of_all : (k : ℕ) → k < 64 → bit_of_word (2 ^ 64 - 1) k ≡ true
-bit_of_all k h = ap (λ b. nat_eq b 1) (bit_at_ones 64 (63 - k) (omega arith))
-
--- the bits of a word below the end
-pub below_end : (octets : List ℕ) (end at turned word k : ℕ) → ((j : ℕ) → j < 64 → bit_of_word turned j ≡ turns_at octets (8 * at + j))
-    → ((j : ℕ) → j < end - 8 * at → bit_of_word word j ≡ bit_of_word turned j)
-    → ((j : ℕ) → end - 8 * at ≤ j → j < 64 → bit_of_word word j ≡ false) → k < 64 → bit_of_word word k ≡ turns_below octets end (8 * at + k)
-below_end octets end at turned word k turn inside after h =
-    elim (cases_lt (8 * at + k) end) [
-      | inl lt ↦ rw (lt-ltb (8 * at + k) end lt) (inside k (omega arith) ∙ turn k h)
-      | inr le ↦ after k (omega arith) h ∙ sym (past_end octets end (8 * at + k) le)
-    ]
+-- the bit that a number is
+pub one_bit : (n : ℕ) → n ≤ 1 → nat_eq (bit_at n 0) 1 ≡ nat_eq n 1
+one_bit zero h = refl
+one_bit (suc zero) h = refl
+one_bit (suc (suc n)) h = absurd (omega arith)
 
 -- one word more, and those up to the next one
 pub lists_word : (octets : List ℕ) (end at word next turned : ℕ) (old xs new : List ℕ) → ((k : ℕ) → k < 64

@@ -8,6 +8,7 @@ pub mod OctetLemmas
 pub mod RowLemmas
 pub mod ChangeLemmas
 pub mod TurningLemmas
+pub mod PaintingLemmas
 pub mod AlikeLemmas
 pub mod TextLemmas
 pub mod PbmParts

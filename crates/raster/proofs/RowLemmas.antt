@@ -48,17 +48,6 @@ colors_run bits n bit color same = map-append color_of bits (replicate n bit) �
 pub sum_more : (x : ℕ) (xs : List ℕ) → sum (x ∷ xs) ≡ x + sum xs
 sum_more x xs = grind (arith, common_steps)
 
--- a run more
-pub painted_more : (all : List Color) (bits : List Bool) (run : ℕ) (rest : List ℕ) (bit : Bool)
-    → colors bits ++ colored (color_of bit) (run ∷ rest) ≡ all → colors (bits ++ replicate run bit) ++ colored
-    (color_of (not bit)) rest ≡ all
-painted_more all bits run rest true e =
-    ap (λ (xs : List Color). xs ++ colored White rest) (colors_run bits run true Black refl) ∙
-    (append_assoc (colors bits) (replicate run Black) (colored White rest) ∙ e)
-painted_more all bits run rest false e =
-    ap (λ (xs : List Color). xs ++ colored Black rest) (colors_run bits run false White refl) ∙
-    (append_assoc (colors bits) (replicate run White) (colored Black rest) ∙ e)
-
 pub color_of-is : (color : Color) (bit : Bool) → (bit ≡ true → color ≡ Black) × (color ≡ Black → bit ≡ true) → color_of bit ≡ color
 color_of-is White true is = sym (is.0 refl)
 color_of-is Black true is = refl

@@ -1,21 +1,15 @@
 -- Pixels whose color turns at places.
-use Rattle.std.proofs.Common.{◌≡◌, ◌≢◌, ℕ, zero, suc, ◌+◌, ◌-◌, ◌<◌, ◌≤◌, List, [], ◌∷◌, ◌++◌, drop, length, replicate, get_or}
+use Rattle.std.proofs.Common.{◌≡◌, ◌≢◌, ℕ, zero, suc, ◌+◌, ◌-◌, ◌<◌, ◌≤◌, List, [], ◌∷◌, ◌++◌, length, replicate, get_or}
 use Rattle.std.proofs.Common.{refl, sym, ap, ◌∙◌, add-one, arith, inl, inr, append_assoc, length-append}
 use Rattle.std.specs.Prelude.{All, nat_lt, if◌then◌else◌}
 use Rattle.std.specs.List.{Contains}
 use Rattle.std.proofs.lemmas.Bool.{cases_lt, lt-ltb, le-ltb}
 use Rattle.std.proofs.lemmas.List.{append-nil, length-replicate, replicate-append-replicate, get_or-replicate, get_or_append_left}
 use Rattle.std.proofs.lemmas.List.{get_or-append_right}
-use Rattle.std.proofs.Common.{◌*◌, true, false}
-use Rattle.std.proofs.lemmas.List.{drop_all, drop_more}
-use Rattle.raster.proofs.PackedLemmas.{bits_in-clear, bits_in-none}
-use Rattle.raster.proofs.RowLemmas.{colors-none, colors_run}
-use Rattle.raster.specs.Packed.{IsPacked, bit_in, bits_in}
-use Rattle.raster.specs.declared.packed.Order.TheVariants.{MsbFirst}
 use Rattle.raster.specs.declared.row.Color.{Color}
 use Rattle.raster.specs.declared.row.Color.TheVariants.{White, Black}
 use Rattle.raster.specs.Changes.{AreChanges, IsRising, color_at, color_before, turned, turning}
-use Rattle.raster.specs.Pixels.{colors, other}
+use Rattle.raster.specs.Pixels.{other}
 
 -- ---- rising places
 
@@ -61,21 +55,30 @@ rising_push places at rising below i j lt within =
           (below i 0 (omega arith))
     ]
 
+-- the same of places that may be equal
+abbrev pub Follows : ℕ → List ℕ → ℕ → Type 0
+Follows from [] end = from ≤ end
+Follows from (place ∷ places) end = (from ≤ place) × (place ≤ end) × Follows place places end
+
+pub follows : (from : ℕ) (places : List ℕ) (end : ℕ) → Climbs from places end → Follows from places end
+follows from [] end climb = climb
+follows from (place ∷ places) end climb = (climb.0, climb.1, follows place places end climb.3)
+
 -- ---- lengths and ends
 
-turning_long : (color : Color) (from : ℕ) (places : List ℕ) (end : ℕ) → Climbs from places end
+pub turning_long : (color : Color) (from : ℕ) (places : List ℕ) (end : ℕ) → Follows from places end
     → length (turning color from places end) ≡ end - from
-turning_long color from [] end climb = length-replicate (end - from) color
-turning_long color from (place ∷ places) end climb =
+turning_long color from [] end after = length-replicate (end - from) color
+turning_long color from (place ∷ places) end after =
     length-append (replicate (place - from) color) (turning (other color) place places end) ∙
-    omega (arith, length-replicate (place - from) color, turning_long (other color) place places end climb.3, climb.0, climb.1)
+    omega (arith, length-replicate (place - from) color, turning_long (other color) place places end after.2, after.0, after.1)
 
 -- the pixels go up to the end
 pub length-turning : (places : List ℕ) (end : ℕ) → IsRising places → All (λ place. place ≤ end) places
     → length (turning White 0 places end) ≡ end
 length-turning places end rising below =
     let whole : end - 0 ≡ end = omega arith in
-    turning_long White 0 places end (climbs_from_0 places end rising below) ∙ whole
+    turning_long White 0 places end (follows 0 places end (climbs_from_0 places end rising below)) ∙ whole
 
 -- pixels with no turn at a later end: more of the last color
 pub turning_extend : (color : Color) (from : ℕ) (places : List ℕ) (end more : ℕ) → from ≤ end → All (λ place. place ≤ end) places → end ≤ more
@@ -106,14 +109,14 @@ turned_turn color (place ∷ places) at = turned_turn (other color) places at
 -- ---- changing positions
 
 -- the color at a place, of pixels that turn at these places
-abbrev color_in : Color → List ℕ → ℕ → Color
+abbrev pub color_in : Color → List ℕ → ℕ → Color
 color_in color [] k = color
 color_in color (place ∷ places) k = if nat_lt k place then color else color_in (other color) places k
 
-at_turning : (color : Color) (from : ℕ) (places : List ℕ) (end k : ℕ) → Climbs from places end → from ≤ k → k < end
+pub at_turning : (color : Color) (from : ℕ) (places : List ℕ) (end k : ℕ) → Follows from places end → from ≤ k → k < end
     → get_or (turning color from places end) (k - from) White ≡ color_in color places k
-at_turning color from [] end k climb low h = get_or-replicate (end - from) (k - from) color White (omega arith)
-at_turning color from (place ∷ places) end k climb low h = elim (cases_lt k place) [
+at_turning color from [] end k after low h = get_or-replicate (end - from) (k - from) color White (omega arith)
+at_turning color from (place ∷ places) end k after low h = elim (cases_lt k place) [
   | inl lt ↦
       let long = length-replicate (place - from) color in
       rw (lt-ltb k place lt)
@@ -121,11 +124,11 @@ at_turning color from (place ∷ places) end k climb low h = elim (cases_lt k pl
       get_or-replicate (place - from) (k - from) color White (omega arith))
   | inr le ↦
       let long = length-replicate (place - from) color in
-      let back : k - from - (place - from) ≡ k - place = omega (arith, climb.0) in
+      let back : k - from - (place - from) ≡ k - place = omega (arith, after.0) in
       rw (le-ltb k place le)
       (get_or-append_right (replicate (place - from) color) (turning (other color) place places end) (place - from) (k - from) White long
       (omega arith) ∙ (ap (λ n. get_or (turning (other color) place places end) n White) back ∙
-      at_turning (other color) place places end k climb.3 le h))
+      at_turning (other color) place places end k after.2 le h))
 ]
 
 -- the color before the first place
@@ -198,7 +201,7 @@ color_at_turning : (places : List ℕ) (end k : ℕ) → Climbs 0 places end →
     → color_at (turning White 0 places end) k ≡ color_in White places k
 color_at_turning places end k climb h =
     let same : k - 0 ≡ k = omega arith in
-    ap (λ n. get_or (turning White 0 places end) n White) (sym same) ∙ at_turning White 0 places end k climb (omega arith) h
+    ap (λ n. get_or (turning White 0 places end) n White) (sym same) ∙ at_turning White 0 places end k (follows 0 places end climb) (omega arith) h
 
 before_next : (row : List Color) (k : ℕ) → color_before row (k + 1) ≡ color_at row k
 before_next row k = rw add-one refl
@@ -235,101 +238,3 @@ changes-turning places width rising below =
       changing = λ i h. (rw long (below i 0 h), changing_at places width i (get_or places i 0) climb h refl (below i 0 h));
       all = λ k changing. contained places width k climb (rw long at changing.0) changing.1;
     }
-
--- ---- painting
-
--- octets whose first bits, and then what turns at the places that are left, are the pixels that turn at all of them
-pub record Painted (octets places : List ℕ) (at width : ℕ) : Type 0 where
-  pub count : ℕ
-  pub packed : IsPacked MsbFirst octets count
-  pub low : at < length places → count ≤ get_or places at 0
-  pub below : count ≤ width
-  pub completed : colors (bits_in MsbFirst octets count) ++ turning White count (drop at places) width ≡ turning White 0 places width
-
-pub painted_none : (octets places : List ℕ) (width : ℕ) → ((k : ℕ) → bit_in MsbFirst octets k ≡ false) → Painted octets places 0 width
-painted_none octets places width clear = record {
-  count = 0;
-  packed = record {
-    room = omega arith;
-    clear = λ k low. clear k;
-  };
-  low = λ h. omega arith;
-  below = omega arith;
-  completed = rw (bits_in-none, colors-none) refl;
-}
-
--- 0 bits more are white pixels more
-pub packed_later : (octets : List ℕ) (count from : ℕ) → IsPacked MsbFirst octets count → count ≤ from → from ≤ 8 * length octets
-    → IsPacked MsbFirst octets from
-packed_later octets count from packed low room = record {
-  room = room;
-  clear = λ k h. packed.clear k (omega arith);
-}
-
-white_more : (octets : List ℕ) (count from : ℕ) → IsPacked MsbFirst octets count → count ≤ from
-    → colors (bits_in MsbFirst octets from) ≡ colors (bits_in MsbFirst octets count) ++ replicate (from - count) White
-white_more octets count from packed low =
-    let whole : from ≡ count + (from - count) = omega arith in
-    ap (λ n. colors (bits_in MsbFirst octets n)) whole ∙
-    (ap colors (bits_in-clear MsbFirst octets count (from - count) packed.clear) ∙
-    colors_run (bits_in MsbFirst octets count) (from - count) false White refl)
-
-black_more : (octets new : List ℕ) (from end : ℕ) → bits_in MsbFirst new end ≡ bits_in MsbFirst octets from ++ replicate (end - from) true
-    → colors (bits_in MsbFirst new end) ≡ colors (bits_in MsbFirst octets from) ++ replicate (end - from) Black
-black_more octets new from end e = ap colors e ∙ colors_run (bits_in MsbFirst octets from) (end - from) true Black refl
-
--- white pixels and then black ones
-both_more : (octets new : List ℕ) (count white black : ℕ) (rest : List Color) → IsPacked MsbFirst octets count → count ≤ white
-    → bits_in MsbFirst new black ≡ bits_in MsbFirst octets white ++ replicate (black - white) true
-    → colors (bits_in MsbFirst new black) ++ rest
-    ≡ colors (bits_in MsbFirst octets count) ++ (replicate (white - count) White ++ (replicate (black - white) Black ++ rest))
-both_more octets new count white black rest packed low e =
-    ap (λ (xs : List Color). xs ++ rest) (black_more octets new white black e ∙
-    ap (λ (xs : List Color). xs ++ replicate (black - white) Black) (white_more octets count white packed low)) ∙
-    (append_assoc (colors (bits_in MsbFirst octets count) ++ replicate (white - count) White) (replicate (black - white) Black) rest ∙
-    append_assoc (colors (bits_in MsbFirst octets count)) (replicate (white - count) White) (replicate (black - white) Black ++ rest))
-
--- a black run more, with the white one before it
-pub painted_pair : (octets new places : List ℕ) (at width : ℕ) → Painted octets places at width → IsRising places
-    → All (λ place. place < width) places → at + 1 < length places → IsPacked MsbFirst new (get_or places (at + 1) 0)
-    → bits_in MsbFirst new (get_or places (at + 1) 0) ≡ bits_in MsbFirst octets (get_or places at 0)
-    ++ replicate (get_or places (at + 1) 0 - get_or places at 0) true → Painted new places (at + 2) width
-painted_pair octets new places at width painted rising below within packed e =
-    let white : ℕ = get_or places at 0 in
-    let black : ℕ = get_or places (at + 1) 0 in
-    let next : at + 1 + 1 ≡ at + 2 = omega arith in
-    let two : drop at places ≡ white ∷ black ∷ drop (at + 2) places =
-    drop_more places at 0 (omega arith) ∙ ap (λ xs. white ∷ xs) (drop_more places (at + 1) 0 within ∙ ap (λ n. black ∷ drop n places) next) in
-    record {
-      count = black;
-      packed = packed;
-      low = λ h. let up = rising (at + 1) (at + 2) (omega arith) h in omega arith;
-      below = let lt = below (at + 1) 0 within in omega arith;
-      completed =
-          both_more octets new painted.count white black (turning White black (drop (at + 2) places) width) painted.packed
-          (painted.low (omega arith)) e ∙
-          (ap (λ (xs : List ℕ). colors (bits_in MsbFirst octets painted.count) ++ turning White painted.count xs width) (sym two) ∙
-          painted.completed);
-    }
-
--- the last run is black
-pub painted_last : (octets new places : List ℕ) (at width : ℕ) → Painted octets places at width → at < length places
-    → length places ≤ at + 1 → bits_in MsbFirst new width ≡ bits_in MsbFirst octets (get_or places at 0) ++
-    replicate (width - get_or places at 0) true → colors (bits_in MsbFirst new width) ≡ turning White 0 places width
-painted_last octets new places at width painted within last e =
-    let white : ℕ = get_or places at 0 in
-    let one : drop at places ≡ white ∷ [] = drop_more places at 0 within ∙ ap (λ xs. white ∷ xs) (drop_all (at + 1) places last) in
-    sym (append-nil (colors (bits_in MsbFirst new width))) ∙
-    (both_more octets new painted.count white width [] painted.packed (painted.low within) e ∙
-    (ap (λ (xs : List Color). colors (bits_in MsbFirst octets painted.count) ++ (replicate (white - painted.count) White ++ xs))
-    (append-nil (replicate (width - white) Black)) ∙
-    (ap (λ (xs : List ℕ). colors (bits_in MsbFirst octets painted.count) ++ turning White painted.count xs width) (sym one) ∙
-    painted.completed)))
-
--- the last run is white
-pub painted_end : (octets places : List ℕ) (at width : ℕ) → Painted octets places at width → length places ≤ at
-    → colors (bits_in MsbFirst octets width) ≡ turning White 0 places width
-painted_end octets places at width painted past =
-    white_more octets painted.count width painted.packed painted.below ∙
-    (ap (λ (xs : List ℕ). colors (bits_in MsbFirst octets painted.count) ++ turning White painted.count xs width)
-    (sym (drop_all at places past)) ∙ painted.completed)

@@ -1,10 +1,10 @@
 -- Bits of octets as numbers of 64 bits.
 use Rattle.std.proofs.Common.{◌≡◌, ℕ, ◌+◌, ◌-◌, ◌*◌, ◌/◌, ◌%◌, ◌^◌, ◌<◌, ◌≤◌, ◌||◌, true, false, List, [], ◌∷◌, refl, sym, ap, ◌∙◌}
-use Rattle.std.proofs.Common.{get_or, nat_eq, arith, bit_or, zero, suc, w8, w64, inl, inr, max, length}
-use Rattle.std.specs.Int.{bit_at, reverse_bits, reverse_bits_onto, from_be_bytes, to_be_bytes}
+use Rattle.std.proofs.Common.{get_or, nat_eq, arith, bit_and, bit_or, zero, suc, w8, w64, inl, inr, max, length}
+use Rattle.std.specs.Int.{bit_at, bit_not, reverse_bits, reverse_bits_onto, from_be_bytes, to_be_bytes}
 use Rattle.std.proofs.lemmas.Nat.{shr-shr, or_shifted, shl_whole, pow_pos, pow-add}
 use Rattle.std.proofs.lemmas.Nat.Bits.{bit_at_lowest, bit_at-suc, bit_at-zero, bit_at_or, bit_at_cat_low, bit_at_cat_high, bit_at_above}
-use Rattle.std.proofs.lemmas.Nat.Bits.{bit_at-lt, bit_at_mask_inside}
+use Rattle.std.proofs.lemmas.Nat.Bits.{bit_at-lt, bit_at_and, bit_at_not, bit_at_ones, bit_at_ones_above, ones_shr}
 use Rattle.std.proofs.lemmas.Bool.{cases_lt}
 use Rattle.std.specs.Prelude.{slice_index}
 use Rattle.raster.specs.Packed.{bit_in, place_in}
@@ -198,32 +198,6 @@ pub highest_past : (order : Order) (octets : List ℕ) (at : ℕ) → length oct
 highest_past order octets at past k h =
     ap (λ b. nat_eq b 1) (bit_at-zero (7 - k)) ∙ sym (bit_in-past order octets (8 * at + k) (omega arith))
 
--- ---- a number within a word
-
--- the number that many bits high, from a place below 8 on
-abbrev pub aligned : ℕ → ℕ → ℕ → ℕ
-aligned value count within = value * 2 ^ (64 - count) % 2 ^ 64 / 2 ^ within
-
-pub aligned_before : (value count within k : ℕ) → k < within → within < 64 → bit_of_word (aligned value count within) k ≡ false
-aligned_before value count within k h few =
-    let small : value * 2 ^ (64 - count) % 2 ^ 64 < 2 ^ 64 = omega arith in
-    ap (λ b. nat_eq b 1) (bit_at_shr (value * 2 ^ (64 - count) % 2 ^ 64) within (63 - k) ∙ bit_at_above (value * 2 ^ (64 - count) % 2 ^ 64)
-    64 (within + (63 - k)) small (omega arith))
-
-pub aligned_inside : (value count within k : ℕ) → within + count ≤ 64 → within ≤ k → k < within + count
-    → bit_of_word (aligned value count within) k ≡ nat_eq (bit_at value (within + count - 1 - k)) 1
-aligned_inside value count within k few from below =
-    let e : within + (63 - k) - (64 - count) ≡ within + count - 1 - k = omega arith in
-    ap (λ b. nat_eq b 1) (bit_at_shr (value * 2 ^ (64 - count) % 2 ^ 64) within (63 - k) ∙
-    (bit_at_rest (value * 2 ^ (64 - count)) 64 (within + (63 - k)) (omega arith) ∙
-    (bit_at_shl_high value (64 - count) (within + (63 - k)) (omega arith) ∙ ap (bit_at value) e)))
-
-pub aligned_after : (value count within k : ℕ) → within + count ≤ k → k < 64 → bit_of_word (aligned value count within) k ≡ false
-aligned_after value count within k from below =
-    ap (λ b. nat_eq b 1) (bit_at_shr (value * 2 ^ (64 - count) % 2 ^ 64) within (63 - k) ∙
-    (bit_at_rest (value * 2 ^ (64 - count)) 64 (within + (63 - k)) (omega arith) ∙ bit_at_shl_low value (64 - count) (within + (63 - k))
-    (omega arith)))
-
 -- ---- a word's octets
 
 be_at : (n q : ℕ) → q < 8 → get_or (to_be_bytes w64 n) q 0 ≡ n / 2 ^ (8 * (7 - q)) % 2 ^ 8
@@ -247,13 +221,6 @@ be_octets word k h =
     sym (ap (λ b. nat_eq b 1)
     (ap (λ x. bit_at x (7 - k % 8)) (be_at word (k / 8) (omega arith)) ∙
     (octet_bit word (8 * (7 - k / 8)) (7 - k % 8) (omega arith) ∙ ap (bit_at word) there)))
-
--- the bits of a word of ones, up to a place
-pub ones_inside : (count within k : ℕ) → within + count ≤ 64 → within ≤ k → k < within + count
-    → bit_of_word (aligned (2 ^ 64 - 1) count within) k ≡ true
-ones_inside count within k fits from below =
-    aligned_inside (2 ^ 64 - 1) count within k fits from below ∙
-    ap (λ b. nat_eq b 1) (bit_at_mask_inside 0 64 (within + count - 1 - k) (omega arith) (omega arith))
 
 -- ---- octets that others are or'ed to
 
@@ -318,36 +285,41 @@ in_order_word LsbFirst octets at word turned is same k h =
     same k h ∙ (is (8 * (k / 8) + (7 - k % 8)) (omega arith) ∙ (ap (bit_in MsbFirst octets) there ∙ sym (lowest_as_highest octets (8 * at +
     k))))
 
--- eight octets were written: a word of the old ones or'ed to one in their order of bits
-pub record Ors (order : Order) (old : List ℕ) (word : ℕ) (new : List ℕ) (at a b : ℕ) : Type 0 where
-  pub held : IsWordAt MsbFirst old (8 * at) a
-  pub more : IsInOrder order word b
-  pub put : (j : ℕ) → j < 8 → get_or new (at + j) 0 ≡ get_or (to_be_bytes w64 (bit_or a b)) j 0
+-- ---- the first bits of a word
 
-ored_highest : (order : Order) (old : List ℕ) (word : ℕ) (new : List ℕ) (at a b k : ℕ) → Ors order old word new at a b → k < 64
-    → bit_in MsbFirst new (8 * at + k) ≡ (bit_in MsbFirst old (8 * at + k) || bit_of_word b k)
-ored_highest order old word new at a b k ors h =
-    let which : (8 * at + k) / 8 ≡ at + k / 8 = omega arith in
-    let place : 7 - (8 * at + k) % 8 ≡ 7 - k % 8 = omega arith in
-    ap (λ q. nat_eq (bit_at (get_or new ((8 * at + k) / 8) 0) q) 1) place ∙
-    (ap (λ m. nat_eq (bit_at (get_or new m 0) (7 - k % 8)) 1) which ∙
-    (ap (λ octet. nat_eq (bit_at octet (7 - k % 8)) 1) (ors.put (k / 8) (omega arith)) ∙
-    (sym (be_octets (bit_or a b) k h) ∙
-    (ored a b (63 - k) ∙ ap (λ x. x || bit_of_word b k) (ors.held k h)))))
+pub kept_inside : (word count k : ℕ) → count < 64 → k < count → bit_of_word (bit_and word (bit_not w64 ((2 ^ 64 - 1) / 2 ^ count))) k ≡
+    bit_of_word word k
+kept_inside word count k few h =
+    let fits : (2 ^ 64 - 1) / 2 ^ count < 2 ^ 64 = omega arith in
+    let none : bit_at ((2 ^ 64 - 1) / 2 ^ count) (63 - k) ≡ 0 = ap (λ m. bit_at m (63 - k)) (ones_shr 64 count (omega arith))
+    ∙ bit_at_ones_above (64 - count) (63 - k) (omega arith) in
+    let kept : bit_at (bit_and word (bit_not w64 ((2 ^ 64 - 1) / 2 ^ count))) (63 - k) ≡ bit_at word (63 - k) =
+    omega (
+      arith,
+      bit_at_and word (bit_not w64 ((2 ^ 64 - 1) / 2 ^ count)) (63 - k),
+      bit_at_not w64 ((2 ^ 64 - 1) / 2 ^ count) (63 - k) fits
+          (omega arith),
+      none,
+      bit_at-lt word (63 - k),
+    ) in
+    ap (λ b. nat_eq b 1) kept
 
-pub ored_octets : (order : Order) (old : List ℕ) (word : ℕ) (new : List ℕ) (at a b k : ℕ) → Ors order old word new at a b → k < 64
-    → bit_in order new (8 * at + k) ≡ (bit_in order old (8 * at + k) || bit_of_word word k)
-ored_octets MsbFirst old word new at a b k ors h =
-    let there : 8 * (k / 8) + (7 - (7 - k % 8)) ≡ k = omega arith in
-    ored_highest MsbFirst old word new at a b k ors h ∙
-    ap (λ y. bit_in MsbFirst old (8 * at + k) || y) (ors.more k h ∙ ap (bit_of_word word) there)
-ored_octets LsbFirst old word new at a b k ors h =
-    let t : ℕ = 8 * (k / 8) + (7 - k % 8) in
-    let there : 8 * ((8 * at + k) / 8) + (7 - (8 * at + k) % 8) ≡ 8 * at + (8 * (k / 8) + (7 - k % 8)) = omega arith in
-    let back : 8 * ((8 * (k / 8) + (7 - k % 8)) / 8) + (7 - (8 * (k / 8) + (7 - k % 8)) % 8) ≡ k = omega arith in
-    lowest_as_highest new (8 * at + k) ∙
-    (ap (bit_in MsbFirst new) there ∙
-    (ored_highest LsbFirst old word new at a b (8 * (k / 8) + (7 - k % 8)) ors (omega arith) ∙
-    (ap (λ x. x || bit_of_word b (8 * (k / 8) + (7 - k % 8)))
-    (sym (lowest_as_highest old (8 * at + k) ∙ ap (bit_in MsbFirst old) there)) ∙
-    ap (λ y. bit_in LsbFirst old (8 * at + k) || y) (ors.more (8 * (k / 8) + (7 - k % 8)) (omega arith) ∙ ap (bit_of_word word) back))))
+pub kept_after : (word count k : ℕ) → count < 64 → count ≤ k → k < 64 → bit_of_word (bit_and word (bit_not w64 ((2 ^ 64 - 1) / 2 ^ count)))
+    k ≡ false
+kept_after word count k few low h =
+    let fits : (2 ^ 64 - 1) / 2 ^ count < 2 ^ 64 = omega arith in
+    let one : bit_at ((2 ^ 64 - 1) / 2 ^ count) (63 - k) ≡ 1 = ap (λ m. bit_at m (63 - k)) (ones_shr 64 count (omega arith))
+    ∙ bit_at_ones (64 - count) (63 - k) (omega arith) in
+    let none : bit_at (bit_and word (bit_not w64 ((2 ^ 64 - 1) / 2 ^ count))) (63 - k) ≡ 0 =
+    omega (
+      arith,
+      bit_at_and word (bit_not w64 ((2 ^ 64 - 1) / 2 ^ count)) (63 - k),
+      bit_at_not w64 ((2 ^ 64 - 1) / 2 ^ count) (63 - k) fits
+          (omega arith),
+      one,
+    ) in
+    ap (λ b. nat_eq b 1) none
+
+-- a word of 1 bits
+pub bit_of_all : (k : ℕ) → k < 64 → bit_of_word (2 ^ 64 - 1) k ≡ true
+bit_of_all k h = ap (λ b. nat_eq b 1) (bit_at_ones 64 (63 - k) (omega arith))

@@ -4,6 +4,7 @@ pub mod Octets
 pub mod Pixels
 pub mod Runs
 pub mod Changes
+pub mod Painting
 pub mod Faults
 pub mod Pages
 pub mod Text

@@ -1,5 +1,5 @@
 -- Bits as numbers, the most significant first.
-use Rattle.std.specs.Prelude.{ℕ, ◌≡◌, ◌≤◌, ◌<◌, ◌+◌, ◌-◌, ◌*◌, ◌||◌, Bool, List, Some, length, map, nat_eq, not, slice_get, slice_index}
+use Rattle.std.specs.Prelude.{ℕ, ◌≡◌, ◌≤◌, ◌<◌, ◌+◌, ◌-◌, Bool, List, Some, length, map, nat_eq, not, slice_get}
 use Rattle.std.specs.Int.{bit_at, reverse_bits_onto}
 use Rattle.std.specs.List.{range_with_len}
 use Rattle.raster.specs.declared.packed.Order.{Order}
@@ -27,13 +27,6 @@ turned_octets = map turned_octet (range_with_len 0 256)
 -- so many of the lowest bits of a number, the most significant of them first
 abbrev pub number_bits : ℕ → ℕ → List Bool
 number_bits count value = map (λ place. nat_eq (bit_at value (count - 1 - place)) 1) (range_with_len 0 count)
-
--- the octets after a word was or'ed to the eight from one of them on
-pub record AreOred (order : Order) (old : List ℕ) (word : ℕ) (new : List ℕ) (at : ℕ) : Type 0 where
-  pub same_length : length new ≡ length old
-  pub before : (j : ℕ) → j < at → slice_index new j ≡ slice_index old j
-  pub inside : (k : ℕ) → k < 64 → bit_in order new (8 * at + k) ≡ (bit_in order old (8 * at + k) || bit_of_word word k)
-  pub after : (j : ℕ) → at + 8 ≤ j → slice_index new j ≡ slice_index old j
 
 -- the first place of a number of 64 bits, from a place on, whose bit is another, or 64
 pub record IsFirstInWord (word from : ℕ) (bit : Bool) (place : ℕ) : Type 0 where

@@ -8,7 +8,7 @@ ghost use Rattle.std.specs.Int.{bit_at};
 ghost use Rattle.std.specs.Prelude.{ℕ, false, ◌≡◌, ◌≤◌, ◌<◌, ◌+◌, ◌-◌, ◌*◌, ◌%◌, OnErr, OnOk, length, nat_eq, take};
 
 use crate::packed::Order;
-use crate::words::{first_in_word, octet_word, whole_word};
+use crate::words::{eight_are, first_bits, first_in_word, octet_word};
 use std::alloc::AllocError;
 
 /// The bit before an octet as a number; before the first octet it is 0.
@@ -23,14 +23,6 @@ fn last_before(octets: &[u8], at: usize) -> u64
     (octets[at - 1] & 1) as u64
 }
 
-/// The word whose bits all are this one.
-#[inline(always)]
-fn word_alike(bit: bool) -> u64
-    ensures { (k : ℕ) → k < 64 → bit_of_word result k ≡ bit }
-{
-    if bit { u64::MAX } else { 0 }
-}
-
 /// Which of the 64 bits from an octet on differ from the one before.
 #[inline(always)]
 fn turns(octets: &[u8], at: usize) -> u64
@@ -40,18 +32,6 @@ fn turns(octets: &[u8], at: usize) -> u64
     let word = octet_word(Order::MsbFirst, octets, at);
     let last = last_before(octets, at);
     word ^ (word >> 1 | last << 63)
-}
-
-/// The first bits of a word, and then 0 bits.
-#[inline(always)]
-fn first_bits(word: u64, count: u32) -> u64
-    ensures inside { (k : ℕ) → k < count → bit_of_word result k ≡ bit_of_word word k }
-    ensures after { (k : ℕ) → count ≤ k → k < 64 → bit_of_word result k ≡ false }
-{
-    if count >= 64 {
-        return word;
-    }
-    word & !(u64::MAX >> count)
 }
 
 /// Which of the 64 bits from an octet on differ from the one before, of those below an end.
@@ -78,10 +58,9 @@ fn after_alike(octets: &[u8], from: u32, end: u32, bit: bool) -> u32
     ensures further { from ≤ result }
     ensures goes_on { (at turned : ℕ) → NextTurns octets.now end result at turned → NextTurns octets.now end from at turned }
 {
-    let alike = word_alike(bit);
     let whole = end / 64 * 8;
     let mut at = from;
-    while at < whole && whole_word(octets, at as usize) == alike {
+    while at < whole && eight_are(octets, at as usize, bit) {
         at += 8;
     }
     at
@@ -105,12 +84,8 @@ fn next_turns(octets: &[u8], from: u32, end: u32) -> (u32, u64)
         }
         at += 8;
         if 8 * at < end {
-            let last = last_before(octets, at as usize);
-            at = if last == 0 {
-                after_alike(octets, at, end, false)
-            } else {
-                after_alike(octets, at, end, true)
-            };
+            let bit = last_before(octets, at as usize) == 1;
+            at = after_alike(octets, at, end, bit);
         }
     }
     (at, 0)

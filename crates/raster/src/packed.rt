@@ -12,6 +12,7 @@ ghost use Rattle.std.specs.Prelude.{if◌then◌else◌, replicate, sum, slice_g
 
 use crate::changes::changes;
 use crate::painting::{paint, paint_turns};
+use crate::row::MAX_WIDTH;
 use crate::words::{bit_of_all, first_other, in_order, moved_word, octets_of, shifted_word};
 use std::alloc::{AllocError, Global};
 use std::marker::Model;
@@ -172,10 +173,15 @@ impl PackedBits {
         ensures colors { IfSome result (λ p. colors p.bits ≡ colored Color.White runs.now) }
         ensures order { IfSome result (λ p. p.order ≡ Order.MsbFirst) }
     {
-        if runs.len() == 1 && runs[0] > 0 && runs[0] <= 2432 {
+        if runs.len() == 1 && runs[0] > 0 && runs[0] <= MAX_WIDTH {
             return Some(PackedBits::of_one(alloc, false, runs[0]));
         }
-        if runs.len() == 2 && runs[0] == 0 && runs[1] > 0 && runs[1] <= 2432 && runs[1] % 8 == 0 {
+        if runs.len() == 2
+            && runs[0] == 0
+            && runs[1] > 0
+            && runs[1] <= MAX_WIDTH
+            && runs[1] % 8 == 0
+        {
             return Some(PackedBits::of_one(alloc, true, runs[1]));
         }
         None
@@ -209,7 +215,7 @@ impl PackedBits {
         ensures order { IfSome result (λ p. p.order ≡ Order.MsbFirst) }
         ensures length { IfSome result (λ p. length p.bits ≡ width) }
     {
-        if places.len() == 0 {
+        if places.is_empty() {
             return Some(PackedBits::of_one(alloc, false, width));
         }
         if places.len() == 1 && places[0] == 0 && width % 8 == 0 {

@@ -2,97 +2,183 @@
 
 ghost use Rattle.raster.specs.Changes.{IsRising, turning};
 ghost use Rattle.raster.specs.Packed.{bit_in, bits_in, IsPacked};
+ghost use Rattle.raster.specs.Painting.{drawn_bit, IsStored};
 ghost use Rattle.raster.specs.Pixels.{colors};
 ghost use Rattle.raster.specs.Runs.{colored};
 ghost use Rattle.raster.specs.declared.row.Color.{Color};
-ghost use Rattle.std.specs.Prelude.{ℕ, true, false, ◌≡◌, ◌≤◌, ◌<◌, ◌+◌, ◌-◌, ◌*◌, ◌++◌, All, length, replicate, sum};
+ghost use Rattle.std.specs.Prelude.{ℕ, true, false, ◌≡◌, ◌≤◌, ◌<◌, ◌+◌, ◌-◌, ◌*◌, ◌%◌, All, if◌then◌else◌, length, nat_lt, not, sum};
 
 use crate::packed::Order;
-use crate::words::{set_run, set_some};
+use crate::words::{first_bits, octets_of, put_octets};
 
-/// Appends bits that are all the same, where there is room for them and for the 64 after them.
+/// How far a row is painted: the 64 bits before a place are those of a word, which no octet has yet, and
+/// all bits from there on are as its last one.
+#[derive(Clone, Copy)]
+struct Brush {
+    end: u32,
+    word: u64,
+}
+
+/// Writes a word over the eight octets from a bit on, which is the first of an octet.
 #[inline(always)]
-fn set_same(octets: &mut Vec<u8>, count: u32, bit: bool, more: u32)
-    requires packed { IsPacked Order.MsbFirst octets.old.items count }
-    requires small { count + more ≤ 2432 }
-    requires room { count + more + 64 ≤ 8 * length octets.old.items }
-    ensures packed { IsPacked Order.MsbFirst octets.new.items (count + more) }
-    ensures length { length octets.new.items ≡ length octets.old.items }
-    ensures bits { bits_in Order.MsbFirst octets.new.items (count + more)
-        ≡ bits_in Order.MsbFirst octets.old.items count ++ replicate more bit }
+fn store(octets: &mut [u8], from: u32, word: u64)
+    requires aligned { from % 8 ≡ 0 }
+    requires inside { from + 64 ≤ 8 * length octets.old }
+    ensures { IsStored octets.old from word octets.new }
 {
-    if bit {
-        set_run(
-            Order::MsbFirst,
-            octets,
-            (count / 8) as usize,
-            count % 8,
-            more,
-        );
+    put_octets(octets, (from / 8) as usize, octets_of(word));
+}
+
+/// Sets all bits from one up to another, both at the beginning of a word.
+#[inline(never)]
+fn blacken(octets: &mut [u8], from: u32, end: u32)
+    requires order { from ≤ end }
+    requires begins { from % 64 ≡ 0 }
+    requires ends { end % 64 ≡ 0 }
+    requires within { end ≤ 8 * length octets.old }
+    ensures length { length octets.new ≡ length octets.old }
+    ensures before { (k : ℕ) → k < from → bit_in Order.MsbFirst octets.new k ≡ bit_in Order.MsbFirst octets.old k }
+    ensures set { (k : ℕ) → from ≤ k → k < end → bit_in Order.MsbFirst octets.new k ≡ true }
+    ensures after { (k : ℕ) → end ≤ k → bit_in Order.MsbFirst octets.new k ≡ bit_in Order.MsbFirst octets.old k }
+{
+    let mut at = from;
+    while at < end {
+        store(octets, at, u64::MAX);
+        at += 64;
     }
+}
+
+/// Paints on to the word of a place that is past the brush's word, over octets of 0 bits.
+#[inline(always)]
+fn next_word(octets: &mut [u8], brush: Brush, place: u32) -> Brush
+    requires begun { 64 ≤ brush.end }
+    requires aligned { brush.end % 64 ≡ 0 }
+    requires past { brush.end ≤ place }
+    requires small { place ≤ 2432 }
+    requires room { place + 64 ≤ 8 * length octets.old }
+    requires clear { (k : ℕ) → brush.end ≤ k + 64 → bit_in Order.MsbFirst octets.old k ≡ false }
+    ensures length { length octets.new ≡ length octets.old }
+    ensures begun { 64 ≤ result.end }
+    ensures aligned { result.end % 64 ≡ 0 }
+    ensures low { result.end ≤ place + 64 }
+    ensures high { place < result.end }
+    ensures clear { (k : ℕ) → result.end ≤ k + 64 → bit_in Order.MsbFirst octets.new k ≡ false }
+    ensures drawn { (k : ℕ) → drawn_bit octets.new (result.end - 64) result.word k ≡ drawn_bit octets.old (brush.end - 64) brush.word k }
+{
+    let from = place / 64 * 64;
+    store(octets, brush.end - 64, brush.word);
+    if brush.word % 2 == 0 {
+        return Brush {
+            end: from + 64,
+            word: 0,
+        };
+    }
+    blacken(octets, brush.end, from);
+    Brush {
+        end: from + 64,
+        word: u64::MAX,
+    }
+}
+
+/// Paints on until a place is in the brush's word.
+#[inline(always)]
+fn reach(octets: &mut [u8], brush: Brush, place: u32) -> Brush
+    requires begun { 64 ≤ brush.end }
+    requires aligned { brush.end % 64 ≡ 0 }
+    requires past { brush.end ≤ place + 64 }
+    requires small { place ≤ 2432 }
+    requires room { place + 64 ≤ 8 * length octets.old }
+    requires clear { (k : ℕ) → brush.end ≤ k + 64 → bit_in Order.MsbFirst octets.old k ≡ false }
+    ensures length { length octets.new ≡ length octets.old }
+    ensures begun { 64 ≤ result.end }
+    ensures aligned { result.end % 64 ≡ 0 }
+    ensures low { result.end ≤ place + 64 }
+    ensures high { place < result.end }
+    ensures clear { (k : ℕ) → result.end ≤ k + 64 → bit_in Order.MsbFirst octets.new k ≡ false }
+    ensures drawn { (k : ℕ) → drawn_bit octets.new (result.end - 64) result.word k ≡ drawn_bit octets.old (brush.end - 64) brush.word k }
+{
+    if place < brush.end {
+        return brush;
+    }
+    next_word(octets, brush, place)
+}
+
+/// Turns the color from a place on.
+#[inline(always)]
+fn turn(octets: &mut [u8], brush: Brush, place: u32) -> Brush
+    requires begun { 64 ≤ brush.end }
+    requires aligned { brush.end % 64 ≡ 0 }
+    requires past { brush.end ≤ place + 64 }
+    requires small { place ≤ 2432 }
+    requires room { place + 64 ≤ 8 * length octets.old }
+    requires clear { (k : ℕ) → brush.end ≤ k + 64 → bit_in Order.MsbFirst octets.old k ≡ false }
+    ensures length { length octets.new ≡ length octets.old }
+    ensures begun { 64 ≤ result.end }
+    ensures aligned { result.end % 64 ≡ 0 }
+    ensures low { result.end ≤ place + 64 }
+    ensures clear { (k : ℕ) → result.end ≤ k + 64 → bit_in Order.MsbFirst octets.new k ≡ false }
+    ensures drawn { (k : ℕ) → drawn_bit octets.new (result.end - 64) result.word k
+        ≡ (if nat_lt k place then drawn_bit octets.old (brush.end - 64) brush.word k else not (drawn_bit octets.old (brush.end - 64) brush.word k)) }
+{
+    let Brush { end, word } = reach(octets, brush, place);
+    Brush {
+        end,
+        word: word ^ u64::MAX >> (place % 64),
+    }
+}
+
+/// Paints on to the row's end.
+fn finish(octets: &mut [u8], brush: Brush, width: u32)
+    requires begun { 64 ≤ brush.end }
+    requires aligned { brush.end % 64 ≡ 0 }
+    requires past { brush.end ≤ width + 64 }
+    requires small { width ≤ 2432 }
+    requires room { width + 64 ≤ 8 * length octets.old }
+    requires clear { (k : ℕ) → brush.end ≤ k + 64 → bit_in Order.MsbFirst octets.old k ≡ false }
+    ensures packed { IsPacked Order.MsbFirst octets.new width }
+    ensures bits { (k : ℕ) → k < width → bit_in Order.MsbFirst octets.new k ≡ drawn_bit octets.old (brush.end - 64) brush.word k }
+{
+    let Brush { end, word } = reach(octets, brush, width);
+    let from = end - 64;
+    let last = first_bits(word, width - from);
+    store(octets, from, last);
 }
 
 /// Paints alternating runs, 0 bits first, over octets of 0 bits.
-pub(crate) fn paint(octets: &mut Vec<u8>, runs: &[u32], width: u32)
-    requires clear { (k : ℕ) → bit_in Order.MsbFirst octets.old.items k ≡ false }
+pub(crate) fn paint(octets: &mut [u8], runs: &[u32], width: u32)
+    requires clear { (k : ℕ) → bit_in Order.MsbFirst octets.old k ≡ false }
     requires sum { sum runs.now ≡ width }
     requires small { width ≤ 2432 }
-    requires room { width + 64 ≤ 8 * length octets.old.items }
-    ensures packed { IsPacked Order.MsbFirst octets.new.items width }
-    ensures painted { colors (bits_in Order.MsbFirst octets.new.items width) ≡ colored Color.White runs.now }
+    requires room { width + 64 ≤ 8 * length octets.old }
+    ensures packed { IsPacked Order.MsbFirst octets.new width }
+    ensures painted { colors (bits_in Order.MsbFirst octets.new width) ≡ colored Color.White runs.now }
 {
-    let mut count: u32 = 0;
+    let mut brush = Brush { end: 64, word: 0 };
+    let mut place = 0;
     let mut at = 0;
-    while at + 1 < runs.len() {
-        let white = runs[at];
-        let black = runs[at + 1];
-        set_same(octets, count, false, white);
-        set_same(octets, count + white, true, black);
-        count += white + black;
-        at += 2;
+    while at < runs.len() {
+        place += runs[at];
+        brush = turn(octets, brush, place);
+        at += 1;
     }
-    if at < runs.len() {
-        set_same(octets, count, false, runs[at]);
-    }
-}
-
-/// Appends 1 bits from a place on up to an end, where there is room for them and for the 64 after them.
-#[inline(always)]
-fn set_black(octets: &mut Vec<u8>, from: u32, end: u32)
-    requires packed { IsPacked Order.MsbFirst octets.old.items from }
-    requires some { from < end }
-    requires small { end ≤ 2432 }
-    requires room { end + 64 ≤ 8 * length octets.old.items }
-    ensures packed { IsPacked Order.MsbFirst octets.new.items end }
-    ensures length { length octets.new.items ≡ length octets.old.items }
-    ensures bits { bits_in Order.MsbFirst octets.new.items end
-        ≡ bits_in Order.MsbFirst octets.old.items from ++ replicate (end - from) true }
-{
-    set_some(
-        Order::MsbFirst,
-        octets,
-        (from / 8) as usize,
-        from % 8,
-        end - from,
-    );
+    finish(octets, brush, width);
 }
 
 /// Paints the pixels that turn at rising places, white first, over octets of 0 bits.
-pub(crate) fn paint_turns(octets: &mut Vec<u8>, places: &[u32], width: u32)
-    requires clear { (k : ℕ) → bit_in Order.MsbFirst octets.old.items k ≡ false }
+pub(crate) fn paint_turns(octets: &mut [u8], places: &[u32], width: u32)
+    requires clear { (k : ℕ) → bit_in Order.MsbFirst octets.old k ≡ false }
     requires rising { IsRising places.now }
     requires below { All (λ place. place < width) places.now }
     requires small { width ≤ 2432 }
-    requires room { width + 64 ≤ 8 * length octets.old.items }
-    ensures packed { IsPacked Order.MsbFirst octets.new.items width }
-    ensures painted { colors (bits_in Order.MsbFirst octets.new.items width) ≡ turning Color.White 0 places.now width }
+    requires room { width + 64 ≤ 8 * length octets.old }
+    ensures packed { IsPacked Order.MsbFirst octets.new width }
+    ensures painted { colors (bits_in Order.MsbFirst octets.new width) ≡ turning Color.White 0 places.now width }
 {
+    let mut brush = Brush { end: 64, word: 0 };
     let mut at = 0;
-    while at + 1 < places.len() {
-        set_black(octets, places[at], places[at + 1]);
-        at += 2;
+    while at < places.len() {
+        brush = turn(octets, brush, places[at]);
+        at += 1;
     }
-    if at < places.len() {
-        set_black(octets, places[at], width);
-    }
+    finish(octets, brush, width);
 }

@@ -1,7 +1,7 @@
 //! Bits of octets, up to 64 at a time.
 
 ghost use Rattle.raster.specs.Packed.{bit_in, place_in, AreAlike};
-ghost use Rattle.raster.specs.Words.{bit_of_word, turned_octet, IsWordAt, IsFirstInWord, IsFirstOther, AreOred};
+ghost use Rattle.raster.specs.Words.{bit_of_word, turned_octet, IsWordAt, IsFirstInWord, IsFirstOther};
 ghost use Rattle.std.specs.Int.{bit_at, to_be_bytes, w64};
 ghost use Rattle.std.specs.Prelude.{ℕ, true, false, ◌≡◌, ◌≤◌, ◌<◌, ◌+◌, ◌-◌, ◌*◌, ◌/◌, ◌%◌, length, nat_eq, slice_index, IfErr, IfOk, IfSome, IsTrue};
 
@@ -21,7 +21,7 @@ fn first_highest(order: Order, octet: u8) -> u8
 }
 
 /// The 64 bits of eight octets, the most significant bit of each first.
-pub(crate) fn whole_word(octets: &[u8], at: usize) -> u64
+fn whole_word(octets: &[u8], at: usize) -> u64
     requires { at + 8 ≤ length octets.now }
     ensures { IsWordAt Order.MsbFirst octets.now (8 * at) result }
 {
@@ -164,99 +164,16 @@ pub(crate) fn octets_of(word: u64) -> [u8; 8]
     word.swap_bytes().to_le_bytes()
 }
 
-/// Ors the bits of a word to those of eight octets from one of them on.
+/// The first bits of a word, and then 0 bits.
 #[inline(always)]
-pub(crate) fn or_word(order: Order, octets: &mut Vec<u8>, at: usize, word: u64)
-    requires { at + 8 ≤ length octets.old.items }
-    ensures { AreOred order octets.old.items word octets.new.items at }
+pub(crate) fn first_bits(word: u64, count: u32) -> u64
+    ensures inside { (k : ℕ) → k < count → bit_of_word result k ≡ bit_of_word word k }
+    ensures after { (k : ℕ) → count ≤ k → k < 64 → bit_of_word result k ≡ false }
 {
-    let both = whole_word(octets, at) | in_order(order, word);
-    put_octets(octets, at, octets_of(both));
-}
-
-/// The word whose bits from a place on are so many 1 bits, and else 0.
-#[inline(always)]
-fn ones_word(count: u32, within: u32) -> u64
-    requires some { 0 < count }
-    requires fits { within + count ≤ 64 }
-    ensures before { (k : ℕ) → k < within → bit_of_word result k ≡ false }
-    ensures inside { (k : ℕ) → within ≤ k → k < within + count → bit_of_word result k ≡ true }
-    ensures after { (k : ℕ) → within + count ≤ k → k < 64 → bit_of_word result k ≡ false }
-{
-    u64::MAX << (64 - count) >> within
-}
-
-/// Sets so many bits from a place within an octet on, all of them in the eight octets from there on.
-#[inline(always)]
-fn set_within(order: Order, octets: &mut Vec<u8>, at: usize, within: u32, count: u32)
-    requires some { 0 < count }
-    requires within { within < 8 }
-    requires fits { within + count ≤ 64 }
-    requires inside { at + 8 ≤ length octets.old.items }
-    ensures length { length octets.new.items ≡ length octets.old.items }
-    ensures before { (k : ℕ) → k < 8 * at + within → bit_in order octets.new.items k ≡ bit_in order octets.old.items k }
-    ensures set { (k : ℕ) → 8 * at + within ≤ k → k < 8 * at + within + count → bit_in order octets.new.items k ≡ true }
-    ensures after { (k : ℕ) → 8 * at + within + count ≤ k → bit_in order octets.new.items k ≡ bit_in order octets.old.items k }
-{
-    let word = ones_word(count, within);
-    or_word(order, octets, at, word);
-}
-
-/// Sets more bits from a place within an octet on than are left of the eight octets from there on.
-#[inline(never)]
-fn set_long(order: Order, octets: &mut Vec<u8>, at: usize, within: u32, count: u32)
-    requires within { within < 8 }
-    requires long { 64 < within + count }
-    requires inside { 8 * at + within + count + 64 ≤ 8 * length octets.old.items }
-    ensures length { length octets.new.items ≡ length octets.old.items }
-    ensures before { (k : ℕ) → k < 8 * at + within → bit_in order octets.new.items k ≡ bit_in order octets.old.items k }
-    ensures set { (k : ℕ) → 8 * at + within ≤ k → k < 8 * at + within + count → bit_in order octets.new.items k ≡ true }
-    ensures after { (k : ℕ) → 8 * at + within + count ≤ k → bit_in order octets.new.items k ≡ bit_in order octets.old.items k }
-{
-    set_within(order, octets, at, within, 64 - within);
-    let mut next = at + 8;
-    let mut left = count - (64 - within);
-    while left >= 64 {
-        set_within(order, octets, next, 0, 64);
-        next += 8;
-        left -= 64;
+    if count >= 64 {
+        return word;
     }
-    if left > 0 {
-        set_within(order, octets, next, 0, left);
-    }
-}
-
-/// Sets so many bits, one or more, from a place within an octet on.
-#[inline(always)]
-pub(crate) fn set_some(order: Order, octets: &mut Vec<u8>, at: usize, within: u32, count: u32)
-    requires some { 0 < count }
-    requires within { within < 8 }
-    requires inside { 8 * at + within + count + 64 ≤ 8 * length octets.old.items }
-    ensures length { length octets.new.items ≡ length octets.old.items }
-    ensures before { (k : ℕ) → k < 8 * at + within → bit_in order octets.new.items k ≡ bit_in order octets.old.items k }
-    ensures set { (k : ℕ) → 8 * at + within ≤ k → k < 8 * at + within + count → bit_in order octets.new.items k ≡ true }
-    ensures after { (k : ℕ) → 8 * at + within + count ≤ k → bit_in order octets.new.items k ≡ bit_in order octets.old.items k }
-{
-    if count > 64 - within {
-        set_long(order, octets, at, within, count);
-        return;
-    }
-    set_within(order, octets, at, within, count);
-}
-
-/// Sets so many bits from a place within an octet on.
-#[inline(always)]
-pub(crate) fn set_run(order: Order, octets: &mut Vec<u8>, at: usize, within: u32, count: u32)
-    requires within { within < 8 }
-    requires inside { 8 * at + within + count + 64 ≤ 8 * length octets.old.items }
-    ensures length { length octets.new.items ≡ length octets.old.items }
-    ensures before { (k : ℕ) → k < 8 * at + within → bit_in order octets.new.items k ≡ bit_in order octets.old.items k }
-    ensures set { (k : ℕ) → 8 * at + within ≤ k → k < 8 * at + within + count → bit_in order octets.new.items k ≡ true }
-    ensures after { (k : ℕ) → 8 * at + within + count ≤ k → bit_in order octets.new.items k ≡ bit_in order octets.old.items k }
-{
-    if count > 0 {
-        set_some(order, octets, at, within, count);
-    }
+    word & !(u64::MAX >> count)
 }
 
 /// The first place of a word from a place on whose bit is another, or 64.
@@ -380,13 +297,21 @@ pub(crate) fn first_other(octets: &[u8], from: u32, end: u32, bit: bool) -> u32
     first_other_after(octets, from / 8 + 8, end, bit)
 }
 
+/// The word whose bits all are this one.
+#[inline(always)]
+fn word_alike(bit: bool) -> u64
+    ensures { (k : ℕ) → k < 64 → bit_of_word result k ≡ bit }
+{
+    if bit { u64::MAX } else { 0 }
+}
+
 /// Whether all bits of eight octets from one of them on are this one.
 #[inline(always)]
-fn eight_are(octets: &[u8], at: usize, bit: bool) -> bool
+pub(crate) fn eight_are(octets: &[u8], at: usize, bit: bool) -> bool
     requires { at + 8 ≤ length octets.now }
     ensures { IsTrue result → (k : ℕ) → 8 * at ≤ k → k < 8 * at + 64 → bit_in Order.MsbFirst octets.now k ≡ bit }
 {
-    first_in_word(whole_word(octets, at), 0, bit) == 64
+    whole_word(octets, at) == word_alike(bit)
 }
 
 /// Whether all bits of 64 octets from one of them on are this one.

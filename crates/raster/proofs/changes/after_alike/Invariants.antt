@@ -1,6 +1,5 @@
-use Rattle.std.proofs.Common.{ℕ, ◌≡◌, ◌≤◌, ◌<◌, ◌+◌, ◌-◌, ◌*◌, ◌%◌}
+use Rattle.std.proofs.Common.{ℕ, ◌≡◌, ◌≤◌, ◌+◌, ◌-◌, ◌*◌, ◌%◌}
 use Rattle.raster.specs.Changes.{NextTurns, bit_before}
-use Rattle.raster.specs.Words.{bit_of_word}
 use Rattle.raster.proofs.changes.after_alike.Given as goal
 
 abbrev pub invariant-loop-at : goal.invariant-loop-at
@@ -9,7 +8,6 @@ invariant-loop-at l = record {
   high : 8 * l.at ≤ l.end + 64;
   further : l.from ≤ l.at;
   before : bit_before l.octets (8 * l.at) ≡ l.bit;
-  all : (k : ℕ) → k < 64 → bit_of_word l.alike k ≡ l.bit;
   goes_on : (next turned : ℕ) → NextTurns l.octets l.end l.at next turned → NextTurns l.octets l.end l.from next turned;
 }
 

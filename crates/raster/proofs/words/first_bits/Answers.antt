@@ -1,6 +1,6 @@
 use Rattle.std.proofs.Common.{arith}
-use Rattle.raster.proofs.ChangeLemmas.{kept_inside, kept_after}
-use Rattle.raster.proofs.changes.first_bits.Goals as goal
+use Rattle.raster.proofs.WordLemmas.{kept_inside, kept_after}
+use Rattle.raster.proofs.words.first_bits.Goals as goal
 
 pub returns-clause-inside : goal.returns-clause-inside
 returns-clause-inside c k h = kept_inside c.args.word c.args.count k (omega arith) h

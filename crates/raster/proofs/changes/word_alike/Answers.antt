@@ -1,5 +1,0 @@
-use Rattle.raster.proofs.ChangeLemmas.{bit_of_all}
-use Rattle.raster.proofs.changes.word_alike.Goals as goal
-
-pub returns-then-bit : goal.returns-then-bit
-returns-then-bit c k h = rw c.if-bit.true (bit_of_all k h)

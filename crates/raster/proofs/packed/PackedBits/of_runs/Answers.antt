@@ -1,6 +1,0 @@
-use Rattle.raster.specs.declared.packed.Order.TheVariants.{MsbFirst}
-use Rattle.raster.proofs.PackedLemmas.{bit_in-zeros}
-use Rattle.raster.proofs.packed.PackedBits.of_runs.Goals as goal
-
-pub paint-requires-clause-clear : goal.paint-requires-clause-clear
-paint-requires-clause-clear c k = rw c.in_ok-octets.ensures (bit_in-zeros MsbFirst _ k)

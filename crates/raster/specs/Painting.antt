@@ -1,0 +1,26 @@
+-- Rows that are painted in order, with the last bits in a word.
+use Rattle.std.specs.Prelude.{ℕ, ◌≡◌, ◌<◌, ◌≤◌, ◌+◌, ◌-◌, [], ◌∷◌, Bool, false, List, if◌then◌else◌, length, nat_lt, not}
+use Rattle.raster.specs.declared.packed.Order.TheVariants.{MsbFirst}
+use Rattle.raster.specs.Packed.{bit_in}
+use Rattle.raster.specs.Words.{bit_of_word}
+
+-- the bit at a place, where the bits from another one on are those of a word, and after the word all as its last one
+abbrev pub drawn_bit : List ℕ → ℕ → ℕ → ℕ → Bool
+drawn_bit octets from word k = if nat_lt k from then bit_in MsbFirst octets k else bit_of_word word (k - from)
+
+-- the bit at a place, where the bits are 0 at first and turn at each of the places
+abbrev pub bit_of_turns : List ℕ → ℕ → Bool
+bit_of_turns [] k = false
+bit_of_turns (place ∷ places) k = if nat_lt k place then bit_of_turns places k else not (bit_of_turns places k)
+
+-- the places where runs end that begin at a place
+abbrev pub ends_of : ℕ → List ℕ → List ℕ
+ends_of from [] = []
+ends_of from (run ∷ runs) = (from + run) ∷ ends_of (from + run) runs
+
+-- the octets after a word was written over the 64 bits from a place on
+pub record IsStored (old : List ℕ) (from word : ℕ) (new : List ℕ) : Type 0 where
+  pub same_length : length new ≡ length old
+  pub before : (k : ℕ) → k < from → bit_in MsbFirst new k ≡ bit_in MsbFirst old k
+  pub inside : (k : ℕ) → k < 64 → bit_in MsbFirst new (from + k) ≡ bit_of_word word k
+  pub after : (k : ℕ) → from + 64 ≤ k → bit_in MsbFirst new k ≡ bit_in MsbFirst old k
