@@ -2,7 +2,7 @@
 use Rattle.std.proofs.Common.{ℕ, ◌≡◌, ◌+◌, ◌-◌, ◌*◌, ◌/◌, ◌%◌, ◌^◌, ◌<◌, ◌≤◌, Bool, List, length, drop, Some, None}
 use Rattle.std.proofs.Common.{refl, ap, sym, ◌∙◌, inl, inr, arith}
 use Rattle.std.specs.Prelude.{Option, Ok}
-use Rattle.std.proofs.lemmas.List.{length-drop}
+use Rattle.std.proofs.lemmas.List.{drop-drop, length-drop}
 use Rattle.raster.specs.declared.row.Color.{Color}
 use Rattle.run_tables.specs.declared.fault.CodeFaultKind.{CodeFaultKind}
 use Rattle.run_tables.specs.declared.reader.Among.TheVariants.{AllCodes}
@@ -12,6 +12,7 @@ use Rattle.run_tables.specs.Numbers.{AreFirst, number_text}
 use Rattle.run_tables.specs.ReadTables.{entry_picked, entry_for}
 use Rattle.run_tables.specs.Reading.{Reading, rest_of, after}
 use Rattle.run_tables.specs.Texts.{pick}
+use Rattle.run_tables.specs.Windows.{IsWindow, passed}
 use Rattle.run_tables.proofs.CodePicks.{entry_found, entry_low, word_lengths}
 use Rattle.run_tables.proofs.CodeReads.{stands_pick}
 use Rattle.run_tables.proofs.NumberLemmas.{front_first, front_moved}
@@ -35,34 +36,71 @@ code_seen color count x word run bits is first enough some fits =
     entry_found color x run bits (is ∙ ap (entry_for color) (front_first 13 51 count x word refl enough first)) some fits
 
 -- a terminating code is a run
-pub quick_low : (color : Color) (room : ℕ) (past : CodeFaultKind) (old new : Reading) (word run bits : ℕ) → (run, bits) ≡ entry_for color
-    (number_text 13 (word / 2 ^ 51)) → AreFirst 57 (rest_of old) word → 57 ≤ length (rest_of old) → bits ≤ 13 → 0 < bits → run < 64
-    → run ≤ room → new ≡ record old { place = old.place + bits } → ReadsRunWithin color room past old new (Ok run)
-quick_low color room past old new word run bits is first left short some low fits moved =
-    let seen = code_seen color 57 (rest_of old) word run bits is first (omega arith) some (omega arith) in
+pub quick_low : (color : Color) (room : ℕ) (past : CodeFaultKind) (old new : Reading) (count word run bits : ℕ) → (run, bits) ≡ entry_for
+    color (number_text 13 (word / 2 ^ 51)) → AreFirst count (rest_of old) word → 13 ≤ count → count ≤ length (rest_of old) → bits ≤ 13
+    → 0 < bits → run < 64 → run ≤ room → new ≡ passed old bits → ReadsRunWithin color room past old new (Ok run)
+quick_low color room past old new count word run bits is first enough left short some low fits moved =
+    let seen = code_seen color count (rest_of old) word run bits is first enough some (omega arith) in
     inl ((seen.0, moved ∙ ap (λ (n : ℕ). record old { place = old.place + n }) seen.1), low, fits)
 
 -- a make-up code and a terminating code are one
-pub quick_high : (color : Color) (room : ℕ) (past : CodeFaultKind) (old new : Reading) (word high bits low more : ℕ) → (high, bits) ≡
-    entry_for color (number_text 13 (word / 2 ^ 51)) → AreFirst 57 (rest_of old) word → 57 ≤ length (rest_of old) → bits ≤ 13 → 0 < bits
-    → 64 ≤ high → (low, more) ≡ entry_for color (number_text 13 (word * 2 ^ bits % 2 ^ 64 / 2 ^ 51)) → more ≤ 13 → 0 < more → low < 64
-    → high + low ≤ room → new ≡ record old { place = old.place + (bits + more) } → ReadsRunWithin color room past old new (Ok (high + low))
-quick_high color room past old new word high bits low more is first left short some far more_is more_short more_some near fits moved =
-    let seen = code_seen color 57 (rest_of old) word high bits is first (omega arith) some (omega arith) in
+pub quick_high : (color : Color) (room : ℕ) (past : CodeFaultKind) (old new : Reading) (count word high bits wide next low more : ℕ)
+    → (high, bits) ≡ entry_for color (number_text 13 (word / 2 ^ 51)) → AreFirst count (rest_of old) word → 13 ≤ count
+    → count ≤ length (rest_of old) → bits ≤ 13 → 0 < bits → 64 ≤ high
+    → (low, more) ≡ entry_for color (number_text 13 (next * 2 ^ bits % 2 ^ 64 / 2 ^ 51)) → AreFirst wide (rest_of old) next → 26 ≤ wide
+    → wide ≤ 64 → wide ≤ length (rest_of old) → more ≤ 13 → 0 < more → low < 64 → high + low ≤ room → new ≡ passed old (bits + more)
+    → ReadsRunWithin color room past old new (Ok (high + low))
+quick_high color room past old new count word high bits wide next low more is first enough left short some far more_is ahead both most
+    longer more_short more_some near fits moved =
+    let seen = code_seen color count (rest_of old) word high bits is first enough some (omega arith) in
     let between : Reading = after (code_word color high) old in
     let rest : rest_of between ≡ drop bits (rest_of old) =
     rest_after (code_word color high) old ∙ ap (λ (n : ℕ). drop n (rest_of old)) (sym seen.1) in
     let long : more ≤ length (drop bits (rest_of old)) = rw length-drop (omega arith) in
-    let next = code_seen color (57 - bits) (drop bits (rest_of old)) (word * 2 ^ bits % 2 ^ 64) low more more_is (front_moved bits 57
-    (rest_of
-    old) word (omega arith) (omega arith) first) (omega arith) more_some long in
+    let seen_next = code_seen color (wide - bits) (drop bits (rest_of old)) (next * 2 ^ bits % 2 ^ 64) low more more_is (front_moved bits
+    wide (rest_of old) next (omega arith) most ahead) (omega arith) more_some long in
     let there : new ≡ after (code_word color low) between =
-    moved ∙ ap (λ (n : ℕ). record old { place = n }) (omega (arith, seen.1, next.1)) in
+    moved ∙ ap (λ (n : ℕ). record old { place = n }) (omega (arith, seen.1, seen_next.1)) in
     inr (
       high,
       low,
       between,
       ((seen.0, refl), far, omega arith),
-      ((rw rest (entry_low color (drop bits (rest_of old)) low next.0 near), there), near, omega arith),
+      ((rw rest (entry_low color (drop bits (rest_of old)) low seen_next.0 near), there), near, omega arith),
       refl,
     )
+
+-- ---- a window
+
+-- the bits after some that are used
+pub passed_on : (reader : Reading) (used count : ℕ) → rest_of (passed reader (used + count)) ≡ drop count (rest_of (passed reader used))
+passed_on reader used count =
+    let there : reader.place + (used + count) ≡ reader.place + used + count = omega arith in
+    rw there (sym (drop-drop count (reader.place + used) reader.bits))
+
+-- how many bits are left in a window
+pub window_left : (reader : Reading) (used word : ℕ) → IsWindow reader used word → 57 - used ≤ length (rest_of (passed reader used))
+window_left reader used word window =
+    omega (arith, window.enough, length-drop reader.place reader.bits, length-drop (reader.place + used) reader.bits)
+
+-- a window where none is used
+pub window_new : (reader : Reading) (word : ℕ) → AreFirst 57 (rest_of reader) word → 57 ≤ length (rest_of reader) → IsWindow reader 0 word
+window_new reader word first enough =
+    let here : reader.place + 0 ≡ reader.place = omega arith in
+    record { enough = enough; few = omega arith; held = rw here first }
+
+-- a window where more are used
+pub window_on : (reader : Reading) (used word count : ℕ) → IsWindow reader used word → used + count ≤ 57
+    → IsWindow reader (used + count) (word * 2 ^ count % 2 ^ 64)
+window_on reader used word count window within =
+    let fewer : 57 - (used + count) ≡ 57 - used - count = omega arith in
+    record {
+      enough = window.enough;
+      few = within;
+      held = rw (passed_on reader used count, fewer) (front_moved count (57 - used) (rest_of (passed reader used)) word
+          (omega arith) (omega arith) window.held);
+    }
+
+-- so many bits, and then more
+pub passed_twice : (reader : Reading) (used count : ℕ) → passed reader (used + count) ≡ passed (passed reader used) count
+passed_twice reader used count = ap (λ (n : ℕ). record reader { place = n }) (omega arith)

@@ -5,6 +5,7 @@ pub mod Texts
 pub mod Reading
 pub mod CodeReading
 pub mod Numbers
+pub mod Windows
 pub mod ReadTables
 pub mod WriteTables
 pub mod RunWords

@@ -8,6 +8,7 @@ mod read_table;
 mod reader;
 mod row_reader;
 mod table;
+mod window;
 mod write_table;
 mod writer;
 

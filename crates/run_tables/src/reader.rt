@@ -16,6 +16,7 @@ ghost use Rattle.std.specs.Prelude.{◌*◌, ◌+◌, ◌^◌, ◌/◌, ◌<◌,
 use crate::fault::{CodeFault, CodeFaultKind};
 use crate::read_table::entry;
 use crate::table::code_at;
+use crate::window::Window;
 use raster::Color;
 use raster::packed::{Order, bit_of, word_at, word_of_eight};
 use std::marker::Model;
@@ -53,7 +54,7 @@ pub enum RunCode {
 
 /// The run and the length of the code word of a color that begins the 64 bits of a number, or 0 and 0.
 #[inline(always)]
-fn code_in(color: Color, word: u64) -> (u32, u32)
+pub(crate) fn code_in(color: Color, word: u64) -> (u32, u32)
     ensures code { result ≡ entry_for color (number_text 13 (word / 2 ^ 51)) }
     ensures run { result.0 < 2 ^ 16 }
     ensures length { result.1 ≤ 13 }
@@ -200,7 +201,7 @@ impl<'a> BitReader<'a> {
     /// Goes so many bits on, at most 64.
     #[inline(always)]
     #[tactic(auto, using(raster::proofs::PackedLemmas::views))]
-    fn step(&mut self, count: u32)
+    pub(crate) fn step(&mut self, count: u32)
         requires few { count ≤ 64 }
         requires fits { self.old.place + count ≤ length self.old.bits }
         ensures { self.new ≡ record self.old { place = self.old.place + count } }
@@ -368,25 +369,10 @@ impl<'a> BitReader<'a> {
         ensures most { IfSome result (λ run. run ≤ room) }
         ensures none { IfNone result (self.new ≡ self.old) }
     {
-        let enough = self.has_57();
-        if !enough {
-            return None;
-        }
-        let word = self.peek_57();
-        let (high, bits) = code_in(color, word);
-        if bits == 0 || high > room {
-            return None;
-        }
-        if high < 64 {
-            self.step(bits);
-            return Some(high);
-        }
-        let (low, more) = code_in(color, word << bits);
-        if more == 0 || low >= 64 || high + low > room {
-            return None;
-        }
-        self.step(bits + more);
-        Some(high + low)
+        let mut window = Window::at(self.look_ahead())?;
+        let run = window.run(color, room)?;
+        *self = window.into_reader();
+        Some(run)
     }
 
     /// `read_run_within` code by code.

@@ -7,6 +7,7 @@ ghost use Rattle.std.specs.Prelude.{IfOk, IfErr, OnErr, sum, ◌≡◌, ◌≢�
 
 use crate::fault::{CodeFault, CodeFaultKind};
 use crate::reader::BitReader;
+use crate::window::Window;
 use raster::{Color, RasterFault, Row};
 use std::alloc::{AllocError, Global};
 use std::mem::replace;
@@ -38,13 +39,15 @@ impl<'a> BitReader<'a> {
         ensures { IfOk result (λ row. IsInRow width self.old self.new row.runs.items row.color row.room) }
     {
         let _place = self.place(); // tells the proof that it is within the bits
-        let mut ahead = self.look_ahead();
         let mut runs = list;
         runs.clear();
         let mut color = Color::White;
         let mut room = width;
+        let Some(mut window) = Window::at(self.look_ahead()) else {
+            return Ok(RunsSoFar { runs, color, room });
+        };
         while room > 0 {
-            let Some(white) = ahead.quick_run(Color::White, room) else {
+            let Some(white) = window.run(Color::White, room) else {
                 break;
             };
             runs.push(white)?;
@@ -53,14 +56,14 @@ impl<'a> BitReader<'a> {
             if room == 0 {
                 break;
             }
-            let Some(black) = ahead.quick_run(Color::Black, room) else {
+            let Some(black) = window.run(Color::Black, room) else {
                 break;
             };
             runs.push(black)?;
             room -= black;
             color = Color::White;
         }
-        *self = ahead;
+        *self = window.into_reader();
         Ok(RunsSoFar { runs, color, room })
     }
 

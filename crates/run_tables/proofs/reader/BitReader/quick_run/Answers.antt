@@ -1,15 +1,15 @@
-use Rattle.std.proofs.Common.{arith}
-use Rattle.std.proofs.lemmas.Bool.{OnTrue_at}
-use Rattle.run_tables.proofs.QuickRuns.{quick_low, quick_high}
+use Rattle.std.proofs.Common.{◌∙◌, subst, sym}
+use Rattle.std.specs.Prelude.{Ok}
+use Rattle.run_tables.specs.CodeReading.{ReadsRunWithin}
+use Rattle.run_tables.specs.Reading.{Reading}
+use Rattle.run_tables.specs.Windows.{passed}
 use Rattle.run_tables.proofs.reader.BitReader.quick_run.Goals as goal
 
-pub returns-then-high-lt64-clause-some : goal.returns-then-high-lt64-clause-some
-returns-then-high-lt64-clause-some c past = quick_low c.args.color c.args.room past c.args.self.now c.step.new.self c.peek_57-word.result
-    c.code_in-high.result.0 c.code_in-high.result.1 c.code_in-high.ensures.code c.peek_57-word.ensures (OnTrue_at c.if-not-enough.false
-    c.has_57-enough.ensures.yes) c.code_in-high.ensures.length (omega arith) c.if-high-lt64.true c.if-high-room.false c.step.ensures
-
 pub returns-clause-some : goal.returns-clause-some
-returns-clause-some c past = quick_high c.args.color c.args.room past c.args.self.now c.step-2.new.self c.peek_57-word.result
-    c.code_in-high.result.0 c.code_in-high.result.1 c.code_in-low.result.0 c.code_in-low.result.1 c.code_in-high.ensures.code
-    c.peek_57-word.ensures (OnTrue_at c.if-not-enough.false c.has_57-enough.ensures.yes) c.code_in-high.ensures.length (omega arith)
-    c.if-high-lt64.false c.code_in-low.ensures.code c.code_in-low.ensures.length (omega arith) (omega arith) (omega arith) c.step-2.ensures
+returns-clause-some c past =
+    let before = c.in_ok-window.ensures.place ∙ c.look_ahead.ensures in
+    let window = c.run.new.self in
+    subst (λ (old : Reading). ReadsRunWithin c.args.color c.args.room past old c.into_reader.result (Ok c.in_ok-run.run')) before
+    (subst (λ (new : Reading). ReadsRunWithin c.args.color c.args.room past
+    (passed c.in_ok-window.window.reader c.in_ok-window.window.used) new (Ok c.in_ok-run.run')) (sym c.into_reader.ensures)
+    (c.in_ok-run.ensures.some past))

@@ -1,0 +1,121 @@
+//! Reading of run codes from a word that is held: several of them with one load (ITU-T T.4, 4.1.1).
+
+ghost use Rattle.run_tables.specs.CodeReading.{ReadsRunWithin};
+ghost use Rattle.run_tables.specs.Reading.{Reading, rest_of};
+ghost use Rattle.run_tables.specs.Windows.{IsWindow, passed};
+ghost use Rattle.run_tables.specs.declared.fault.CodeFaultKind.{CodeFaultKind};
+ghost use Rattle.std.specs.Bool.{OnTrue};
+ghost use Rattle.std.specs.Prelude.{◌≡◌, ◌≤◌, ◌+◌, IfNone, IfSome, Ok};
+
+use crate::reader::{BitReader, code_in};
+use raster::Color;
+
+/// The next 57 bits of a reader: how many of them are used, and the others as the first bits of a word.
+#[derive(Drop)]
+pub(crate) struct Window<'a> {
+    reader: BitReader<'a>,
+    used: u32,
+    word: u64,
+}
+
+impl<'a> Window<'a> {
+    /// The window at a reader's place, or none where fewer than 57 bits are left.
+    #[inline(always)]
+    pub(crate) fn at(reader: BitReader<'a>) -> Option<Self>
+        ensures window { IfSome result (λ window. IsWindow window.reader window.used window.word) }
+        ensures place { IfSome result (λ window. passed window.reader window.used ≡ reader.entry) }
+    {
+        let enough = reader.has_57();
+        if !enough {
+            return None;
+        }
+        let word = reader.peek_57();
+        Some(Window {
+            reader,
+            used: 0,
+            word,
+        })
+    }
+
+    /// The reader after the bits that are used.
+    #[inline(always)]
+    pub(crate) fn into_reader(self) -> BitReader<'a>
+        requires { IsWindow self.reader self.used self.word }
+        ensures { result ≡ passed self.entry.reader self.entry.used }
+    {
+        let mut reader = self.reader;
+        reader.step(self.used);
+        reader
+    }
+
+    /// Whether so many bits are held, when the window was moved on if they were not.
+    #[inline(always)]
+    fn holds(&mut self, count: u32) -> bool
+        requires window { IsWindow self.old.reader self.old.used self.old.word }
+        requires few { count ≤ 57 }
+        ensures window { IsWindow self.new.reader self.new.used self.new.word }
+        ensures place { passed self.new.reader self.new.used ≡ passed self.old.reader self.old.used }
+        ensures enough { OnTrue result (self.new.used + count ≤ 57) }
+    {
+        if self.used + count <= 57 {
+            return true;
+        }
+        let mut reader = self.reader.look_ahead();
+        reader.step(self.used);
+        let enough = reader.has_57();
+        if !enough {
+            return false;
+        }
+        self.word = reader.peek_57();
+        self.reader = reader;
+        self.used = 0;
+        true
+    }
+
+    /// Goes so many bits on.
+    #[inline(always)]
+    fn pass(&mut self, count: u32)
+        requires window { IsWindow self.old.reader self.old.used self.old.word }
+        requires held { self.old.used + count ≤ 57 }
+        ensures window { IsWindow self.new.reader self.new.used self.new.word }
+        ensures place { passed self.new.reader self.new.used ≡ passed self.old.reader (self.old.used + count) }
+    {
+        self.word = self.word << count;
+        self.used += count;
+    }
+
+    /// The next run of a color, of at most so many pixels, where it can be told from 57 bits. Else none,
+    /// and the window is at the same place.
+    #[inline(always)]
+    pub(crate) fn run(&mut self, color: Color, room: u32) -> Option<u32>
+        requires { IsWindow self.old.reader self.old.used self.old.word }
+        ensures window { IsWindow self.new.reader self.new.used self.new.word }
+        ensures some { IfSome result (λ run. (past : CodeFaultKind)
+            → ReadsRunWithin color room past (passed self.old.reader self.old.used) (passed self.new.reader self.new.used) (Ok run)) }
+        ensures most { IfSome result (λ run. run ≤ room) }
+        ensures none { IfNone result (passed self.new.reader self.new.used ≡ passed self.old.reader self.old.used) }
+    {
+        let first = self.holds(13);
+        if !first {
+            return None;
+        }
+        let (high, bits) = code_in(color, self.word);
+        if bits == 0 || high > room {
+            return None;
+        }
+        if high < 64 {
+            self.pass(bits);
+            return Some(high);
+        }
+        let both = self.holds(26);
+        if !both {
+            return None;
+        }
+        let (low, more) = code_in(color, self.word << bits);
+        if more == 0 || low >= 64 || high + low > room {
+            return None;
+        }
+        self.pass(bits + more);
+        Some(high + low)
+    }
+}
