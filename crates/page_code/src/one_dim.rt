@@ -15,7 +15,7 @@ mod eol;
 pub(crate) mod repair;
 
 use crate::coding::{Coding, PageCode};
-use crate::one_dim::eol::{Eol, after_five_eols, eol_at};
+use crate::one_dim::eol::{Eol, after_five_eols, eol_at, quick_eol};
 use crate::page::{Progress, append_octets, push_row};
 use raster::packed::Order;
 use raster::{MAX_ROWS, Page, Row};
@@ -76,6 +76,11 @@ fn next_row(octets: &[u8], order: Order, to: &Progress) -> Start
     ensures few { length to.now.page.rows ≤ max_rows }
 {
     let rows = to.page.rows().len();
+    if rows < MAX_ROWS {
+        if let Some(bits) = quick_eol(octets, order, to.place) {
+            return Start::Row(to.place + bits as u128);
+        }
+    }
     match eol_at(octets, order, to.place) {
         Eol::Present(bits) => start_at(octets, order, to.place + bits, rows),
         Eol::Absent => {

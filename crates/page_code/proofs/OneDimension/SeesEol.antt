@@ -1,7 +1,7 @@
 -- Reading an EOL, bit by bit.
-use Rattle.std.proofs.Common.{◌⊎◌, inl, inr, subst, ℕ, suc, ◌≡◌, ◌+◌, ◌-◌, ◌*◌, ◌<◌, ◌≤◌, Bool, true, false, List, ◌∷◌, length, drop}
+use Rattle.std.proofs.Common.{[], ◌⊎◌, inl, inr, subst, ℕ, suc, ◌≡◌, ◌+◌, ◌-◌, ◌*◌, ◌<◌, ◌≤◌, Bool, true, false, List, ◌∷◌, length, drop}
 use Rattle.std.proofs.Common.{Some, zero, None, refl, ap, sym, ◌∙◌, arith, drop-drop}
-use Rattle.std.specs.Prelude.{Option}
+use Rattle.std.specs.Prelude.{Option, slice_index_or, ◌^◌, ◌%◌}
 use Rattle.std.specs.Option.{option_map}
 use Rattle.std.proofs.lemmas.List.{drop_more, drop_all, length-drop}
 use Rattle.std.proofs.lemmas.Option.{get_or_from_slice_get}
@@ -14,6 +14,8 @@ use Rattle.page_code.specs.OneDimension.Fronts.{zeros_before, bits_of_eols, bits
 use Rattle.page_code.specs.OneDimension.Reading.{SeesEol}
 use Rattle.page_code.specs.declared.one_dim.eol.Eol.{Eol}
 use Rattle.page_code.specs.declared.one_dim.eol.Eol.TheVariants.{Present, Absent, OnlyZeros}
+use Rattle.run_tables.specs.Numbers.{AreFirst}
+use Rattle.run_tables.proofs.NumberLemmas.{front_moved}
 use Rattle.page_code.proofs.OneDimension.Reading.{five_eols, eols_go, eols_none, eols_other}
 
 -- so many 0 bits more, where a 1 follows
@@ -145,3 +147,38 @@ eol_counted order octets all after counter bits few within sees before =
 pub eols_end : (most : ℕ) (x : List Bool) (eol : Eol) → SeesEol x eol → (eol ≡ Absent) ⊎ (eol ≡ OnlyZeros) → counted most x ≡ 0
 eols_end most x eol sees (inl e) = counted_other most x (subst (λ (seen : Eol). SeesEol x seen) e sees)
 eols_end most x eol sees (inr e) = counted_none most x (subst (λ (seen : Eol). SeesEol x seen) e sees)
+
+-- ---- an EOL that is told from the first bits as a number
+
+-- 0 bits, and then a 1
+zeros_some : (x : List Bool) (n : ℕ) → ((k : ℕ) → k < n → slice_index_or x k false ≡ false) → slice_index_or x n false ≡ true
+    → zeros_before x ≡ Some n
+zeros_some [] n zeros one = absurd (true≢false (sym one))
+zeros_some (true ∷ x) zero zeros one = refl
+zeros_some (true ∷ x) (suc n) zeros one = absurd (true≢false (zeros 0 (omega arith)))
+zeros_some (false ∷ x) zero zeros one = absurd (true≢false (sym one))
+zeros_some (false ∷ x) (suc n) zeros one = ap (option_map suc) (zeros_some x n (λ k h. zeros (suc k) (omega arith)) one)
+
+-- the 0 bits that begin a number
+pub zeros_seen : (count : ℕ) (x : List Bool) (word zeros : ℕ) → AreFirst count x word → count ≤ 64 → IsFirstInWord word 0 false zeros
+    → zeros < count → zeros_before x ≡ Some zeros
+zeros_seen count x word zeros is most first some =
+    zeros_some x zeros (λ k h. sym (is k (omega arith)) ∙ first.before k (omega arith) h)
+    (sym (is zeros some) ∙ first.hit (omega arith))
+
+-- an EOL
+pub eol_seen : (x : List Bool) (word zeros : ℕ) → AreFirst 57 x word → 57 ≤ length x → IsFirstInWord word 0 false zeros → 11 ≤ zeros
+    → zeros ≤ 45 → SeesEol x (Present (zeros + 1))
+eol_seen x word zeros is long first some few =
+    (zeros, zeros_seen 57 x word zeros is (omega arith) first (omega arith), some, refl, omega arith)
+
+-- a row's code after it
+pub code_after : (order : Order) (octets : List ℕ) (place word zeros more : ℕ) → AreFirst 57 (drop place (bits_of order octets)) word
+    → zeros ≤ 45 → IsFirstInWord (word * 2 ^ (zeros + 1) % 2 ^ 64) 0 false more → more < 11
+    → CodeBegins (drop (place + (zeros + 1)) (bits_of order octets))
+code_after order octets place word zeros more is few first short =
+    let there = drop-drop (zeros + 1) place (bits_of order octets) in
+    let seen = zeros_seen (57 - (zeros + 1)) (drop (zeros + 1) (drop place (bits_of order octets))) (word * 2 ^ (zeros + 1) % 2 ^ 64) more
+    (front_moved (zeros + 1) 57 (drop place (bits_of order octets)) word (omega arith) (omega arith) is) (omega arith) first
+    (omega arith) in
+    (more, ap (λ (x : List Bool). zeros_before x) (sym there) ∙ seen, short)

@@ -1,12 +1,13 @@
 //! The end of a line (ITU-T T.4, 4.1.2).
 
-ghost use Rattle.page_code.specs.OneDimension.Fronts.{zeros_before, bits_of_five};
+ghost use Rattle.page_code.specs.OneDimension.Fronts.{CodeBegins, zeros_before, bits_of_five};
 ghost use Rattle.page_code.specs.OneDimension.Reading.{SeesEol};
 ghost use Rattle.raster.specs.Packed.{bits_of};
 ghost use Rattle.raster.specs.Words.{IsFirstInWord};
 ghost use Rattle.std.specs.Prelude.{◌≡◌, ◌≤◌, ◌<◌, ◌+◌, ◌*◌, drop, false, length, IfSome};
 
 use raster::packed::{Order, word_at};
+use run_tables::BitReader;
 
 /// What is found where an end of line may come (ITU-T T.4, 4.1.2).
 #[derive(Clone, Copy, Debug, PartialEq, Eq)]
@@ -43,6 +44,31 @@ pub(crate) fn zeros_from(octets: &[u8], order: Order, place: u128) -> Option<u12
         at += 64;
     }
     None
+}
+
+/// How many bits the EOL at a place has, where the next 57 bits tell that one is there and that a row's
+/// code follows it.
+#[inline(always)]
+pub(crate) fn quick_eol(octets: &[u8], order: Order, place: u128) -> Option<u32>
+    requires { place ≤ 8 * length octets.now }
+    ensures eol { IfSome result (λ bits. SeesEol (drop place (bits_of order octets.now)) (Eol.Present bits)) }
+    ensures code { IfSome result (λ bits. CodeBegins (drop (place + bits) (bits_of order octets.now))) }
+{
+    let reader = BitReader::at(octets, order, place);
+    let enough = reader.has_57();
+    if !enough {
+        return None;
+    }
+    let word = reader.peek_57();
+    let zeros = zeros_of(word);
+    if zeros < 11 || zeros > 45 {
+        return None;
+    }
+    let more = zeros_of(word << (zeros + 1));
+    if more >= 11 {
+        return None;
+    }
+    Some(zeros + 1)
 }
 
 /// What is found at a place where an EOL may come.

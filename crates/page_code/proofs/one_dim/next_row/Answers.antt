@@ -1,4 +1,5 @@
-use Rattle.std.proofs.Common.{◌+◌, ◌*◌, ◌≤◌, length, arith, rules}
+use Rattle.std.proofs.Common.{◌+◌, ◌*◌, ◌≤◌, length, arith, refl, rules}
+use Rattle.page_code.specs.declared.one_dim.Start.TheVariants.{Row}
 use Rattle.raster.specs.Packed.{bits_of}
 use Rattle.page_code.proofs.OneDimension.RowsOn.{eol_fits, finds_after_eol, finds_bad, finds_end, finds_first, finds_none, within_bits}
 use Rattle.page_code.proofs.one_dim.next_row.Goals as goal
@@ -40,3 +41,9 @@ returns-else-rows-eq0-2-clause-finds c = finds_end (bits_of c.args.order c.args.
       arith,
       rw c.rows-rows.ensures.rows at c.if-rows-eq0-2.false,
     )) c.in-OnlyZeros.ensures
+
+pub returns-in-Some-clause-finds : goal.returns-in-Some-clause-finds
+returns-in-Some-clause-finds c = finds_after_eol (bits_of c.args.order c.args.octets.now) c.args.to.now.page.width
+    c.args.to.now.page.rows c.args.to.now.place c.in-Some.bits (Row (c.args.to.now.place + c.in-Some.bits))
+    (within_bits c.args.order c.args.octets.now c.args.to.now.place c.requires) c.in-Some.ensures.eol
+    (refl, c.in-Some.ensures.code, rw c.rows-rows.ensures.rows at c.if-rows-lt-MAX_ROWS.true)
