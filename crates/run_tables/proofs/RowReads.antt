@@ -1,7 +1,7 @@
 -- Reading a row run by run.
 use Rattle.std.proofs.Common.{◌≢◌, subst, length-append, ℕ, ◌≡◌, ◌+◌, ◌-◌, ◌<◌, ◌≤◌, Bool, List, ◌++◌}
 use Rattle.std.proofs.Common.{length, drop, replicate, Some, None, refl, ap, sym, ◌∙◌, arith, inl, inr}
-use Rattle.std.specs.Prelude.{Option, Result, Ok, Err, Vec}
+use Rattle.std.specs.Prelude.{Option, Result, Ok, Err}
 use Rattle.std.specs.Option.{option_map}
 use Rattle.std.proofs.lemmas.Bool.{lt-ltb, le-ltb, ne_eqb, eq-eqb}
 use Rattle.std.proofs.lemmas.List.{drop-drop, length-drop}
@@ -301,16 +301,16 @@ reads_there width old row end wide e = seen (read_row width (rest_of old)) refl 
         (read.1, (reads_rows_exactly width (rest_of old) row read.1 wide).0 reads, sym (ap (λ (p : List Color × ℕ). p.1) pair))
 
 -- a refusal of the runs is one of memory, or one of the row
-pub runs_refused : (V : Type 0) (width : ℕ) (old new : Reading) (fault : CodeFault) → IsWidth width
-    → RowRuns {V = V} width old new (Err fault) → fault.kind ≢ NoMemory → RefusesRow width old fault
-runs_refused V width old new fault wide (inl memory) other = absurd (other memory)
-runs_refused V width old new fault wide (inr e) other = refuses_there width old fault wide e
+pub runs_refused : (width : ℕ) (old new : Reading) (runs : List ℕ) (fault : CodeFault) → IsWidth width
+    → RowRuns width old new runs (Err fault) → fault.kind ≢ NoMemory → RefusesRow width old fault
+runs_refused width old new runs fault wide (inl memory) other = absurd (other memory)
+runs_refused width old new runs fault wide (inr e) other = refuses_there width old fault wide e
 
 -- the row of the runs is the one that is there
-pub runs_read : (V : Type 0) (width : ℕ) (old new : Reading) (runs : Vec ℕ V) (row : List Color) → IsWidth width
-    → RowRuns width old new (Ok runs) → row ≡ colored White runs.items → ReadsRow width old new row
-runs_read V width old new runs row wide read is =
-    let there = reads_there width old (colored White runs.items) new.place wide read.3 in
+pub runs_read : (width : ℕ) (old new : Reading) (runs : List ℕ) (row : List Color) → IsWidth width
+    → RowRuns width old new runs (Ok tt) → row ≡ colored White runs → ReadsRow width old new row
+runs_read width old new runs row wide read is =
+    let there = reads_there width old (colored White runs) new.place wide read.3 in
     record { used = there.0; reads = rw is there.1; after = same new old.bits read.0 there.2 }
   where
     same : (reader : Reading) (bits : List Bool) → reader.bits ≡ bits → {place : ℕ} → reader.place ≡ place

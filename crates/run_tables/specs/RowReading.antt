@@ -1,5 +1,5 @@
 -- What reading a one-dimensional row answers, and what it leaves (ITU-T T.4, 4.1.1).
-use Rattle.std.specs.Prelude.{ℕ, ◌≡◌, ◌≢◌, ◌+◌, ◌<◌, ◌≤◌, ◌++◌, List, length, replicate, None, Result, Ok, Err, sum, Vec, ◌⊎◌}
+use Rattle.std.specs.Prelude.{ℕ, ◌≡◌, ◌≢◌, ◌+◌, ◌<◌, ◌≤◌, ◌++◌, List, length, replicate, None, Result, Ok, Err, sum, ◌⊎◌}
 use Rattle.raster.specs.declared.row.Color.{Color}
 use Rattle.raster.specs.declared.row.Color.TheVariants.{White}
 use Rattle.raster.specs.Runs.{colored}
@@ -49,10 +49,10 @@ pub record IsInRow (width : ℕ) (old new : Reading) (runs : List ℕ) (color : 
       new.place (rest_of new)
 
 -- the runs of a row were read; or memory was refused, or the row is refused where reading it is
-abbrev pub RowRuns : {V : Type 0} → ℕ → Reading → Reading → Result (Vec ℕ V) CodeFault → Type 0
-RowRuns width old new (Ok runs) = (new.bits ≡ old.bits) × (new.place ≤ length new.bits) × (sum runs.items ≡ width)
-    × (reading width row_begin old.place (rest_of old) ≡ Ok (colored White runs.items, new.place))
-RowRuns width old new (Err fault) = (fault.kind ≡ NoMemory) ⊎ (reading width row_begin old.place (rest_of old) ≡ Err (
+abbrev pub RowRuns : ℕ → Reading → Reading → List ℕ → Result (Unit {0}) CodeFault → Type 0
+RowRuns width old new runs (Ok done) = (new.bits ≡ old.bits) × (new.place ≤ length new.bits) × (sum runs ≡ width)
+    × (reading width row_begin old.place (rest_of old) ≡ Ok (colored White runs, new.place))
+RowRuns width old new runs (Err fault) = (fault.kind ≡ NoMemory) ⊎ (reading width row_begin old.place (rest_of old) ≡ Err (
   fault.place,
   fault.kind,
 ))

@@ -10,7 +10,6 @@ use crate::reader::BitReader;
 use crate::window::Window;
 use raster::{Color, RasterFault, Row};
 use std::alloc::{AllocError, Global};
-use std::mem::replace;
 
 /// The row of these runs, white first, which add up to a width. Errs where memory is refused.
 fn row_of(alloc: Global, runs: &[u32]) -> Result<Row, AllocError>
@@ -24,27 +23,19 @@ fn row_of(alloc: Global, runs: &[u32]) -> Result<Row, AllocError>
     }
 }
 
-/// The runs of a row that were read, the color of the next one, and how many pixels are left.
-#[derive(Drop)]
-struct RunsSoFar {
-    runs: Vec<u32>,
-    color: Color,
-    room: u32,
-}
-
 impl<'a> BitReader<'a> {
-    /// The first runs of a row, as many as can be told quickly, in the list's memory.
-    fn quick_runs(&mut self, list: Vec<u32>, width: u32) -> Result<RunsSoFar, AllocError>
+    /// The first runs of a row, as many as can be told quickly. Answers the color of the next one, and how
+    /// many pixels are left.
+    fn quick_runs(&mut self, width: u32, runs: &mut Vec<u32>) -> Result<(Color, u32), AllocError>
         requires { IsWidth width }
-        ensures { IfOk result (λ row. IsInRow width self.old self.new row.runs.items row.color row.room) }
+        ensures { IfOk result (λ next. IsInRow width self.old self.new runs.new.items next.0 next.1) }
     {
         let _place = self.place(); // tells the proof that it is within the bits
-        let mut runs = list;
         runs.clear();
         let mut color = Color::White;
         let mut room = width;
         let Some(mut window) = Window::at(self.look_ahead()) else {
-            return Ok(RunsSoFar { runs, color, room });
+            return Ok((color, room));
         };
         while room > 0 {
             let Some(white) = window.run(Color::White, room) else {
@@ -64,27 +55,22 @@ impl<'a> BitReader<'a> {
             color = Color::White;
         }
         *self = window.into_reader();
-        Ok(RunsSoFar { runs, color, room })
+        Ok((color, room))
     }
 
-    /// The runs of a row of this width, in the list's memory. After an error the reader is somewhere in
-    /// the row.
-    fn row_runs(&mut self, list: Vec<u32>, width: u32) -> Result<Vec<u32>, CodeFault>
+    /// The runs of a row of this width. After an error the reader is somewhere in the row.
+    fn row_runs(&mut self, width: u32, runs: &mut Vec<u32>) -> Result<(), CodeFault>
         requires { IsWidth width }
-        ensures { RowRuns width self.old self.new result }
+        ensures { RowRuns width self.old self.new runs.new.items result }
     {
-        let RunsSoFar {
-            mut runs,
-            mut color,
-            mut room,
-        } = self.quick_runs(list, width)?;
+        let (mut color, mut room) = self.quick_runs(width, runs)?;
         while room > 0 {
             let run = self.read_run_by_codes(color, room, CodeFaultKind::RunTooLong)?;
             runs.push(run)?;
             room -= run;
             color = color.other();
         }
-        Ok(runs)
+        Ok(())
     }
 
     /// The row of this width, which leaves its runs in the list. After an error the reader is somewhere
@@ -98,10 +84,8 @@ impl<'a> BitReader<'a> {
         requires { IsWidth width }
         ensures { WholeRow width self.old self.new result }
     {
-        let runs = self.row_runs(replace(list, Vec::new(alloc)), width)?;
-        let row = row_of(alloc, &runs)?;
-        *list = runs;
-        Ok(row)
+        self.row_runs(width, list)?;
+        Ok(row_of(alloc, list)?)
     }
 
     /// The next row in one dimension, 1 to 2,432 pixels wide: its run codes, white first (ITU-T T.4,
