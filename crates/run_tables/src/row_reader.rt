@@ -3,7 +3,8 @@
 ghost use Rattle.raster.specs.Pixels.{IsWidth};
 ghost use Rattle.raster.specs.Runs.{colored};
 ghost use Rattle.run_tables.specs.RowReading.{IsInRow, ReadsRow, RefusesRow, RowRuns, WholeRow};
-ghost use Rattle.std.specs.Prelude.{IfOk, IfErr, OnErr, sum, ◌≡◌, ◌≢◌};
+ghost use Rattle.run_tables.specs.Reading.{Reading};
+ghost use Rattle.std.specs.Prelude.{ℕ, IfOk, IfErr, OnErr, sum, ◌≡◌, ◌≢◌};
 
 use crate::fault::{CodeFault, CodeFaultKind};
 use crate::reader::BitReader;
@@ -58,18 +59,36 @@ impl<'a> BitReader<'a> {
         Ok((color, room))
     }
 
-    /// The runs of a row of this width. After an error the reader is somewhere in the row.
-    fn row_runs(&mut self, width: u32, runs: &mut Vec<u32>) -> Result<(), CodeFault>
-        requires { IsWidth width }
-        ensures { RowRuns width self.old self.new runs.new.items result }
+    /// The other runs of a row, code by code: the color of the next one, and so many pixels.
+    #[cold]
+    #[inline(never)]
+    fn other_runs(&mut self, next: Color, left: u32, runs: &mut Vec<u32>) -> Result<(), CodeFault>
+        ensures { (width : ℕ) (start : Reading) → IsInRow width start self.old runs.old.items next left
+            → RowRuns width start self.new runs.new.items result }
     {
-        let (mut color, mut room) = self.quick_runs(width, runs)?;
+        let mut color = next;
+        let mut room = left;
         while room > 0 {
             let run = self.read_run_by_codes(color, room, CodeFaultKind::RunTooLong)?;
             runs.push(run)?;
             room -= run;
             color = color.other();
         }
+        Ok(())
+    }
+
+    /// The runs of a row of this width. After an error the reader is somewhere in the row.
+    fn row_runs(&mut self, width: u32, runs: &mut Vec<u32>) -> Result<(), CodeFault>
+        requires { IsWidth width }
+        ensures { RowRuns width self.old self.new runs.new.items result }
+    {
+        let (color, room) = self.quick_runs(width, runs)?;
+        if room == 0 {
+            return Ok(());
+        }
+        let mut ahead = self.look_ahead();
+        ahead.other_runs(color, room, runs)?;
+        *self = ahead;
         Ok(())
     }
 
