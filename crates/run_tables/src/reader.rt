@@ -212,7 +212,7 @@ impl<'a> BitReader<'a> {
     }
 
     /// The next 64 bits as a number, the first of them the most significant; past the end they are 0.
-    #[inline(always)]
+    #[cold]
     fn peek(&self) -> u64
         ensures { IsFirst64 (rest_of self.now) result }
     {
@@ -220,22 +220,14 @@ impl<'a> BitReader<'a> {
         word_at(self.order, self.octets, place)
     }
 
-    /// `peek` where fewer than eight octets are left.
-    #[cold]
-    fn last_peek(&self) -> u64
-        ensures { IsFirst64 (rest_of self.now) result }
-    {
-        self.peek()
-    }
-
     /// The next bits as a number, the first of them the most significant. They are the first 57 of its
-    /// 64 bits; past the end they are 0. It costs less than `peek`.
+    /// 64 bits; past the end they are 0.
     #[inline(always)]
     pub fn peek_57(&self) -> u64
         ensures { AreFirst 57 (rest_of self.now) result }
     {
         if self.octets.len() - self.at < 8 {
-            return self.last_peek();
+            return self.peek();
         }
         word_of_eight(self.order, self.octets, self.at, self.within)
     }

@@ -3,7 +3,7 @@ use Rattle.run_tables.proofs.NumberLemmas.{word_front}
 use Rattle.run_tables.proofs.reader.BitReader.peek_57.Goals as goal
 
 pub returns-then-self-lt8 : goal.returns-then-self-lt8
-returns-then-self-lt8 c k h = c.last_peek.ensures k (omega arith)
+returns-then-self-lt8 c k h = c.peek.ensures k (omega arith)
 
 pub returns : goal.returns
 returns c k h =
