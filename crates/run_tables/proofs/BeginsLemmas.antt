@@ -117,10 +117,6 @@ begins_more digits bits i p bit h e =
     let next : p + i + 1 ≡ p + (i + 1) = omega arith in
     rw (drop_more digits i 0 h, drop_more bits (p + i) bit within, get_or_from_slice_get bits (p + i) bit bit e, next) refl
 
-pub begins_past : (digits : List ℕ) (bits : List Bool) (i p : ℕ) → i < length digits → length bits ≤ p + i
-    → begins (text (drop i digits)) (drop (p + i) bits) ≡ false
-begins_past digits bits i p h past = rw (drop_more digits i 0 h, drop_all (p + i) bits past) refl
-
 -- the same the other way round
 pub cut_more : (digits : List ℕ) (bits : List Bool) (i p : ℕ) (bit : Bool) → i < length digits → slice_get bits (p + i) ≡ Some bit
     → begins (drop (p + i) bits) (text (drop i digits)) ≡ (beq (nat_eq (get_or digits i 0) 49) bit && begins (drop (p + (i + 1)) bits) (text

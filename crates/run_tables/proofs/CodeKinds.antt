@@ -218,10 +218,6 @@ run_codes_refused color old new (Err f) fault reads = (
 
 -- ---- what is answered of runs
 
--- a make-up code is there, and these bits after it
-abbrev AfterMakeUp : Color → Reading → ℕ → List Bool → List Bool → Type 0
-AfterMakeUp color reader makeup word rest = InTable color makeup word × (64 ≤ makeup) × (rest_of reader ≡ word ++ rest)
-
 makeup_next : (color : Color) (reader : Reading) (makeup : ℕ) (word rest : List Bool) → InTable color makeup word
     → rest_of reader ≡ word ++ rest → IsNext color AllCodes (rest_of reader) makeup × (word ≡ code_word color makeup)
 makeup_next color reader makeup word rest listed split = (

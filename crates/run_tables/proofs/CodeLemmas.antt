@@ -4,7 +4,7 @@ use Rattle.std.proofs.lemmas.Bool.{le-ltb, lt-ltb}
 use Rattle.std.proofs.lemmas.Grind.{common_steps}
 use Rattle.raster.specs.declared.row.Color.{Color}
 use Rattle.raster.specs.declared.row.Color.TheVariants.{White}
-use Rattle.raster.specs.Runs.{colored, AreOwnRuns}
+use Rattle.raster.specs.Runs.{colored}
 use Rattle.raster.proofs.RowLemmas.{length-colored}
 use Rattle.run_tables.specs.Codes.{code_word, run_words, run_at}
 
@@ -33,7 +33,3 @@ at_most_sum (x ∷ xs) (suc k) d h =
 pub runs_fit : (row : List Color) (runs : List ℕ) → length row ≤ 2432 → row ≡ colored White runs → (k d : ℕ) → k < length runs
     → get_or runs k d ≤ 2623
 runs_fit row runs fits spelled k d h = omega (arith, at_most_sum runs k d h, length-colored White runs, ap length spelled)
-
-pub own_runs_fit : (row : List Color) (runs : List ℕ) → length row ≤ 2432 → AreOwnRuns row runs → (k d : ℕ) → k < length runs
-    → get_or runs k d ≤ 2623
-own_runs_fit row runs fits own = runs_fit row runs fits own.spelled

@@ -1,12 +1,12 @@
 -- Bits as numbers, and bits filled with 0 bits.
 use Rattle.std.proofs.Common.{ℕ, zero, suc, ◌≡◌, ◌+◌, ◌-◌, ◌*◌, ◌/◌, ◌%◌, ◌^◌, ◌<◌, ◌≤◌, ◌⊎◌, inl, inr, Bool, true, false, List, [], ◌∷◌}
-use Rattle.std.proofs.Common.{◌++◌, length, replicate, take, drop, get_or, nat_eq, refl, ap, sym, ◌∙◌, arith, zero-add, eq-eqb}
+use Rattle.std.proofs.Common.{◌++◌, length, replicate, drop, get_or, nat_eq, refl, ap, sym, ◌∙◌, arith, zero-add, eq-eqb}
 use mathlib.Core.Bool.{beq}
 use Rattle.std.specs.Int.{bit_at}
 use Rattle.std.proofs.Math.Nat.{div-div-eq-div-mul, div-eq_of_lt, suc-add}
 use Rattle.std.proofs.lemmas.Nat.{pow-add, div-mul-add, div_below, pow_pos}
 use Rattle.std.proofs.lemmas.Nat.Bits.{bit_at-zero, bit_at_cat_low, bit_at-lt, same_from_bits_below}
-use Rattle.std.proofs.lemmas.List.{take_at, length-drop, same_lists, get_or-drop, get_or_past}
+use Rattle.std.proofs.lemmas.List.{length-drop, same_lists, get_or-drop, get_or_past}
 use Rattle.std.proofs.lemmas.List.FromFn.{get_or-map-range_with_len, length-map-range_with_len}
 use Rattle.std.proofs.lemmas.Bool.{and_parts, and_from, false≢true, cases_lt, cases_Bool, eqb-true}
 use Rattle.raster.specs.declared.packed.Order.{Order}
@@ -81,14 +81,6 @@ first_split (suc a) b [] = rw (suc-add a b, first_split a b []) (nothing a)
     nothing zero = refl
     nothing (suc a) = refl
 first_split (suc a) b (y ∷ x) = rw (suc-add a b) (ap (λ l. y ∷ l) (first_split a b x))
-
--- the higher bits of a number are the first ones
-pub first_number : (a b n : ℕ) (x : List Bool) → number_text (a + b) n ≡ first_bits (a + b) x → number_text a (n / 2 ^ b) ≡ first_bits a x
-first_number a b n x e =
-    let both : number_text a (n / 2 ^ b) ++ number_text b n ≡ first_bits a x ++ first_bits b (drop a x) = sym (number_split a b n) ∙ (e ∙
-    first_split a b x) in
-    sym (take_at (number_text a (n / 2 ^ b)) (number_text b n) a (length-number_text a (n / 2 ^ b))) ∙ (ap (λ l. take a l) both ∙ take_at
-    (first_bits a x) (first_bits b (drop a x)) a (length-first_bits a x))
 
 -- what begins the bits begins them filled with 0 bits, if it is no longer
 pub begins_filled : (word x : List Bool) (count : ℕ) → length word ≤ count → begins word x ≡ true → begins word (first_bits count x) ≡

@@ -6,7 +6,7 @@ use Rattle.std.specs.Int.{bit_at}
 use Rattle.std.specs.List.{range_with_len}
 use Rattle.std.proofs.lemmas.List.{append-nil, length-append, length-take-le}
 use Rattle.std.proofs.lemmas.List.FromFn.{map-range_with_len_more, fill_by_all, length-map-range_with_len, get_or-map-range_with_len}
-use Rattle.std.proofs.lemmas.Nat.Bits.{bit_at_above, bit_at-zero, bit_at_mask_inside}
+use Rattle.std.proofs.lemmas.Nat.Bits.{bit_at_above}
 use Rattle.std.proofs.Math.Nat.{suc-add}
 use Rattle.std.proofs.lemmas.Bool.{cases_lt}
 use Rattle.raster.specs.declared.packed.Order.{Order}
@@ -288,13 +288,3 @@ fills_none order octets at word filled none empty =
 pub replicate_join : (a b : ℕ) (bit : Bool) → replicate (a + b) bit ≡ replicate a bit ++ replicate b bit
 replicate_join zero b bit = ap (λ n. replicate n bit) (zero-add b)
 replicate_join (suc a) b bit = ap (λ n. replicate n bit) (suc-add a b) ∙ ap (λ (bits : List Bool). bit ∷ bits) (replicate_join a b bit)
-
-pub ones_bits : (count : ℕ) → count ≤ 32 → number_bits count (2 ^ 32 - 1) ≡ replicate count true
-ones_bits count few =
-    map_same (λ place. true) (λ place. nat_eq (bit_at (2 ^ 32 - 1) (count - 1 - place)) 1) count
-    (λ k h. ap (λ b. nat_eq b 1) (bit_at_mask_inside 0 32 (count - 1 - k) (omega arith) (omega arith))) ∙ all_alike true 0 count
-
-pub zeros_bits : (count : ℕ) → number_bits count 0 ≡ replicate count false
-zeros_bits count =
-    map_same (λ place. false) (λ place. nat_eq (bit_at 0 (count - 1 - place)) 1) count
-    (λ k h. ap (λ b. nat_eq b 1) (bit_at-zero (count - 1 - k))) ∙ all_alike false 0 count

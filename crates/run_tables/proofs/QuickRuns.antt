@@ -83,12 +83,6 @@ pub window_left : (reader : Reading) (used word : ℕ) → IsWindow reader used 
 window_left reader used word window =
     omega (arith, window.enough, length-drop reader.place reader.bits, length-drop (reader.place + used) reader.bits)
 
--- a window where none is used
-pub window_new : (reader : Reading) (word : ℕ) → AreFirst 57 (rest_of reader) word → 57 ≤ length (rest_of reader) → IsWindow reader 0 word
-window_new reader word first enough =
-    let here : reader.place + 0 ≡ reader.place = omega arith in
-    record { enough = enough; few = omega arith; held = rw here first }
-
 -- a window where more are used
 pub window_on : (reader : Reading) (used word count : ℕ) → IsWindow reader used word → used + count ≤ 57
     → IsWindow reader (used + count) (word * 2 ^ count % 2 ^ 64)

@@ -44,7 +44,8 @@ in_row_more width old mid new runs color room run some row reads =
     )
 
 -- a row with no pixels left is whole
-pub row_ended : (width : ℕ) (old new : Reading) (runs : List ℕ) (color : Color) (room : ℕ) → room ≡ 0 → IsInRow width old new runs color room
+pub row_ended : (width : ℕ) (old new : Reading) (runs : List ℕ) (color : Color) (room : ℕ) → room ≡ 0
+    → IsInRow width old new runs color room
     → RowRuns width old new runs (Ok tt)
 row_ended width old new runs color room none row =
     let full : length (colored White runs) ≡ width = omega (arith, row.left) in (

@@ -18,7 +18,7 @@ use Rattle.page_code.specs.declared.one_dim.repair.Found.{Found}
 use Rattle.page_code.specs.declared.one_dim.repair.Found.TheVariants.{Read, Broken}
 use Rattle.page_code.specs.declared.one_dim.repair.Lines.{Lines}
 use Rattle.page_code.specs.declared.one_dim.repair.RepairedRow.{RepairedRow}
-use Rattle.page_code.specs.OneDimension.Repairs.{AreGivenTo, EndsLine, EndsPage, HasMoreLines, IsFirstLine, IsLine}
+use Rattle.page_code.specs.OneDimension.Repairs.{AreGivenTo, EndsLine, EndsPage, HasMoreLines, IsLine}
 use Rattle.page_code.specs.OneDimension.Repairs.{IsReadFor, IsRepair, IsSkipped, Line}
 use Rattle.page_code.specs.OneDimension.Repairs.{given, last_of, last_row, listed, repaired_in, rows_given, white_row}
 use Rattle.page_code.specs.OneDimension.Repairs.Line.{spelled, broken}
@@ -77,17 +77,6 @@ given_on width bits old new is are gives =
     old.page.rows ++ row ∷ []) last ∙ sym (ap (λ (p : _). p.rows) gives.page_is) in
     subst (λ (r : List (List Color)). AreGivenTo width bits r new.repaired.items new.place) rows (subst (λ (r : List RepairedRow).
     AreGivenTo width bits (old.page.rows ++ given (last_row width old.page.rows) gives.line ∷ []) r new.place) (sym gives.repaired_is) next)
-
--- no lines yet
-pub given_none : (width : ℕ) (bits : List Bool) (place : ℕ) → IsFirstLine bits place → AreGivenTo width bits [] [] place
-given_none width bits place first = record {
-  start = place;
-  lines = [];
-  first = first;
-  walk = refl;
-  rows_are = refl;
-  repaired_are = refl;
-}
 
 -- the last row
 pub last_there : (before : List Color) (rows : List (List Color)) (default : List Color) → 0 < length rows

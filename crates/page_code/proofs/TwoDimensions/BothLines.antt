@@ -110,7 +110,8 @@ pub held_after : (list : List ℕ) (places : List ℕ) (count width : ℕ) → l
     × (turning White 0 (take (count + 3 - 3) list) width ≡ turning White 0 places width)
 held_after list places count width long left ends =
     let there : take (length places + 3) list ≡ places ++ width ∷ width ∷ width ∷ [] = rw long ends in
-    let same : take (count + 3 - 3) list ≡ places = ap (λ (n : ℕ). take (n + 3 - 3) list) (sym long) ∙ places_held list places width there in (
+    let same : take (count + 3 - 3) list ≡ places = ap (λ (n : ℕ). take (n + 3 - 3) list) (sym long) ∙
+    places_held list places width there in (
       subst (λ (n : ℕ). AreHeld (turning White 0 (take (n + 3 - 3) list) width) (take (n + 3) list)) long (held_whole list places width left
           there),
       rw same (length-turning places width left.rising (λ k d h. let less = left.below k d h in omega arith)),

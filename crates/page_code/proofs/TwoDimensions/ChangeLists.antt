@@ -203,14 +203,6 @@ next_at row places index place next all is next_is = elim (cases_lt index (lengt
 
 -- ---- the width held after the places
 
--- a row whose first changing element is its end has none
-pub none_changing : (row : List Color) (place : ℕ) → IsNextChange row 0 place → length row ≤ place → AreChanges row []
-none_changing row place next past = record {
-  rising = λ i j before inside. absurd (omega arith);
-  changing = λ i inside. absurd (omega arith);
-  all = λ k changing. absurd (next.least k (omega arith) (omega (arith, changing.0)) changing);
-}
-
 held_at : (places : List ℕ) (width index d : ℕ) → index < length places + 3
     → slice_index_or (places ++ width ∷ width ∷ width ∷ []) index d ≡ slice_index_or places index width
 held_at [] width zero d h = refl
@@ -229,19 +221,6 @@ pub at_held : (row : List Color) (held : List ℕ) (is : AreHeld row held) (inde
     → slice_index_or held index d ≡ slice_index_or is.places index (length row)
 at_held row held is index d h = ap (λ (l : List ℕ). slice_index_or l index d) is.ends ∙
     held_at is.places (length row) index d (omega (arith, h, count_held row held is))
-
--- the third place from the end is the width
-pub stops_held : (row : List Color) (held : List ℕ) → AreHeld row held → slice_index_or held (length held - 3) 0 ≡ length row
-stops_held row held is = at_held row held is (length held - 3) 0 (omega (arith, count_held row held is)) ∙
-    get_or_past is.places (length held - 3) (length row) (omega (arith, count_held row held is))
-
--- a search goes no further than that
-pub not_past : (held : List ℕ) (from at : ℕ) → at + 3 ≤ length held → from ≤ slice_index_or held (length held - 3) 0
-    → slice_index_or held at 0 < from → at + 4 ≤ length held
-not_past held from at within stops below = elim (cases_eq at (length held - 3)) [
-  | inl e ↦ absurd (omega (arith, stops, below, ap (λ (i : ℕ). slice_index_or held i 0) e))
-  | inr ne ↦ omega (arith, within, ne)
-]
 
 first_held : (row : List Color) (held : List ℕ) (is : AreHeld row held) (from at : ℕ) → IsFirstHeld held from at
     → IsFirstFrom is.places from at

@@ -18,7 +18,17 @@ use Rattle.page_code.specs.TwoDimensions.Lines.{FitsLists, IsFoundAt, IsSoughtFr
 use Rattle.page_code.specs.TwoDimensions.Modes.{to_left, to_right}
 use Rattle.page_code.specs.TwoDimensions.Positions.{CodingLine, IsFirstTo, a0_of, right_of}
 use Rattle.page_code.proofs.TwoDimensions.ChangeLists.{turned_even as even_black, turned_odd as odd_white}
-use Rattle.page_code.proofs.TwoDimensions.Lines.{begun_line, ends_held, few_left, found_first, left_later, left_turned, length_line, line_on, line_turned}
+use Rattle.page_code.proofs.TwoDimensions.Lines.{
+  begun_line,
+  ends_held,
+  few_left,
+  found_first,
+  left_later,
+  left_turned,
+  length_line,
+  line_on,
+  line_turned,
+}
 use Rattle.page_code.proofs.TwoDimensions.Lines.{right_line, turned_even, turned_odd}
 use Rattle.page_code.proofs.TwoDimensions.StepsOn.{backwards_leads, pass_leads, past_leads, vertical_leads}
 
@@ -76,7 +86,10 @@ module _ (held list : List ℕ) (width : ℕ) (front : Front) (fits : FitsLists 
   pub vertical_front : (shift : Shift) (a1 : ℕ) → a1 + to_left shift ≡ b1 + to_right shift → front.from ≤ a1 → a1 ≤ width
       → Leads held line (line_before (take (front.turns + 1) (slice_set list front.turns a1)) (a1 + 1)) (Vertical shift)
   vertical_front shift a1 is_a1 right within reference is =
-      let finds = vertical_leads reference line (less reference is) (a0_of line) refl b1 (is_first reference is) shift a1 (omega (arith, is_a1))
+      let finds = vertical_leads reference line (less reference is) (a0_of line) refl b1 (is_first reference is) shift a1 (omega (
+        arith,
+        is_a1,
+      ))
       (omega (arith, right_line places front.from fits.line, is_a1, right)) (omega (arith, wide reference is, within)) in
       finds.2 _ (rw (take_more_set list front.turns a1 room)
       (line_turned places front.from a1 fits.line (omega arith) ∙
@@ -87,7 +100,8 @@ module _ (held list : List ℕ) (width : ℕ) (front : Front) (fits : FitsLists 
       }) (sym here)))
 
   -- why a vertical mode is refused
-  pub vertical_refused : (shift : Shift) (kind : CodeFaultKind) → RefusesA1 b1 shift front.from width kind → Refuses held line (Vertical shift) kind
+  pub vertical_refused : (shift : Shift) (kind : CodeFaultKind) → RefusesA1 b1 shift front.from width kind → Refuses held line
+      (Vertical shift) kind
   vertical_refused shift kind (inl back) reference is page same_reference =
       rw back.1 (backwards_leads reference line (less reference is) (a0_of line) refl b1 (is_first reference is) shift
       (omega (arith, right_line places front.from fits.line, back.0)) page same_reference)
@@ -147,7 +161,8 @@ module _ (held list : List ℕ) (width : ℕ) (front : Front) (fits : FitsLists 
       twice White = refl
       twice Black = refl
 
-      again : (pixels : List Color) → begun_line pixels line.color ≡ begun_line (pixels ++ replicate 0 (other line.color)) (other (other line.color))
+      again : (pixels : List Color) → begun_line pixels line.color ≡ begun_line (pixels ++ replicate 0 (other line.color)) (other
+          (other line.color))
       again pixels = rw append-nil (ap (begun_line pixels) (twice line.color))
 
   -- the front after pass mode

@@ -1,5 +1,26 @@
 -- The lines of a row that is read, as lists of places.
-use Rattle.std.proofs.Common.{ℕ, zero, suc, ◌≡◌, ◌≢◌, ◌+◌, ◌-◌, ◌%◌, ◌<◌, ◌≤◌, ◌++◌, ◌∷◌, [], inl, inr, List, length, take, replicate, get_or}
+use Rattle.std.proofs.Common.{
+  ℕ,
+  zero,
+  suc,
+  ◌≡◌,
+  ◌≢◌,
+  ◌+◌,
+  ◌-◌,
+  ◌%◌,
+  ◌<◌,
+  ◌≤◌,
+  ◌++◌,
+  ◌∷◌,
+  [],
+  inl,
+  inr,
+  List,
+  length,
+  take,
+  replicate,
+  get_or,
+}
 use Rattle.std.proofs.Common.{arith, refl, sym, ap, subst, ◌∙◌, true, length-append}
 use Rattle.std.specs.Prelude.{All, slice_index_or, nat_lt}
 use Rattle.std.proofs.lemmas.Bool.{cases_lt, cases_eq, lt-ltb, le-ltb}
@@ -290,12 +311,6 @@ two_runs places one two from a1 a2 a0a1 a1a2 left is_a1 is_a2 first second =
     twice : (c : Color) → other (other c) ≡ c
     twice White = refl
     twice Black = refl
-
-pub left_of_next : (places : List ℕ) (place : ℕ) → IsRising places → All (λ p. p ≤ place) places → AreLeftOf places (place + 1)
-left_of_next places place rising below = record {
-  rising = rising;
-  below = λ k d h. let most = below k d h in omega arith;
-}
 
 -- ---- a whole line
 

@@ -1,11 +1,9 @@
 -- The mode code that the next 7 bits give is the one that begins the bits that are left, if it isn't longer than they are.
-use Rattle.std.proofs.Common.{ℕ, ◌≡◌, ◌/◌, ◌^◌, ◌<◌, ◌≤◌, Bool, true, false, List, length, get_or, Some, None, inl, inr, nat_eq, refl, ap}
+use Rattle.std.proofs.Common.{ℕ, ◌≡◌, ◌/◌, ◌^◌, ◌<◌, ◌≤◌, Bool, true, false, List, length, get_or, Some, None, inl, inr, refl, ap}
 use Rattle.std.proofs.Common.{sym, ◌∙◌, arith}
 use Rattle.std.specs.Prelude.{Option, IfSome}
 use Rattle.std.proofs.lemmas.Bool.{cases_Bool}
 use Rattle.std.proofs.lemmas.List.FromFn.{get_or-map-range_with_len, length-map-range_with_len}
-use Rattle.std.proofs.lemmas.List.{length-map}
-use Rattle.run_tables.specs.Codes.{text}
 use Rattle.run_tables.specs.Numbers.{AreFirst, number_text, first_bits}
 use Rattle.run_tables.specs.Texts.{begins, pick}
 use Rattle.run_tables.proofs.BeginsLemmas.{pick_begins, pick_begun}
@@ -51,10 +49,6 @@ mode_some (Vertical VR3) = (omega arith, omega arith)
 mode_some (Vertical VL1) = (omega arith, omega arith)
 mode_some (Vertical VL2) = (omega arith, omega arith)
 mode_some (Vertical VL3) = (omega arith, omega arith)
-
--- its code word has as many bits as it has digits
-pub digits_count : (code : ModeCode) (digits : List ℕ) → text digits ≡ mode_word code → length digits ≡ length (mode_word code)
-digits_count code digits is = sym (length-map digits (λ (digit : ℕ). nat_eq digit 49)) ∙ ap length is
 
 -- the entry of the first 7 bits
 mode_seen : (x : List Bool) (word : ℕ) (o : Option ModeCode) → AreFirst 7 x word

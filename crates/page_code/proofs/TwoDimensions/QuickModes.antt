@@ -17,7 +17,7 @@ use Rattle.page_code.specs.TwoDimensions.Fronts.{PageSoFar, PageState, mode_ende
 use Rattle.page_code.specs.TwoDimensions.Fronts.PageState.{inside}
 use Rattle.page_code.specs.TwoDimensions.Lines.{FitsLists, StepsBy, line_of}
 use Rattle.page_code.specs.TwoDimensions.Positions.{CodingLine, line_begin}
-use Rattle.page_code.specs.TwoDimensions.Reading.{ReadsRow, StepsAlong, StepsOn, StepsQuickly, row_reading}
+use Rattle.page_code.specs.TwoDimensions.Reading.{ReadsRow, StepsAlong, StepsOn, row_reading}
 use Rattle.page_code.proofs.TwoDimensions.Lines.{ends_held, length_line}
 use Rattle.page_code.proofs.TwoDimensions.ModeTable.{mode_some}
 use Rattle.page_code.proofs.TwoDimensions.Reading.{mode_ended_short}
@@ -73,7 +73,8 @@ pub along_step : (reference : List Color) (held : List ℕ) (old : Reading) (use
     → StepsAlong reference old (record { bits = old.bits; place = old.place + used }) line now
     → StepsAlong reference old (record { bits = old.bits; place = old.place + (used + count) }) line next
 along_step reference held old used word count line now next is few long first short step before =
-    let here : rest_of (record { bits = old.bits; place = old.place + used }) ≡ drop used (rest_of old) = sym (drop-drop used old.place old.bits)
+    let here : rest_of (record { bits = old.bits; place = old.place + used }) ≡ drop used (rest_of old) = sym
+    (drop-drop used old.place old.bits)
     in
     let left = length-drop used (rest_of old) in
     let all = length-drop old.place old.bits in
@@ -105,7 +106,8 @@ count_size held word count now next step =
 -- ---- a row
 
 -- before its first pixel a row is inside a page
-begun : (reference : List Color) (old new : Reading) (line : CodingLine) → 0 < length reference → StepsAlong reference old new line_begin line
+begun : (reference : List Color) (old new : Reading) (line : CodingLine) → 0 < length reference
+    → StepsAlong reference old new line_begin line
     → (page : PageSoFar) → page.reference ≡ reference
     → row_reading (length reference) (inside page line_begin) old.place (rest_of old)
     ≡ row_reading (length reference) (mode_ended (length reference) page line) new.place (rest_of new)
@@ -115,7 +117,8 @@ begun reference old new line wide along page is =
 
 -- modes of a row, and then a refusal
 pub along_stays : (reference : List Color) (start old new : Reading) (line next : CodingLine) (fault : CodeFault) → 0 < length reference
-    → length line.pixels < length reference → StepsAlong reference start old line_begin line → StepsOn reference old new line next (Err fault)
+    → length line.pixels < length reference → StepsAlong reference start old line_begin line → StepsOn reference old new line next
+    (Err fault)
     → ReadsRow reference start new (Err fault)
 along_stays reference start old new line next fault wide short along step =
     row_stays reference start old new line next fault short (begun reference start old line wide along) step
@@ -129,20 +132,4 @@ along_ends reference start now line row wide same full along = (
   along.0,
   along.2,
   row_ends reference start now line row same full (begun reference start now line wide along),
-)
-
--- modes, and then one more mode or none
-pub along_both : (reference : List Color) (old mid new : Reading) (line now next : CodingLine) (done : Bool) → StepsAlong reference old mid line now
-    → length now.pixels < length reference → StepsQuickly reference mid new now next done → StepsAlong reference old new line next
-along_both reference old mid new line now next true before short step = along_more reference old mid new line now next before short step
-along_both reference old mid new line now next false before short step = rw (step.0, step.1) before
-
-pub along_trans : (reference : List Color) (old mid new : Reading) (line now next : CodingLine) → StepsAlong reference old mid line now
-    → StepsAlong reference mid new now next → StepsAlong reference old new line next
-along_trans reference old mid new line now next first second = (
-  second.0 ∙ first.0,
-  omega (arith, first.1, second.1),
-  second.2,
-  second.3,
-  λ page is. first.4 page is ∙ second.4 page is,
 )

@@ -1,8 +1,8 @@
 -- Writing the prescribed modes one after the other gives the row's code.
 use Rattle.std.proofs.Common.{ℕ, zero, suc, ◌≡◌, ◌+◌, ◌-◌, ◌<◌, ◌≤◌, inl, inr, Bool, true, false, List, [], ◌∷◌, ◌++◌, length, take, drop}
 use Rattle.std.proofs.Common.{replicate, Some, None, refl, ap, subst, sym, ◌∙◌, arith, cond, nat_eq, append_assoc, add-one}
-use Rattle.std.specs.Prelude.{◌≢◌, IsTrue, Result, Ok, Err, OnOk}
-use Rattle.std.proofs.lemmas.Bool.{false≢true, lt-ltb, le-ltb, ne_eqb, eq-eqb, eqb-false, cases_eq, cases_lt}
+use Rattle.std.specs.Prelude.{◌≢◌, Result, Ok, Err, OnOk}
+use Rattle.std.proofs.lemmas.Bool.{lt-ltb, le-ltb, ne_eqb, eq-eqb, eqb-false, cases_eq, cases_lt}
 use Rattle.std.proofs.lemmas.List.{append-nil, length-take-le, drop_more}
 use Rattle.raster.specs.declared.row.Color.{Color}
 use Rattle.raster.specs.declared.row.Color.TheVariants.{White, Black}
@@ -27,9 +27,6 @@ other_of_other White White h = absurd (h refl)
 other_of_other White Black h = refl
 other_of_other Black White h = refl
 other_of_other Black Black h = absurd (h refl)
-
-pub not_true_there : (b : Bool) → IsTrue b → b ≡ false → ⊥
-not_true_there b h e = false≢true (sym e ∙ h)
 
 -- a changing element of the other color is passed by
 pub first_to_next : (row : List Color) (color : Color) (from p q : ℕ) → IsNextChange row from p → p < length row

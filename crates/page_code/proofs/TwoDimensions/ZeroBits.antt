@@ -1,5 +1,29 @@
 -- Only 0 bits, as a number of 64 bits.
-use Rattle.std.proofs.Common.{ℕ, zero, suc, ◌≡◌, ◌≢◌, ◌-◌, ◌^◌, ◌/◌, ◌+◌, ◌<◌, Bool, true, false, List, [], ◌∷◌, length, ◌≤◌, nat_eq, refl, sym, ◌∙◌, arith}
+use Rattle.std.proofs.Common.{
+  ℕ,
+  zero,
+  suc,
+  ◌≡◌,
+  ◌≢◌,
+  ◌-◌,
+  ◌^◌,
+  ◌/◌,
+  ◌+◌,
+  ◌<◌,
+  Bool,
+  true,
+  false,
+  List,
+  [],
+  ◌∷◌,
+  length,
+  ◌≤◌,
+  nat_eq,
+  refl,
+  sym,
+  ◌∙◌,
+  arith,
+}
 use Rattle.std.specs.Prelude.{slice_index_or}
 use Rattle.std.specs.Int.{bit_at}
 use Rattle.std.proofs.lemmas.Bool.{false≢true}

@@ -5,7 +5,10 @@ use Rattle.raster.specs.declared.row.Color.TheVariants.{White}
 use Rattle.raster.proofs.TurningLemmas.{turning_turn}
 use Rattle.page_code.proofs.TwoDimensions.Lines.{within_all, within_less}
 use Rattle.page_code.proofs.t6.front.turns_within.Goals as goal
-use Rattle.page_code.proofs.t6.front.turns_within.Goals.{else-turns-gt0-via-then-turns-gt0+else-index-width, else-turns-gt0-via-else-turns-gt0}
+use Rattle.page_code.proofs.t6.front.turns_within.Goals.{
+  else-turns-gt0-via-then-turns-gt0+else-index-width,
+  else-turns-gt0-via-else-turns-gt0,
+}
 
 pub returns-then-index-width-clause-left : goal.returns-then-index-width-clause-left
 returns-then-index-width-clause-left c =
@@ -42,7 +45,10 @@ returns-clause-left c =
           let before : turns - 1 ≡ length places - 1 = omega (arith, long) in
           let inside : turns - 1 < length items = omega (arith, c.requires.room, w.if-turns-gt0.true) in
           let same : slice_index_or places (length places - 1) 0 ≡ slice_index_or items (turns - 1) 0 =
-          ap (λ (i : ℕ). slice_index_or places i 0) (sym before) ∙ get_or-take turns items (turns - 1) 0 (omega (arith, w.if-turns-gt0.true)) in
+          ap (λ (i : ℕ). slice_index_or places i 0) (sym before) ∙ get_or-take turns items (turns - 1) 0 (omega (
+            arith,
+            w.if-turns-gt0.true,
+          )) in
           λ e. w.if-index-width.false (get_or_read items (turns - 1) w.index.result.now inside w.index.ensures 0 ∙ (sym same ∙ e))
       | else-turns-gt0-via-else-turns-gt0 w ↦ absurd (omega (arith, w.if-turns-gt0.false))
     ])

@@ -67,5 +67,6 @@ returns-clause-runs c =
     let two = rw c.width.ensures.width at (within_page c.other-other.result (c.width.result - a0.place - c.in_ok-first.first)
     c.read_run_within.new.self c.read_run_within-2.new.self (Ok c.in_ok-second.second) c.in_ok-second.ensures) in
     horizontal_read width a0.place line c.push_runs.new.self.line c.args.reader.now c.read_run_within.new.self c.read_run_within-2.new.self
-    c.other-other.result c.in_ok-first.first c.in_ok-second.second place (omega (arith, c.requires, place)) (c.other-other.ensures ∙ ap (λ (d : Color). other d) color)
+    c.other-other.result c.in_ok-first.first c.in_ok-second.second place (omega (arith, c.requires, place)) (c.other-other.ensures ∙ ap (λ
+    (d : Color). other d) color)
     one two (omega arith) (ap (λ (b : BothLines). b.line) c.push_runs.ensures)

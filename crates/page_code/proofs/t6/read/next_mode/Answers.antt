@@ -33,7 +33,8 @@ pub returns : goal.returns
 returns c =
     let count : c.mode_of-mode.result.1 ≡ length (mode_word c.in-Some.code) = rw c.in-Some.is at c.mode_of-mode.ensures.length in
     let same : c.mode_of-mode.result.1 % 8 ≡ length (mode_word c.in-Some.code) = omega (arith, count, (mode_some c.in-Some.code).1) in (
-      found_seen (rest_of c.args.reader.now) c.peek_57.result c.mode_of-mode.result.0 c.in-Some.code (λ k h. c.peek_57.ensures k (omega arith))
+      found_seen (rest_of c.args.reader.now) c.peek_57.result c.mode_of-mode.result.0 c.in-Some.code (λ k h. c.peek_57.ensures k
+          (omega arith))
           c.mode_of-mode.ensures.code c.in-Some.is (omega (
             arith,
             same,

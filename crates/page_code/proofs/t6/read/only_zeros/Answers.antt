@@ -5,7 +5,8 @@ use Rattle.page_code.proofs.TwoDimensions.ZeroBits.{some_one}
 use Rattle.page_code.proofs.t6.read.only_zeros.Goals as goal
 
 pub returns-then-first-ne0 : goal.returns-then-first-ne0
-returns-then-first-ne0 c = sym (some_one (rest_of c.args.reader.now) c.peek_57-first.result (omega arith) c.peek_57-first.ensures c.if-first-ne0.true)
+returns-then-first-ne0 c = sym (some_one (rest_of c.args.reader.now) c.peek_57-first.result
+    (omega arith) c.peek_57-first.ensures c.if-first-ne0.true)
 
 pub returns-then-bit : goal.returns-then-bit
 returns-then-bit c = sym (sym c.loop-bit.invariant ∙ one_next c.loop-bit.ahead c.in-Some.bit c.in-Some.ensures.bit c.if-bit.true)

@@ -20,9 +20,11 @@ returns-clause-steps c =
     let two = rw c.width.ensures.width at (within_page c.other-other.result (c.width.result - a0.place - c.in-Some.a0a1)
     c.quick_run.new.self c.quick_run-2.new.self (Ok c.in-Some-quick_run.a1a2) (c.in-Some-quick_run.ensures.some PastEnd)) in
     let runs = horizontal_read width a0.place line c.push_runs.new.self.line c.skip.new.self c.quick_run.new.self c.quick_run-2.new.self
-    c.other-other.result c.in-Some.a0a1 c.in-Some-quick_run.a1a2 place (omega (arith, c.requires.short, place)) (c.other-other.ensures ∙ ap (λ (d : Color). other d) color)
+    c.other-other.result c.in-Some.a0a1 c.in-Some-quick_run.a1a2 place (omega (arith, c.requires.short, place)) (c.other-other.ensures ∙ ap
+    (λ (d : Color). other d) color)
     one two (omega arith) (ap (λ (b : BothLines). b.line) c.push_runs.ensures) in
-    horizontal_steps c.args.lines.now.reference c.args.reader.now c.skip.new.self c.quick_run-2.new.self line c.push_runs.new.self.line (Ok tt)
+    horizontal_steps c.args.lines.now.reference c.args.reader.now c.skip.new.self c.quick_run-2.new.self line c.push_runs.new.self.line
+    (Ok tt)
     (omega (arith, c.requires.enough, length-drop c.args.reader.now.place c.args.reader.now.bits)) (
       c.requires.begun,
       rw c.look_ahead-ahead.ensures at c.skip.ensures,

@@ -2,7 +2,11 @@ use Rattle.std.proofs.Common.{◌≡◌, arith, length-drop, refl}
 use Rattle.page_code.specs.TwoDimensions.Lines.{line_of}
 use Rattle.page_code.proofs.TwoDimensions.QuickModes.{along_none, along_step, count_size, lengths, word_after}
 use Rattle.page_code.proofs.t6.read.quick_modes.Goals as goal
-use Rattle.page_code.proofs.t6.read.quick_modes.Goals.{then-loop-used-test+else-front-width, else-loop-used-test, then-loop-used-test+then-front-width+in_default}
+use Rattle.page_code.proofs.t6.read.quick_modes.Goals.{
+  then-loop-used-test+else-front-width,
+  else-loop-used-test,
+  then-loop-used-test+then-front-width+in_default,
+}
 
 pub loop-used-init : goal.loop-used-init
 loop-used-init c = record {
@@ -29,13 +33,16 @@ loop-used-preserved c =
       fits = c.in-Some.ensures.fits;
       few = omega (arith, count_size c.args.held.now c.loop-used.word c.in-Some.count before next c.in-Some.ensures.steps);
       same = refl;
-      word = word_after c.args.held.now c.args.reader.now c.loop-used.used c.loop-used.word c.in-Some.count before next c.loop-used-test.true
+      word = word_after c.args.held.now c.args.reader.now c.loop-used.used c.loop-used.word c.in-Some.count before next
+          c.loop-used-test.true
           c.loop-used.invariant.word c.in-Some.ensures.steps;
       along = λ reference is.
-          let both = lengths c.args.held.now c.loop-used.list.items c.args.width c.loop-used.front reference c.loop-used.invariant.fits is in
+          let both = lengths c.args.held.now c.loop-used.list.items c.args.width c.loop-used.front reference c.loop-used.invariant.fits is
+          in
           along_step reference c.args.held.now c.args.reader.now c.loop-used.used c.loop-used.word c.in-Some.count
           (line_of c.args.list.now.items c.args.start) before next is c.loop-used-test.true c.requires.enough c.loop-used.invariant.word
-          (omega (arith, both.0, both.1, c.if-front-width.true, c.requires.fits.wide)) c.in-Some.ensures.steps (c.loop-used.invariant.along reference is);
+          (omega (arith, both.0, both.1, c.if-front-width.true, c.requires.fits.wide)) c.in-Some.ensures.steps
+          (c.loop-used.invariant.along reference is);
       still = λ none. absurd (omega (
         arith,
         none,

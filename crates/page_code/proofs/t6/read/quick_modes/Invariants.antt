@@ -14,7 +14,8 @@ invariant-loop-used l = record {
   same : l.reader ≡ l.fn.reader;
   word : AreFirst (57 - l.used) (drop l.used (rest_of l.reader)) l.word;
   along : (reference : List Color) → AreHeld reference l.held
-      → StepsAlong reference l.reader (record { bits = l.reader.bits; place = l.reader.place + l.used }) (line_of l.fn.list.items l.fn.start)
+      → StepsAlong reference l.reader (record { bits = l.reader.bits; place = l.reader.place + l.used })
+      (line_of l.fn.list.items l.fn.start)
       (line_of l.list.items l.front);
   still : l.used ≡ 0 → (l.front ≡ l.fn.start) × (l.list.items ≡ l.fn.list.items);
 }

@@ -65,7 +65,8 @@ loop-lines-preserved c =
       fine = ap (λ (p : PagePixels). p.fine) pushed ∙ c.loop-lines.invariant.fine;
       read = rw c.place-to.ensures.place (subst (λ (p : PagePixels). IsReadTo T6 p.width bits p.rows c.read_row.new.reader.place) (sym
           pushed) more);
-      reader = same_reading c.read_row.new.reader _ _ (c.in_ok-row.ensures.reads.1 ∙ ap (λ (r : Reading). r.bits) c.loop-lines.invariant.reader)
+      reader = same_reading c.read_row.new.reader _ _ (c.in_ok-row.ensures.reads.1 ∙ ap (λ (r : Reading). r.bits)
+          c.loop-lines.invariant.reader)
           (sym c.place-to.ensures.place);
       reference = c.in_ok-row.ensures.next ∙ rw pushed (sym (last_added (white_line c.loop-lines.to.page.width) c.in_ok-row.row
           c.loop-lines.to.page.rows));

@@ -32,7 +32,8 @@ loop-room-smaller c =
 pub loop-room-preserved : goal.loop-room-preserved
 loop-room-preserved c width start before =
     let more = in_row_more width start c.loop-room.self c.read_run_by_codes.new.self c.loop-room.runs.items
-    c.loop-room.color c.loop-room.room c.in_ok-run.run' c.loop-room-test.true (c.loop-room.invariant width start before) c.in_ok-run.ensures in
+    c.loop-room.color c.loop-room.room c.in_ok-run.run' c.loop-room-test.true (c.loop-room.invariant width start before)
+    c.in_ok-run.ensures in
     let pushed : c.push.new.self.items ≡ c.loop-room.runs.items ++ c.in_ok-run.run' ∷ [] = grind (arith, common_steps) in
     rw (pushed, c.other-color.ensures) more.0
 

@@ -36,7 +36,8 @@ invariant_of-self c =
       known = omega (arith, c.end_list.ensures.length, few, long, c.self.invariant.fits.room);
       room = omega (arith, c.end_list.ensures.length, c.self.invariant.fits.room);
       held = held.0;
-      fits = begin_fits _ (take (count + 3) c.end_list.new.list.items) inside.held.items inside.width c.self.invariant.fits.wide held.0 held.1
+      fits = begin_fits _ (take (count + 3) c.end_list.new.list.items) inside.held.items inside.width c.self.invariant.fits.wide held.0
+          held.1
           c.self.invariant.room;
     })
 
@@ -60,6 +61,7 @@ returns-clause-next c =
     let both = lengths (take inside.known inside.held.items) inside.list.items inside.width inside.front _ c.self.invariant.fits
     c.self.invariant.held in
     let full : inside.front.from - 1 ≡ inside.width = omega (arith, both.0, both.1, rw (← c.self.view_is) at c.requires) in
-    let pixels = held.2 ∙ (c.turns_within-count.ensures.pixels ∙ (ap (turning White 0 (take inside.front.turns inside.list.items)) (sym full) ∙
+    let pixels = held.2 ∙ (c.turns_within-count.ensures.pixels ∙ (ap (turning White 0 (take inside.front.turns inside.list.items))
+    (sym full) ∙
     ap (λ (b : BothLines). b.line.pixels) c.self.view_is)) in
     rw (c.swap.ensures.x_after, c.begin-self-inside.ensures) (ap with_line pixels)
