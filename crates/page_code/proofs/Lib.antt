@@ -4,5 +4,6 @@ pub mod OneDimension
 pub mod GivesPage
 pub mod TwoDimensions
 pub mod CodingLaws
+pub mod AppendedOctets
 pub mod CodingPacked
 pub mod PageReaders

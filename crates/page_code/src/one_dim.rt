@@ -2,21 +2,22 @@
 
 ghost use Rattle.page_code.specs.PageCodes.{GivesPage};
 ghost use Rattle.page_code.specs.OneDimension.Fronts.{read_page as read_bits};
-ghost use Rattle.page_code.specs.OneDimension.Pages.{rows_words, eol_words, rtc};
+ghost use Rattle.page_code.specs.OneDimension.Pages.{rows_words, eol_words, page_words, rtc};
 ghost use Rattle.page_code.specs.OneDimension.Reading.{FindsRow, ReadsRowOfPage, SeesStart};
 ghost use Rattle.page_code.specs.RowsSoFar.{IsReadTo, ReadsOn};
 ghost use Rattle.raster.specs.Packed.{Bits, bits_of};
 ghost use Rattle.raster.specs.Pages.{max_rows};
 ghost use Rattle.raster.specs.Pixels.{IsWidth};
 ghost use Rattle.raster.specs.declared.row.Color.{Color};
-ghost use Rattle.std.specs.Prelude.{◌≡◌, ◌≤◌, ◌<◌, ◌+◌, ◌*◌, ◌++◌, ◌∷◌, [], ℕ, List, length, OnOk, All};
+ghost use Rattle.run_tables.specs.Written.{Appends, KeepsBits};
+ghost use Rattle.std.specs.Prelude.{◌≡◌, ◌≤◌, ◌<◌, ◌+◌, ◌*◌, ◌++◌, ◌∷◌, [], ℕ, List, length, OnErr, OnOk, All};
 
 mod eol;
 pub(crate) mod repair;
 
 use crate::coding::{Coding, PageCode};
 use crate::one_dim::eol::{Eol, after_five_eols, eol_at, quick_eol};
-use crate::page::{Progress, append_octets, push_row};
+use crate::page::{Progress, are_octets, push_row};
 use raster::packed::Order;
 use raster::{MAX_ROWS, Page, Row};
 use run_tables::{BitReader, BitWriter, CodeFault, CodeFaultKind};
@@ -145,7 +146,8 @@ pub(crate) fn read_on(
 
 /// Writes the return to control: six EOLs (ITU-T T.4, 4.1.4).
 fn write_rtc(bits: &mut BitWriter) -> Result<(), AllocError>
-    ensures { OnOk result (bits.new ≡ record bits.old { bits = bits.old.bits ++ eol_words rtc }) }
+    ensures ok { OnOk result (Appends (eol_words rtc) bits.old bits.new) }
+    ensures err { OnErr result (KeepsBits bits.old bits.new) }
 {
     for _ in 0..6u32 {
         bits.write_eol()?;
@@ -156,7 +158,8 @@ fn write_rtc(bits: &mut BitWriter) -> Result<(), AllocError>
 /// Writes the rows, each after an EOL.
 fn write_rows(alloc: Global, rows: &[Row], bits: &mut BitWriter) -> Result<(), AllocError>
     requires { All (λ row. 0 < length row) rows.now }
-    ensures { OnOk result (bits.new ≡ record bits.old { bits = bits.old.bits ++ rows_words rows.now }) }
+    ensures ok { OnOk result (Appends (rows_words rows.now) bits.old bits.new) }
+    ensures err { OnErr result (KeepsBits bits.old bits.new) }
 {
     let mut list = Vec::new(alloc);
     for row in rows {
@@ -166,8 +169,18 @@ fn write_rows(alloc: Global, rows: &[Row], bits: &mut BitWriter) -> Result<(), A
     Ok(())
 }
 
+/// Writes the rows of a page and the return to control.
+fn write_page(alloc: Global, rows: &[Row], bits: &mut BitWriter) -> Result<(), AllocError>
+    requires { All (λ row. 0 < length row) rows.now }
+    ensures ok { OnOk result (Appends (page_words rows.now) bits.old bits.new) }
+    ensures err { OnErr result (KeepsBits bits.old bits.new) }
+{
+    write_rows(alloc, rows, bits)?;
+    write_rtc(bits)
+}
+
 impl PageCode for OneDim {
-    ghost use Rattle.page_code.specs.OneDimension.Pages.{ReadsAs, page_words};
+    ghost use Rattle.page_code.specs.OneDimension.Pages.{ReadsAs};
     ghost use Rattle.page_code.specs.OneDimension.Laws.{IsLongestFront};
 
     ghost code = { λ width rows. page_words rows };
@@ -184,10 +197,18 @@ impl PageCode for OneDim {
         order: Order,
         out: &mut Vec<u8>,
     ) -> Result<(), AllocError> {
-        let mut bits = BitWriter::new(alloc, order);
-        write_rows(alloc, page.rows(), &mut bits)?;
-        write_rtc(&mut bits)?;
-        append_octets(out, bits.into_octets())
+        are_octets(out);
+        let mut bits = BitWriter::after(alloc, out, order)?;
+        let start = bits.bits();
+        if let Err(refused) = write_page(alloc, page.rows(), &mut bits) {
+            bits.truncate(start);
+            *out = bits.into_octets();
+            are_octets(out);
+            return Err(refused);
+        }
+        *out = bits.into_octets();
+        are_octets(out);
+        Ok(())
     }
 
     fn decode(

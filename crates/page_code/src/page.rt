@@ -1,9 +1,10 @@
 //! Rows and pages where only memory can be refused.
 
+ghost use Rattle.raster.specs.Octets.{AreOctets};
 ghost use Rattle.raster.specs.Pages.{max_rows};
 ghost use Rattle.raster.specs.Pixels.{IsWidth};
 ghost use Rattle.raster.specs.Runs.{colored};
-ghost use Rattle.std.specs.Prelude.{◌≡◌, ◌<◌, ◌++◌, ◌∷◌, [], IfOk, OnErr, OnOk, length, sum};
+ghost use Rattle.std.specs.Prelude.{◌≡◌, ◌<◌, ◌++◌, ◌∷◌, [], IfOk, OnOk, length, sum};
 
 use raster::{Color, Page, RasterFault, Row};
 use std::alloc::{AllocError, Global};
@@ -20,18 +21,10 @@ pub(crate) fn row_of(alloc: Global, runs: &[u32]) -> Result<Row, AllocError>
     }
 }
 
-/// Appends octets, in their own memory where there are none before them. Errs where memory is refused,
-/// which changes nothing.
-pub(crate) fn append_octets(out: &mut Vec<u8>, octets: Vec<u8>) -> Result<(), AllocError>
-    ensures ok { OnOk result (out.new.items ≡ out.old.items ++ octets.items) }
-    ensures err { OnErr result (out.new.items ≡ out.old.items) }
-{
-    if out.is_empty() {
-        *out = octets;
-        return Ok(());
-    }
-    out.extend_from_slice(&octets)
-}
+/// Octets are below 256, which a proof may need. Nothing runs.
+pub(crate) fn are_octets(octets: &[u8])
+    ensures { AreOctets octets.now }
+{}
 
 /// A page that is read: its whole rows so far, and the place in the bits after them.
 #[derive(Debug, Drop)]

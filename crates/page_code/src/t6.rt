@@ -15,7 +15,7 @@ pub(crate) mod read;
 mod write;
 
 use crate::coding::PageCode;
-use crate::page::{Progress, append_octets};
+use crate::page::{Progress, are_octets};
 use crate::t6::read::read_on;
 use crate::t6::write::write_page;
 use raster::Page;
@@ -65,9 +65,18 @@ impl PageCode for T6 {
         order: Order,
         out: &mut Vec<u8>,
     ) -> Result<(), AllocError> {
-        let mut bits = BitWriter::new(alloc, order);
-        write_page(alloc, &mut bits, page)?;
-        append_octets(out, bits.into_octets())
+        are_octets(out);
+        let mut bits = BitWriter::after(alloc, out, order)?;
+        let start = bits.bits();
+        if let Err(refused) = write_page(alloc, &mut bits, page) {
+            bits.truncate(start);
+            *out = bits.into_octets();
+            are_octets(out);
+            return Err(refused);
+        }
+        *out = bits.into_octets();
+        are_octets(out);
+        Ok(())
     }
 
     fn decode(

@@ -1,5 +1,7 @@
 //! Tests of pages in either code.
 
+ghost use Rattle.std.specs.Prelude.{◌≤◌};
+
 use page_code::Coding;
 use raster::packed::Order;
 use raster::{Page, RasterFault, Row};
@@ -10,9 +12,11 @@ use std::test::Fail;
 const WIDTH: u32 = 2432;
 
 /// Rows of two black runs, whose lengths and places change from row to row.
-fn wide_page(alloc: Global) -> Result<Page, RasterFault> {
+fn wide_page(alloc: Global, rows: u32) -> Result<Page, RasterFault>
+    requires { rows ≤ 300 }
+{
     let mut page = Page::new(alloc, WIDTH, true)?;
-    for row in 0..300u32 {
+    for row in 0..rows {
         let runs = [row, 300 - row, 7 * row, 1, 2131 - 7 * row];
         page.push_row(Row::from_runs(alloc, &runs)?)?;
     }
@@ -31,7 +35,7 @@ fn runs_of(alloc: Global, page: &Page) -> Result<Vec<u32>, RasterFault> {
 #[test]
 fn a_wide_page_comes_back(rt: HostRuntime) -> Result<(), Fail> {
     let alloc = rt.alloc();
-    let page = wide_page(alloc)?;
+    let page = wide_page(alloc, 300)?;
     let runs = runs_of(alloc, &page)?;
     assert!(rt; !page.rows().is_empty());
     for coding in [Coding::OneDim, Coding::T6] {
@@ -43,6 +47,29 @@ fn a_wide_page_comes_back(rt: HostRuntime) -> Result<(), Fail> {
             assert_eq!(rt; read.fine(), true);
             assert_eq!(rt; read.rows().len(), 300);
             assert_eq!(rt; runs_of(alloc, &read)?.as_slice(), runs.as_slice());
+        }
+    }
+    Ok(())
+}
+
+// Where memory is refused, the octets are as they were, and the page can be written again.
+#[test]
+fn a_code_comes_after_other_octets(rt: HostRuntime) -> Result<(), Fail> {
+    let alloc = rt.alloc();
+    let page = wide_page(alloc, 60)?;
+    assert!(rt; !page.rows().is_empty());
+    for coding in [Coding::OneDim, Coding::T6] {
+        for order in [Order::LsbFirst, Order::MsbFirst] {
+            let mut code = Vec::new(alloc);
+            coding.encode(alloc, &page, order, &mut code)?;
+            let mut all = vec![in alloc; 0xFF, 0x01, 0x80]?;
+            all.extend_from_slice(&code)?;
+            let mut octets = vec![in alloc; 0xFF, 0x01, 0x80]?;
+            if coding.encode(alloc, &page, order, &mut octets).is_err() {
+                assert_eq!(rt; octets.as_slice(), [0xFF, 0x01, 0x80].as_slice());
+                coding.encode(alloc, &page, order, &mut octets)?;
+            }
+            assert_eq!(rt; octets, all);
         }
     }
     Ok(())

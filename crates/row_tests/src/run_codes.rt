@@ -112,6 +112,23 @@ fn octets_of_a_page_in_both_orders(rt: HostRuntime) -> Result<(), Fail> {
 }
 
 #[test]
+fn bits_after_octets(rt: HostRuntime) -> Result<(), Fail> {
+    let alloc = rt.alloc();
+    for (order, octets) in [
+        (Order::MsbFirst, [0xA5, 0x01, 0x80]),
+        (Order::LsbFirst, [0xA5, 0x80, 0x01]),
+    ] {
+        let mut before = vec![in alloc; 0xA5]?;
+        let mut bits = BitWriter::after(alloc, &mut before, order)?;
+        assert!(rt; before.is_empty());
+        assert_eq!(rt; bits.bits(), 8);
+        bits.push_bits(3, 9)?;
+        assert_eq!(rt; bits.into_octets().as_slice(), octets.as_slice());
+    }
+    Ok(())
+}
+
+#[test]
 fn single_pixels_come_back(rt: HostRuntime) -> Result<(), Fail> {
     let alloc = rt.alloc();
     let ones = vec![in alloc; 1; 2432]?;

@@ -10,7 +10,7 @@ use Rattle.std.proofs.lemmas.Nat.Bits.{bit_at_above}
 use Rattle.std.proofs.Math.Nat.{suc-add}
 use Rattle.std.proofs.lemmas.Bool.{cases_lt}
 use Rattle.raster.specs.declared.packed.Order.{Order}
-use Rattle.raster.specs.Packed.{bit_in, bits_in, FillsOctets}
+use Rattle.raster.specs.Packed.{bit_in, bits_in, bits_of, FillsOctets}
 use Rattle.raster.specs.Words.{bit_of_word, number_bits}
 use Rattle.raster.proofs.PackedLemmas.{length-bits_in, bit_in-take, take-bits_in, bits_in-none, bits_in-same}
 use Rattle.raster.proofs.PushLemmas.{bits_in_grow}
@@ -215,6 +215,13 @@ pub held-same : (order : Order) (old new : List ℕ) (at word filled : ℕ) → 
 unfolding held
 held-same order old new at word filled same =
     ap (λ (bits : List Bool). bits ++ word_bits filled word) (bits_in-same order new old (8 * at) (λ k h. same k))
+
+-- the bits of all octets, of which none waits
+pub held-octets : (order : Order) (old new : List ℕ) → ((k : ℕ) → bit_in order new k ≡ bit_in order old k)
+    → held order new (length old) 0 0 ≡ bits_of order old
+unfolding held word_bits
+held-octets order old new same =
+    append-nil (bits_in order new (8 * length old)) ∙ bits_in-same order new old (8 * length old) (λ k h. same k)
 
 filled_word : (word filled fill : ℕ) → IsClear filled word → filled + fill ≤ 64
     → word_bits (filled + fill) word ≡ word_bits filled word ++ replicate fill false

@@ -14,6 +14,10 @@ eol = replicate 11 false ++ true ∷ []
 abbrev pub Appends : List Bool → Bits → Bits → Type 0
 Appends bits old new = new ≡ record old { bits = old.bits ++ bits }
 
+-- new has all bits of old, and then perhaps others
+abbrev pub KeepsBits : Bits → Bits → Type 0
+KeepsBits old new = (bits : List Bool) × Appends bits old new
+
 -- new is old with the code words of the row's own runs at its end
 abbrev pub AppendsRow : List Color → Bits → Bits → Type 0
 AppendsRow row old new = (runs : List ℕ) × AreOwnRuns row runs × Appends (runs_words White runs) old new

@@ -1,20 +1,21 @@
 //! Writing of bits, and of runs and rows by their code words (ITU-T T.4, 4.1.1 and 4.1.2).
 
 ghost use Rattle.raster.specs.Changes.{AreChanges, IsNextChange};
-ghost use Rattle.raster.specs.Packed.{bit_in, FillsOctets};
+ghost use Rattle.raster.specs.Packed.{bit_in, bits_of, FillsOctets};
 ghost use Rattle.raster.specs.Words.{bit_of_word, number_bits};
 ghost use Rattle.run_tables.specs.Codes.{run_words, text};
 ghost use Rattle.run_tables.specs.Pending.{word_bits, IsClear, IsStored};
 ghost use Rattle.run_tables.specs.Written.{Appends, AppendsRow, eol};
 ghost use Rattle.raster.specs.declared.row.Color.{Color};
 ghost use Rattle.std.specs.Prelude.{ℕ, List, ◌≡◌, ◌≤◌, ◌<◌, ◌+◌, ◌-◌, ◌*◌, ◌++◌, ◌∷◌, [], length};
-ghost use Rattle.std.specs.Prelude.{slice_index_or, take, OnOk, OnErr};
+ghost use Rattle.std.specs.Prelude.{slice_index_or, take, IfOk, OnOk, OnErr};
 
 use crate::write_table::run_word;
 use raster::packed::{Order, word_at, word_octets};
 use raster::{Color, Row};
 use std::alloc::{AllocError, Global};
 use std::marker::Model;
+use std::mem;
 
 /// The place at an index, or the width where there is none.
 fn place_at(places: &[u32], index: usize, width: u32) -> u32
@@ -132,6 +133,25 @@ impl BitWriter {
             filled: 0,
             limit: 0,
         }
+    }
+
+    /// Takes over the octets of a list and goes on after their bits; the list then has none. Errs where
+    /// memory is refused, which changes nothing.
+    pub fn after(alloc: Global, octets: &mut Vec<u8>, order: Order) -> Result<BitWriter, AllocError>
+        ensures ok { IfOk result (λ writer. writer ≡ record { order = order; bits = bits_of order octets.old.items }) }
+        ensures taken { OnOk result (octets.new.items ≡ []) }
+        ensures err { OnErr result (octets.new.items ≡ octets.old.items) }
+    {
+        let at = octets.len();
+        make_room(octets, at)?;
+        Ok(BitWriter {
+            octets: mem::replace(octets, Vec::new(alloc)),
+            order,
+            at,
+            word: 0,
+            filled: 0,
+            limit: 64,
+        })
     }
 
     /// The number of bits so far.

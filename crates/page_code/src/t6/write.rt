@@ -4,8 +4,8 @@ ghost use Rattle.page_code.specs.TwoDimensions.Code.{page_code, row_code, rows_c
 ghost use Rattle.page_code.specs.TwoDimensions.Fronts.{mode_word};
 ghost use Rattle.page_code.specs.TwoDimensions.Writing.{IsCodedTo, WritesMode, reference_at, row_at};
 ghost use Rattle.raster.specs.Pixels.{max_width};
-ghost use Rattle.run_tables.specs.Written.{Appends};
-ghost use Rattle.std.specs.Prelude.{◌≡◌, ◌≤◌, ◌<◌, ◌+◌, All, length, OnOk};
+ghost use Rattle.run_tables.specs.Written.{Appends, KeepsBits};
+ghost use Rattle.std.specs.Prelude.{◌≡◌, ◌≤◌, ◌<◌, ◌+◌, All, length, OnErr, OnOk};
 
 use crate::page::row_of;
 use crate::t6::a0::A0;
@@ -43,7 +43,8 @@ fn shift_to(b1: u32, a1: u32) -> Option<Shift>
 /// Appends a mode code (ITU-T T.6, 2.2.2, table 1).
 #[inline(always)]
 fn push_mode(writer: &mut BitWriter, code: ModeCode) -> Result<(), AllocError>
-    ensures { OnOk result (Appends (mode_word code) writer.old writer.new) }
+    ensures ok { OnOk result (Appends (mode_word code) writer.old writer.new) }
+    ensures err { OnErr result (writer.new ≡ writer.old) }
 {
     let (value, count) = code.number();
     writer.push_bits(value, count)
@@ -60,6 +61,7 @@ fn write_mode(
     requires coded { IsCodedTo row.old a0.old }
     requires short { a0.old.place < length row.old }
     ensures writes { OnOk result (WritesMode reference.old row.old a0.old a0.new writer.old writer.new) }
+    ensures err { OnErr result (KeepsBits writer.old writer.new) }
     ensures same_reference { reference.new ≡ reference.old }
     ensures same_row { row.new ≡ row.old }
 {
@@ -92,6 +94,7 @@ fn write_row(
 ) -> Result<(), AllocError>
     requires { length reference.old ≡ length row.old }
     ensures code { OnOk result (Appends (row_code reference.old row.old) writer.old writer.new) }
+    ensures err { OnErr result (KeepsBits writer.old writer.new) }
     ensures same_reference { reference.new ≡ reference.old }
     ensures same_row { row.new ≡ row.old }
 {
@@ -111,7 +114,8 @@ fn write_rows<'a>(
     rows: &'a [Row],
 ) -> Result<(), AllocError>
     requires { All (λ row. length row ≡ length white.now) rows.now }
-    ensures { OnOk result (Appends (rows_code white.now rows.now) writer.old writer.new) }
+    ensures ok { OnOk result (Appends (rows_code white.now rows.now) writer.old writer.new) }
+    ensures err { OnErr result (KeepsBits writer.old writer.new) }
 {
     let mut spare = Changes::of(alloc, white)?;
     let mut reference = Changes::of(alloc, white)?;
@@ -131,7 +135,8 @@ pub(crate) fn write_page(
     writer: &mut BitWriter,
     page: &Page,
 ) -> Result<(), AllocError>
-    ensures { OnOk result (Appends (page_code page.now.width page.now.rows) writer.old writer.new) }
+    ensures ok { OnOk result (Appends (page_code page.now.width page.now.rows) writer.old writer.new) }
+    ensures err { OnErr result (KeepsBits writer.old writer.new) }
 {
     let rows = page.rows();
     let white = row_of(alloc, &[page.width()])?;
