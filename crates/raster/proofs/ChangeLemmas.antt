@@ -458,12 +458,6 @@ alike_after octets at bit all before =
     let next : 8 * (at + 8) ≡ 8 * at + 64 = omega arith in
     rw next (alike_before octets at 64 bit all before (omega arith))
 
--- the bit that a number is
-pub one_bit : (n : ℕ) → n ≤ 1 → nat_eq (bit_at n 0) 1 ≡ nat_eq n 1
-one_bit zero h = refl
-one_bit (suc zero) h = refl
-one_bit (suc (suc n)) h = absurd (omega arith)
-
 -- one word more, and those up to the next one
 pub lists_word : (octets : List ℕ) (end at word next turned : ℕ) (old xs new : List ℕ) → ((k : ℕ) → k < 64
     → bit_of_word word k ≡ turns_below octets end (8 * at + k)) → Lists (turns_below octets end) old xs 0 (8 * at)

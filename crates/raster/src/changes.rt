@@ -84,8 +84,12 @@ fn next_turns(octets: &[u8], from: u32, end: u32) -> (u32, u64)
         }
         at += 8;
         if 8 * at < end {
-            let bit = last_before(octets, at as usize) == 1;
-            at = after_alike(octets, at, end, bit);
+            let last = last_before(octets, at as usize);
+            at = if last == 0 {
+                after_alike(octets, at, end, false)
+            } else {
+                after_alike(octets, at, end, true)
+            };
         }
     }
     (at, 0)

@@ -2,6 +2,7 @@
 use Rattle.std.specs.Prelude.{ℕ, ◌≡◌, ◌+◌, ◌-◌, ◌<◌, ◌≤◌, ◌⊎◌, Bool, true, false, List, map, Contains, Some, None, Result, Ok, Err}
 use Rattle.std.specs.Prelude.{if◌then◌else◌}
 use Rattle.std.specs.List.{range_with_len}
+use Rattle.raster.specs.Pixels.{other}
 use Rattle.raster.specs.declared.row.Color.{Color}
 use Rattle.run_tables.specs.declared.fault.CodeFault.{CodeFault}
 use Rattle.run_tables.specs.declared.fault.CodeFaultKind.{CodeFaultKind}
@@ -96,3 +97,9 @@ ReadsRunWithin color room past old new (Err fault) =
     RefusesCodeWithin color AllCodes room past old fault ⊎
     ((makeup : ℕ) × (between : Reading) × BeginsRun color room old between makeup
     × RefusesCodeWithin color TerminatingCodes (room - makeup) past between fault)
+
+-- two runs were read, the first of a color and the second of the other one, together of at most so many pixels
+pub record ReadsTwoRuns (color : Color) (room : ℕ) (past : CodeFaultKind) (old new : Reading) (first second : ℕ) : Type 0 where
+  pub between : Reading
+  pub one : ReadsRunWithin color room past old between (Ok first)
+  pub two : ReadsRunWithin (other color) (room - first) past between new (Ok second)

@@ -2,7 +2,7 @@
 
 ghost use Rattle.raster.specs.Packed.{bits_of};
 ghost use Rattle.raster.specs.Words.{number_bits};
-ghost use Rattle.run_tables.specs.CodeReading.{PicksCode, ReadsCode, ReadsRun, ReadsRunCode, ReadsRunWithin, count_among, first_runs};
+ghost use Rattle.run_tables.specs.CodeReading.{PicksCode, ReadsCode, ReadsRun, ReadsRunCode, ReadsRunWithin, ReadsTwoRuns, count_among, first_runs};
 ghost use Rattle.run_tables.specs.CodeReading.{kind_among, runs_among};
 ghost use Rattle.run_tables.specs.Codes.{code_word, text};
 ghost use Rattle.run_tables.specs.Numbers.{AreFirst, IsFirst64, first_bits, number_text};
@@ -356,7 +356,7 @@ impl<'a> BitReader<'a> {
     /// A run of a color, of at most so many pixels, where it can be told from the next 57 bits. Else
     /// none, and nothing changed.
     #[inline(always)]
-    pub fn quick_run(&mut self, color: Color, room: u32) -> Option<u32>
+    fn quick_run(&mut self, color: Color, room: u32) -> Option<u32>
         ensures some { IfSome result (λ run. (past : CodeFaultKind) → ReadsRunWithin color room past self.old self.new (Ok run)) }
         ensures most { IfSome result (λ run. run ≤ room) }
         ensures none { IfNone result (self.new ≡ self.old) }
@@ -365,6 +365,22 @@ impl<'a> BitReader<'a> {
         let run = window.run(color, room)?;
         *self = window.into_reader();
         Some(run)
+    }
+
+    /// Two runs, the first of a color and the second of the other one, together of at most so many
+    /// pixels, where they can be told from the next 57 bits (ITU-T T.6, 2.2.2). Else none, and nothing
+    /// changed.
+    #[inline(always)]
+    pub fn quick_two_runs(&mut self, color: Color, room: u32) -> Option<(u32, u32)>
+        ensures some { IfSome result (λ runs. (past : CodeFaultKind) → ReadsTwoRuns color room past self.old self.new runs.0 runs.1) }
+        ensures most { IfSome result (λ runs. runs.0 + runs.1 ≤ room) }
+        ensures none { IfNone result (self.new ≡ self.old) }
+    {
+        let mut window = Window::at(self.look_ahead())?;
+        let first = window.run(color, room)?;
+        let second = window.run(color.other(), room - first)?;
+        *self = window.into_reader();
+        Some((first, second))
     }
 
     /// `read_run_within` code by code.

@@ -19,9 +19,7 @@ fn changes_of(alloc: Global, row: &Row, list: Vec<u32>) -> Result<Vec<u32>, Allo
     held.clear();
     row.changes(alloc, &mut held)?;
     let width = row.width();
-    held.push(width)?;
-    held.push(width)?;
-    held.push(width)?;
+    held.extend_from_slice(&[width; 3])?;
     Ok(held)
 }
 

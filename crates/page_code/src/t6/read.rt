@@ -259,12 +259,8 @@ fn quick_horizontal(reader: &mut BitReader, lines: &mut Lines) -> bool
     let mut ahead = reader.look_ahead();
     ahead.skip(3);
     let a0 = lines.a0();
-    let other = a0.color.other();
     let room = lines.width() - a0.place;
-    let Some(a0a1) = ahead.quick_run(a0.color, room) else {
-        return false;
-    };
-    let Some(a1a2) = ahead.quick_run(other, room - a0a1) else {
+    let Some((a0a1, a1a2)) = ahead.quick_two_runs(a0.color, room) else {
         return false;
     };
     if a0a1 + a1a2 == 0 {

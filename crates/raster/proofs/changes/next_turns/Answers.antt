@@ -1,23 +1,29 @@
-use Rattle.std.proofs.Common.{◌≡◌, ◌∙◌, arith, sym}
-use Rattle.raster.proofs.ChangeLemmas.{next_here, next_on, next_past, one_bit}
+use Rattle.std.proofs.Common.{◌≡◌, arith}
+use Rattle.raster.proofs.ChangeLemmas.{next_here, next_on, next_past}
 use Rattle.raster.proofs.changes.next_turns.Goals as goal
 
 pub returns-then-turned-ne0 : goal.returns-then-turned-ne0
 returns-then-turned-ne0 c = c.loop-at.invariant.goes_on c.loop-at.at c.word_turns-turned.result (next_here c.args.octets.now c.args.end
     c.loop-at.at c.word_turns-turned.result c.loop-at.invariant.aligned c.loop-at-test.true c.word_turns-turned.ensures)
 
-pub after_alike-at-requires-clause-before : goal.after_alike-at-requires-clause-before
-after_alike-at-requires-clause-before c =
-    sym (c.last_before-bit.ensures.bit) ∙ one_bit c.last_before-bit.result c.last_before-bit.ensures.small
-
-pub loop-at-preserved-then-at-end : goal.loop-at-preserved-then-at-end
-loop-at-preserved-then-at-end c =
+pub loop-at-preserved-then-last-eq0 : goal.loop-at-preserved-then-last-eq0
+loop-at-preserved-then-last-eq0 c =
     let none : c.word_turns-turned.result ≡ 0 = omega (arith, c.if-turned-ne0.false) in
     record {
       aligned = c.after_alike-at.ensures.aligned;
       high = c.after_alike-at.ensures.low;
       goes_on = λ next turned later. c.loop-at.invariant.goes_on next turned (next_on c.args.octets.now c.args.end c.loop-at.at next turned
           c.loop-at.invariant.aligned (rw none at c.word_turns-turned.ensures) (c.after_alike-at.ensures.goes_on next turned later));
+    }
+
+pub loop-at-preserved-else-last-eq0 : goal.loop-at-preserved-else-last-eq0
+loop-at-preserved-else-last-eq0 c =
+    let none : c.word_turns-turned.result ≡ 0 = omega (arith, c.if-turned-ne0.false) in
+    record {
+      aligned = c.after_alike-at-else-last-eq0.ensures.aligned;
+      high = c.after_alike-at-else-last-eq0.ensures.low;
+      goes_on = λ next turned later. c.loop-at.invariant.goes_on next turned (next_on c.args.octets.now c.args.end c.loop-at.at next turned
+          c.loop-at.invariant.aligned (rw none at c.word_turns-turned.ensures) (c.after_alike-at-else-last-eq0.ensures.goes_on next turned later));
     }
 
 pub loop-at-preserved : goal.loop-at-preserved
