@@ -5,6 +5,9 @@ use Rattle.std.proofs.lemmas.List.{append-nil, drop_at, length-append, length-re
 use Rattle.std.proofs.lemmas.List.FromFn.{get_or-map-range_with_len}
 use Rattle.std.proofs.lemmas.Nat.Bits.{bit_at-lt, same_from_bits_below}
 use Rattle.std.specs.Int.{bit_at}
+use Rattle.std.specs.Prelude.{Result, Ok, Err, OnErr, OnOk, is_err}
+use Rattle.std.proofs.lemmas.Bool.{false≢true}
+use Rattle.std.proofs.Common.{true}
 use Rattle.raster.specs.Octets.{AreOctets}
 use Rattle.raster.specs.Packed.{Bits, FillsOctets, bits_of, place_in}
 use Rattle.raster.specs.declared.packed.Order.{Order}
@@ -108,3 +111,13 @@ unchanged order old new start first mid last small small' begins at (more, appen
     forgets ∙ (ap (λ (w : Bits). record w { bits = take start w.bits }) appends ∙
     ap (λ (bits : List Bool). record first { bits = bits }) (take_at first.bits more start (sym at))) in
     alone order old new small small' (subst (λ (w : Bits). FillsOctets w.order w.bits new) (back ∙ begins) fills)
+
+-- ---- an answer that is refused, or isn't
+
+pub ok_of_err : {A E : Type 0} (P : Type 0) (r : Result A E) → is_err r ≡ true → OnOk r P
+ok_of_err P (Ok x) refused = absurd (false≢true refused)
+ok_of_err P (Err x) refused = tt
+
+pub err_of_ok : {A E : Type 0} (P : Type 0) (r : Result A E) → is_err r ≡ false → OnErr r P
+err_of_ok P (Ok x) done = tt
+err_of_ok P (Err x) done = absurd (false≢true (sym done))

@@ -68,15 +68,13 @@ impl PageCode for T6 {
         are_octets(out);
         let mut bits = BitWriter::after(alloc, out, order)?;
         let start = bits.bits();
-        if let Err(refused) = write_page(alloc, &mut bits, page) {
+        let done = write_page(alloc, &mut bits, page);
+        if done.is_err() {
             bits.truncate(start);
-            *out = bits.into_octets();
-            are_octets(out);
-            return Err(refused);
         }
         *out = bits.into_octets();
         are_octets(out);
-        Ok(())
+        done
     }
 
     fn decode(

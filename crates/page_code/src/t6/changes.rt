@@ -19,7 +19,9 @@ fn changes_of(alloc: Global, row: &Row, list: Vec<u32>) -> Result<Vec<u32>, Allo
     held.clear();
     row.changes(alloc, &mut held)?;
     let width = row.width();
-    held.extend_from_slice(&[width; 3])?;
+    held.push(width)?;
+    held.push(width)?;
+    held.push(width)?;
     Ok(held)
 }
 

@@ -1,18 +1,36 @@
+use Rattle.std.proofs.Common.{◌∙◌, sym}
+use Rattle.std.proofs.lemmas.Result.{on_err_weaker, on_ok_weaker}
 use Rattle.raster.specs.Octets.{AreOctets}
 use Rattle.page_code.specs.TwoDimensions.Code.{page_code}
-use Rattle.page_code.proofs.AppendedOctets.{appended, unchanged}
+use Rattle.page_code.proofs.AppendedOctets.{appended, err_of_ok, ok_of_err, unchanged}
 use Rattle.page_code.proofs.t6.T6PageCode.encode.Goals as goal
-
-pub returns-in-Err-clause-err : goal.returns-in-Err-clause-err
-returns-in-Err-clause-err c =
-    let old : AreOctets c.args.out.now.items = rw c.deref.ensures.value at c.are_octets.ensures in
-    let new : AreOctets c.into_octets.result.items = rw c.deref-in-Err.ensures.value at c.are_octets-in-Err.ensures in
-    unchanged c.args.order c.args.out.now.items c.into_octets.result.items c.bits-start.result c.in_ok-bits.bits c.write_page.new.writer
-    c.truncate.new.self old new c.in_ok-bits.ensures.ok c.bits-start.ensures c.in-Err.ensures.err c.truncate.ensures c.into_octets.ensures
+use Rattle.page_code.proofs.t6.T6PageCode.encode.Goals.{then-is_err, else-is_err}
 
 pub returns-clause-ok : goal.returns-clause-ok
 returns-clause-ok c =
     let old : AreOctets c.args.out.now.items = rw c.deref.ensures.value at c.are_octets.ensures in
-    let new : AreOctets c.into_octets-2.result.items = rw c.deref-2.ensures.value at c.are_octets-2.ensures in
-    appended c.args.order (page_code c.args.page.now.width c.args.page.now.rows) c.args.out.now.items c.into_octets-2.result.items
-    c.in_ok-bits.bits c.write_page.new.writer old new c.in_ok-bits.ensures.ok c.in_default.ensures.ok c.into_octets-2.ensures
+    let new : AreOctets c.into_octets.result.items = rw c.deref-2.ensures.value at c.are_octets-2.ensures in
+    elim c.if-is_err.branch [
+      | then-is_err w ↦ ok_of_err _ c.write_page-done.result (sym c.is_err.ensures.value ∙ w.if-is_err.true)
+      | else-is_err w ↦
+          on_ok_weaker c.write_page-done.result
+          (λ appends.
+          appended c.args.order (page_code c.args.page.now.width c.args.page.now.rows) c.args.out.now.items c.into_octets.result.items
+          c.in_ok-bits.bits c.write_page-done.new.writer old new c.in_ok-bits.ensures.ok appends (rw w.bits-is at c.into_octets.ensures))
+          c.write_page-done.ensures.ok
+    ]
+
+pub returns-clause-err : goal.returns-clause-err
+returns-clause-err c =
+    let old : AreOctets c.args.out.now.items = rw c.deref.ensures.value at c.are_octets.ensures in
+    let new : AreOctets c.into_octets.result.items = rw c.deref-2.ensures.value at c.are_octets-2.ensures in
+    elim c.if-is_err.branch [
+      | then-is_err w ↦
+          on_err_weaker c.write_page-done.result
+          (λ keeps.
+          unchanged c.args.order c.args.out.now.items c.into_octets.result.items c.bits-start.result c.in_ok-bits.bits
+          c.write_page-done.new.writer w.truncate.new.self old new c.in_ok-bits.ensures.ok c.bits-start.ensures keeps
+          w.truncate.ensures (rw w.bits-is at c.into_octets.ensures))
+          c.write_page-done.ensures.err
+      | else-is_err w ↦ err_of_ok _ c.write_page-done.result (sym c.is_err.ensures.value ∙ w.if-is_err.false)
+    ]
