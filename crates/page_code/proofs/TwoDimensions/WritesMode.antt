@@ -14,6 +14,7 @@ use Rattle.run_tables.specs.Codes.{run_words}
 use Rattle.run_tables.specs.Written.{Appends}
 use Rattle.page_code.specs.declared.t6.a0.A0.{A0}
 use Rattle.page_code.specs.declared.t6.mode.Shift.{Shift}
+use Rattle.page_code.specs.declared.t6.mode.Shift.TheVariants.{V0}
 use Rattle.page_code.specs.TwoDimensions.Positions.{CodingLine, white_line, right_of_a0, right_of, IsFirstTo, IsB1, IsB2, b1_of, b2_of}
 use Rattle.page_code.specs.TwoDimensions.Modes.{vertical_word, pass_word, horizontal_word, eofb, Mode, mode_words}
 use Rattle.page_code.specs.TwoDimensions.Modes.Mode.{pass, vertical, horizontal}
@@ -21,6 +22,10 @@ use Rattle.page_code.specs.TwoDimensions.Code.{verticals, vertical_to, a1_of, pr
 use Rattle.page_code.specs.TwoDimensions.Writing.{IsUpTo, line_to, IsCodedTo, WritesMode, reference_at, row_at}
 use Rattle.page_code.proofs.TwoDimensions.Positions.{b1_is, b2_is, change_is, other_than}
 use Rattle.page_code.proofs.TwoDimensions.Prescribed.{before_next, before_to, prescribed_moves}
+
+-- V0, where a1 is b1
+pub straight : (b1 a1 : ℕ) → a1 ≡ b1 → vertical_to b1 a1 verticals ≡ Some V0
+straight b1 a1 same = rw (eq-eqb (a1 + 0) (b1 + 0) (omega (arith, same))) refl
 
 other_of_other : (a b : Color) → a ≢ b → b ≡ other a
 other_of_other White White h = absurd (h refl)

@@ -22,9 +22,6 @@ fn shift_to(b1: u32, a1: u32) -> Option<Shift>
     requires a1 { a1 ≤ max_width }
     ensures { result ≡ vertical_to b1 a1 verticals }
 {
-    if a1 == b1 {
-        return Some(Shift::V0);
-    }
     if a1 + 3 < b1 {
         return None;
     }
@@ -72,6 +69,11 @@ fn write_mode(
     if b2 < a1 {
         push_mode(writer, ModeCode::Pass)?;
         a0.move_to(b2, color);
+        return Ok(());
+    }
+    if a1 == b1 {
+        push_mode(writer, ModeCode::Vertical(Shift::V0))?; // the most frequent, as a constant
+        a0.move_to(a1, color.other());
         return Ok(());
     }
     if let Some(shift) = shift_to(b1, a1) {
