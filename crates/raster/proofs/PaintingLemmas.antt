@@ -59,7 +59,8 @@ pub record PutsOctets (old : List ℕ) (at word : ℕ) (new : List ℕ) : Type 0
   pub after : (j : ℕ) → at + 8 ≤ j → get_or new j 0 ≡ get_or old j 0
 
 -- a bit of an octet that is the same
-same_octet : (old new : List ℕ) (k : ℕ) → get_or {A = ℕ} new (k / 8) 0 ≡ get_or old (k / 8) 0 → bit_in MsbFirst new k ≡ bit_in MsbFirst old k
+same_octet : (old new : List ℕ) (k : ℕ) → get_or {A = ℕ} new (k / 8) 0 ≡ get_or old (k / 8) 0
+    → bit_in MsbFirst new k ≡ bit_in MsbFirst old k
 same_octet old new k e = ap (λ (octet : ℕ). nat_eq (bit_at octet (7 - k % 8)) 1) e
 
 pub stored_octets : (old : List ℕ) (from word : ℕ) (new : List ℕ) → from % 8 ≡ 0 → PutsOctets old (from / 8) word new
@@ -225,7 +226,8 @@ drawn_none octets all clear k =
 -- the first of the turns that are left is done
 pub drawn_turn : (octets : List ℕ) (from word place : ℕ) (rest all new : List ℕ) (next turned : ℕ)
     → IsDrawn octets from word (place ∷ rest) all
-    → ((k : ℕ) → drawn_bit new next turned k ≡ (if nat_lt k place then drawn_bit octets from word k else not (drawn_bit octets from word k)))
+    → ((k : ℕ)
+    → drawn_bit new next turned k ≡ (if nat_lt k place then drawn_bit octets from word k else not (drawn_bit octets from word k)))
     → IsDrawn new next turned rest all
 drawn_turn octets from word place rest all new next turned drawn turn k =
     ap (differ (bit_of_turns rest k)) (turn k) ∙
@@ -290,7 +292,8 @@ ends_follow from (run ∷ runs) end e =
     (omega arith, omega (arith, e, total), ends_follow (from + run) runs end (omega (arith, e, total)))
 
 -- runs turn where they end
-pub colored_turning : (color : Color) (from : ℕ) (runs : List ℕ) → turning color from (ends_of from runs) (from + sum runs) ≡ colored color runs
+pub colored_turning : (color : Color) (from : ℕ) (runs : List ℕ)
+    → turning color from (ends_of from runs) (from + sum runs) ≡ colored color runs
 colored_turning color from [] =
     let none : from + 0 - from ≡ 0 = omega arith in
     ap (λ n. replicate n color) none
