@@ -9,3 +9,5 @@ pub mod SendingLemmas
 pub mod FieldTexts
 pub mod ValueNumbers
 pub mod BitNumberLemmas
+pub mod ExactlyLemmas
+pub mod RefusalLemmas

@@ -8,3 +8,5 @@ pub mod Writing
 pub mod Saying
 pub mod Sending
 pub mod BitNumbers
+pub mod Exactly
+pub mod Refusals

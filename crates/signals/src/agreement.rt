@@ -33,7 +33,7 @@ const V17_ORDER: [Speed; 6] = [
     Speed::V27At2400,
 ];
 
-/// The order of the speeds where a station lacks V.17.
+/// The order of the speeds where a station has no V.17.
 const OTHER_ORDER: [Speed; 4] = [
     Speed::V29At9600,
     Speed::V29At7200,
@@ -134,7 +134,7 @@ pub fn lower(caps: &Caps, wish: &Wish, speed: Speed) -> Option<Speed>
     first_common(wish.modems, caps.modems, below)
 }
 
-/// Whether a station takes pages that are sent so.
+/// Whether a station takes pages that are sent by these parameters.
 pub fn allows(caps: &Caps, params: &Params) -> bool
     ensures { result ≡ allowed caps.now params.now }
 {

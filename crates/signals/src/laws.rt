@@ -3,6 +3,8 @@
 ghost use Rattle.signals.specs.Agreement.{AgreedFits, AgreedIsAllowed, BeginsAtMostFiveAbove, GoesDownByOne, LoweredIsAllowed};
 ghost use Rattle.signals.specs.Agreement.{WidthsHavePixels};
 ghost use Rattle.signals.specs.BitNumbers.{ReadsByNumber, ReadsNoOthers, dcs_numbers, dis_numbers};
+ghost use Rattle.signals.specs.Exactly.{AgreesExactly, AllowsExactly, LowerIsSlower, ModemsHaveSpeeds, SpeedsHaveRows, WidthsHaveRows};
+ghost use Rattle.signals.specs.Refusals.{RefusesExactly, SendsOctets, ShortOnes};
 ghost use Rattle.signals.specs.Saying.{ControlsHaveTexts, ReadsWhatIsSaid};
 ghost use Rattle.signals.specs.Sending.{ModemsHaveTexts, PageEndsHaveTexts, SpeedsHaveTexts, WidthsHaveTexts, WritesTheTables};
 ghost use Rattle.signals.specs.Training.{TrainingChecksAreGood};
@@ -94,4 +96,38 @@ pub fn lowered_is_allowed()
 pub fn speeds_go_down()
     ensures begins { BeginsAtMostFiveAbove }
     ensures by_one { GoesDownByOne }
+{}
+
+/// Each speed has its row of the standard's table: the bits of a DCS, the recommendation, the bits a second
+/// and the octets of its training check; and each width has its bits and its pixels. ITU-T T.30, table 2.
+pub fn speeds_have_rows()
+    ensures speeds { SpeedsHaveRows }
+    ensures widths { WidthsHaveRows }
+    ensures modems { ModemsHaveSpeeds }
+{}
+
+/// Two stations agree exactly where the one receives with error correction, takes the width and the lines of
+/// the pages, and both try a speed; the fastest, with the code, the frames, the width and the lines named.
+/// Parameters are allowed exactly where they ask for what is offered.
+pub fn agrees_exactly()
+    ensures agrees { AgreesExactly }
+    ensures allows { AllowsExactly }
+{}
+
+/// After a failed training check comes the next slower one of the speeds that both try, and none exactly
+/// after the slowest.
+pub fn lower_is_slower()
+    ensures { LowerIsSlower }
+{}
+
+/// A content is refused exactly where an octet of its front is wrong or missing: the fault is that of the
+/// first such octet, and too few octets after a known facsimile control field are missing ones.
+pub fn refuses_exactly()
+    ensures exactly { RefusesExactly }
+    ensures short { ShortOnes }
+{}
+
+/// The octets of each signal that a station sends, by number. ITU-T T.30, 5.3.6 and A.4.
+pub fn sends_octets()
+    ensures { SendsOctets }
 {}

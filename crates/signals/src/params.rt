@@ -96,7 +96,7 @@ pub enum PageWidth {
 }
 
 impl PageWidth {
-    /// The width of so many pixels; none of other numbers.
+    /// The width with this number of pixels; none where no page width has it.
     pub fn of_pixels(pixels: u32) -> Option<PageWidth>
         ensures { result ≡ width_of_pixels pixels }
     {

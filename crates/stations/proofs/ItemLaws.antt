@@ -6,7 +6,6 @@ use Rattle.partial_page.specs.Store.{bit_of}
 use Rattle.signals.specs.Signals.{fcd, rcp}
 use Rattle.signals.specs.declared.signal.Signal.{Signal}
 use Rattle.std.specs.Borrow.{Bor}
-use Rattle.stations.specs.Blocks.{Block}
 use Rattle.stations.specs.CallerStep.{Caller, fcds, blocks_of, present_in, present_block}
 use Rattle.stations.specs.Layers.{code_blocks}
 use Rattle.stations.specs.CallerFields.{CallerFields, Represents, AtBlock, IsSending, HasBlock, GivesPresent}

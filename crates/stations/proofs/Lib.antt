@@ -7,3 +7,16 @@ pub mod ItemLaws
 pub mod Spending
 pub mod Limits
 pub mod RunLaws
+pub mod Lasting
+pub mod Sizes
+pub mod FewBlocks
+pub mod CallersEnds
+pub mod AnswerersEnds
+pub mod Lists
+pub mod CallersTurns
+pub mod AnswerersTurns
+pub mod MarksTell
+pub mod Keeping
+pub mod AnswererKeeping
+pub mod PprMaps
+pub mod AnswererTaking

@@ -10,3 +10,10 @@ pub mod Lending
 pub mod Runs
 pub mod Limits
 pub mod OpenPage
+pub mod Lasting
+pub mod Sizes
+pub mod EndsMean
+pub mod TurnsMean
+pub mod Marks
+pub mod Keeping
+pub mod AnswererKeeping

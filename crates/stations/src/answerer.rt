@@ -13,10 +13,11 @@ ghost use Rattle.stations.specs.declared.turn.AnswererState.TheVariants.{PhaseB,
 ghost use Rattle.stations.specs.CallerStep.{no_params};
 ghost use Rattle.stations.specs.Inputs.{answerer_input};
 ghost use Rattle.stations.specs.Limits.{IsLimited};
+ghost use Rattle.stations.specs.AnswererKeeping.{AnswererKeeps};
 
 use crate::caller::no_params;
 use crate::input::AnswererIn;
-use crate::laws::open_is_limited;
+use crate::laws::{answerers_keep, open_is_limited};
 use crate::lending::Items;
 use crate::mark::{Accepted, Asked, Mark};
 use crate::open_page::OpenPage;
@@ -93,15 +94,18 @@ impl Answerer {
     }
 
     /// Answers an input; an ended call answers silently. Errs where memory is refused, which changes
-    /// nothing. The open frames and the open page stay within their limits.
+    /// nothing. The open frames and the open page stay within their limits, and nothing else changes than what the input
+    /// may change.
     pub fn step(&mut self, input: AnswererIn<'_>) -> Result<Turn, AllocError>
         ensures answers { StepsOrRefuses self.old self.new result (answerer_step self.old (answerer_input input.entry)) }
         ensures lasts { (self.old.ending ≢ None) ⊎ AnswererTakesNoMemory self.old.state (answerer_input input.entry) self.old →
             IsOk result }
         ensures ended { IsSome self.old.ending → (self.new ≡ self.old) × (result ≡ Ok Turn.Silent) }
         ensures limits { IsLimited self.old → IsLimited self.new }
+        ensures keeps { AnswererKeeps self.old (answerer_input input.entry) self.new }
     {
         open_is_limited();
+        answerers_keep();
         self.advance(input)
     }
 

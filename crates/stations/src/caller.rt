@@ -13,6 +13,8 @@ ghost use Rattle.raster.specs.Octets.{packed};
 ghost use Rattle.signals.specs.Agreement.{width_of_pixels};
 ghost use Rattle.stations.specs.Layers.{agreed_for, lowered, in_one_group, code_octets, within_page_limit, code_blocks_within_limit};
 ghost use Rattle.stations.specs.Layers.{code_blocks_at};
+ghost use Rattle.stations.specs.Keeping.{KeepsOrRefuses};
+ghost use Rattle.stations.specs.Lasting.{LastsOrRefuses};
 ghost use Rattle.stations.specs.Left.{SpendsOrRefuses};
 ghost use Rattle.stations.specs.CallerFields.{NewCaller, AreCallable, Represents, Answers, AnswersOrRefuses, IsSending, HasBlock};
 ghost use Rattle.stations.specs.CallerFields.{GivesPresent, end_of_fields, next_in_page, end_of_first, NoPageStarts, CallerTakesNoMemory};
@@ -23,7 +25,7 @@ ghost use Rattle.signals.specs.declared.signal.PageEnd.TheVariants.{Mps};
 
 use crate::fault::CallerFault;
 use crate::input::CallerIn;
-use crate::laws::steps_spend;
+use crate::laws::{callers_end, callers_keep, steps_spend};
 use crate::lending::{Items, pps};
 use crate::turn::{CallerState, End, Turn};
 use page_code::Coding;
@@ -111,8 +113,12 @@ impl Caller {
         ensures lasts { (self.old.ending ≢ None) ⊎ CallerTakesNoMemory self.old.state (caller_input input.entry) self.old → IsOk result }
         ensures ended { IsSome self.old.ending → (self.new ≡ self.old) × (result ≡ Ok Silent) }
         ensures spends { SpendsOrRefuses self.old (caller_input input.entry) self.new result }
+        ensures keeps { KeepsOrRefuses self.old (caller_input input.entry) self.new result }
+        ensures uses { LastsOrRefuses self.old (caller_input input.entry) self.new result }
     {
         steps_spend();
+        callers_keep();
+        callers_end();
         self.advance(input)
     }
 
@@ -634,7 +640,7 @@ fn code_blocks(alloc: Global, params: Params, page: &Page) -> Result<Option<Bloc
     cut_within_limit(alloc, octets, params.small)
 }
 
-/// Octets cut into blocks, if a call can carry so many for a page.
+/// Octets cut into blocks; none where they are too many for a page of a call.
 #[tactic(auto, unfolding(crate::specs::Layers::within_page_limit))]
 fn cut_within_limit(
     alloc: Global,

@@ -1,6 +1,14 @@
 //! Laws of the definitions. Nothing runs.
 
+ghost use Rattle.stations.specs.AnswererKeeping.{AnswerersKeep, AnswerersTake, CountsLast};
+ghost use Rattle.stations.specs.EndsMean.{AnswerersEndsMean, CallersEndsMean};
+ghost use Rattle.stations.specs.Keeping.{CallersKeep, CallersTake};
+ghost use Rattle.stations.specs.TurnsMean.{AnswerersAlwaysAnswer, AnswerersHearNothingElse, AnswerersTurnsMean};
+ghost use Rattle.stations.specs.TurnsMean.{CallersHearNothingElse, CallersTurnsMean};
+ghost use Rattle.stations.specs.Marks.{ListsEndSo, MarksTell, NeighboursDiffer};
+ghost use Rattle.stations.specs.Lasting.{CallersEnd, StepsLast};
 ghost use Rattle.stations.specs.Left.{StepsSpend};
+ghost use Rattle.stations.specs.Sizes.{BlocksAreFew, CallersAreFew, StepsArePlaced};
 ghost use Rattle.stations.specs.Limits.{NewIsLimited, StepsKeepLimits, OpenIsLimited};
 ghost use Rattle.stations.specs.Runs.{EndedCallerStays, EndedAnswererStays, StoredIsRead, StepsStoreOpen, KeptIsReady, StaysReady};
 ghost use Rattle.stations.specs.Laws.{LayersHold, ReadsByGrammar, SignalsArrive, SignalsHold, SpeedsHold};
@@ -81,4 +89,68 @@ pub fn stored_is_read()
     ensures runs { StoredIsRead }
 {
     page_code::laws::reads_exactly();
+}
+
+/// Whatever a caller hears, it transmits at most 18 times for each group that it has begun, 12 times for each block, 3 times
+/// for each RNR and once more, and has ended once its wait was over more than 12 times for each group, 8 times for each block
+/// and twice for each RNR.
+pub fn callers_end()
+    ensures steps { StepsLast }
+    ensures runs { CallersEnd }
+    ensures placed { StepsArePlaced }
+    ensures blocks { BlocksAreFew }
+    ensures few { CallersAreFew }
+{
+    speeds_hold();
+}
+
+/// A station that runs ends exactly by the cause of the end: each of the ten ends has its own.
+pub fn ends_mean()
+    ensures caller { CallersEndsMean }
+    ensures answerer { AnswerersEndsMean }
+{
+    partial_page::laws::octets_have_a_block();
+    reads_by_grammar();
+}
+
+/// In every state an answerer that runs answers a PPS of the last accepted block, and RR where a block was
+/// accepted and no frame is open, by MCF, or by RNR while busy, and nothing changes. After each turn a
+/// station waits for what may answer it, and the caller has counted the try.
+pub fn always_answered()
+    ensures always { AnswerersAlwaysAnswer }
+    ensures caller { CallersTurnsMean }
+    ensures answerer { AnswerersTurnsMean }
+{}
+
+/// At an input that the table doesn't name for its state a station is silent, and nothing changes.
+pub fn only_named_change()
+    ensures caller { CallersHearNothingElse }
+    ensures answerer { AnswerersHearNothingElse }
+{}
+
+/// A block's mark is the numbers of its page and of its place below 256, and the same again from each 256 on;
+/// neighbouring blocks never share one. A call's list of blocks ends with the document, with a group, or before
+/// a page whose code is too long.
+pub fn marks()
+    ensures tell { MarksTell }
+    ensures neighbours { NeighboursDiffer }
+    ensures last { ListsEndSo }
+{
+    partial_page::laws::octets_have_a_block();
+}
+
+/// What a step of a caller may change of what it has, field by field, and where; and what it takes from a DIS, an FTT and an MCF.
+pub fn callers_keep()
+    ensures keep { CallersKeep }
+    ensures take { CallersTake }
+{}
+
+/// What a step of an answerer may change of what it has, field by field, and where; what it takes from a DCS, an FCD and a
+/// PPS; and which last frame of a block counts.
+pub fn answerers_keep()
+    ensures keep { AnswerersKeep }
+    ensures take { AnswerersTake }
+    ensures counts { CountsLast }
+{
+    reads_by_grammar();
 }

@@ -24,7 +24,7 @@ pub enum Item<'a> {
         /// Whether it is the turn's last frame.
         last: bool,
     },
-    /// A training check of so many octets 00.
+    /// A training check, with the number of its octets, all 00.
     Training(u32),
 }
 

@@ -2,7 +2,7 @@
 
 use signals::PageEnd;
 
-/// The counts of a PPS that tell a block from its neighbours: the page's and the block's, modulo 256.
+/// The counts of a PPS by which a block differs from its neighbours: the page's and the block's, modulo 256.
 #[derive(Clone, Copy, Debug, PartialEq, Eq)]
 pub struct Mark {
     /// The page's number modulo 256.

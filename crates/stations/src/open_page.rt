@@ -46,7 +46,7 @@ impl fmt::Debug for OpenPage {
 }
 
 impl OpenPage {
-    /// A page with no octets, which is sent so. Takes no memory.
+    /// A page with no octets yet, to be read by these parameters. Takes no memory.
     pub(crate) fn new(alloc: Global, params: Params) -> OpenPage
         ensures { result ≡ record { params = params; octets = [] } }
     {
@@ -65,7 +65,7 @@ impl OpenPage {
         self.params
     }
 
-    /// The page is sent so from now on; where it is read otherwise then, it is read anew. Takes no
+    /// The page is sent by these parameters from now on; where they change how it is read, it is read anew. Takes no
     /// memory.
     pub(crate) fn agree(&mut self, params: Params)
         ensures { self.new ≡ record self.old { params = params } }
@@ -125,7 +125,7 @@ impl OpenPage {
     }
 }
 
-/// A reader of pages that are sent so. Takes no memory.
+/// A reader of pages that are sent by these parameters. Takes no memory.
 fn reader_of(alloc: Global, params: Params) -> PageReader
     ensures { (octets : List ℕ) → IsReaderOf params octets result }
 {
@@ -133,7 +133,7 @@ fn reader_of(alloc: Global, params: Params) -> PageReader
     PageReader::new(alloc, params.coding, Order::LsbFirst, width, params.fine)
 }
 
-/// Whether pages that are sent so are read alike.
+/// Whether pages that are sent by the one or by the other parameters are read alike.
 fn are_read_alike(params: Params, other: Params) -> bool
     ensures { IsTrue result ↔ AreReadAlike params other }
 {
