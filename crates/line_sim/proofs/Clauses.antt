@@ -33,7 +33,7 @@ state_shown v w shows =
     (ap (λ n. page_state v.answerer.pages n w.caller.ending v.answerer.ending) shows.caller.confirms ∙
     ap (λ e. page_state v.answerer.pages v.caller.page e v.answerer.ending) shows.caller.ending)
 
-two_moves_by : Promised → EventsMove → (old new : WorldFields) (event : Event) (outcome : Outcome) → IsReached old →
+pub two_moves_by : Promised → EventsMove → (old new : WorldFields) (event : Event) (outcome : Outcome) → IsReached old →
     Becomes old new event outcome → AtMostTwo (length old.call.caller.document) (fields_state old.call) (fields_state new.call)
 two_moves_by laws moves old new event outcome r becomes =
     let w : World = run r.steps (new_world r.document r.wish r.caps) in

@@ -96,7 +96,7 @@ reached_on old new event (Ok done) r ok err = reached_more old new event Done r 
 reached_on old new event (Err refusal) r ok err = reached_more old new event err.0 r err.2
 
 -- the document stays
-document_by : Promised → (old new : WorldFields) (event : Event) (outcome : Outcome) → IsReached old → Becomes old new event outcome →
+pub document_by : Promised → (old new : WorldFields) (event : Event) (outcome : Outcome) → IsReached old → Becomes old new event outcome →
     new.call.caller.document ≡ old.call.caller.document
 document_by laws old new event outcome r becomes =
     let first : World = new_world r.document r.wish r.caps in

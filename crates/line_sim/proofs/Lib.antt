@@ -1,5 +1,6 @@
 pub mod Undisturbed
 pub mod Clauses
+pub mod Lives
 pub mod Holding
 pub mod Between
 pub mod Runs
@@ -37,3 +38,17 @@ pub mod Told
 pub mod Agreeing
 pub mod Streams
 pub mod StreamSteps
+pub mod CallerDrives
+pub mod Driving
+pub mod Driven
+pub mod DrivenRuns
+pub mod Bearing
+pub mod BurstsCome
+pub mod CallGoesOn
+pub mod BlockAnswers
+pub mod BlockPhase
+pub mod Agreed
+pub mod Training
+pub mod DisPhase
+pub mod Tolerance
+pub mod FewLosses

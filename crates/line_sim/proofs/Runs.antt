@@ -1,6 +1,6 @@
 -- A run that gives a world its events one after the other.
-use Rattle.std.proofs.Common.{◌≡◌, ℕ, zero, suc, ◌+◌, ◌<◌, ◌≤◌, List, [], ◌∷◌, ◌++◌, map, take, length, get_or, Option, Some, None, Result}
-use Rattle.std.proofs.Common.{Ok, Err, OnOk, OnErr, refl, ap, sym, subst, ◌∙◌, arith}
+use Rattle.std.proofs.Common.{◌≡◌, ◌≢◌, ℕ, zero, suc, ◌+◌, ◌<◌, ◌≤◌, List, [], ◌∷◌, ◌++◌, map, take, length, get_or, Option, Some, None, Result}
+use Rattle.std.proofs.Common.{Ok, Err, OnOk, OnErr, refl, ap, sym, subst, ◌∙◌, arith, length-append}
 use Rattle.std.proofs.lemmas.List.{length-map}
 use Rattle.signals.specs.declared.params.Caps.{Caps}
 use Rattle.signals.specs.declared.params.Wish.{Wish}
@@ -12,6 +12,7 @@ use Rattle.line_sim.specs.Standing.{Shows, WorldFields, Becomes, BecomesSome}
 use Rattle.line_sim.specs.declared.event.Entry.{Entry}
 use Rattle.line_sim.specs.declared.event.Event.{Event}
 use Rattle.line_sim.specs.declared.report.Report.{Report}
+use Rattle.line_sim.proofs.Lists.{append_nil}
 use Rattle.line_sim.proofs.Transcripts.{run_one_more, entries_one_more}
 
 -- the world after these events, each with some outcome
@@ -44,13 +45,40 @@ given_with document wish caps events old new event outcome g becomes =
           sym (entries_one_more g.steps event outcome start));
     }
 
--- one event more, refused or not
-pub one_given : {T E : Type 0} (document : Document) (wish : Wish) (caps : Caps) (events : List Event) (old new : WorldFields)
-    (event : Event) (result : Result T E) → Given document wish caps events old →
-    OnOk result (Becomes old new event Done) → OnErr result (BecomesSome old new event) →
+-- one event more, and whether it has its entry
+pub one_given : (document : Document) (wish : Wish) (caps : Caps) (events : List Event) (old new : WorldFields) (event : Event) →
+    Given document wish caps events old → (outcome : Outcome) × Becomes old new event outcome →
     Given document wish caps (events ++ event ∷ []) new
-one_given document wish caps events old new event (Ok done) g ok err = given_with document wish caps events old new event Done g ok
-one_given document wish caps events old new event (Err refusal) g ok err = given_with document wish caps events old new event err.0 g err.2
+one_given document wish caps events old new event g did = given_with document wish caps events old new event did.0 g did.1
+
+-- whatever an event answers, it has an outcome
+pub some_outcome : {T E : Type 0} (old new : WorldFields) (event : Event) (result : Result T E) →
+    OnOk result (Becomes old new event Done) → OnErr result (BecomesSome old new event) → (outcome : Outcome) × Becomes old new event outcome
+some_outcome old new event (Ok done) ok err = (Done, ok)
+some_outcome old new event (Err refusal) ok err = (err.0, err.2)
+
+one_or_none : (entry : Option Entry) (xs : List Entry) (n : ℕ) → n ≡ length (xs ++ and_entries entry []) → n ≢ length xs → n ≡ length xs + 1
+one_or_none None xs n is other = absurd (other (is ∙ ap length (append_nil xs)))
+one_or_none (Some entry) xs n is other = is ∙ length-append xs (entry ∷ [])
+
+-- an event whose entries are more has one
+pub one_noted : (old new : WorldFields) (w : World) (event : Event) (did : (outcome : Outcome) × Becomes old new event outcome) →
+    Shows old.call w → length new.entries ≢ length old.entries → length new.entries ≡ length old.entries + 1
+one_noted old new w event did shows other =
+    one_or_none (entry_of w event did.0) old.entries (length new.entries) (ap length (did.1 w shows).1) other
+
+-- a count of events left out changes nothing else that a report tells
+pub tells_with : (n : ℕ) (report : Report) (w : World) (noted : List Entry) → Tells report w noted →
+    Tells (record report { left_out = n }) w noted
+tells_with n report w noted t =
+    record {
+      pages = t.pages;
+      confirmed = t.confirmed;
+      caller_end = t.caller_end;
+      answerer_end = t.answerer_end;
+      refused = t.refused;
+      transcript = t.transcript;
+    }
 
 pub tells_run : (document : Document) (wish : Wish) (caps : Caps) (events : List Event) (v : WorldFields) (report : Report) →
     Given document wish caps events v → ((w : World) → Shows v.call w → Tells report w v.entries) →
@@ -96,8 +124,10 @@ each_done (step ∷ steps) w same none =
 
 -- where each event has its entry, and none is marked, the report tells what the whole events lead to
 pub tells_whole : (document : Document) (wish : Wish) (caps : Caps) (events : List Event) (report : Report) →
-    TellsRun document wish caps events report → TellsWhole document wish caps events report
-tells_whole document wish caps events report told same none =
+    TellsRun document wish caps events report → length report.transcript.items + report.left_out ≡ length events →
+    TellsWhole document wish caps events report
+tells_whole document wish caps events report told each_noted left none =
+    let same : length report.transcript.items ≡ length events = omega (arith, each_noted, left) in
     let start : World = new_world document wish caps in
     let each : length (entries told.steps start) ≡ length told.steps =
     ap length (sym told.tells.transcript) ∙ (same ∙ (ap length (sym told.given) ∙ length-map told.steps (λ step. step.0))) in

@@ -12,4 +12,7 @@ pub mod Standing
 pub mod Holding
 pub mod Report
 pub mod Delivering
+pub mod Live
 pub mod Streams
+pub mod Driving
+pub mod Tolerance

@@ -48,11 +48,11 @@ RunsTo document wish caps events (Err fault) = IsWorldFault document fault
 abbrev pub all_done : List Event → List (Event × Outcome)
 all_done events = map (λ event. (event, Done)) events
 
--- a report of a run that has an entry for each event and counts no refused one tells what the events lead to where each has done all that
--- it is: none was left out, and nothing of any was lost
+-- a report of a run that counts no event as left out and none as refused tells what the events lead to where each has done all that it is:
+-- each has its entry, and nothing of any was lost
 abbrev pub TellsWhole : Document → Wish → Caps → List Event → Report → Type 0
 TellsWhole document wish caps events report =
-    length report.transcript.items ≡ length events → report.refused ≡ 0 →
+    report.left_out ≡ 0 → report.refused ≡ 0 →
     Tells report (run (all_done events) (new_world document wish caps)) (entries (all_done events) (new_world document wish caps))
 
 -- what holds of a report of steps of a call: it tells them; in the world that they lead to the facts of the line hold, and both stations

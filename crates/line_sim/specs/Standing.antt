@@ -154,6 +154,11 @@ abbrev pub IsWorldFault : Document → WorldFault → Type 0
 IsWorldFault document NoMemory = AreCallable document
 IsWorldFault document WidthNotCallable = ¬ AreCallable document
 
+-- the start of a call, unless memory is refused or a page's width isn't callable
+abbrev pub NewCall : Document → Wish → Caps → Result Call WorldFault → Type 0
+NewCall document wish caps (Ok call) = AreCallable document × Shows call (new_world document wish caps)
+NewCall document wish caps (Err fault) = IsWorldFault document fault
+
 -- a new world, unless memory is refused or a page's width isn't callable
 abbrev pub NewWorld : Document → Wish → Caps → Result WorldFields WorldFault → Type 0
 NewWorld document wish caps (Ok world) = AreCallable document × Shows world.call (new_world document wish caps) × (world.entries ≡ [])

@@ -1,18 +1,21 @@
 //! Both stations and what is under way, and what one event does to them.
 
 ghost use Rattle.line_sim.specs.Entries.{caller_said};
-ghost use Rattle.line_sim.specs.Standing.{Acts, IsUnheard, EventWrites};
+ghost use Rattle.line_sim.specs.Standing.{Acts, IsUnheard, EventWrites, NewCall};
 ghost use Rattle.line_sim.specs.Standing.{AnswererAnswers, AnswererMayAnswer, AnswererSends, AnswererTimer, AnswererWrites};
 ghost use Rattle.line_sim.specs.Standing.{CallerAnswers, CallerMayAnswer, CallerSends, CallerTimer, CallerWrites};
 ghost use Rattle.stations.specs.CallerStep.{Caller as CallerTuple, caller_items};
 ghost use Rattle.stations.specs.Inputs.{answerer_input, caller_input};
 ghost use Rattle.stations.specs.CallerFields.{Represents};
-ghost use Rattle.std.specs.Prelude.{◌≡◌, false, IsTrue, ◌↔◌, length};
+ghost use Rattle.std.specs.Prelude.{◌≡◌, false, true, IsTrue, ◌↔◌, length};
 
 use crate::channel::{Channel, fcd_count};
 use crate::event::{Entry, Event, Kind};
+use crate::fault::WorldFault;
+use raster::Document;
+use signals::{Caps, Side, Wish};
 use stations::{Answerer, AnswererIn, Caller, CallerIn, Turn};
-use std::alloc::AllocError;
+use std::alloc::{AllocError, Global};
 
 /// The entry of an event that no station answers.
 fn unanswered(event: Event, item: Option<Kind>, refused: bool) -> Entry
@@ -49,6 +52,31 @@ pub struct Call {
 }
 
 impl Call {
+    /// The start of a call: the answerer's DIS is under way, and nothing is stored or confirmed. Errs where
+    /// memory is refused, and where the width of a page is none that a call can have.
+    pub(crate) fn new(
+        alloc: Global,
+        document: Document,
+        wish: Wish,
+        caps: Caps,
+    ) -> Result<Call, WorldFault>
+        requires receiver { caps.receiver ≡ true }
+        requires ecm { caps.ecm ≡ true }
+        ensures { NewCall document wish caps result }
+    {
+        let caller = Caller::new(alloc, document, wish)?;
+        let (answerer, turn) = Answerer::new(alloc, caps);
+        let to_answerer = Channel::new(alloc, Side::Caller);
+        let mut to_caller = Channel::new(alloc, Side::Answerer);
+        to_caller.send(answerer.frames(&turn))?;
+        Ok(Call {
+            caller,
+            answerer,
+            to_answerer,
+            to_caller,
+        })
+    }
+
     /// How many FCDs a turn of the caller has.
     fn fcds(&self, turn: &Turn) -> u16
         ensures { (t : CallerTuple) → Represents self.now.caller t → result ≡ (caller_said turn.now (caller_items t turn.now)).fcds }

@@ -117,7 +117,7 @@ impl Channel {
         let _lost = self.items.pop_front();
     }
 
-    /// A training check that is first has only octets FF.
+    /// Spoils the first item where it is a training check: all its octets become FF.
     pub(crate) fn spoil(&mut self)
         ensures { self.new ≡ spoiled self.old }
     {

@@ -1,6 +1,8 @@
 //! What holds over every schedule. Nothing runs.
 
 ghost use Rattle.line_sim.specs.Counted.{DcsBetweenGroups, RunsAreCounted};
+ghost use Rattle.line_sim.specs.Driving.{DrivenCallsAreSafe, DrivenCallsEnd};
+ghost use Rattle.line_sim.specs.Tolerance.{AnswerersEndWell, AnyTwoLossesAreBorne, CallersEndWell, DrivenCallsBear, DrivenCallsEndFor};
 ghost use Rattle.line_sim.specs.Polite.{GroupsAreAgreed, PoliteCalls, PoliteEvents};
 ghost use Rattle.line_sim.specs.Headline.{EventsMove, LineHolds, LinesCanBeWritten, RunsAreSafe, RunsMove, StationsInStep};
 ghost use Rattle.line_sim.specs.Headline.{WholeBlocksAccepted};
@@ -59,4 +61,31 @@ pub fn foreign_peers()
     raster::laws::bits_join();
     hdlc::laws::good_contents_stay();
     stations::laws::stored_is_read();
+}
+
+/// A driven call ends, whatever the fates, within a number of steps that its document bounds; and what it has come to is safe.
+pub fn driven_calls_end()
+    ensures driven { DrivenCallsEnd }
+    ensures safe { DrivenCallsAreSafe }
+{
+    headline();
+    stations::laws::speeds_hold();
+    stations::laws::callers_end();
+}
+
+/// Where both stations agree on each page and its code fits a call, the caller of a driven call ends normally or for
+/// one of four reasons, each of which costs a number of bad tries or spoiled checks of one phase; so a call with at
+/// most two bad tries in each phase goes through, and one with any two losses.
+pub fn calls_bear()
+    ensures ends { CallersEndWell }
+    ensures bear { DrivenCallsBear }
+    ensures two { AnyTwoLossesAreBorne }
+    ensures reasons { DrivenCallsEndFor }
+    ensures answerers { AnswerersEndWell }
+{
+    driven_calls_end();
+    stations::laws::layers_hold();
+    stations::laws::signals_hold();
+    stations::laws::speeds_hold();
+    signals::laws::lowered_is_allowed();
 }

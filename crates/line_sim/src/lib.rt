@@ -7,6 +7,7 @@ mod event;
 mod fault;
 mod item;
 pub mod laws;
+mod live;
 mod polite;
 mod report;
 mod stream;
@@ -14,6 +15,7 @@ mod world;
 
 pub use crate::event::{Entry, Event, Kind};
 pub use crate::fault::WorldFault;
+pub use crate::live::{Ending, LiveCall, Next};
 pub use crate::report::Report;
 pub use crate::stream::{Answered, Feed, answer_stream};
 pub use crate::world::{World, run};

@@ -18,7 +18,7 @@ use std::alloc::AllocError;
 impl Call {
     /// Whether a group is through and another one follows: neither station has ended, the caller waits
     /// for another DIS and the answerer for a DCS.
-    fn is_between_groups(&self) -> bool
+    pub(crate) fn is_between_groups(&self) -> bool
         ensures { (w : WorldValue) → Shows self.now w → result ≡ is_between_groups w }
     {
         if self.caller.end().is_some() {
@@ -77,7 +77,7 @@ impl World {
         Ok(true)
     }
 
-    /// Delivers what is under way, in order, at most so many items.
+    /// Delivers what is under way, in order, at most `most` items.
     fn deliver(&mut self, most: u64) -> Result<u64, AllocError>
         ensures { (w : WorldValue) → Shows self.old.call w → DeliversAll self.old self.new w most result }
     {
@@ -91,10 +91,10 @@ impl World {
         Ok(delivered)
     }
 
-    /// Delivers what is under way, in order, until nothing is or so many items were delivered. Where a
-    /// group of pages is through and another one follows, the answerer's T2 begins it, which has its
-    /// entry and isn't counted. Answers the number of deliveries. Errs at the first refused event. Both
-    /// stations are in step before and after it, whatever it answers.
+    /// Delivers what is under way, in order, until nothing is under way or `most` items were delivered. Where a group
+    /// of pages is through and another one follows, the answerer's T2 begins it, which has its entry and isn't counted.
+    /// Answers the number of deliveries. Errs at the first refused event. Both stations are in step before and after
+    /// it, whatever it answers.
     pub fn polite(&mut self, most: u64) -> Result<u64, AllocError>
         ensures delivers { (w : WorldValue) → Shows self.old.call w → DeliversAll self.old self.new w most result }
         ensures through { IfOk result (λ number. GoesThrough self.old self.new most number) }

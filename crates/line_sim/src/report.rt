@@ -17,6 +17,9 @@ pub struct Report {
     pub answerer_end: Option<End>,
     /// In how many events of the transcript a growth was refused.
     pub refused: u64,
+    /// How many events of a run found no room for their entry: nothing happened in them. A world that is given its
+    /// events one by one answers each that found none, and doesn't count them: then it is 0.
+    pub left_out: u64,
     /// What the events were, in order; an event that found no room for its entry isn't among them.
     pub transcript: Vec<Entry>,
 }

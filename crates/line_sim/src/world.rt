@@ -8,10 +8,9 @@ ghost use Rattle.line_sim.specs.Standing.{Becomes, BecomesSome, NewWorld, Shows,
 ghost use Rattle.stations.specs.Laws.{Each};
 ghost use Rattle.stations.specs.Layers.{IsFullPage};
 ghost use Rattle.line_sim.specs.Octets.{ComeNext, under_way_to};
-ghost use Rattle.std.specs.Prelude.{◌≡◌, ◌<◌, ◌++◌, ◌∷◌, [], true, OnOk, OnErr, IfOk, length, option_map, vec_len, vec_capacity};
+ghost use Rattle.std.specs.Prelude.{◌≡◌, ◌<◌, ◌+◌, ◌++◌, ◌∷◌, [], true, OnOk, OnErr, IfOk, length, option_map, vec_len, vec_capacity};
 
 use crate::call::Call;
-use crate::channel::Channel;
 use crate::event::{Entry, Event};
 use crate::fault::WorldFault;
 use crate::laws::{counted, headline};
@@ -19,7 +18,6 @@ use crate::report::Report;
 use raster::Document;
 use signals::{Caps, Side, Wish};
 use stations::laws::{layers_hold, signals_hold};
-use stations::{Answerer, Caller};
 use std::alloc::{AllocError, Global};
 use std::marker::Model;
 
@@ -66,17 +64,7 @@ impl World {
         layers_hold();
         signals_hold();
         has_full_pages(&document);
-        let caller = Caller::new(alloc, document, wish)?;
-        let (answerer, turn) = Answerer::new(alloc, caps);
-        let to_answerer = Channel::new(alloc, Side::Caller);
-        let mut to_caller = Channel::new(alloc, Side::Answerer);
-        to_caller.send(answerer.frames(&turn))?;
-        let call = Call {
-            caller,
-            answerer,
-            to_answerer,
-            to_caller,
-        };
+        let call = Call::new(alloc, document, wish, caps)?;
         Ok(World {
             call,
             transcript: Vec::new(alloc),
@@ -135,7 +123,8 @@ impl World {
 
     /// What has become of the call.
     fn told(self) -> Report
-        ensures { (w : WorldValue) → Shows self.call w → Tells result w self.entries }
+        ensures tells { (w : WorldValue) → Shows self.call w → Tells result w self.entries }
+        ensures none { result.left_out ≡ 0 }
     {
         let World {
             call,
@@ -151,8 +140,26 @@ impl World {
             caller_end,
             answerer_end,
             refused,
+            left_out: 0,
             transcript,
         }
+    }
+
+    /// How many entries there are.
+    fn noted(&self) -> u64
+        ensures { result ≡ length self.now.entries }
+    {
+        self.transcript.len() as u64
+    }
+
+    /// One event of a run. Answers 1 where it found no room for its entry, and else 0.
+    fn leaves_out(&mut self, event: Event) -> u64
+        ensures becomes { (outcome : Outcome) × Becomes self.old self.new event outcome }
+        ensures counted { length self.new.entries + result ≡ length self.old.entries + 1 }
+    {
+        let before = self.noted();
+        let _answer = self.event(event);
+        if self.noted() == before { 1 } else { 0 }
     }
 
     /// What has become of the call. Whatever the events were, the pages stored are the first of the
@@ -160,6 +167,7 @@ impl World {
     pub fn report(self) -> Report
         ensures tells { (w : WorldValue) → Shows self.call w → Tells result w self.entries }
         ensures keeps { Keeps self.call.caller.document result }
+        ensures none { result.left_out ≡ 0 }
     {
         headline();
         counted();
@@ -171,7 +179,7 @@ impl World {
 }
 
 /// Each page of a document has rows, all of its width, and not too many.
-fn has_full_pages(document: &Document)
+pub(crate) fn has_full_pages(document: &Document)
     ensures { Each IsFullPage document.now }
 {
     for page in document.pages() {
@@ -190,8 +198,8 @@ fn note(transcript: &mut Vec<Entry>, entry: Entry)
 }
 
 /// Runs a call: a new world is given each event, in order, and goes on after a refused one. Errs only
-/// where there is no new world. Where the transcript has an entry for each event, and none was refused,
-/// each has done all that it is.
+/// where there is no new world. Each event has its entry or is counted as left out; where none is, and none
+/// was refused, each has done all that it is.
 pub fn run(
     alloc: Global,
     document: Document,
@@ -204,13 +212,17 @@ pub fn run(
     ensures runs { RunsTo document wish caps events.now result }
     ensures keeps { IfOk result (λ report. KeepsRun document wish caps events.now report) }
     ensures whole { IfOk result (λ report. TellsWhole document wish caps events.now report) }
+    ensures each { IfOk result (λ report. length report.transcript.items + report.left_out ≡ length events.now) }
 {
     headline();
     counted();
     has_full_pages(&document);
     let mut world = World::new(alloc, document, wish, caps)?;
+    let mut left_out = 0;
     for event in events {
-        let _answer = world.event(*event);
+        left_out += world.leaves_out(*event);
     }
-    Ok(world.report())
+    let mut report = world.report();
+    report.left_out = left_out;
+    Ok(report)
 }

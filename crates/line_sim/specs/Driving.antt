@@ -1,0 +1,185 @@
+-- A driven call: what is first under way meets its fate; where nothing is under way, somebody's wait is over. Nobody chooses but the fates.
+use Rattle.std.specs.Prelude.{◌≡◌, ℕ, zero, suc, ◌+◌, ◌*◌, ◌-◌, ◌≤◌, ◌<◌, Bool, true, false, cond, ◌&&◌, not, is_some, nat_lt, nat_eq, List, [], ◌∷◌}
+use Rattle.std.specs.Prelude.{◌++◌, length, Option, Some, None, slice_get, IsSome}
+use Rattle.signals.specs.Signals.{rnr, pps, rr}
+use Rattle.signals.specs.declared.params.Caps.{Caps}
+use Rattle.signals.specs.declared.params.Params.{Params}
+use Rattle.signals.specs.declared.params.Wish.{Wish}
+use Rattle.stations.specs.Layers.{Document, IsFullPage, speeds_left}
+use Rattle.stations.specs.Laws.{Each}
+use Rattle.line_sim.specs.Headline.{IsSafeWorld}
+use Rattle.stations.specs.Blocks.{Block}
+use Rattle.stations.specs.Inputs.{PlainItem, framed, checked}
+use Rattle.stations.specs.CallerStep.{Caller, blocks_of}
+use Rattle.stations.specs.Lasting.{groups_in, blocks_in, goes_on_by}
+use Rattle.stations.specs.declared.turn.CallerState.{CallerState}
+use Rattle.stations.specs.declared.turn.CallerState.TheVariants.{WaitDis, WaitCfr, WaitBlock, WaitReady}
+use Rattle.stations.specs.declared.turn.AnswererState.{AnswererState}
+use Rattle.stations.specs.declared.turn.AnswererState.TheVariants.{PhaseB, WaitTraining, Message}
+use Rattle.stations.specs.declared.turn.End.{End}
+use Rattle.line_sim.specs.Line.{World, Outcome, happens, new_world}
+use Rattle.line_sim.specs.Line.Outcome.{Done}
+use Rattle.line_sim.specs.declared.event.Event.{Event}
+use Rattle.line_sim.specs.declared.event.Event.TheVariants.{DeliverToAnswerer, DeliverToCaller, LoseToAnswerer, LoseToCaller, Spoil}
+use Rattle.line_sim.specs.declared.event.Event.TheVariants.{CallerTimeout, CallerT5, AnswererT1, AnswererT2}
+
+-- what becomes of what is under way: it comes, it is lost, or it is spoiled: a training check comes with octets FF, a frame is lost
+pub data Fate : Type 0 where
+  comes lost spoiled : Fate
+
+-- how patient stations are: the answerer sends DIS at most so often before the caller's wait for one is over, and so many RNRs come for a
+-- block before its long wait is
+pub record Patience : Type 0 where
+  pub calls : ℕ
+  pub busy : ℕ
+
+-- a world in a driven call, the DIS that were sent since the caller waits for one, the RNRs that came for its present block, and what is to
+-- become of the next items; all after those come
+pub record Driven : Type 0 where
+  pub world : World
+  pub dis : ℕ
+  pub rnrs : ℕ
+  pub fates : List Fate
+
+-- the fate of the next item
+abbrev pub first_fate : List Fate → Fate
+first_fate [] = comes
+first_fate (fate ∷ fates) = fate
+
+-- and those after it
+abbrev pub later_fates : List Fate → List Fate
+later_fates [] = []
+later_fates (fate ∷ fates) = fates
+
+-- what is first under way to the answerer meets its fate
+abbrev pub meets_answerer : Fate → PlainItem → World → World
+meets_answerer comes item w = happens w DeliverToAnswerer Done
+meets_answerer lost item w = happens w LoseToAnswerer Done
+meets_answerer spoiled (framed signal) w = happens w LoseToAnswerer Done
+meets_answerer spoiled (checked octets) w = happens (happens w Spoil Done) DeliverToAnswerer Done
+
+-- the same of what is under way to the caller
+abbrev pub meets_caller : Fate → World → World
+meets_caller comes w = happens w DeliverToCaller Done
+meets_caller lost w = happens w LoseToCaller Done
+meets_caller spoiled w = happens w LoseToCaller Done
+
+-- one more RNR, if it is one and comes
+abbrev pub rnrs_with : Fate → PlainItem → ℕ → ℕ
+rnrs_with comes (framed rnr) rnrs = suc rnrs
+rnrs_with _ _ rnrs = rnrs
+
+-- an item is an RNR
+abbrev pub is_rnr_item : PlainItem → Bool
+is_rnr_item (framed rnr) = true
+is_rnr_item _ = false
+
+-- a count is kept while what it counts for stays, and begins again
+abbrev pub kept : ℕ → ℕ → ℕ → ℕ
+kept old new count = cond (nat_eq old new) count 0
+
+-- DIS count while the caller waits for one
+abbrev pub dis_kept : CallerState → ℕ → ℕ
+dis_kept WaitDis dis = dis
+dis_kept WaitCfr dis = 0
+dis_kept WaitBlock dis = 0
+dis_kept WaitReady dis = 0
+
+-- the call goes on with a world and counts
+abbrev pub goes_to : Driven → World → ℕ → ℕ → List Fate → Driven
+goes_to d w dis rnrs fates =
+    record {
+      world = w;
+      dis = dis_kept d.world.caller.state dis;
+      rnrs = kept d.world.caller.place w.caller.place rnrs;
+      fates = fates;
+    }
+
+-- the answerer's T2 is due: the caller waits for a DIS, the answerer for a DCS, and not too many DIS were sent
+abbrev pub dis_is_due : CallerState → AnswererState → Option End → Bool → Bool
+dis_is_due WaitDis PhaseB None few = few
+dis_is_due _ _ _ few = false
+
+-- the caller hasn't ended, and nothing is under way
+abbrev pub caller_waits : Bool → Driven → Driven
+caller_waits true d = goes_to d (happens d.world AnswererT2 Done) (suc d.dis) d.rnrs d.fates
+caller_waits false d = goes_to d (happens d.world CallerTimeout Done) d.dis d.rnrs d.fates
+
+-- nothing is under way
+abbrev pub somebody_waits : Patience → Option End → Option End → Driven → Driven
+somebody_waits p None ending d =
+    caller_waits (dis_is_due d.world.caller.state d.world.answerer.state ending (nat_lt d.dis p.calls)) d
+somebody_waits p (Some why) None d = goes_to d (happens d.world AnswererT1 Done) d.dis d.rnrs d.fates
+somebody_waits p (Some why) (Some other) d = d
+
+-- an item is first under way to the caller: an RNR too many is lost, and the caller's long wait is over
+abbrev pub comes_back : Bool → PlainItem → Driven → Driven
+comes_back true item d = goes_to d (happens (happens d.world LoseToCaller Done) CallerT5 Done) d.dis d.rnrs d.fates
+comes_back false item d =
+    goes_to d (meets_caller (first_fate d.fates) d.world) d.dis (rnrs_with (first_fate d.fates) item d.rnrs) (later_fates d.fates)
+
+-- one step of a driven call
+abbrev pub drives : Patience → List PlainItem → List PlainItem → Driven → Driven
+drives p (item ∷ items) others d =
+    goes_to d (meets_answerer (first_fate d.fates) item d.world) d.dis d.rnrs (later_fates d.fates)
+drives p [] (item ∷ items) d = comes_back (is_rnr_item item && not (nat_lt d.rnrs p.busy)) item d
+drives p [] [] d = somebody_waits p d.world.caller.ending d.world.answerer.ending d
+
+-- nothing is under way, and both have ended
+abbrev pub is_over_at : List PlainItem → List PlainItem → Option End → Option End → Bool
+is_over_at [] [] (Some why) (Some other) = true
+is_over_at _ _ _ _ = false
+
+-- the same of a driven call
+abbrev pub is_over : Driven → Bool
+is_over d = is_over_at d.world.to_answerer d.world.to_caller d.world.caller.ending d.world.answerer.ending
+
+-- so many steps, or fewer where the call is over
+abbrev pub drive : ℕ → Patience → Driven → Driven
+drive zero p d = d
+drive (suc most) p d = cond (is_over d) d (drive most p (drives p d.world.to_answerer d.world.to_caller d))
+
+-- how many steps were made
+abbrev pub steps_made : ℕ → Patience → Driven → ℕ
+steps_made zero p d = 0
+steps_made (suc most) p d = cond (is_over d) 0 (suc (steps_made most p (drives p d.world.to_answerer d.world.to_caller d)))
+
+-- a new call, driven: one DIS is under way
+abbrev pub new_driven : Document → Wish → Caps → List Fate → Driven
+new_driven document wish caps fates = record { world = new_world document wish caps; dis = 1; rnrs = 0; fates = fates }
+
+-- so many times a number
+abbrev pub times : ℕ → ℕ → ℕ
+times zero cost = 0
+times (suc k) cost = cost + times k cost
+
+-- what the groups and blocks that are begun may take: a wait for a DIS two steps for each DIS, a group 66 for its speeds, a block 1,068 and
+-- 8 for each RNR
+abbrev pub paid : Patience → Caller → ℕ
+paid p c =
+    times (suc (length c.finished)) (2 * p.calls) + 66 * groups_in c.state c + times (blocks_in c.state c) (1068 + 8 * p.busy)
+
+-- the most steps of a driven call of a document: as if each page had 512 blocks, each of a group of its own
+abbrev pub most_steps : Patience → Document → ℕ
+most_steps p document =
+    (times (suc (512 * length document)) (2 * p.calls) + 66 * suc (512 * length document) +
+    times (512 * length document) (1068 + 8 * p.busy)) + 2
+
+-- a driven call ends: it makes no more steps than the groups and blocks that it has begun may take, and 2, which is bounded by the document
+-- alone; where it has made fewer than it may, both stations have ended and nothing is under way
+pub record Ends (p : Patience) (most made : ℕ) (document : Document) (d : Driven) : Type 0 where
+  pub few : made ≤ paid p d.world.caller + 2
+  pub bounded : made ≤ most_steps p document
+  pub over : made < most → is_over d ≡ true
+
+-- so it is of every driven call, whatever the fates
+abbrev pub DrivenCallsEnd : Type 0
+DrivenCallsEnd =
+    (document : Document) (wish : Wish) (caps : Caps) (p : Patience) (fates : List Fate) (most : ℕ) → 1 ≤ p.calls →
+    Ends p most (steps_made most p (new_driven document wish caps fates)) document (drive most p (new_driven document wish caps fates))
+
+-- what a driven call has come to is safe, however far it came: it is what a run of events leads to
+abbrev pub DrivenCallsAreSafe : Type 0
+DrivenCallsAreSafe =
+    (document : Document) (wish : Wish) (caps : Caps) (p : Patience) (fates : List Fate) (most : ℕ) → Each IsFullPage document →
+    IsSafeWorld document (drive most p (new_driven document wish caps fates)).world

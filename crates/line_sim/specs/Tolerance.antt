@@ -1,0 +1,196 @@
+-- Which losses a driven call bears: in each phase of it at most two tries are bad.
+use Rattle.std.specs.Prelude.{◌≡◌, ℕ, zero, suc, ◌≤◌, ◌<◌, Bool, true, false, cond, ◌&&◌, not, nat_eq, nat_lt, List, [], ◌∷◌, length, Option, Some, None}
+use Rattle.std.specs.Bool.{beq}
+use Rattle.raster.specs.Pages.{PagePixels}
+use Rattle.signals.specs.declared.params.Caps.{Caps}
+use Rattle.signals.specs.declared.params.Params.{Params}
+use Rattle.signals.specs.declared.params.Wish.{Wish}
+use Rattle.stations.specs.Layers.{Document, IsFullPage, agreed_for, speeds_left}
+use Rattle.stations.specs.Laws.{Each}
+use Rattle.stations.specs.Inputs.{PlainItem, checked}
+use Rattle.stations.specs.CallerStep.{Caller, confirmed}
+use Rattle.stations.specs.declared.turn.CallerState.{CallerState}
+use Rattle.stations.specs.declared.turn.CallerState.TheVariants.{WaitDis, WaitCfr, WaitBlock, WaitReady}
+use Rattle.stations.specs.declared.turn.End.{End}
+use Rattle.stations.specs.declared.turn.End.TheVariants.{Normal, NoAnswer, NoReply, Unreadable, Training as BadTraining}
+use Rattle.line_sim.specs.Line.{World}
+use Rattle.line_sim.specs.Polite.{IsAgreedOn}
+use Rattle.line_sim.specs.Driving.{Fate, Patience, Driven, first_fate, is_rnr_item, drives, is_over, drive, new_driven, most_steps}
+use Rattle.line_sim.specs.Driving.Fate.{comes, lost, spoiled}
+
+-- how many tries of the present phase were bad, whether the present one is, and how many training checks of it were spoiled
+pub record Tries : Type 0 where
+  pub bad : ℕ
+  pub now : Bool
+  pub checks : ℕ
+
+-- a phase begins
+abbrev pub no_tries : Tries
+no_tries = record { bad = 0; now = false; checks = 0 }
+
+-- a fate is bad
+abbrev pub is_bad : Fate → Bool
+is_bad comes = false
+is_bad lost = true
+is_bad spoiled = true
+
+-- a try is counted bad once, however many of its items are
+abbrev pub bad_with : Bool → Bool → ℕ → ℕ
+bad_with true false bad = suc bad
+bad_with _ _ bad = bad
+
+-- once bad a try stays bad
+abbrev pub now_with : Bool → Bool → Bool
+now_with true now = true
+now_with false now = now
+
+-- one more training check is spoiled, if it is one
+abbrev pub checks_with : Fate → PlainItem → ℕ → ℕ
+checks_with spoiled (checked octets) checks = suc checks
+checks_with _ _ checks = checks
+
+-- the tries with what becomes of an item
+abbrev pub meets : Fate → PlainItem → Tries → Tries
+meets fate item t =
+    record {
+      bad = bad_with (is_bad fate) t.now t.bad;
+      now = now_with (is_bad fate) t.now;
+      checks = checks_with fate item t.checks;
+    }
+
+-- the tries with what becomes of what is first under way, if anything is; an RNR too many is lost by no fate
+abbrev pub noted : Patience → List PlainItem → List PlainItem → Driven → Tries → Tries
+noted p (item ∷ items) others d t = meets (first_fate d.fates) item t
+noted p [] (item ∷ items) d t =
+    cond (is_rnr_item item && not (nat_lt d.rnrs p.busy)) t (meets (first_fate d.fates) item t)
+noted p [] [] d t = t
+
+-- a try begins in a step: nothing was under way to the answerer, and the caller transmits; or nothing at all was, and a DIS is sent
+abbrev pub begins_try : List PlainItem → List PlainItem → List PlainItem → List PlainItem → Bool
+begins_try [] others (item ∷ items) more = true
+begins_try [] [] [] (item ∷ items) = true
+begins_try _ _ _ _ = false
+
+-- the caller is in a group's negotiation; in other states it is in a block
+abbrev pub negotiates : CallerState → Bool
+negotiates WaitDis = true
+negotiates WaitCfr = true
+negotiates WaitBlock = false
+negotiates WaitReady = false
+
+-- a step stays in a phase: in one block, or in one group's negotiation
+abbrev pub is_same_phase : Caller → Caller → Bool
+is_same_phase old new = nat_eq old.place new.place && beq (negotiates old.state) (negotiates new.state)
+
+-- the tries after a step
+abbrev pub tries_after : World → World → Tries → Tries
+tries_after old new t =
+    cond (is_same_phase old.caller new.caller)
+    (record {
+      bad = t.bad;
+      now = t.now && not (begins_try old.to_answerer old.to_caller new.to_answerer new.to_caller);
+      checks = t.checks;
+    })
+    no_tries
+
+-- in so many steps of a driven call no phase has more than two bad tries, and no group more than so many spoiled checks
+abbrev pub BadTriesAreFew : ℕ → ℕ → Patience → Tries → Driven → Type 0
+BadTriesAreFew zero checks p t d = Unit {0}
+BadTriesAreFew (suc most) checks p t d =
+    let met = noted p d.world.to_answerer d.world.to_caller d t in
+    let next = drives p d.world.to_answerer d.world.to_caller d in
+    (met.bad ≤ 2) × (met.checks ≤ checks) × BadTriesAreFew most checks p (tries_after d.world next.world met) next
+
+-- both agree on each page of a document and its code fits a call, and at least so many common speeds are below the first
+pub record CanGoThrough (document : Document) (wish : Wish) (caps : Caps) (checks : ℕ) : Type 0 where
+  pub some : 0 < length document
+  pub full : Each IsFullPage document
+  pub agreed : Each (IsAgreedOn caps wish) document
+  pub speeds :
+      (page : PagePixels) (params : Params) → agreed_for caps wish (Some page) ≡ Some params → checks ≤ speeds_left caps wish params
+
+-- what a call needs to bear losses: the same, and at least three DIS come in a wait
+pub record CanBear (document : Document) (wish : Wish) (caps : Caps) (p : Patience) (checks : ℕ) : Type 0 where
+  pub patient : 3 ≤ p.calls
+  pub call : CanGoThrough document wish caps checks
+
+-- the tries that a driven call has come to
+abbrev pub tries_of : ℕ → Patience → Tries → Driven → Tries
+tries_of zero p t d = t
+tries_of (suc most) p t d =
+    let next = drives p d.world.to_answerer d.world.to_caller d in
+    cond (is_over d) t (tries_of most p (tries_after d.world next.world (noted p d.world.to_answerer d.world.to_caller d t)) next)
+
+-- what an end has cost, in bad tries or spoiled checks of the last phase, where at most so many DIS come in a wait
+abbrev pub Costs : ℕ → ℕ → Tries → End → Type 0
+Costs most checks t Normal = Unit {0}
+Costs most checks t NoAnswer = most ≤ t.bad
+Costs most checks t NoReply = 3 ≤ t.bad
+Costs most checks t Unreadable = 4 ≤ t.bad
+Costs most checks t BadTraining = checks < t.checks
+Costs most checks t _ = ⊥
+
+-- a driven call's caller ends normally; or for one of four reasons, each of which costs so many bad tries of one phase
+abbrev pub DrivenCallsEndFor : Type 0
+DrivenCallsEndFor =
+    (document : Document) (wish : Wish) (caps : Caps) (p : Patience) (checks : ℕ) (fates : List Fate) (most : ℕ) →
+    CanGoThrough document wish caps checks → 1 ≤ p.calls → most_steps p document < most →
+    let first = new_driven document wish caps fates in
+    (why : End) × ((drive most p first).world.caller.ending ≡ Some why) × Costs p.calls checks (tries_of most p no_tries first) why
+
+-- where the caller has ended normally and the last try, its DCN, isn't bad, the answerer has ended normally too
+abbrev pub AnswerersEndWell : Type 0
+AnswerersEndWell =
+    (document : Document) (wish : Wish) (caps : Caps) (p : Patience) (checks : ℕ) (fates : List Fate) (most : ℕ) →
+    CanGoThrough document wish caps checks → 1 ≤ p.calls → most_steps p document < most →
+    let first = new_driven document wish caps fates in
+    (drive most p first).world.caller.ending ≡ Some Normal → (tries_of most p no_tries first).bad ≡ 0 →
+    (drive most p first).world.answerer.ending ≡ Some Normal
+
+-- a caller hasn't ended, or normally
+abbrev pub EndsWell : Option End → Type 0
+EndsWell None = Unit {0}
+EndsWell (Some Normal) = Unit {0}
+EndsWell (Some _) = ⊥
+
+-- no caller of a driven call with so few bad tries ends otherwise than normally
+abbrev pub CallersEndWell : Type 0
+CallersEndWell =
+    (document : Document) (wish : Wish) (caps : Caps) (p : Patience) (checks : ℕ) (fates : List Fate) (most : ℕ) →
+    CanBear document wish caps p checks → BadTriesAreFew most checks p no_tries (new_driven document wish caps fates) →
+    EndsWell (drive most p (new_driven document wish caps fates)).world.caller.ending
+
+-- the caller has ended normally, and all is stored and confirmed
+pub record IsBorne (document : Document) (w : World) : Type 0 where
+  pub caller_end : w.caller.ending ≡ Some Normal
+  pub confirmed_all : confirmed w.caller ≡ length document
+  pub stored_all : w.answerer.pages ≡ document
+
+-- so the whole call goes through
+abbrev pub DrivenCallsBear : Type 0
+DrivenCallsBear =
+    (document : Document) (wish : Wish) (caps : Caps) (p : Patience) (checks : ℕ) (fates : List Fate) (most : ℕ) →
+    CanBear document wish caps p checks → most_steps p document < most →
+    BadTriesAreFew most checks p no_tries (new_driven document wish caps fates) →
+    IsBorne document (drive most p (new_driven document wish caps fates)).world
+
+-- how many fates of a list are bad
+abbrev pub bad_fates : List Fate → ℕ
+bad_fates [] = 0
+bad_fates (comes ∷ fates) = bad_fates fates
+bad_fates (lost ∷ fates) = suc (bad_fates fates)
+bad_fates (spoiled ∷ fates) = suc (bad_fates fates)
+
+-- and how many of them spoil
+abbrev pub spoiling_fates : List Fate → ℕ
+spoiling_fates [] = 0
+spoiling_fates (comes ∷ fates) = spoiling_fates fates
+spoiling_fates (lost ∷ fates) = spoiling_fates fates
+spoiling_fates (spoiled ∷ fates) = suc (spoiling_fates fates)
+
+-- so a driven call bears any two losses, wherever they are; of them as many may spoil as common speeds are below the first
+abbrev pub AnyTwoLossesAreBorne : Type 0
+AnyTwoLossesAreBorne =
+    (document : Document) (wish : Wish) (caps : Caps) (p : Patience) (fates : List Fate) (most : ℕ) →
+    CanBear document wish caps p (spoiling_fates fates) → bad_fates fates ≤ 2 → most_steps p document < most →
+    IsBorne document (drive most p (new_driven document wish caps fates)).world

@@ -1,0 +1,144 @@
+//! A call that keeps no transcript.
+
+ghost use Rattle.line_sim.specs.Headline.{IsSafe};
+ghost use Rattle.line_sim.specs.Line.{World as WorldValue};
+ghost use Rattle.line_sim.specs.Live.{HoldsLive, steps_in};
+ghost use Rattle.line_sim.specs.PageMachine.{AtMostTwo};
+ghost use Rattle.line_sim.specs.Polite.{next_steps};
+ghost use Rattle.line_sim.specs.Standing.{Acts, NewCall, Shows, fields_state};
+ghost use Rattle.stations.specs.CallerStep.{confirmed};
+ghost use Rattle.stations.specs.Laws.{Each};
+ghost use Rattle.stations.specs.Layers.{IsFullPage};
+ghost use Rattle.std.specs.Prelude.{◌≡◌, IfOk, length, true};
+
+use crate::call::Call;
+use crate::event::{Entry, Event};
+use crate::fault::WorldFault;
+use crate::laws::headline;
+use crate::world::has_full_pages;
+use raster::{Document, Page};
+use signals::{Caps, Wish};
+use stations::End;
+use stations::laws::{layers_hold, signals_hold};
+use std::alloc::Global;
+use std::marker::Model;
+
+/// A caller and an answerer, and what is under way between them, with no transcript: who tells it the events has each
+/// one's entry.
+#[derive(Debug, Drop)]
+pub struct LiveCall {
+    call: Call,
+}
+
+impl Model for LiveCall {
+    ghost use Rattle.line_sim.specs.declared.call.Call.{Call};
+    ghost use Rattle.line_sim.specs.Live.{IsLive};
+
+    ghost Value = { Call };
+
+    ghost view = { λ l. l.call };
+
+    ghost invariant = { λ l. IsLive l.call };
+}
+
+/// What comes next in a call that nobody disturbs.
+#[derive(Clone, Copy, Debug, PartialEq, Eq)]
+pub enum Next {
+    /// The first item under way comes, by this event.
+    Item(Event),
+    /// A group of pages is through and another one follows: the answerer's T2, and its DIS comes.
+    Group,
+    /// Nothing.
+    Nothing,
+}
+
+/// What a call leaves.
+#[derive(Debug, Drop)]
+pub struct Ending {
+    /// The pages that the answerer has stored, in order.
+    pub pages: Vec<Page>,
+    /// How many pages the caller counts as confirmed.
+    pub confirmed: u64,
+    /// Why the call ended for the caller, if it has.
+    pub caller_end: Option<End>,
+    /// Why the call ended for the answerer, if it has.
+    pub answerer_end: Option<End>,
+}
+
+impl LiveCall {
+    /// A call at its start: the answerer's DIS is under way, and nothing is stored or confirmed. Errs where
+    /// memory is refused, and where the width of a page is none that a call can have.
+    pub fn new(
+        alloc: Global,
+        document: Document,
+        wish: Wish,
+        caps: Caps,
+    ) -> Result<LiveCall, WorldFault>
+        requires receiver { caps.receiver ≡ true }
+        requires ecm { caps.ecm ≡ true }
+        ensures new { NewCall document wish caps result }
+        ensures holds { IfOk result HoldsLive }
+    {
+        headline();
+        layers_hold();
+        signals_hold();
+        has_full_pages(&document);
+        let call = Call::new(alloc, document, wish, caps)?;
+        Ok(LiveCall { call })
+    }
+
+    /// What comes next where nobody disturbs the call.
+    pub fn next_delivery(&self) -> Next
+        ensures { (w : WorldValue) → Shows self.now w → next_steps w w.to_answerer w.to_caller ≡ steps_in result }
+    {
+        if !self.call.to_answerer.is_empty() {
+            return Next::Item(Event::DeliverToAnswerer);
+        }
+        if !self.call.to_caller.is_empty() {
+            return Next::Item(Event::DeliverToCaller);
+        }
+        if self.call.is_between_groups() {
+            return Next::Group;
+        }
+        Next::Nothing
+    }
+
+    /// One event, and its entry, which shows whether a growth was refused in it. Both stations are in step before and
+    /// after it.
+    pub fn event(&mut self, event: Event) -> Entry
+        ensures acts { Acts self.old self.new event result }
+        ensures moves { AtMostTwo (length self.old.caller.document) (fields_state self.old) (fields_state self.new) }
+        ensures document { self.new.caller.document ≡ self.old.caller.document }
+        ensures before { HoldsLive self.old }
+        ensures after { HoldsLive self.new }
+    {
+        headline();
+        layers_hold();
+        signals_hold();
+        self.call.act(event)
+    }
+
+    /// What has become of the call: the pages stored are the first of the document, each confirmed page is stored once,
+    /// and a station's normal end means that all are.
+    pub fn into_ending(self) -> Ending
+        ensures pages { (w : WorldValue) → Shows self w → result.pages.items ≡ w.answerer.pages }
+        ensures confirmed { (w : WorldValue) → Shows self w → result.confirmed ≡ confirmed w.caller }
+        ensures caller { (w : WorldValue) → Shows self w → result.caller_end ≡ w.caller.ending }
+        ensures answerer { (w : WorldValue) → Shows self w → result.answerer_end ≡ w.answerer.ending }
+        ensures safe { IsSafe self.caller.document result.pages.items result.confirmed result.caller_end result.answerer_end }
+    {
+        headline();
+        layers_hold();
+        signals_hold();
+        let LiveCall { call } = self;
+        let confirmed = call.caller.confirmed();
+        let caller_end = call.caller.end();
+        let answerer_end = call.answerer.end();
+        Ending {
+            pages: call.answerer.into_pages(),
+            confirmed,
+            caller_end,
+            answerer_end,
+        }
+    }
+}
