@@ -113,7 +113,7 @@ impl Assembler {
         self.window = ((both >> pending.part) % 256) as u8;
     }
 
-    /// Up to eight bits more, with other bits after the whole octets: so many of a number's, the least
+    /// Takes up to eight bits more, after bits that are pending: the lowest `count` bits of a number, the least
     /// significant first. Answers the bits that are then after the whole octets.
     pub fn push_after(&mut self, pending: Pending, value: u8, count: u32) -> Pending
         requires pending { IsPending pending }

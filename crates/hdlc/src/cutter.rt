@@ -231,7 +231,8 @@ impl Cutter {
         self.gap.push_octets(&octets[..count - 1]);
     }
 
-    /// Takes octets none of whose bits ends a flag, and answers whether it did; else nothing is changed.
+    /// Takes octets where none of their bits ends a flag. Answers whether they were taken; where they weren't, nothing
+    /// has changed.
     fn take_unless_flags(&mut self, octets: &[u8]) -> bool
         ensures taken { result ≡ true → (counts : AnyCounts) (queue : List (List ℕ)) (bits : List Bool) (handed : ℕ)
             → PartsAfter self.old counts queue bits handed
@@ -248,8 +249,8 @@ impl Cutter {
         true
     }
 
-    /// Takes a piece that changes no count and brings no content, and answers whether it did; else
-    /// nothing is changed.
+    /// Takes a piece the short way, where that can be done: no count changes and no content comes. Answers whether the
+    /// piece was taken; where it wasn't, nothing has changed.
     pub fn take_piece(&mut self, piece: &[u8]) -> bool
         ensures taken { result ≡ true → (counts : AnyCounts) (queue : List (List ℕ)) (bits : List Bool) (handed : ℕ)
             → PartsAfter self.old counts queue bits handed

@@ -170,8 +170,8 @@ fn stuffed_numbers() -> &'static [u16]
     &STUFFED
 }
 
-/// The bits of an octet with a 0 bit after each fifth 1 bit in a row, where so many came before it:
-/// as a number, the first bit the most significant, and how many they are.
+/// The bits of an octet with a 0 bit after each fifth 1 bit in a row, where `ones` of them came just before it: as a
+/// number, the first bit the most significant, and how many they are.
 pub fn stuffed(ones: u8, octet: u8) -> (u32, u32)
     requires { ones ≤ 4 }
     ensures bits { number_bits result.1 result.0 ≡ stuffed_from ones (bits_of LsbFirst (octet ∷ [])) }

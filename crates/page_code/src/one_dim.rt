@@ -33,13 +33,13 @@ pub struct OneDim;
 enum Start {
     /// A row, at this place.
     Row(u128),
-    /// The page's end, with so many bits used.
+    /// The page's end, and the number of bits used.
     End(u128),
-    /// Nothing that may be there.
+    /// Nothing that is valid there.
     Refused(CodeFault),
 }
 
-/// What is found at a place after an EOL, after so many rows.
+/// What is found at a place after an EOL, after `rows` rows.
 fn start_at(octets: &[u8], order: Order, place: u128, rows: usize) -> Start
     requires { place ≤ 8 * length octets.now }
     ensures { SeesStart (bits_of order octets.now) place rows result }

@@ -159,9 +159,9 @@ impl PageReader {
         }
     }
 
-    /// Reads the whole rows of octets that begin with those that the reader stands for; it stands for
-    /// all of them then, and keeps those rows. Tells no fault of the code. Errs where memory is refused;
-    /// the reader stands for what it stood for then.
+    /// Reads the whole rows of octets that begin with those that the reader stands for; it stands for all of them then,
+    /// and keeps those rows. A fault of the code isn't reported here. Errs where memory is refused; the reader stands
+    /// for what it stood for then.
     pub fn read_on(&mut self, all: &[u8]) -> Result<(), AllocError>
         requires { GoesOnTo self.old all.now }
         ensures like { IsLike self.old self.new }

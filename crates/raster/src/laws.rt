@@ -37,8 +37,8 @@ pub fn pbm_fault_examples()
     ensures { AreFaultExamples }
 {}
 
-/// The octets that are written of pages are images that read as those pages, their lines fine or not
-/// as the reader is told, and no other octets are written of them.
+/// The octets that are written of pages are images that read as those pages, their lines fine or not as is passed to
+/// the reader, and no other octets are written of them.
 pub fn pbm_round_trip()
     ensures { ReadsWritten }
 {}

@@ -100,7 +100,7 @@ fn octets_alike(bit: bool) -> &'static [u8]
     if bit { &ALIKE[1] } else { &ALIKE[0] }
 }
 
-/// So many octets of 0.
+/// A number of octets, all 0.
 fn zeros(alloc: Global, count: usize) -> Result<Vec<u8>, AllocError>
     ensures { IfOk result (λ octets. octets.items ≡ replicate count 0) }
 {
@@ -109,14 +109,14 @@ fn zeros(alloc: Global, count: usize) -> Result<Vec<u8>, AllocError>
     Ok(octets)
 }
 
-/// The number of octets that so many bits fill, the last of them in part.
+/// The number of octets that hold `count` bits; the last one may be filled in part.
 fn octets_for(count: u32) -> usize
     ensures { result ≡ (count + 7) / 8 }
 {
     (count as usize + 7) / 8
 }
 
-/// Clears the bits of the last octet that come after so many bits.
+/// Clears the bits of the last octet that come after the first `count` bits.
 fn clear_after(order: Order, octets: &mut Vec<u8>, count: u32)
     requires { length octets.old.items ≡ (count + 7) / 8 }
     ensures packed { IsPacked order octets.new.items count }
@@ -149,7 +149,7 @@ impl Model for PackedBits {
 }
 
 impl PackedBits {
-    /// So many bits of a row, all this one. Takes no memory.
+    /// A row's bits, `count` of them, all equal to `bit`. Takes no memory.
     #[inline(always)]
     fn of_one(alloc: Global, bit: bool, count: u32) -> Self
         requires { AreAlike bit count }

@@ -209,8 +209,8 @@ fn first_in_eight(octets: &[u8], at: usize, bit: bool) -> u32
     first_in_word(word, 0, bit)
 }
 
-/// The first place of octets from an octet on whose bit is another, or the end, where one of the whole
-/// blocks of 32 octets tells; and else the octet after them.
+/// Looks through the whole blocks of 32 octets for the first place from an octet on whose bit is another. Answers that
+/// place or the end; or, as `Err`, the octet after the blocks, where all their bits are alike.
 #[inline(always)]
 fn other_in_blocks(octets: &[u8], from: u32, end: u32, bit: bool) -> Result<u32, u32>
     requires order { 8 * from ≤ end }

@@ -12,10 +12,10 @@ pub enum CodeFaultKind {
     /// Memory was refused.
     #[error("no memory")]
     NoMemory,
-    /// No code that may be there.
+    /// No valid code begins here.
     #[error("no code that may stand there")]
     BadCode,
-    /// The bits end inside a code that may be there, or before one.
+    /// The bits end inside a valid code, or before one.
     #[error("the bits end inside a code")]
     Truncated,
     /// A run code that takes a one-dimensional row past its width.
@@ -86,7 +86,8 @@ impl CodeFault {
         CodeFault { place, kind }
     }
 
-    /// The refusal as a call answers it that began at this bit: there, where memory was refused.
+    /// The refusal that a call answers which began to read at `start`. It is the same, but where memory was refused its
+    /// bit is `start`.
     pub fn begun_at(self, start: u128) -> Self
         ensures { BegunAt start self result }
     {

@@ -123,7 +123,7 @@ impl<'a> BitReader<'a> {
         }
     }
 
-    /// The bit so many places ahead, or none where the bits end.
+    /// The bit `by` places ahead, or none where the bits end.
     #[tactic(auto, using(raster::proofs::PackedLemmas::views))]
     pub fn ahead(&self, by: usize) -> Option<bool>
         ensures bit { result ≡ slice_get self.now.bits (self.now.place + by) }
@@ -151,7 +151,7 @@ impl<'a> BitReader<'a> {
         Some(bit)
     }
 
-    /// Goes so many bits on.
+    /// Goes on by `count` bits.
     #[tactic(auto, using(raster::proofs::PackedLemmas::views))]
     pub fn skip(&mut self, count: usize)
         requires { self.old.place + count ≤ length self.old.bits }
@@ -178,7 +178,7 @@ impl<'a> BitReader<'a> {
         self.ahead(digits.len()).is_none()
     }
 
-    /// Whether so many bits are left, at most 256.
+    /// Whether `count` bits are left, at most 256.
     #[tactic(auto, using(raster::proofs::PackedLemmas::views))]
     fn has(&self, count: u32) -> bool
         requires { count ≤ 256 }
@@ -198,7 +198,7 @@ impl<'a> BitReader<'a> {
         self.octets.len() - self.at >= 8
     }
 
-    /// Goes so many bits on, at most 64.
+    /// Goes on by `count` bits, at most 64.
     #[inline(always)]
     #[tactic(auto, using(raster::proofs::PackedLemmas::views))]
     pub(crate) fn step(&mut self, count: u32)
@@ -232,8 +232,8 @@ impl<'a> BitReader<'a> {
         word_of_eight(self.order, self.octets, self.at, self.within)
     }
 
-    /// Whether so many of the lowest bits of a number, the most significant of them first, begin the
-    /// bits that are left: 1 to 32 bits, and the number has no others.
+    /// Whether the lowest `count` bits of a number, the most significant of them first, begin the bits that are left: 1
+    /// to 32 bits, and the number has no others.
     pub fn starts_with(&self, value: u32, count: u32) -> bool
         requires some { 0 < count }
         requires most { count ≤ 32 }
@@ -255,7 +255,7 @@ impl<'a> BitReader<'a> {
         (self.peek_57() >> 51) as u32
     }
 
-    /// The code that may come and begins the bits that are left: its run, and its code word's length.
+    /// The valid code that begins the bits that are left: its run, and its code word's length.
     #[inline(always)]
     fn find_code(&self, color: Color, among: Among) -> Option<(u32, usize)>
         ensures found { IfSome result (λ code. pick (code_word color) (runs_among among) (rest_of self.now) ≡ Some code.0) }
@@ -292,7 +292,7 @@ impl<'a> BitReader<'a> {
         false
     }
 
-    /// The refusal where no code that may come begins the bits that are left.
+    /// The refusal where no valid code begins the bits that are left.
     #[cold]
     fn refusal(&self, color: Color, among: Among) -> CodeFault
         ensures { result ≡ record { place = self.now.place; kind = kind_among color among (rest_of self.now) } }
@@ -305,9 +305,9 @@ impl<'a> BitReader<'a> {
         CodeFault::new(self.place(), kind)
     }
 
-    /// The run of the next code, one of those that may come (ITU-T T.4, 4.1.1). Errs where none of
-    /// them begins the bits that are left: with `Truncated` where these are a beginning of one, none
-    /// left included, and else with `BadCode`. An error changes nothing.
+    /// The run of the next code, one of those that are valid here (ITU-T T.4, 4.1.1). Errs where none of them begins
+    /// the bits that are left: with `Truncated` where these are a beginning of one, none left included, and else with
+    /// `BadCode`. An error changes nothing.
     #[inline(always)]
     pub(crate) fn next_code(&mut self, color: Color, among: Among) -> Result<u32, CodeFault>
         ensures reads { ReadsCode color among self.old self.new result }
@@ -353,8 +353,8 @@ impl<'a> BitReader<'a> {
         Ok(high + low)
     }
 
-    /// A run of a color, of at most so many pixels, where it can be told from the next 57 bits. Else
-    /// none, and nothing changed.
+    /// A run of a color, of at most `room` pixels, where the next 57 bits hold it whole. Else none, and nothing
+    /// changed.
     #[inline(always)]
     fn quick_run(&mut self, color: Color, room: u32) -> Option<u32>
         ensures some { IfSome result (λ run. (past : CodeFaultKind) → ReadsRunWithin color room past self.old self.new (Ok run)) }
@@ -367,9 +367,8 @@ impl<'a> BitReader<'a> {
         Some(run)
     }
 
-    /// Two runs, the first of a color and the second of the other one, together of at most so many
-    /// pixels, where they can be told from the next 57 bits (ITU-T T.6, 2.2.2). Else none, and nothing
-    /// changed.
+    /// Two runs, the first of a color and the second of the other one, together of at most `room` pixels, where the
+    /// next 57 bits hold both whole (ITU-T T.6, 2.2.2). Else none, and nothing changed.
     #[inline(always)]
     pub fn quick_two_runs(&mut self, color: Color, room: u32) -> Option<(u32, u32)>
         ensures some { IfSome result (λ runs. (past : CodeFaultKind) → ReadsTwoRuns color room past self.old self.new runs.0 runs.1) }
@@ -409,9 +408,8 @@ impl<'a> BitReader<'a> {
         Ok(high + low)
     }
 
-    /// The next run of a color, of at most so many pixels: as `read_run` reads it, but that a code
-    /// which takes it past them is refused there, with the kind `past`. After an error the reader is
-    /// somewhere in the run.
+    /// The next run of a color, of at most `room` pixels: as `read_run` reads it, but a code that takes it past them is
+    /// refused there, with the kind `past`. After an error the reader is somewhere in the run.
     #[inline(always)]
     pub fn read_run_within(
         &mut self,

@@ -25,8 +25,8 @@ fn row_of(alloc: Global, runs: &[u32]) -> Result<Row, AllocError>
 }
 
 impl<'a> BitReader<'a> {
-    /// The first runs of a row, as many as can be told quickly. Answers the color of the next one, and how
-    /// many pixels are left.
+    /// The first runs of a row, as many as can be read quickly. Answers the color of the next one, and how many pixels
+    /// are left.
     fn quick_runs(&mut self, width: u32, runs: &mut Vec<u32>) -> Result<(Color, u32), AllocError>
         requires { IsWidth width }
         ensures { IfOk result (λ next. IsInRow width self.old self.new runs.new.items next.0 next.1) }
@@ -59,7 +59,7 @@ impl<'a> BitReader<'a> {
         Ok((color, room))
     }
 
-    /// The other runs of a row, code by code: the color of the next one, and so many pixels.
+    /// The other runs of a row, code by code: `next` is the color of the next one, and `left` pixels are left.
     #[cold]
     #[inline(never)]
     fn other_runs(&mut self, next: Color, left: u32, runs: &mut Vec<u32>) -> Result<(), CodeFault>
@@ -107,10 +107,10 @@ impl<'a> BitReader<'a> {
         Ok(row_of(alloc, list)?)
     }
 
-    /// The next row in one dimension, 1 to 2,432 pixels wide: its run codes, white first (ITU-T T.4,
-    /// 4.1.1). Errs at the run code that is refused, with `RunTooLong` where it takes the row past
-    /// the width, with `Truncated` where the bits end inside a code that may be there, and else
-    /// with `BadCode`; and with `NoMemory`, at the reader's place. An error changes nothing.
+    /// The next row in one dimension, 1 to 2,432 pixels wide: its run codes, white first (ITU-T T.4, 4.1.1). Errs at
+    /// the run code that is refused, with `RunTooLong` where it takes the row past the width, with `Truncated` where
+    /// the bits end inside a valid code, and else with `BadCode`; and with `NoMemory`, at the reader's place. An error
+    /// changes nothing.
     pub fn read_row_1d(&mut self, alloc: Global, width: u32) -> Result<Row, CodeFault>
         requires { IsWidth width }
         ensures reads { IfOk result (ReadsRow width self.old self.new) }

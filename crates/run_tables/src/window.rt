@@ -48,7 +48,7 @@ impl<'a> Window<'a> {
         reader
     }
 
-    /// Whether so many bits are held, when the window was moved on if they were not.
+    /// Whether the window holds `count` bits; where it doesn't, it is moved on first.
     #[inline(always)]
     fn holds(&mut self, count: u32) -> bool
         requires window { IsWindow self.old.reader self.old.used self.old.word }
@@ -72,7 +72,7 @@ impl<'a> Window<'a> {
         true
     }
 
-    /// Goes so many bits on.
+    /// Goes on by `count` bits.
     #[inline(always)]
     fn pass(&mut self, count: u32)
         requires window { IsWindow self.old.reader self.old.used self.old.word }
@@ -84,8 +84,8 @@ impl<'a> Window<'a> {
         self.used += count;
     }
 
-    /// The next run of a color, of at most so many pixels, where it can be told from 57 bits. Else none,
-    /// and the window is at the same place.
+    /// The next run of a color, of at most `room` pixels, where 57 bits hold it whole. Else none, and the window is at
+    /// the same place.
     #[inline(always)]
     pub(crate) fn run(&mut self, color: Color, room: u32) -> Option<u32>
         requires { IsWindow self.old.reader self.old.used self.old.word }

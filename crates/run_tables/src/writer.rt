@@ -39,7 +39,7 @@ fn end_of_run(changes: &[u32], index: usize, at: u32, width: u32) -> u32
     place_at(changes, index, width)
 }
 
-/// So many octets at least, the new ones 0.
+/// Makes the list at least `needed` octets long; the new ones are 0.
 #[cold]
 fn grow(octets: &mut Vec<u8>, needed: usize) -> Result<(), AllocError>
     ensures room { OnOk result (needed ≤ length octets.new.items) }
@@ -52,7 +52,7 @@ fn grow(octets: &mut Vec<u8>, needed: usize) -> Result<(), AllocError>
     Ok(())
 }
 
-/// Room for 16 octets after so many.
+/// Makes room for 16 octets after the first `at`.
 #[inline(always)]
 fn make_room(octets: &mut Vec<u8>, at: usize) -> Result<(), AllocError>
     requires { at ≤ length octets.old.items }
@@ -84,8 +84,8 @@ fn first_of(word: u64, count: u32) -> u64
     word >> 1 >> (63 - count) << (63 - count) << 1
 }
 
-/// The octet from which the last of so many bits are in one word, at most one that is given, and how
-/// many bits the word then holds.
+/// Where the word of a writer of `bits` bits begins, at the octet `at` or before it, and how many bits the word then
+/// holds.
 fn last_place(at: usize, bits: u128) -> (usize, u32)
     requires { bits < 8 * at + 64 }
     ensures place { 8 * result.0 + result.1 ≡ bits }
@@ -194,8 +194,8 @@ impl BitWriter {
         self.push_bits(bit as u32, 1)
     }
 
-    /// Appends so many of the lowest bits of a number, at most 32, the most significant of them first.
-    /// Errs where memory is refused, which changes nothing.
+    /// Appends the lowest `count` bits of a number, at most 32, the most significant of them first. Errs where memory
+    /// is refused, which changes nothing.
     #[inline(always)]
     pub fn push_bits(&mut self, value: u32, count: u32) -> Result<(), AllocError>
         requires { count ≤ 32 }
@@ -212,7 +212,7 @@ impl BitWriter {
         Ok(())
     }
 
-    /// Forgets all bits but so many first ones.
+    /// Keeps the first `bits` bits and forgets the others.
     pub fn truncate(&mut self, bits: u128)
         requires { bits ≤ length self.old.bits }
         ensures { self.new ≡ record self.old { bits = take bits self.old.bits } }

@@ -12,7 +12,7 @@ use run_tables::BitReader;
 /// What is found where an end of line may come (ITU-T T.4, 4.1.2).
 #[derive(Clone, Copy, Debug, PartialEq, Eq)]
 pub(crate) enum Eol {
-    /// An EOL of so many bits: 11 or more 0 bits and a 1.
+    /// An EOL, 11 or more 0 bits and a 1, and the number of its bits.
     Present(u128),
     /// A 1 after fewer than 11 bits of 0.
     Absent,
@@ -46,8 +46,8 @@ pub(crate) fn zeros_from(octets: &[u8], order: Order, place: u128) -> Option<u12
     None
 }
 
-/// How many bits the EOL at a place has, where the next 57 bits tell that one is there and that a row's
-/// code follows it.
+/// How many bits the EOL at a place has, where the next 57 bits show that one is there and that a row's code follows
+/// it.
 #[inline(always)]
 pub(crate) fn quick_eol(octets: &[u8], order: Order, place: u128) -> Option<u32>
     requires { place ≤ 8 * length octets.now }

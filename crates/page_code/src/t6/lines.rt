@@ -113,8 +113,8 @@ impl Lines {
         self.front.from <= self.width
     }
 
-    /// Reads the vertical and pass modes that can be told from the next 57 bits, up to another mode, and
-    /// answers how many bits they have.
+    /// Reads the vertical and pass modes that the next 57 bits hold whole, up to another mode, and answers how many
+    /// bits they have.
     #[inline(always)]
     pub(crate) fn quick_modes(&mut self, reader: &mut BitReader) -> u32
         requires { 57 ≤ length (rest_of reader.old) }

@@ -12,8 +12,8 @@ pub(crate) const EOFB: &[u8] = b"000000000001000000000001";
 /// The number that EOFB is, of 24 bits (ITU-T T.6, 2.4).
 pub(crate) const EOFB_NUMBER: u32 = 0x001001;
 
-/// How far a1 is from b1 in a vertical mode: under it, or so many pixels to its right or its left
-/// (ITU-T T.6, 2.2.2).
+/// How far a1 is from b1 in a vertical mode: under it, or one to three pixels to its right or its left (ITU-T T.6,
+/// 2.2.2).
 #[derive(Clone, Copy, Debug, PartialEq, Eq)]
 pub enum Shift {
     /// a1 is just under b1.

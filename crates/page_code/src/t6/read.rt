@@ -94,7 +94,7 @@ fn begins_row(reader: &BitReader) -> bool
     true
 }
 
-/// What is found where a row may begin, after so many rows.
+/// What is found where a row may begin, after `rows` rows.
 fn start_at(reader: &BitReader, rows: usize) -> Start
     ensures { SeesStart (rest_of reader.now) rows result }
 {
@@ -194,8 +194,8 @@ fn quick_step(
     }
 }
 
-/// The vertical and pass modes of a row that can be told from the next 57 bits, up to another mode.
-/// Answers the front after them, and how many bits they have.
+/// The vertical and pass modes of a row that the next 57 bits hold whole, up to another mode. Answers the front after
+/// them, and how many bits they have.
 #[inline(always)]
 pub(crate) fn quick_modes(
     reader: &mut BitReader,
@@ -246,8 +246,8 @@ fn horizontal(reader: &mut BitReader, lines: &mut Lines) -> Result<(), CodeFault
     Ok(())
 }
 
-/// Horizontal mode, whose flag begins the bits, where its two runs can be told quickly and aren't refused.
-/// Answers whether it was read; else nothing changed.
+/// Horizontal mode, whose flag begins the bits, where its two runs can be read quickly and aren't refused. Answers
+/// whether it was read; else nothing changed.
 #[inline(always)]
 fn quick_horizontal(reader: &mut BitReader, lines: &mut Lines) -> bool
     requires short { length lines.old.line.pixels < length lines.old.reference }
@@ -271,8 +271,7 @@ fn quick_horizontal(reader: &mut BitReader, lines: &mut Lines) -> bool
     true
 }
 
-/// Some modes of a row, where they can be told quickly. Answers whether there are any; else nothing
-/// changed.
+/// Some modes of a row, where they can be read quickly. Answers whether there are any; else nothing changed.
 #[inline(always)]
 fn quick_part(reader: &mut BitReader, lines: &mut Lines) -> bool
     requires { length lines.old.line.pixels < length lines.old.reference }
