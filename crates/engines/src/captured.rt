@@ -38,14 +38,14 @@ pub enum Captured {
         /// Why it can't be read, at a bit of its code.
         fault: CodeFault,
     },
-    /// A frame that lacks.
+    /// A frame that is missing.
     Lacks {
         /// The mark of its block.
         mark: Mark,
         /// Its number in the block.
         frame: u8,
     },
-    /// Blocks before this one lack.
+    /// The blocks before this one are missing.
     Skipped(Mark),
     /// A page, or a block of it, has no end.
     Unended,
@@ -53,7 +53,7 @@ pub enum Captured {
     NoDcs(Mark),
 }
 
-/// A block of which frames lack.
+/// A block of which frames are missing.
 #[derive(Clone, Copy, Debug, PartialEq, Eq)]
 pub(crate) struct Waiting {
     /// The block's mark.
@@ -181,7 +181,7 @@ fn overlay(frames: &mut BlockStore, later: &BlockStore) -> Result<(), ToolFault>
     Ok(())
 }
 
-/// Names a frame where it lacks.
+/// Names a frame where it is missing.
 fn name_one(
     frames: &BlockStore,
     mark: Mark,
@@ -198,7 +198,7 @@ fn name_one(
     tell(out, Captured::Lacks { mark, frame })
 }
 
-/// Names the frames of a block that lack.
+/// Names the frames of a block that are missing.
 fn name_lacking(
     frames: &BlockStore,
     waiting: Waiting,
@@ -286,7 +286,7 @@ impl Capture {
         self.begun = false;
     }
 
-    /// A block that lacks frames is given up.
+    /// A block of which frames are missing is given up.
     fn spoil(&mut self, waiting: Waiting)
         ensures { self.new ≡ after_lack waiting.ends waiting.mark (record self.old { waiting = None; kept = no_frames }) }
     {
@@ -330,7 +330,7 @@ impl Capture {
         self.give_up(out)
     }
 
-    /// A block comes: its page can't be read where blocks before it lack.
+    /// A block comes: its page can't be read where blocks before it are missing.
     fn turn_to(&mut self, mark: Mark, out: &mut Vec<Captured>) -> Result<(), ToolFault>
         ensures taken { OnOk result (Takes (turns_to mark self.old) self.new out.old.items out.new.items) }
         ensures fault { IfErr result IsOutside }
@@ -345,7 +345,8 @@ impl Capture {
         Ok(())
     }
 
-    /// The frames since the last PPS are those of a block.
+    /// Adds the frames since the last PPS to those that are kept of their block; of two frames of one number the later
+    /// one counts.
     fn gather(&mut self) -> Result<(), ToolFault>
         ensures gathered { OnOk result (self.new ≡ gathers self.old) }
         ensures fault { IfErr result IsOutside }
@@ -355,7 +356,7 @@ impl Capture {
         Ok(())
     }
 
-    /// Appends the frames of a whole block to the open page, unless a block of that lacks.
+    /// Appends the frames of a whole block to the open page, unless a block of that page is missing.
     fn append_block(&mut self, last: u8) -> Result<(), ToolFault>
         requires whole { all_there self.old.kept last ≡ true }
         ensures appended { OnOk result
@@ -370,7 +371,7 @@ impl Capture {
         Ok(())
     }
 
-    /// The open page is at its end: it is read, unless a block of it lacks.
+    /// The open page is at its end: it is read, unless a block of it is missing.
     fn end_page(
         &mut self,
         params: Params,
@@ -419,7 +420,7 @@ impl Capture {
         }
     }
 
-    /// The block whose frames are gathered is whole, or waits for the frames that lack.
+    /// The block whose frames are gathered is whole, or waits for the frames that are missing.
     #[tactic(auto, unfolding(crate::specs::Captured::judges))]
     fn judge(
         &mut self,
@@ -581,10 +582,10 @@ impl Capture {
 }
 
 /// The pages in the octets of a line, of each of which the least significant bit comes first: those that the data of
-/// its FCDs join to by the PPSs, read by the width, the lines and the code of the DCS before, one after the
-/// other; and between them what lacks of others, in the order of the line. No station answers. Each page comes
-/// once, however often its blocks were sent. Errs with 8 where the reader fails, or doesn't end in 2^64 reads,
-/// and with 9. ITU-T T.30, Annex A.
+/// its FCDs join to by the PPSs, read by the width, the lines and the code of the DCS before, one after the other; and
+/// between them what is missing of others, in the order of the line. No station answers. Each page comes once, however
+/// often its blocks were sent. Errs with 8 where the reader fails, or doesn't end in 2^64 reads, and with 9. ITU-T
+/// T.30, Annex A.
 pub fn captured_pages<R: Read>(alloc: Global, reader: &mut R) -> Result<Vec<Captured>, ToolFault>
     ensures found { IfOk result (λ found. IfSome (R.remaining reader.old) (λ octets.
         found.items ≡ captured (good (bits_of LsbFirst octets)))) }

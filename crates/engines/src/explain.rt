@@ -134,7 +134,7 @@ fn image_words(no: u8) -> &'static str
     }
 }
 
-/// Why the octets of a file, of which these are the first ones, are no raw PBM.
+/// Why the octets of a file, of which these are the first ones, aren't a raw PBM (P4).
 fn no_raw_pbm(begins: &[u8]) -> &'static str
     ensures { result.now ≡ no_raw_pbm begins.now }
 {

@@ -17,8 +17,8 @@ use std::io::{Read, Write};
 /// How many octets are read at a time.
 pub(crate) const PIECE: usize = 4096;
 
-/// Writes the line of a good frame: its number, its content in hex, of which at most so many octets are
-/// shown, and what it says.
+/// Writes the line of a good frame: its number, its content in hex, of which at most `most` octets are shown, and what
+/// it says.
 fn write_frame<W: Write>(
     alloc: Global,
     number: u64,
@@ -95,11 +95,11 @@ pub(crate) fn read_some<R: Read>(reader: &mut R, piece: &mut [u8]) -> Result<usi
     Err(FAILED)
 }
 
-/// Reads bits, the least significant of each octet first, and writes a line for each good frame in
-/// them, with its number from 1, its content in hex and what it says, and then a line with the counts
-/// of all gaps. At most so many octets of a content are shown, and a line has `..` after them where it has more.
-/// Each line is written, and the writer flushed, as soon as its frame was read. Errs with 8 where the
-/// reader or the writer fails, or the reader doesn't end in 2^64 reads, and with 9.
+/// Reads bits, the least significant of each octet first, and writes a line for each good frame in them, with its
+/// number from 1, its content in hex and what it says, and then a line with the counts of all gaps. At most `most`
+/// octets of a content are shown, and a line has `..` after them where it has more. Each line is written, and the
+/// writer flushed, as soon as its frame was read. Errs with 8 where the reader or the writer fails, or the reader
+/// doesn't end in 2^64 reads, and with 9.
 pub fn frames_engine<R: Read, W: Write>(
     alloc: Global,
     reader: &mut R,

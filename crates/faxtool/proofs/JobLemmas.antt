@@ -9,7 +9,7 @@ use Rattle.clap.specs.declared.error.Error.{Error}
 use Rattle.clap.specs.declared.builder.value_parser.ValueParser.{ValueParser}
 use Rattle.clap.proofs.OnLiterals.{clap_on_literals}
 use Rattle.clap.proofs.WalkLemmas.{one_text-rows}
-use Rattle.faxtool.specs.declared.words.Job.TheVariants.{Call, Code, Decode, Frames, Show}
+use Rattle.faxtool.specs.declared.words.Job.TheVariants.{Call, Code, Decode, Frames, Show, Version}
 use Rattle.faxtool.specs.declared.words.Outcome.{Outcome}
 use Rattle.faxtool.specs.declared.words.Outcome.TheVariants.{Done, Fault, Lacking, Words}
 use Rattle.faxtool.specs.Jobs.{AreOptionsIn, HasNoJob, HasNoOptions, IsFaxtool, IsOutcomeOf, IsRefusalOf, IsWidthIn, ReadsNumber}
@@ -143,17 +143,33 @@ call_is_frames e =
     let bad : 99 ≡ 102 = ap (λ (t : Text). slice_index t 0) e in
     absurd (omega (arith, bad))
 
+show_is_version : codes "show" ≡ codes "version" → ⊥
+show_is_version e =
+    let bad : 115 ≡ 118 = ap (λ (t : Text). slice_index t 0) e in
+    absurd (omega (arith, bad))
+
+decode_is_version : codes "decode" ≡ codes "version" → ⊥
+decode_is_version e =
+    let bad : 100 ≡ 118 = ap (λ (t : Text). slice_index t 0) e in
+    absurd (omega (arith, bad))
+
+call_is_version : codes "call" ≡ codes "version" → ⊥
+call_is_version e =
+    let bad : 99 ≡ 118 = ap (λ (t : Text). slice_index t 0) e in
+    absurd (omega (arith, bad))
+
 -- without a width there is no job for `show`
 pub no_width : (rows : List Row) → ((n : ℕ) → IsWidthIn rows n → ⊥) → HasNoJob (Some (codes "show", rows))
 no_width rows none (Code coding order input output) (others, e, is) = show_is_code (some_name (codes "show") (codes "code") rows others e)
 no_width rows none (Show coding order width input) (others, e, is) =
     none width (subst (λ (xs : List Row). IsWidthIn xs width) (sym (some_rows (codes "show") (codes "show") rows others e)) is.width_is)
-no_width rows none (Decode coding order width fine salvage repair verbose input output) (others, e, is) =
+no_width rows none (Decode coding order width fine salvage repair whole verbose input output) (others, e, is) =
     show_is_decode (some_name (codes "show") (codes "decode") rows others e)
 no_width rows none (Frames most pages input) (others, e, reads, folder, is) =
     show_is_frames (some_name (codes "show") (codes "frames") rows others e)
 no_width rows none (Call script options out input) (others, e, is) =
     show_is_call (some_name (codes "show") (codes "call") rows others e)
+no_width rows none Version (others, e) = show_is_version (some_name (codes "show") (codes "version") rows others e)
 
 -- nor is there one for `decode`
 pub no_width_to_decode : (rows : List Row) → ((n : ℕ) → IsWidthIn rows n → ⊥) → HasNoJob (Some (codes "decode", rows))
@@ -161,13 +177,14 @@ no_width_to_decode rows none (Code coding order input output) (others, e, is) =
     decode_is_code (some_name (codes "decode") (codes "code") rows others e)
 no_width_to_decode rows none (Show coding order width input) (others, e, is) =
     show_is_decode (sym (some_name (codes "decode") (codes "show") rows others e))
-no_width_to_decode rows none (Decode coding order width fine salvage repair verbose input output) (others, e, is) =
+no_width_to_decode rows none (Decode coding order width fine salvage repair whole verbose input output) (others, e, is) =
     none width (subst (λ (xs : List Row). IsWidthIn xs width) (sym (some_rows (codes "decode") (codes "decode") rows others e))
     is.shown.width_is)
 no_width_to_decode rows none (Frames most pages input) (others, e, reads, folder, is) =
     decode_is_frames (some_name (codes "decode") (codes "frames") rows others e)
 no_width_to_decode rows none (Call script options out input) (others, e, is) =
     decode_is_call (some_name (codes "decode") (codes "call") rows others e)
+no_width_to_decode rows none Version (others, e) = decode_is_version (some_name (codes "decode") (codes "version") rows others e)
 
 -- without options there is no job for `call`
 pub no_options : (rows : List Row) → HasNoOptions rows → HasNoJob (Some (codes "call", rows))
@@ -175,10 +192,11 @@ no_options rows none (Code coding order input output) (others, e, is) =
     call_is_code (some_name (codes "call") (codes "code") rows others e)
 no_options rows none (Show coding order width input) (others, e, is) =
     show_is_call (sym (some_name (codes "call") (codes "show") rows others e))
-no_options rows none (Decode coding order width fine salvage repair verbose input output) (others, e, is) =
+no_options rows none (Decode coding order width fine salvage repair whole verbose input output) (others, e, is) =
     decode_is_call (sym (some_name (codes "call") (codes "decode") rows others e))
 no_options rows none (Frames most pages input) (others, e, reads, folder, is) =
     call_is_frames (some_name (codes "call") (codes "frames") rows others e)
 no_options rows none (Call script options out input) (others, e, is) =
     none options (subst (λ (xs : List Row). AreOptionsIn xs options) (sym (some_rows (codes "call") (codes "call") rows others e))
     is.options_are)
+no_options rows none Version (others, e) = call_is_version (some_name (codes "call") (codes "version") rows others e)

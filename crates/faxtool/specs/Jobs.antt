@@ -20,7 +20,7 @@ use Rattle.signals.specs.declared.params.Modems.{Modems}
 use Rattle.signals.specs.declared.params.Modems.TheVariants.{Fallback, V27, V29, V27V29, V17}
 use Rattle.engines.specs.declared.options.CallOptions.{CallOptions}
 use Rattle.faxtool.specs.declared.words.Job.{Job}
-use Rattle.faxtool.specs.declared.words.Job.TheVariants.{Call, Code, Decode, Frames, Show}
+use Rattle.faxtool.specs.declared.words.Job.TheVariants.{Call, Code, Decode, Frames, Show, Version}
 use Rattle.faxtool.specs.declared.words.Request.{Request}
 use Rattle.faxtool.specs.declared.words.Outcome.{Outcome}
 use Rattle.faxtool.specs.declared.words.Outcome.TheVariants.{Done, Fault, Lacking, Words}
@@ -98,13 +98,13 @@ abbrev pub show_app : ValueParser → ValueParser → App
 show_app codings orders =
     with_explain (with_rule (with_page_options (new_app (codes "show")) codings orders) (file_rule (codes "file")))
 
--- the command with `--fine`, `--salvage`, `--repair` and `--verbose`
+-- the command with `--fine`, `--salvage`, `--repair`, `--whole` and `--verbose`
 abbrev pub with_flags : App → App
-with_flags app = with_rule (with_rule (with_rule (with_rule app (flag_rule (codes "fine"))) (flag_rule (codes "salvage")))
-    (flag_rule (codes "repair"))) (flag_rule (codes "verbose"))
+with_flags app = with_rule (with_rule (with_rule (with_rule (with_rule app (flag_rule (codes "fine"))) (flag_rule (codes "salvage")))
+    (flag_rule (codes "repair"))) (flag_rule (codes "whole"))) (flag_rule (codes "verbose"))
 
 -- `decode`: the code, the width, the order, fine or not, what is done with a page that can't be
--- read, verbose or not, and the files of the page and of its image
+-- read or has no end, verbose or not, and the files of the page and of its image
 abbrev pub decode_app : ValueParser → ValueParser → App
 decode_app codings orders = with_explain (with_rule (with_rule (with_flags (with_page_options (new_app (codes "decode")) codings orders))
     (file_rule (codes "file"))) (file_rule (codes "out")))
@@ -139,9 +139,14 @@ abbrev pub page_app : ValueParser → ValueParser → App
 page_app codings orders = with_subcommand (with_subcommand (with_subcommand (with_subcommand empty_app (code_app codings orders).top)
     (show_app codings orders).top) (decode_app codings orders).top) frames_app.top
 
+-- `version`, which has no option
+abbrev pub version_app : App
+version_app = new_app (codes "version")
+
 -- the program with all its commands
 abbrev pub faxtool_app : ValueParser → ValueParser → ValueParser → ValueParser → App
-faxtool_app codings orders sizes modems = with_subcommand (page_app codings orders) (call_app codings sizes modems).top
+faxtool_app codings orders sizes modems =
+    with_subcommand (with_subcommand (page_app codings orders) (call_app codings sizes modems).top) version_app.top
 
 -- the parser takes these names and no other text
 abbrev pub TakesNames : ValueParser → List Text → Type 0
@@ -225,13 +230,14 @@ go_together OneDim salvage repair = not (salvage && repair)
 go_together T6 salvage repair = not repair
 
 -- the values of the command `decode` are those of the job
-pub record IsDecodeOf (rows : List Row) (coding : Coding) (order : Order) (width : ℕ) (fine salvage repair verbose : Bool)
+pub record IsDecodeOf (rows : List Row) (coding : Coding) (order : Order) (width : ℕ) (fine salvage repair whole verbose : Bool)
     (input output : Text) : Type 0 where
   pub shown : IsShowOf rows coding order width input
   pub fine_is : fine ≡ is_named (codes "true") (first_of (codes "fine") rows)
   pub salvage_is : salvage ≡ is_named (codes "true") (first_of (codes "salvage") rows)
   pub repair_is : repair ≡ is_named (codes "true") (first_of (codes "repair") rows)
   pub together : go_together coding salvage repair ≡ true
+  pub whole_is : whole ≡ is_named (codes "true") (first_of (codes "whole") rows)
   pub verbose_is : verbose ≡ is_named (codes "true") (first_of (codes "verbose") rows)
   pub output_is : first_of (codes "out") rows ≡ Some output
 
@@ -262,9 +268,9 @@ IsJobOf met (Code coding order input output) = (rows : List Row)
 IsJobOf met (Show coding order width input) = (rows : List Row)
     × (met ≡ Some (codes "show", rows))
     × IsShowOf rows coding order width (string_bytes input)
-IsJobOf met (Decode coding order width fine salvage repair verbose input output) = (rows : List Row)
+IsJobOf met (Decode coding order width fine salvage repair whole verbose input output) = (rows : List Row)
     × (met ≡ Some (codes "decode", rows))
-    × IsDecodeOf rows coding order width fine salvage repair verbose (string_bytes input) (string_bytes output)
+    × IsDecodeOf rows coding order width fine salvage repair whole verbose (string_bytes input) (string_bytes output)
 IsJobOf met (Frames most pages input) = (rows : List Row)
     × (met ≡ Some (codes "frames", rows))
     × ReadsNumber (codes "data") rows most
@@ -273,6 +279,7 @@ IsJobOf met (Frames most pages input) = (rows : List Row)
 IsJobOf met (Call script options out input) = (rows : List Row)
     × (met ≡ Some (codes "call", rows))
     × IsCallOf rows (string_bytes script) options (option_map string_bytes out) (string_bytes input)
+IsJobOf met Version = (rows : List Row) × (met ≡ Some (codes "version", rows))
 
 -- no job is of the command's name and values
 abbrev pub HasNoJob : Option (Text × List Row) → Type 0
@@ -319,6 +326,7 @@ status_of (Words error) = 2
 abbrev pub HasWidth : Job → Type 0
 HasWidth (Code coding order input output) = Unit {0}
 HasWidth (Show coding order width input) = IsWidth width
-HasWidth (Decode coding order width fine salvage repair verbose input output) = IsWidth width
+HasWidth (Decode coding order width fine salvage repair whole verbose input output) = IsWidth width
 HasWidth (Frames most pages input) = Unit {0}
 HasWidth (Call script options out input) = Unit {0}
+HasWidth Version = Unit {0}

@@ -20,7 +20,10 @@ pub const FAULTS: &str =
   16  at a bit: an extension code (mmr)
   17  at a bit: the page's end is missing (mmr)
   18  at a bit: one row more than 20000
-  26  a page's width is none that a call carries
+  20  in a list of frames: a content whose address isn't FF
+  21  in a list of frames: a content whose control field is neither 03 nor 13
+  22  in a list of frames: a content of which a field is missing or cut short
+  26  a page has a width other than 1728, 2048 and 2432 pixels, those that a call carries
   27  code was given several images
   30  at a line: no command of a script
 Status 2: the words are no job. With --explain a second line says which file it is, where and why.";

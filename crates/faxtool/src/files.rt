@@ -19,19 +19,28 @@ enum Origin {
     Standard(<HostRuntime as io::Input>::Reader),
 }
 
-/// A file or standard input as it is read: how far that is, why it failed, and the first octets.
+/// A file or standard input as it is read: how far that is, why it failed, whether octets came and perhaps not the last
+/// ones, and the first octets.
 #[derive(Drop)]
 pub struct Source<'a> {
     from: Origin,
     part: Part,
     progress: Progress<'a>,
     failed: Option<ErrorKind>,
+    is_open: bool,
+    image: bool,
+    read: u64,
     most: usize,
     octets: Vec<u8>,
 }
 
 impl Read for Source<'_> {
     fn read(&mut self, octets: &mut [u8]) -> io::Result<usize> {
+        if self.image && !begins_image(self.octets.as_slice()) {
+            // what follows can't make an image of it, however long it is
+            self.is_open = false;
+            return Ok(0);
+        }
         let read = match &mut self.from {
             Origin::File(file) => file.read(octets),
             Origin::Standard(input) => input.read(octets),
@@ -39,6 +48,8 @@ impl Read for Source<'_> {
         match &read {
             Ok(count) => {
                 self.failed = None;
+                self.is_open = *count > 0;
+                self.read = self.read.saturating_add(*count as u64);
                 self.progress.read(*count);
                 self.keep(octets.get(..*count).unwrap_or(&[]));
             }
@@ -65,16 +76,31 @@ impl Source<'_> {
             part,
             progress,
             failed,
+            is_open,
+            image: _,
+            read,
             most: _,
             octets,
         } = self;
         progress.end();
+        if is_open {
+            notes.unread = Some(part);
+        }
         if let Some(kind) = failed {
             notes.blame(part, kind);
         }
         if part == Part::Input {
             notes.octets = octets;
+            notes.read = read;
         }
+    }
+}
+
+/// Whether an image may begin with these octets.
+fn begins_image(octets: &[u8]) -> bool {
+    match octets {
+        [] | [80] | [80, 52, ..] => true,
+        _ => false,
     }
 }
 
@@ -103,6 +129,9 @@ pub fn open<'a>(
         part,
         progress: Progress::new(rt, notes.long),
         failed: None,
+        is_open: false,
+        image: notes.image && part == Part::Input,
+        read: 0,
         most: notes.most,
         octets: Vec::new(rt.alloc()),
     })
@@ -152,70 +181,4 @@ pub fn end_print(
         notes.blame(Part::Printed, kind);
     }
     Ok(ended?)
-}
-
-/// Writes these octets as the whole content of a file, or on standard output. A regular file is written beside its
-/// place and then renamed, so that what was there stays where a write fails; any other file, such as a device
-/// or a link, is written itself.
-/// Errs with 8 where it can't be written, which is noted, and with 9.
-pub fn write(
-    rt: &HostRuntime,
-    name: &str,
-    octets: &[u8],
-    notes: &mut Notes,
-) -> Result<(), ToolFault>
-    ensures { IfErr result IsOutside }
-{
-    let written = put(rt, name, octets);
-    if let Err(error) = &written {
-        notes.blame(Part::Output, error.kind());
-    }
-    Ok(written?)
-}
-
-/// Writes these octets as the whole content of a file, or on standard output.
-fn put(rt: &HostRuntime, name: &str, octets: &[u8]) -> io::Result<()> {
-    if name == STANDARD {
-        let mut writer = io::writer(rt);
-        writer.write_all(octets)?;
-        return writer.flush();
-    }
-    if !is_replaceable(rt, name) {
-        return fs::write(rt, name, octets);
-    }
-    let mut beside = String::from_str(rt.alloc(), name)?;
-    beside.push_str(".part")?;
-    let Ok(file) = fs::File::create(rt, beside.as_str()) else {
-        // a folder in which no file can be made
-        return fs::write(rt, name, octets);
-    };
-    let replaced = replace(rt, file, octets, beside.as_str(), name);
-    if replaced.is_err() {
-        let _removed = fs::remove_file(rt, beside.as_str());
-    }
-    replaced
-}
-
-/// Whether a name is that of a regular file, or of none.
-fn is_replaceable(rt: &HostRuntime, name: &str) -> bool {
-    match fs::symlink_metadata(rt, name) {
-        Ok(found) => found.is_file(),
-        Err(error) => error.kind() == io::ErrorKind::NotFound,
-    }
-}
-
-/// Writes octets into a new file, with the permissions of the file in whose place it is put then.
-fn replace(
-    rt: &HostRuntime,
-    file: fs::File,
-    octets: &[u8],
-    beside: &str,
-    name: &str,
-) -> io::Result<()> {
-    let mut file = file;
-    file.write_all(octets)?;
-    if let Ok(found) = fs::metadata(rt, name) {
-        file.set_permissions(found.permissions())?;
-    }
-    fs::rename(rt, beside, name)
 }

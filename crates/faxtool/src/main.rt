@@ -8,9 +8,11 @@ ghost use Rattle.raster.specs.Pixels.{IsWidth};
 ghost use Rattle.std.specs.Prelude.{IfSome};
 
 mod commands;
+mod ends;
 mod faults;
 mod files;
 mod notes;
+mod outputs;
 mod progress;
 mod table;
 mod words;
@@ -29,6 +31,9 @@ use std::process::ExitCode;
 use std::{env, io};
 use words::{Job, Outcome, Request, read_words, status};
 
+/// The program's version, as the file `VERSION` at the top has it.
+const VERSION: &str = "0.1.0";
+
 fn main(rt: HostRuntime) -> ExitCode {
     let outcome = run_words(&rt);
     if let Outcome::Words(error) = &outcome {
@@ -41,17 +46,20 @@ fn run_words(rt: &HostRuntime) -> Outcome {
     let words = match given_words(rt) {
         Ok(words) => words,
         // a word that is no text names no file that can be opened
-        Err(error) => return refused(rt, ToolFault::from(error), "a word that is no text"),
+        Err(error) => {
+            let reason = Some(error.kind());
+            return refused(rt, ToolFault::from(error), "a word of the command", reason);
+        }
     };
     let mut texts = Vec::new(rt.alloc());
     for word in &words {
         if texts.push(word.as_str()).is_err() {
-            return refused(rt, NO_MEMORY, "the command's words");
+            return refused(rt, NO_MEMORY, "the command's words", None);
         }
     }
     match read_words(rt.alloc(), texts.as_slice()) {
         Ok(request) => run_request(rt, &request),
-        Err(Outcome::Fault(fault)) => refused(rt, fault, "the command's words"),
+        Err(Outcome::Fault(fault)) => refused(rt, fault, "the command's words", None),
         Err(outcome) => outcome,
     }
 }
@@ -62,12 +70,17 @@ fn given_words(rt: &HostRuntime) -> io::Result<Vec<String>> {
 }
 
 /// A fault before any file was named: its line, and on a terminal its words.
-fn refused(rt: &HostRuntime, fault: ToolFault, file: &str) -> Outcome {
+fn refused(
+    rt: &HostRuntime,
+    fault: ToolFault,
+    file: &str,
+    reason: Option<io::ErrorKind>,
+) -> Outcome {
     let _shown = eprintln!(rt; "{fault}");
-    if rt.stderr().is_terminal() {
+    if is_explained(rt) {
         let known = Known {
             file,
-            reason: None,
+            reason,
             begins: &[],
             row: None,
             color: None,
@@ -78,13 +91,25 @@ fn refused(rt: &HostRuntime, fault: ToolFault, file: &str) -> Outcome {
     Outcome::Fault(fault)
 }
 
+/// Whether faults are told in words unasked: on a terminal, and where the environment says so.
+fn is_explained(rt: &HostRuntime) -> bool {
+    if rt.stderr().is_terminal() {
+        return true;
+    }
+    match env::var(rt, "FAXTOOL_EXPLAIN") {
+        Ok(value) => value.as_str() == "1",
+        Err(_) => false,
+    }
+}
+
 /// Does a job, and tells its fault: a line, and on a terminal or where that is asked for, one of words.
 fn run_request(rt: &HostRuntime, request: &Request) -> Outcome
     requires { HasWidth request.now.job }
 {
-    let explains = request.explain || rt.stderr().is_terminal();
-    let kept = if explains { kept_of(&request.job) } else { 0 };
-    let mut notes = Notes::new(rt.alloc(), kept, is_long(&request.job));
+    let explains = request.explain || is_explained(rt);
+    let kept = kept_of(&request.job, explains);
+    let image = takes_image(&request.job);
+    let mut notes = Notes::new(rt.alloc(), kept, is_long(&request.job), image);
     match run_job(rt, &request.job, &mut notes) {
         Ok(outcome) => outcome,
         Err(fault) => {
@@ -97,11 +122,24 @@ fn run_request(rt: &HostRuntime, request: &Request) -> Outcome
     }
 }
 
-/// How many octets of a job's input its faults are explained by: all of a coded page, and the first ones of images.
-fn kept_of(job: &Job) -> usize {
+/// How many octets of a job's input are kept: all of a coded page whose end is looked at or whose fault is explained, and
+/// the first ones of images.
+fn kept_of(job: &Job, explains: bool) -> usize {
     match job {
-        Job::Show { .. } | Job::Decode { .. } => usize::MAX,
+        Job::Decode {
+            coding: Coding::OneDim,
+            ..
+        } => usize::MAX,
+        Job::Show { .. } | Job::Decode { .. } if explains => usize::MAX,
         _ => 4,
+    }
+}
+
+/// Whether a job reads images.
+fn takes_image(job: &Job) -> bool {
+    match job {
+        Job::Code { .. } | Job::Call { .. } => true,
+        _ => false,
     }
 }
 
@@ -109,7 +147,7 @@ fn kept_of(job: &Job) -> usize {
 fn is_long(job: &Job) -> bool {
     match job {
         Job::Code { .. } | Job::Decode { .. } | Job::Call { .. } => true,
-        Job::Show { .. } | Job::Frames { .. } => false,
+        Job::Show { .. } | Job::Frames { .. } | Job::Version => false,
     }
 }
 
@@ -176,23 +214,52 @@ fn part_of(fault: ToolFault, notes: &Notes) -> Part {
     match (fault, notes.failed) {
         (ToolFault::AtLine(_), _) => Part::Script,
         (ToolFault::No(8), Some((part, _kind))) => part,
+        (ToolFault::No(9), _) => notes.unread.unwrap_or(Part::Input),
         _ => Part::Input,
+    }
+}
+
+/// The fault of a job that writes into memory: where no file failed, that was refused.
+fn in_memory(fault: ToolFault, notes: &Notes) -> ToolFault {
+    match (fault, notes.failed) {
+        (ToolFault::No(8), None) => NO_MEMORY,
+        _ => fault,
+    }
+}
+
+/// The name of the file, or of the folder, that a job writes.
+fn output_of<'a>(job: &'a Job) -> Option<&'a str> {
+    match job {
+        Job::Code { output, .. } | Job::Decode { output, .. } => Some(output.as_str()),
+        Job::Call { out, .. } => out.as_deref(),
+        Job::Frames { pages, .. } => pages.as_deref(),
+        Job::Show { .. } | Job::Version => None,
+    }
+}
+
+/// Errs with 8 where what a job writes can't be: on a terminal, or into a folder that is none.
+fn check_output(rt: &HostRuntime, job: &Job, notes: &mut Notes) -> Result<(), ToolFault> {
+    let Some(name) = output_of(job) else {
+        return Ok(());
+    };
+    match job {
+        Job::Frames { .. } => outputs::check_folder(rt, name, notes),
+        _ => outputs::check_terminal(rt, name, notes),
     }
 }
 
 /// The name of a file of a job, as it is told.
 fn file_of<'a>(job: &'a Job, part: Part) -> &'a str {
+    let output = if part == Part::Output {
+        output_of(job)
+    } else {
+        None
+    };
+    if let Some(output) = output {
+        return told_name(output, part);
+    }
     let named = match (job, part) {
         (_, Part::Printed) => files::STANDARD,
-        (Job::Code { output, .. } | Job::Decode { output, .. }, Part::Output) => output.as_str(),
-        (Job::Call { out: Some(out), .. }, Part::Output) => out.as_str(),
-        (
-            Job::Frames {
-                pages: Some(folder),
-                ..
-            },
-            Part::Output,
-        ) => folder.as_str(),
         (Job::Call { script, .. }, Part::Script) => script.as_str(),
         (
             Job::Code { input, .. }
@@ -202,7 +269,13 @@ fn file_of<'a>(job: &'a Job, part: Part) -> &'a str {
             | Job::Call { input, .. },
             _,
         ) => input.as_str(),
+        (Job::Version, _) => files::STANDARD,
     };
+    told_name(named, part)
+}
+
+/// A name as it is told.
+fn told_name<'a>(named: &'a str, part: Part) -> &'a str {
     match part {
         Part::Output | Part::Printed if named == files::STANDARD => "standard output",
         _ if named == files::STANDARD => "standard input",
@@ -213,6 +286,7 @@ fn file_of<'a>(job: &'a Job, part: Part) -> &'a str {
 fn run_job(rt: &HostRuntime, job: &Job, notes: &mut Notes) -> Result<Outcome, ToolFault>
     requires { HasWidth job.now }
 {
+    check_output(rt, job, notes)?;
     match job {
         Job::Code {
             coding,
@@ -226,7 +300,11 @@ fn run_job(rt: &HostRuntime, job: &Job, notes: &mut Notes) -> Result<Outcome, To
             width,
             input,
         } => show_file(rt, *coding, *order, *width, input, notes)?,
-        Job::Decode { .. } => decode_job(rt, job, notes)?,
+        Job::Decode { .. } => {
+            if !decode_job(rt, job, notes)? {
+                return Ok(Outcome::Lacking);
+            }
+        }
         Job::Frames {
             most,
             pages: None,
@@ -247,12 +325,23 @@ fn run_job(rt: &HostRuntime, job: &Job, notes: &mut Notes) -> Result<Outcome, To
             out,
             input,
         } => call_file(rt, script, options, out.as_deref(), input, notes)?,
+        Job::Version => print_version(rt, notes)?,
     }
     Ok(Outcome::Done)
 }
 
-/// Does a job that decodes a page, in the way that it asks for; another job isn't done.
-fn decode_job(rt: &HostRuntime, job: &Job, notes: &mut Notes) -> Result<(), ToolFault>
+/// Prints the program's version.
+fn print_version(rt: &HostRuntime, notes: &mut Notes) -> Result<(), ToolFault> {
+    let mut writer = files::print(rt)?;
+    let written = writeln!(writer, "{VERSION}");
+    let printed = files::end_print(writer, written.is_ok(), notes);
+    written?;
+    printed
+}
+
+/// Does a job that decodes a page, in the way that it asks for, and answers whether all is there that it wants; another
+/// job isn't done.
+fn decode_job(rt: &HostRuntime, job: &Job, notes: &mut Notes) -> Result<bool, ToolFault>
     requires { HasWidth job.now }
 {
     let Job::Decode {
@@ -262,22 +351,32 @@ fn decode_job(rt: &HostRuntime, job: &Job, notes: &mut Notes) -> Result<(), Tool
         fine,
         salvage,
         repair,
+        whole,
         verbose,
         input,
         output,
     } = job
     else {
-        return Ok(());
+        return Ok(true);
     };
     if *repair {
-        return repair_file(rt, *order, *width, *fine, *verbose, input, output, notes);
+        repair_file(rt, *order, *width, *fine, *verbose, input, output, notes)?;
+        return Ok(true);
     }
     let decoded = if *salvage {
         salvage_file(rt, *coding, *order, *width, *fine, input, output, notes)
     } else {
         decode_file(rt, *coding, *order, *width, *fine, input, output, notes)
     };
-    tell(rt, *verbose, decoded)
+    let (rows, bits) = decoded?;
+    if *verbose {
+        ends::tell_counts(rt, rows, bits, notes.read)?;
+    }
+    if *coding == Coding::OneDim && !ends::has_rtc(notes, *order, bits)? {
+        eprintln!(rt; "the page ends without its RTC after {rows} rows")?;
+        return Ok(!*whole);
+    }
+    Ok(true)
 }
 
 /// Codes an image's file. The output's file is opened only once its whole content is made.
@@ -294,7 +393,7 @@ fn code_file(
     let coded = code_engine(rt.alloc(), &mut reader, &mut octets, coding, order);
     reader.close(notes);
     coded?;
-    files::write(rt, output, octets.as_slice(), notes)
+    outputs::write(rt, output, octets.as_slice(), notes)
 }
 
 /// Shows the page in a file.
@@ -343,8 +442,8 @@ fn decode_file(
         fine,
     );
     reader.close(notes);
-    let told = decoded?;
-    files::write(rt, output, octets.as_slice(), notes)?;
+    let told = decoded.map_err(|fault| in_memory(fault, notes))?;
+    outputs::write(rt, output, octets.as_slice(), notes)?;
     Ok(told)
 }
 
@@ -374,9 +473,9 @@ fn salvage_file(
         fine,
     );
     reader.close(notes);
-    let salvage = salvaged?;
+    let salvage = salvaged.map_err(|fault| in_memory(fault, notes))?;
     if salvage.rows > 0 {
-        files::write(rt, output, octets.as_slice(), notes)?;
+        outputs::write(rt, output, octets.as_slice(), notes)?;
     }
     Ok((salvage.rows, salvage.end?))
 }
@@ -408,25 +507,11 @@ fn repair_file(
         fine,
     );
     reader.close(notes);
-    let repair = repaired?;
-    files::write(rt, output, octets.as_slice(), notes)?;
+    let repair = repaired.map_err(|fault| in_memory(fault, notes))?;
+    outputs::write(rt, output, octets.as_slice(), notes)?;
     Write::write_all(&mut rt.stderr(), lines.as_slice())?;
     if verbose {
         eprintln!(rt; "rows {}", repair.rows)?;
-    }
-    Ok(())
-}
-
-/// Tells the rows of a page that was decoded and the bits of its code on standard error, where that is
-/// asked for.
-fn tell(
-    rt: &HostRuntime,
-    asked: bool,
-    decoded: Result<(usize, u128), ToolFault>,
-) -> Result<(), ToolFault> {
-    let (rows, bits) = decoded?;
-    if asked {
-        eprintln!(rt; "rows {rows} bits {bits}")?;
     }
     Ok(())
 }
@@ -480,63 +565,81 @@ fn write_found(
     notes: &mut Notes,
 ) -> Result<bool, ToolFault> {
     let mut bits = octets;
-    let mut pages: u64 = 0;
+    let mut last: u64 = 0;
+    let mut number: u64 = 0;
     let mut lacks = false;
-    for found in captured_pages(rt.alloc(), &mut bits)? {
+    let all_found = captured_pages(rt.alloc(), &mut bits)?;
+    if all_found.is_empty() {
+        eprintln!(rt; "no error correction: no pages")?;
+        return Ok(false);
+    }
+    for found in all_found {
         if let Captured::Page(page) = found {
-            pages = pages.saturating_add(1);
-            write_captured(rt, folder, pages, page, notes)?;
+            last = last.saturating_add(1);
+            number = write_captured(rt, folder, last.max(number.saturating_add(1)), page, notes)?;
+            if number != last {
+                println!(rt; "page {last}: page-{number}.pbm")?;
+            }
         } else {
             lacks = true;
-            tell_captured(rt, &found)?;
+            let page = lacking_page(&found);
+            tell_captured(rt, &found, page)?;
+            last = last.max(page);
         }
     }
     Ok(!lacks)
 }
 
-/// Writes the page of a number into a folder.
+/// Writes a page into a folder, under the first number from this one on that is free, and answers that number.
 fn write_captured(
     rt: &HostRuntime,
     folder: &str,
     number: u64,
     page: Page,
     notes: &mut Notes,
-) -> Result<(), ToolFault> {
+) -> Result<u64, ToolFault> {
     if page.rows().is_empty() {
         // no code is that of such a page
-        return Ok(());
+        return Ok(number);
     }
-    let name = format!(in rt.alloc(); "{folder}/page-{number}.pbm")?;
-    write_pages(rt, name.as_str(), &[page], notes)
+    let mut octets = Vec::new(rt.alloc());
+    write_pbm(&[page], &mut octets).map_err(|_fault| NO_MEMORY)?;
+    outputs::write_page(rt, folder, number, octets.as_slice(), notes)
 }
 
-/// Tells what lacks of a page on standard error. Pages and blocks have the numbers of their PPS, frames those of
-/// their FCD.
-fn tell_captured(rt: &HostRuntime, found: &Captured) -> Result<(), ToolFault> {
+/// The number of a page of which something lacks, from 1 as those of the files, and 0 where it isn't known.
+fn lacking_page(found: &Captured) -> u64 {
+    match found {
+        Captured::Unread { mark, .. }
+        | Captured::Lacks { mark, .. }
+        | Captured::Skipped(mark)
+        | Captured::NoDcs(mark) => u64::from(mark.page).saturating_add(1),
+        Captured::Page(_) | Captured::Unended => 0,
+    }
+}
+
+/// Tells what lacks of the page of a number on standard error. Blocks have the numbers of their PPS, frames those of their
+/// FCD, from 0.
+fn tell_captured(rt: &HostRuntime, found: &Captured, page: u64) -> Result<(), ToolFault> {
     match found {
         Captured::Page(_) => {}
-        Captured::Unread { mark, fault } => {
+        Captured::Unread { mark: _, fault } => {
             let no = fault.kind.number();
-            eprintln!(rt;
-                "page {}: can't be read, fault {no} at bit {}",
-                mark.page, fault.place
-            )?;
+            let place = fault.place;
+            eprintln!(rt; "page {page}: can't be read, fault {no} at bit {place}")?;
         }
         Captured::Lacks { mark, frame } => {
-            eprintln!(rt;
-                "page {} block {}: frame {frame} lacks",
-                mark.page, mark.block
-            )?;
+            let block = mark.block;
+            eprintln!(rt; "page {page} block {block}: frame {frame} lacks")?;
         }
         Captured::Skipped(mark) => {
-            eprintln!(rt;
-                "page {} block {}: the blocks before it lack",
-                mark.page, mark.block
-            )?;
+            let block = mark.block;
+            eprintln!(rt; "page {page} block {block}: the blocks before it lack")?;
         }
         Captured::Unended => eprintln!(rt; "a page has no end")?,
         Captured::NoDcs(mark) => {
-            eprintln!(rt; "page {} block {}: no DCS before it", mark.page, mark.block)?;
+            let block = mark.block;
+            eprintln!(rt; "page {page} block {block}: no DCS before it")?;
         }
     }
     Ok(())
@@ -580,6 +683,6 @@ fn write_pages(
     requires { HaveRows pages.now }
 {
     let mut octets = Vec::new(rt.alloc());
-    write_pbm(pages, &mut octets)?;
-    files::write(rt, name, octets.as_slice(), notes)
+    write_pbm(pages, &mut octets).map_err(|_fault| NO_MEMORY)?;
+    outputs::write(rt, name, octets.as_slice(), notes)
 }

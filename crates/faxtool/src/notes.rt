@@ -23,6 +23,12 @@ pub enum Part {
 pub struct Notes {
     /// The file that could not be read or written, and why.
     pub failed: Option<(Part, ErrorKind)>,
+    /// The file whose reading was given up before its end.
+    pub unread: Option<Part>,
+    /// Whether the input is an image.
+    pub image: bool,
+    /// How many octets of the input were read.
+    pub read: u64,
     /// How many octets of the input are kept at most.
     pub most: usize,
     /// Whether it is told how far reading is, where that takes long.
@@ -32,15 +38,21 @@ pub struct Notes {
 }
 
 impl Notes {
-    /// Nothing is noted yet. At most so many octets of the input will be kept.
-    pub fn new(alloc: Global, most: usize, long: bool) -> Notes
+    /// Nothing is noted yet. At most so many octets of the input, which is an image or none, will be kept.
+    pub fn new(alloc: Global, most: usize, long: bool, image: bool) -> Notes
         ensures failed { result.failed ≡ None }
+        ensures unread { result.unread ≡ None }
+        ensures image { result.image ≡ image }
+        ensures read { result.read ≡ 0 }
         ensures most { result.most ≡ most }
         ensures long { result.long ≡ long }
         ensures octets { result.octets.items ≡ [] }
     {
         Notes {
             failed: None,
+            unread: None,
+            image,
+            read: 0,
             most,
             long,
             octets: Vec::new(alloc),

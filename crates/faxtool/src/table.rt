@@ -99,7 +99,7 @@ const CODED_PAGE: Argument<'static> = Argument {
 
 const EXPLAIN: Argument<'static> = Argument {
     id: "explain",
-    help: "Tells a fault in words too, on a second line; a terminal always gets it",
+    help: "Tells a fault in words too, on a second line, as on a terminal or with FAXTOOL_EXPLAIN=1 in the environment",
     ..FLAG
 };
 
@@ -143,8 +143,13 @@ const DECODE_ARGUMENTS: &[Argument<'static>] = &[
         ..FLAG
     },
     Argument {
+        id: "whole",
+        help: "Ends with status 1 where the page ends without its RTC (mh alone)",
+        ..FLAG
+    },
+    Argument {
         id: "verbose",
-        help: "Tells the page's rows and the bits of its code",
+        help: "Tells the page's rows, the bits of its code and the octets after it",
         ..FLAG
     },
     CODED_PAGE,
@@ -226,7 +231,7 @@ const CALL_ARGUMENTS: &[Argument<'static>] = &[
 ];
 
 /// The commands, in the order of the help.
-static COMMANDS: [Entry<'static>; 5] = [
+static COMMANDS: [Entry<'static>; 6] = [
     Entry {
         name: "code",
         about: "Writes the code of an image into a file",
@@ -251,6 +256,11 @@ static COMMANDS: [Entry<'static>; 5] = [
         name: "call",
         about: "Runs a call by a script, and prints its transcript",
         arguments: CALL_ARGUMENTS,
+    },
+    Entry {
+        name: "version",
+        about: "Prints the program's version",
+        arguments: &[],
     },
 ];
 

@@ -54,6 +54,8 @@ pub enum Job {
         salvage: bool,
         /// Whether a row that can't be read is given as the one before it.
         repair: bool,
+        /// Whether a page that ends without its RTC is one that lacks something.
+        whole: bool,
         /// Whether its rows and the bits of its code are told on standard error.
         verbose: bool,
         /// The name of the page's file.
@@ -81,6 +83,8 @@ pub enum Job {
         /// The name of the document's file.
         input: String,
     },
+    /// Prints the program's version.
+    Version,
 }
 
 /// What the program is asked to do, and how it is to tell a fault.
@@ -193,6 +197,9 @@ fn job_in(alloc: Global, matches: &ArgMatches<'_>) -> Result<Option<Job>, AllocE
     if let Some(inner) = matches.subcommand_matches("call") {
         return call_job(alloc, inner);
     }
+    if let Some(_inner) = matches.subcommand_matches("version") {
+        return Ok(Some(Job::Version));
+    }
     Ok(None)
 }
 
@@ -266,6 +273,7 @@ fn decode_job(alloc: Global, matches: &ArgMatches<'_>) -> Result<Option<Job>, Al
         fine: is_named(text_in(matches, "fine"), "true"),
         salvage,
         repair,
+        whole: is_named(text_in(matches, "whole"), "true"),
         verbose: is_named(text_in(matches, "verbose"), "true"),
         input: String::from_str(alloc, input)?,
         output: String::from_str(alloc, output)?,

@@ -1,0 +1,215 @@
+//! The files that are written, and what was there before them.
+
+ghost use Rattle.engines.specs.Faults.{IsOutside};
+ghost use Rattle.std.specs.Prelude.{IfErr};
+
+use crate::files::STANDARD;
+use crate::notes::{Notes, Part};
+use engines::ToolFault;
+use std::fs::{File, OpenOptions, Permissions};
+use std::io::{ErrorKind, IsTerminal, Write};
+use std::os::unix::fs::OpenOptionsExt;
+use std::{fs, io, process};
+
+/// How many names are tried for the new file beside OUT.
+const MOST_NAMES: u32 = 100;
+
+/// How many numbers are tried for the file of a page.
+const MOST_NUMBERS: u64 = 1_000_000;
+
+/// What is at the place of a file that is to be written.
+#[derive(Drop)]
+enum Place {
+    /// Nothing.
+    Free,
+    /// A regular file of these permissions.
+    Regular(Permissions),
+    /// A device, a pipe, a link or a folder.
+    Other,
+}
+
+/// A file that this run has made, and its name.
+#[derive(Drop)]
+struct Made {
+    file: File,
+    name: String,
+}
+
+/// Errs with 8 where the octets of a file would be written on a terminal, which is noted.
+pub fn check_terminal(rt: &HostRuntime, name: &str, notes: &mut Notes) -> Result<(), ToolFault>
+    ensures { IfErr result IsOutside }
+{
+    if name == STANDARD && rt.stdout().is_terminal() {
+        return noted(Err(io::Error::from(ErrorKind::Unsupported)), notes);
+    }
+    Ok(())
+}
+
+/// Errs with 8 where a name isn't that of a folder, which is noted.
+pub fn check_folder(rt: &HostRuntime, name: &str, notes: &mut Notes) -> Result<(), ToolFault>
+    ensures { IfErr result IsOutside }
+{
+    let checked = match fs::metadata(rt, name) {
+        Ok(found) if found.is_dir() => Ok(()),
+        Ok(_) => Err(io::Error::from(ErrorKind::NotADirectory)),
+        Err(error) => Err(error),
+    };
+    noted(checked, notes)
+}
+
+/// Writes these octets as the whole content of a file, or on standard output. A regular file is written beside its
+/// place and then renamed, so that what was there stays where that fails; a device, a pipe or a link is written itself.
+/// Errs with 8 where it can't be written, which is noted, and with 9.
+pub fn write(
+    rt: &HostRuntime,
+    name: &str,
+    octets: &[u8],
+    notes: &mut Notes,
+) -> Result<(), ToolFault>
+    ensures { IfErr result IsOutside }
+{
+    noted(put(rt, name, octets), notes)
+}
+
+/// Writes these octets into a new file of a folder, `page-N.pbm` of the first number from this one on that is free,
+/// and answers the number.
+/// Errs with 8 where it can't be written, which is noted, and with 9.
+pub fn write_page(
+    rt: &HostRuntime,
+    folder: &str,
+    first: u64,
+    octets: &[u8],
+    notes: &mut Notes,
+) -> Result<u64, ToolFault>
+    ensures { IfErr result IsOutside }
+{
+    let written = put_page(rt, folder, first, octets);
+    if let Err(error) = &written {
+        notes.blame(Part::Output, error.kind());
+    }
+    Ok(written?)
+}
+
+/// Notes why an output isn't written.
+fn noted(written: io::Result<()>, notes: &mut Notes) -> Result<(), ToolFault>
+    ensures { IfErr result IsOutside }
+{
+    if let Err(error) = &written {
+        notes.blame(Part::Output, error.kind());
+    }
+    Ok(written?)
+}
+
+fn put(rt: &HostRuntime, name: &str, octets: &[u8]) -> io::Result<()> {
+    if name == STANDARD {
+        let mut writer = io::writer(rt);
+        writer.write_all(octets)?;
+        return writer.flush();
+    }
+    check_writable(rt, name)?;
+    match place_of(rt, name)? {
+        Place::Free => replace(rt, name, None, octets),
+        Place::Regular(permissions) => replace(rt, name, Some(permissions), octets),
+        Place::Other => fs::write(rt, name, octets),
+    }
+}
+
+/// Errs where a regular file is one that may not be written, though its folder may.
+fn check_writable(rt: &HostRuntime, name: &str) -> io::Result<()> {
+    match fs::metadata(rt, name) {
+        Ok(found) if found.is_file() => {
+            if found.permissions().readonly() {
+                return Err(io::Error::from(ErrorKind::PermissionDenied));
+            }
+            let _opened = OpenOptions::new().write(true).open(rt, name)?;
+            Ok(())
+        }
+        _ => Ok(()),
+    }
+}
+
+fn place_of(rt: &HostRuntime, name: &str) -> io::Result<Place> {
+    match fs::symlink_metadata(rt, name) {
+        Ok(found) if found.is_file() => Ok(Place::Regular(found.permissions())),
+        Ok(_) => Ok(Place::Other),
+        Err(error) if error.kind() == ErrorKind::NotFound => Ok(Place::Free),
+        Err(error) => Err(error),
+    }
+}
+
+/// Writes octets into a new file beside a place, which it is put into then. The new file gets the permissions of the file
+/// that is there before its first octet.
+fn replace(
+    rt: &HostRuntime,
+    name: &str,
+    permissions: Option<Permissions>,
+    octets: &[u8],
+) -> io::Result<()> {
+    let made = make_beside(rt, name, permissions.is_some())?;
+    let beside = made.name.as_str();
+    let mut replaced = fill(made.file, permissions, octets);
+    if replaced.is_ok() {
+        replaced = fs::rename(rt, beside, name);
+    }
+    if replaced.is_err() {
+        let _removed = fs::remove_file(rt, beside);
+    }
+    replaced
+}
+
+/// Writes octets into a file, after it has got its permissions.
+fn fill(file: File, permissions: Option<Permissions>, octets: &[u8]) -> io::Result<()> {
+    let mut file = file;
+    if let Some(permissions) = permissions {
+        file.set_permissions(permissions)?;
+    }
+    file.write_all(octets)
+}
+
+/// Makes a new file in the folder of a place, under the first name that is free, of the process and a number. A private
+/// one can be read by its owner alone.
+fn make_beside(rt: &HostRuntime, name: &str, private: bool) -> io::Result<Made> {
+    let process = process::id(rt.process());
+    let folder = match name.rsplit_once('/') {
+        Some((folder, _)) => format!(in rt.alloc(); "{folder}/")?,
+        None => String::new(rt.alloc()),
+    };
+    for number in 1..=MOST_NAMES {
+        let beside = format!(in rt.alloc(); "{folder}faxtool-{process}-{number}.part")?;
+        match make(rt, beside.as_str(), private) {
+            Ok(file) => return Ok(Made { file, name: beside }),
+            Err(error) if error.kind() == ErrorKind::AlreadyExists => {}
+            Err(error) => return Err(error),
+        }
+    }
+    Err(io::Error::from(ErrorKind::AlreadyExists))
+}
+
+/// Makes a new file.
+fn make(rt: &HostRuntime, name: &str, private: bool) -> io::Result<File> {
+    let mut options = OpenOptions::new();
+    options.write(true).create_new(true);
+    if private {
+        options.mode(0o600);
+    }
+    options.open(rt, name)
+}
+
+fn put_page(rt: &HostRuntime, folder: &str, first: u64, octets: &[u8]) -> io::Result<u64> {
+    for number in first..=first.saturating_add(MOST_NUMBERS) {
+        let name = format!(in rt.alloc(); "{folder}/page-{number}.pbm")?;
+        match make(rt, name.as_str(), false) {
+            Ok(file) => {
+                let filled = fill(file, None, octets);
+                if filled.is_err() {
+                    let _removed = fs::remove_file(rt, name.as_str());
+                }
+                filled?;
+                return Ok(number);
+            }
+            Err(error) if error.kind() == ErrorKind::AlreadyExists => {}
+            Err(error) => return Err(error),
+        }
+    }
+    Err(io::Error::from(ErrorKind::AlreadyExists))
+}
