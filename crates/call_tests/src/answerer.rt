@@ -10,7 +10,7 @@ use std::test::Fail;
 /// Inputs, each with the turn that answers it.
 type Heard = &'static [(AnswererIn<'static>, Turn)];
 
-/// A call: after what is heard so many pages of one white row are stored, of this width in pixels.
+/// A call: how many pages of one white row are stored after what is heard, and their width in pixels.
 #[derive(Clone, Copy)]
 struct Call {
     heard: &'static [Heard],

@@ -30,8 +30,8 @@ fn an_undisturbed_call_answers_its_page(rt: HostRuntime) -> Result<(), Fail> {
     Ok(())
 }
 
-/// The fault of a call of no events, by readers that fail once they have given their octets, or not,
-/// and a writer that takes so many octets.
+/// The fault of a call of no events, by readers that fail once they have given their octets, or not, and a writer that
+/// takes a number of octets.
 fn fault_of(
     alloc: Global,
     script_fails: bool,

@@ -123,7 +123,7 @@ fn a_code_is_decoded_to_its_image(rt: HostRuntime) -> Result<(), Fail> {
     Ok(())
 }
 
-// Two whole rows, and then a code word of no row: they are written, and the bit of the fault is told.
+// Two whole rows, and then a code word of no row: they are written, and the bit of the fault is answered.
 #[test]
 fn whole_rows_are_salvaged(rt: HostRuntime) -> Result<(), Fail> {
     let alloc = rt.alloc();
@@ -183,7 +183,7 @@ fn rows_are_repaired(rt: HostRuntime) -> Result<(), Fail> {
     Ok(())
 }
 
-// The second writer takes so many octets, and then no more.
+// The second writer takes a number of octets, and then no more.
 #[test]
 fn a_failing_list_is_fault_8(rt: HostRuntime) {
     let alloc = rt.alloc();

@@ -14,7 +14,7 @@ use std::test::Fail;
 /// Octets that a peer sends.
 #[derive(Clone, Copy)]
 enum Sent {
-    /// The frame of a content: these octets, and then so many octets 00.
+    /// The frame of a content: these octets, and then a number of octets 00.
     Frame(&'static [u8], usize),
     /// FCDs 1 to 255, each of 256 octets 00.
     PaddingFcds,
@@ -159,7 +159,7 @@ const STREAMS: [Stream; 8] = [
     },
 ];
 
-/// Appends the frame of a content: these octets, and then so many octets 00.
+/// Appends the frame of a content: these octets, and then `zeros` octets 00.
 fn send_frame(alloc: Global, octets: &mut Vec<u8>, head: &[u8], zeros: usize) -> Result<(), Fail> {
     let mut content = Vec::new(alloc);
     content.extend_from_slice(head)?;
@@ -189,7 +189,7 @@ fn send(alloc: Global, octets: &mut Vec<u8>, sent: &Sent) -> Result<(), Fail> {
     Ok(())
 }
 
-/// What an answerer of all modems makes of the stream, whose octets come in pieces of so many.
+/// What an answerer of all modems makes of the stream, whose octets come in pieces of `size`.
 fn answered(alloc: Global, stream: &Stream, size: usize) -> Result<Answered, Fail>
     requires { 1 ≤ size }
 {
@@ -231,7 +231,7 @@ fn has_white_rows(answered: &Answered) -> bool {
     true
 }
 
-/// Whether these are the turns, the end, and so many pages of one white row of 1,728 pixels.
+/// Whether these are the turns, the end, and the number of pages, of one white row of 1,728 pixels.
 fn is_wanted(stream: &Stream, answered: &Answered) -> bool {
     if answered.turns.len() != stream.turns.len() || answered.ending != stream.ending {
         return false;

@@ -27,7 +27,7 @@ impl Read for OneByOne<'_> {
     }
 }
 
-/// A writer that takes so many octets, one a write, and then fails.
+/// A writer that takes a number of octets, one a write, and then fails.
 #[derive(Drop)]
 pub struct Narrow {
     pub taken: Vec<u8>,

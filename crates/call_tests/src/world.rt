@@ -48,7 +48,7 @@ fn comes(alloc: Global, world: &World, to: Side, head: &[u8]) -> Result<bool, Fa
     Ok(front == head && rest.iter().all(|octet| *octet == 0))
 }
 
-/// A world of the white page after so many deliveries.
+/// A world of the white page after a number of deliveries.
 fn after(alloc: Global, deliveries: u64) -> Result<World, Fail> {
     let mut world = World::new(alloc, white_page(alloc)?, WISH, CAPS)?;
     world.polite(deliveries)?;

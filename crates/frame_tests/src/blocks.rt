@@ -6,14 +6,14 @@ use partial_page::{BlockFault, BlockStore, Blocks, MAX_PAGE_OCTETS};
 use std::alloc::{AllocError, Global};
 use std::test::Fail;
 
-/// So many octets of one value.
+/// A number of octets of one value.
 fn octets(alloc: Global, count: usize, value: u8) -> Result<Vec<u8>, AllocError> {
     let mut octets = Vec::new(alloc);
     octets.resize(count, value)?;
     Ok(octets)
 }
 
-/// How many blocks so many octets are cut into, and the last frame of the last one; 0 and 0 where there is none.
+/// How many blocks a number of octets is cut into, and the last frame of the last one; 0 and 0 where there is none.
 fn cut_into(alloc: Global, count: usize, small: bool) -> Result<(usize, u8), BlockFault> {
     let blocks = Blocks::cut(alloc, octets(alloc, count, 7)?, small)?;
     match blocks.count() {

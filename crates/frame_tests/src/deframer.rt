@@ -58,7 +58,7 @@ fn counted(alloc: Global, digits: &[u8]) -> Result<Counts, AllocError> {
     Ok(one_by_one(alloc, &writer.into_octets())?.counts())
 }
 
-/// The counts of so many octets 00 and a few more bits between two flags.
+/// The counts of a number of octets 00 and a few more bits between two flags.
 fn counted_zeros(alloc: Global, octets: u32, more: u32) -> Result<Counts, AllocError> {
     let mut writer = BitWriter::new(alloc, Order::LsbFirst);
     for digit in b"01111110" {

@@ -6,7 +6,7 @@ use std::io;
 use std::io::Write;
 use std::test::Fail;
 
-/// A writer that takes so many octets, one a write, and then fails.
+/// A writer that takes a number of octets, one a write, and then fails.
 #[derive(Drop)]
 pub struct Failing {
     pub taken: Vec<u8>,

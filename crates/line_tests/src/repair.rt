@@ -89,6 +89,52 @@ fn lines_give_rows(rt: HostRuntime) -> Result<(), Fail> {
     Ok(())
 }
 
+// An EOL with a wrong bit has 12 bits as any, wherever the 1 is. Fewer bits end no line: its row is then repaired.
+#[test]
+fn torn_eols_have_twelve_bits(rt: HostRuntime) -> Result<(), Fail> {
+    let alloc = rt.alloc();
+    for torn in [
+        "000001000001",
+        "100000000001",
+        "000000000011",
+        "0000010000001",
+    ] {
+        let octets = octets_of(alloc, &[EOL, BLANK, torn, STRIPE, EOL, STRIPE, EOL, EOL])?;
+        let given = OneDim::repair(alloc, &octets, Order::MsbFirst, 8, true)?;
+        assert_eq!(rt;
+            runs_of(alloc, &given.page)?.as_slice(),
+            [8, 2, 2, 4, 2, 2, 4].as_slice(),
+            "{torn}"
+        );
+        assert_eq!(rt;
+            places_of(alloc, &given)?.as_slice(),
+            [].as_slice(),
+            "{torn}"
+        );
+    }
+    for torn in [
+        "000010001",
+        "0000010001",
+        "00000100001",
+        "10000000001",
+        "00000000011",
+    ] {
+        let octets = octets_of(alloc, &[EOL, BLANK, torn, STRIPE, EOL, STRIPE, EOL, EOL])?;
+        let given = OneDim::repair(alloc, &octets, Order::MsbFirst, 8, true)?;
+        assert_eq!(rt;
+            runs_of(alloc, &given.page)?.as_slice(),
+            [8, 2, 2, 4].as_slice(),
+            "{torn}"
+        );
+        assert_eq!(rt;
+            places_of(alloc, &given)?.as_slice(),
+            [1, 17].as_slice(),
+            "{torn}"
+        );
+    }
+    Ok(())
+}
+
 #[test]
 fn pages_without_a_row_are_refused(rt: HostRuntime) -> Result<(), Fail> {
     let alloc = rt.alloc();

@@ -20,7 +20,7 @@ fn written_row(alloc: Global, runs: &[u32]) -> Result<(u128, Vec<u8>), RasterFau
     Ok((bits.bits(), bits.into_octets()))
 }
 
-/// What reading a run after so many first bits gives, and where the reader then is.
+/// What reading a run after the first bits gives, and where the reader then is.
 fn run_read_after(octets: &[u8], first: u32, color: Color) -> (Result<u32, CodeFault>, u128) {
     let mut reader = BitReader::at(octets, Order::MsbFirst, 0);
     for _ in 0..first {
@@ -30,7 +30,7 @@ fn run_read_after(octets: &[u8], first: u32, color: Color) -> (Result<u32, CodeF
     (read, reader.place())
 }
 
-/// What reading a run after so many first digits gives, and where the reader then is.
+/// What reading a run after the first digits gives, and where the reader then is.
 fn digits_read_after(
     alloc: Global,
     digits: &str,
