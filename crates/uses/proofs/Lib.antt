@@ -1,0 +1,2 @@
+-- The lemmas of the programs.
+mod Rows

@@ -1,0 +1,64 @@
+//! A caller's step, a call of two stations over one line, and an answerer over octets.
+
+ghost use Rattle.line_sim.specs.Report.{Keeps};
+ghost use Rattle.std.specs.Prelude.{IfOk};
+
+use line_sim::{Answered, Event, Feed, Report, World, WorldFault, answer_stream};
+use page_code::Coding;
+use raster::Document;
+use signals::{Caps, Modems, PageWidth, Signal, Wish};
+use stations::{Caller, CallerIn, Item};
+use std::alloc::{AllocError, Global};
+
+/// What the answerers of these programs can do: everything that this library has.
+const CAPS: Caps = Caps {
+    receiver: true,
+    modems: Modems::V17,
+    fine: true,
+    widest: PageWidth::W2432,
+    t6: true,
+    ecm: true,
+};
+
+/// What the callers of these programs wish.
+const WISH: Wish = Wish {
+    modems: Modems::V17,
+    coding: Coding::T6,
+    small: false,
+};
+
+/// A caller hears a signal: the number of frames that it then transmits, and of octets in the training check after them.
+pub fn hears(caller: &mut Caller, signal: Signal<'_>) -> Result<(u64, u32), AllocError> {
+    let turn = caller.step(CallerIn::Heard(signal))?;
+    let mut frames = 0u64;
+    let mut check = 0;
+    for item in caller.frames(&turn) {
+        match item {
+            Item::Frame { .. } => frames = frames.saturating_add(1),
+            Item::Training(octets) => check = octets,
+        }
+    }
+    Ok((frames, check))
+}
+
+/// A call that sends a document over a line whose first DIS is lost; the caller then hears nothing until its wait is over.
+pub fn send(alloc: Global, document: Document, most: u64) -> Result<Report, WorldFault>
+    ensures { IfOk result (Keeps document) }
+{
+    let mut world = World::new(alloc, document, WISH, CAPS)?;
+    world.event(Event::LoseToCaller)?;
+    world.event(Event::AnswererT2)?;
+    world.polite(most)?;
+    Ok(world.report())
+}
+
+/// What an answerer makes of octets from a line: a DCS, a good training check, and the frames of a page.
+pub fn answer(
+    alloc: Global,
+    dcs: &[u8],
+    check: &[u8],
+    page: &[u8],
+) -> Result<Answered, AllocError> {
+    let feeds = [Feed::Octets(dcs), Feed::Training(check), Feed::Octets(page)];
+    answer_stream(alloc, CAPS, &feeds)
+}
