@@ -1,12 +1,12 @@
 #!/usr/bin/env python3
 """What a call's script must print: a plain reading of the tables of both stations and of the line, apart from the program.
 
-    bench/reference_call.py SCRIPT [--frame 64] [--speeds N] WIDTH:OCTETS..     prints it, for pages of so many octets of code
-    bench/reference_call.py --dry                                              tries it on calls worked by hand
+    bench/fuzz/reference_call.py SCRIPT [--frame 64] [--speeds N] WIDTH:OCTETS..     prints it, for pages of so many octets of code
+    bench/fuzz/reference_call.py --dry                                              tries it on calls worked by hand
 
 N is how many speeds both stations have. A page is here its width and the number of octets of its code. An input and a turn are a
 name with what belongs to it: `("FCD", number, octets)`, `("PPS", page end, mark, last frame)`, `("PPR", missing frames)`.
-`Answerer` is also the answerer of bench/fuzz_stream.py, which hears foreign peers."""
+`Answerer` is also the answerer of bench/fuzz/fuzz_stream.py, which hears foreign peers."""
 
 import sys
 

@@ -1,7 +1,7 @@
 #!/usr/bin/env python3
 """A plain reader and a writer of pages in both codes, apart from the crates, by the standards' tables and rules.
 
-    bench/reference_pages.py --dry      tries both on worked pages and on random ones
+    bench/fuzz/reference_pages.py --dry      tries both on worked pages and on random ones
 
 Bits are a text of `0` and `1` in the order of sending. A row is the list of its changing positions, a page a list of rows."""
 
@@ -190,7 +190,7 @@ def read_page(text, width, is_t6):
 
 
 def digest(rows, width):
-    """A number of 32 bits of the rows' octets, eight pixels an octet, the leftmost the highest bit, as bench/stream prints it."""
+    """A number of 32 bits of the rows' octets, eight pixels an octet, the leftmost the highest bit, as crates/stream_tool prints it."""
     number = 0
     for row in rows:
         ones = 0

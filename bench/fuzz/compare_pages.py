@@ -1,7 +1,7 @@
 #!/usr/bin/env python3
 """Compares two builds of `faxtool` on random pages: what they code, decode, show, salvage and refuse.
 
-    bench/compare_pages.py BEFORE AFTER [PAGES] [SEED]
+    bench/fuzz/compare_pages.py BEFORE AFTER [PAGES] [SEED]
 
 BEFORE and AFTER are the two programs (`bench/build_unproved.sh crates/faxtool OUT` of each), PAGES how many pages, 1,000 if
 none is said. Each page is coded in both codes and both orders; its code is then decoded and shown as it is, with a bit turned

@@ -1,7 +1,7 @@
 #!/usr/bin/env python3
 """Names each must-fail edit that was refused for another reason than a goal that became false.
 
-    rt must-fail raster hdlc | bench/must_fail_reasons.py
+    rt must-fail raster hdlc | bench/plant/must_fail_reasons.py
 
 Reads what `rt must-fail` prints, and ends with status 1 where it names an edit. A reason counts where
 it says that a goal is open, or that an answer has another number or value than its goal. It doesn't

@@ -1,7 +1,7 @@
 #!/usr/bin/env python3
 """Plants wrong bodies into the stations and the line, in code and definition alike, and shows what refuses each.
 
-    bench/wrong_definitions.py [WORD]        (at the top of the repository, over what its checks kept)
+    bench/plant/wrong_definitions.py [WORD]        (at the top of the repository, over what its checks kept)
 
 Code and definition that are wrong alike meet their contracts, so only a theorem above them can refuse
 such a body. Of each wrong body (or of those whose name has the WORD) this tells, from copies of the
@@ -11,7 +11,7 @@ repository, where all edits of the body are made:
              the one function of the line;
   headline   which proofs refuse it, by a check of `line_sim` cut down to its definitions, the headline and
              its proofs, over the wrong station; and which clauses of the headline have no proof then;
-  run        which run of `bench/wrong/runs.txt` isn't safe any more, by running the wrong code: so not only
+  run        which run of `bench/plant/wrong/runs.txt` isn't safe any more, by running the wrong code: so not only
              the proof but the headline itself is false of it.
 
 Ends with status 1 where a right body is refused, or a wrong one is still proved or all of its runs are safe.
@@ -242,7 +242,7 @@ def judged(root, top, edits):
     print(f"  clauses: {'none falls' if safe else fallen(lines)}", flush=True)
     planted(root, runs, edits)
     write(f"{runs}/runs/src/lib.rt", RUNS)
-    write(f"{runs}/runs/src/tests.rt", read(f"{root}/bench/wrong/runs.txt"))
+    write(f"{runs}/runs/src/tests.rt", read(f"{root}/bench/plant/wrong/runs.txt"))
     _, lines = ran(["rt", "try", "--test"], f"{runs}/runs")
     broken = re.findall(r"test tests::(\S+) \.\.\. FAILED", "\n".join(lines))
     ended = any(line.startswith("test result: ") for line in lines)
@@ -251,7 +251,7 @@ def judged(root, top, edits):
 
 
 def main():
-    root = os.path.dirname(os.path.dirname(os.path.abspath(__file__)))
+    root = os.path.dirname(os.path.dirname(os.path.dirname(os.path.abspath(__file__))))
     word = sys.argv[1] if len(sys.argv) > 1 else ""
     failed = False
     with tempfile.TemporaryDirectory(prefix="wrong-") as top:

@@ -1,12 +1,12 @@
 #!/usr/bin/env python3
 """Runs random scripts over small documents through `faxtool call` for a given time, and checks what each leaves.
 
-    bench/fuzz_calls.py SECONDS [SEED]      with the program that `rt run` left, or the one that FAXTOOL names
-    bench/fuzz_calls.py --dry               tries the checks alone, on a worked call and on wrong answers to it
+    bench/fuzz/fuzz_calls.py SECONDS [SEED]      with the program that `rt run` left, or the one that FAXTOOL names
+    bench/fuzz/fuzz_calls.py --dry               tries the checks alone, on a worked call and on wrong answers to it
 
 A document has 1 to 4 pages of 1 to 4 rows, and seldom of more blocks than one, 1,728, 2,048 or 2,432 pixels wide; a script 1 to 300
 lines, half of them at random, half following the call so that it comes far. After each run:
-- each line that it printed is that of bench/reference_call.py, a plain reading of the tables apart from the program;
+- each line that it printed is that of bench/fuzz/reference_call.py, a plain reading of the tables apart from the program;
 - the transcript has the form of its entries, numbered from 1, as many as the script asks for, and ends with both stations;
 - the file of --out has the first pages of the document, octet for octet, as many as `pages` says, and isn't made for none;
 - `confirmed` is `pages` or one less; a station that ended normally leaves all pages stored, and all confirmed for a caller;
@@ -27,7 +27,7 @@ from collections import Counter
 sys.dont_write_bytecode = True
 from reference_call import Line, transcript
 
-TOP = os.path.dirname(os.path.dirname(os.path.abspath(__file__)))
+TOP = os.path.dirname(os.path.dirname(os.path.dirname(os.path.abspath(__file__))))
 PROGRAM = os.environ.get("FAXTOOL", os.path.join(TOP, "crates", "faxtool", "out", "faxtool"))
 WORDS = "to-answerer to-caller lose-to-answerer lose-to-caller spoil caller-timeout caller-t5 answerer-t1 answerer-t2 busy ready".split()
 # How often each of these comes in a script: deliveries mostly, and the ends of long waits seldom; or many losses, or long waits.
@@ -322,4 +322,5 @@ def main():
     return fuzz(int(sys.argv[1]), int(sys.argv[2]) if len(sys.argv) > 2 else random.randrange(10**6))
 
 
-sys.exit(main())
+if __name__ == "__main__":
+    sys.exit(main())

@@ -1,7 +1,7 @@
 #!/bin/sh
 # Refuses each growth of memory in turn, one a run, until a run meets none, and tells how the runs ended:
 #
-#     bench/refuse_growths.sh [CRATE.. | calls | words]       with no word all crates of tests, the calls and the words
+#     bench/memory/refuse_growths.sh [CRATE.. | calls | words]       with no word all crates of tests, the calls and the words
 #
 # Of a crate: each of its tests alone. A run has to end with an error that says that memory was refused, or by a stop of
 # the test's own. Ends with status 1 where one ends by another error or a signal, or takes more than a minute. To be looked at are
@@ -9,7 +9,7 @@
 # pass though a growth was refused (right where the test expects the refusal, or the growth wasn't needed).
 # A test of more than MOST growths (300) has half as many refused from its first on, and the others spread over the rest.
 #
-# Of `calls`: whole calls of a world, and both stations alone, by the program of bench/refusals. Where a world is refused, the
+# Of `calls`: whole calls of a world, and both stations alone, by the program of bench/memory/refusals. Where a world is refused, the
 # fault is 9. Else the pages are a beginning of the document, `confirmed` is at most their number, `refused` is the number of
 # marks and at most 1, and a normal end means that all pages are there. Where the growth is the CFR's delivery, a time-out and
 # polite deliveries bring the call to its normal end. A station whose step was refused is as it was: the same input again
@@ -22,12 +22,12 @@
 # Not covered: what a test doesn't call, two refusals in one run, and growths of the C library itself.
 # The tests are those that `rt ci` or `rt test` left, where no source is newer, or are built with no proof. Needs gcc.
 set -e
-root=$(cd "$(dirname "$0")/.." && pwd)
+root=$(cd "$(dirname "$0")/../.." && pwd)
 work=$(mktemp -d)
 trap 'rm -rf "$work"' EXIT
 ulimit -c 0
 bad=0
-gcc -O2 -Wall -shared -fPIC -o "$work/refuse.so" "$root/bench/refuse_growths.c"
+gcc -O2 -Wall -shared -fPIC -o "$work/refuse.so" "$root/bench/memory/refuse_growths.c"
 
 # refuse K PROGRAM WORDS: one run whose growth K is refused, 0 for none. Leaves what it said, and answers its status.
 refuse() {
@@ -142,8 +142,8 @@ try_call() {
 try_calls() {
     mkdir -p "$work/copy/crates/refusals/src"
     tar cf - -C "$root" --exclude=out crates crates.txt HANDLES | tar xf - -C "$work/copy"
-    cp "$root/bench/refusals/main.txt" "$work/copy/crates/refusals/src/main.rt"
-    echo "refusals: $(cat "$root/bench/refusals/libraries.txt")" >> "$work/copy/crates.txt"
+    cp "$root/bench/memory/refusals/main.txt" "$work/copy/crates/refusals/src/main.rt"
+    echo "refusals: $(cat "$root/bench/memory/refusals/libraries.txt")" >> "$work/copy/crates.txt"
     "$root/bench/build_unproved.sh" "$work/copy/crates/refusals" "$work/refusals"
     export FROM="call "
     for call in one:1 two:2 again:1 groups:2 frames:1 stations:2 stations-groups:2; do
@@ -195,7 +195,7 @@ for name in ${*:-$(sed -n 's/^\([a-z_]*_tests\):.*/\1/p' "$root/crates.txt") cal
     elif [ -d "$root/crates/$name/src" ]; then
         try_crate "$name"
     else
-        echo "bench/refuse_growths.sh: no crate $name" >&2
+        echo "bench/memory/refuse_growths.sh: no crate $name" >&2
         exit 2
     fi
 done

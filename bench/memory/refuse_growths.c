@@ -1,4 +1,4 @@
-// Preloaded by bench/refuse_growths.sh: counts the growths that a program asks for, each call of malloc, calloc, realloc,
+// Preloaded by bench/memory/refuse_growths.sh: counts the growths that a program asks for, each call of malloc, calloc, realloc,
 // aligned_alloc or posix_memalign from the program's own code, and refuses the one whose number the variable REFUSE has.
 // With FROM they count only between the program's write that begins with that text and its next write. At the end, or
 // when a growth is refused, their number is written to the file that GROWTHS names.

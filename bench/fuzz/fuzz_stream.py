@@ -1,17 +1,16 @@
 #!/usr/bin/env python3
 """Sends random streams of a stranger to the answerer of `answer_stream`, for a given time, and compares what it does with the tables.
 
-    bench/fuzz_stream.py SECONDS [SEED]     builds the program of bench/stream, or takes the one that STREAM names
-    bench/fuzz_stream.py --dry              tries the deframer, the reader and the answerer here on worked streams
-    bench/fuzz_stream.py --check            proves the program of bench/stream, over what the repository's checks kept
+    bench/fuzz/fuzz_stream.py SECONDS [SEED]     builds the program of crates/stream_tool, or takes the one that STREAM names
+    bench/fuzz/fuzz_stream.py --dry              tries the deframer, the reader and the answerer here on worked streams
 
 A stream has frames of DCS, FCD, RCP, PPS, RR, DCN and others, right or wrong: bits changed before or after the stuffing, a wrong
 check sequence, a stuffed bit left out or added, cut short, repeated, lost, out of order, of 257 to 300 octets of data, with one flag,
 two or a shared 0 between two frames; random octets, flags and runs of 1; training checks good and bad, both timers, busy and ready.
 One answerer in five has few capabilities. For each stream:
 - the program ends with status 0 within 20 seconds;
-- its turns, pages and end are those of a plain deframer and reader of signals here, of the answerer of bench/reference_call.py
-  and of the reader of pages of bench/reference_pages.py, whose pixels are compared by a number of 32 bits;
+- its turns, pages and end are those of a plain deframer and reader of signals here, of the answerer of bench/fuzz/reference_call.py
+  and of the reader of pages of bench/fuzz/reference_pages.py, whose pixels are compared by a number of 32 bits;
 - the same octets cut at other places give the same.
 At the first stream that fails, its files stay in the folder that is printed, and the status is 1."""
 
@@ -29,9 +28,7 @@ sys.dont_write_bytecode = True
 from reference_call import Answerer
 from reference_pages import code_of, digest, random_rows, read_page
 
-TOP = os.path.dirname(os.path.dirname(os.path.abspath(__file__)))
-# A command that the check is run by, if there is one.
-QUEUE = os.environ.get("QUEUE", "").split()
+TOP = os.path.dirname(os.path.dirname(os.path.dirname(os.path.abspath(__file__))))
 FLAG = "01111110"
 EOL = "000000000001"
 # The text of a white row in one dimension: a make-up code, and the code of no pixels more.
@@ -459,30 +456,11 @@ def fuzz(seconds, seed, program):
     return 0
 
 
-def with_stream(folder, left_out):
-    """The crate of the program of bench/stream, in a copy of the repository without such files."""
-    copy = os.path.join(folder, "copy")
-    shutil.copytree(os.path.join(TOP, "crates"), os.path.join(copy, "crates"), ignore=shutil.ignore_patterns(*left_out))
-    shutil.copy(os.path.join(TOP, "HANDLES"), copy)
-    os.makedirs(os.path.join(copy, "crates", "stream", "src"))
-    shutil.copy(os.path.join(TOP, "bench", "stream", "main.txt"), os.path.join(copy, "crates", "stream", "src", "main.rt"))
-    with open(os.path.join(TOP, "crates.txt")) as file, open(os.path.join(TOP, "bench", "stream", "libraries.txt")) as libraries:
-        lines = file.read() + "stream: " + libraries.read()
-    with open(os.path.join(copy, "crates.txt"), "w") as file:
-        file.write(lines)
-    return os.path.join(copy, "crates", "stream")
-
-
 def build(folder):
-    """The program of bench/stream, unproved."""
-    program = os.path.join(folder, "stream")
-    subprocess.run([os.path.join(TOP, "bench", "build_unproved.sh"), with_stream(folder, ["out"]), program], check=True)
+    """The program of crates/stream_tool, unproved."""
+    program = os.path.join(folder, "stream_tool")
+    subprocess.run([os.path.join(TOP, "bench", "build_unproved.sh"), os.path.join(TOP, "crates", "stream_tool"), program], check=True)
     return program
-
-
-def check(folder):
-    """Proves the program of bench/stream; the status of its check."""
-    return subprocess.run(QUEUE + ["rt", "check"], cwd=with_stream(folder, [])).returncode
 
 
 DCS = b"\xff\x13\x83\x00\x22\xf8\x44"
@@ -531,9 +509,6 @@ def dry():
 def main():
     if sys.argv[1:] == ["--dry"]:
         return dry()
-    if sys.argv[1:] == ["--check"]:
-        with tempfile.TemporaryDirectory() as folder:
-            return check(folder)
     if not 2 <= len(sys.argv) <= 3 or not sys.argv[1].isdigit():
         print(__doc__, file=sys.stderr)
         return 2

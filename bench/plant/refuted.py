@@ -1,0 +1,178 @@
+#!/usr/bin/env python3
+"""Plants wrong definitions, each in a copy of its crate, and shows each refused by a law that is false of it.
+
+    bench/plant/refuted.py [--right] [WORD]        (at the top of the repository, over what its checks kept)
+
+A row that stands in a definition alone can be wrong in code and definition alike, and then the code still meets it. The laws say the same
+rows another way. For each wrong definition of `bench/plant/tables/` (or of those whose name has the WORD) the **negation of a law** is
+proved over it, by the counterexample that the table gives: so no body, whatever it does, can meet both. A proof text that no longer fits
+refuses nothing here.
+
+A table is a text: the lines before the first `name:` are the beginning of each proof; then for each wrong definition
+
+    name: what is wrong
+    law: FILE.NAME        the law, by its file in the crate's specs/
+    file: PATH            the file of the definition in the crate
+    old: TEXT             what stands in it exactly once
+    new: TEXT             what takes its place; there may be more pairs
+    proof: TERM           of type `law → ⊥`
+
+A text goes on in lines that begin with a blank, which is no part of an old or a new one.
+
+`--right` plants nothing and tells whether a counterexample holds of the definitions as they are: none may.
+Prints a line for each, and a count. Ends with status 1 where one isn't refused, or under `--right` where one is.
+"""
+import concurrent.futures
+import os
+import queue
+import re
+import shutil
+import subprocess
+import sys
+import tempfile
+
+ROOT = os.path.dirname(os.path.dirname(os.path.dirname(os.path.abspath(__file__))))
+TABLES = f"{ROOT}/bench/plant/tables"
+JOBS = 4
+PARTS = ["src", "specs", "proofs"]
+# A command that the checks are run by, if there is one.
+QUEUE = os.environ.get("QUEUE", "").split()
+CODE = """//! The negation of a law.
+
+ghost use Rattle.{crate}.specs.{file}.{{{law}}};
+
+/// The law is false.
+pub fn refuted()
+    ensures {{ {law} → ⊥ }}
+{{}}
+"""
+ANSWER = """use Rattle.{crate}.proofs.refuted.refuted.Goals as goal
+{begin}pub returns : goal.returns
+returns c = {proof}
+"""
+
+
+def read(path):
+    with open(path, encoding="utf-8") as file:
+        return file.read()
+
+
+def write(path, text):
+    os.makedirs(os.path.dirname(path), exist_ok=True)
+    with open(path, "w", encoding="utf-8") as file:
+        file.write(text)
+
+
+def table(path):
+    """The wrong definitions of a table, each with its crate and the beginning of its proof."""
+    begin, *texts = re.split(r"^name: ", read(path), flags=re.M)
+    found = []
+    for text in texts:
+        name, rest = text.split("\n", 1)
+        pairs = re.findall(r"^(law|file|old|new|proof): (.*(?:\n[ \t].*)*)", rest, flags=re.M)
+        row = {key: value for key, value in pairs if key in ("law", "proof")}
+        row |= {"name": name, "crate": os.path.basename(path)[:-len(".txt")], "begin": begin, "edits": edits(pairs)}
+        found.append(row)
+    return found
+
+
+def edits(pairs):
+    """The file, the old text and the new one of each pair."""
+    file, old, found = None, None, []
+    for key, value in pairs:
+        if key == "file":
+            file = value
+        elif key == "old":
+            old = value.replace("\n ", "\n")
+        elif key == "new":
+            found.append((file, old, value.replace("\n ", "\n")))
+    return found
+
+
+def below(crate):
+    """The repository's crates that a crate stands on, directly or not, and itself last; and the row of each in crates.txt."""
+    rows = dict(line.split(":") for line in read(f"{ROOT}/crates.txt").split("\n") if ":" in line)
+    found = [crate]
+    for name in found:
+        found += [low for low in rows[name].split() if low in rows and low not in found]
+    return found[1:] + [crate], rows
+
+
+def linked(source, target):
+    """A second name of a file; or a copy, on another disk."""
+    try:
+        os.link(source, target)
+    except OSError:
+        shutil.copy2(source, target)
+
+
+def place(top, crate):
+    """A repository with a copy of the crate, over the crates below it as they are."""
+    names, rows = below(crate)
+    home = f"{top}/{crate}"
+    if not os.path.isdir(home):
+        os.makedirs(f"{home}/crates/{crate}")
+        shutil.copy(f"{ROOT}/HANDLES", home)
+        write(f"{home}/crates.txt", "".join(f"{name}:{rows[name]}\n" for name in names))
+        subprocess.run(["git", "init", "-q", home], check=True)
+        for name in names[:-1]:
+            for part in PARTS:
+                shutil.copytree(f"{ROOT}/crates/{name}/{part}", f"{home}/crates/{name}/{part}")
+            # what its checks kept, which isn't written again: so links do
+            shutil.copytree(f"{ROOT}/crates/{name}/out", f"{home}/crates/{name}/out", copy_function=linked)
+    for part in PARTS:
+        shutil.rmtree(f"{home}/crates/{crate}/{part}", ignore_errors=True)
+        shutil.copytree(f"{ROOT}/crates/{crate}/{part}", f"{home}/crates/{crate}/{part}")
+    return f"{home}/crates/{crate}"
+
+
+def refused(top, row, right):
+    """Whether the negation of the row's law is proved over its wrong definition, and what the check said."""
+    folder, crate = place(top, row["crate"]), row["crate"]
+    for path, old, new in row["edits"]:
+        text = read(f"{folder}/{path}")
+        if text.count(old) != 1:
+            return False, f"stands {text.count(old)} times in {path}: {old}"
+        if not right:
+            write(f"{folder}/{path}", text.replace(old, new))
+    file, law = row["law"].split(".")
+    write(f"{folder}/src/lib.rt", read(f"{folder}/src/lib.rt") + "\npub mod refuted;\n")
+    write(f"{folder}/src/refuted.rt", CODE.format(crate=crate, file=file, law=law))
+    write(f"{folder}/proofs/refuted/refuted/Answers.antt", ANSWER.format(crate=crate, begin=row["begin"], proof=row["proof"]))
+    command = QUEUE + ["rt", "check", "--jobs", "1", "--only", f"{crate}::refuted::refuted"]
+    done = subprocess.run(command, cwd=folder, capture_output=True, text=True)
+    lines = (done.stdout + done.stderr).split("\n")
+    proved = done.returncode == 0 and any(re.match(r"only=1 proved=1\b", line) for line in lines)
+    said = [line for line in lines if "error" in line or "no proof" in line] or lines[-6:]
+    return proved, "\n      ".join(line[:400] for line in said[:4])
+
+
+def main():
+    words = sys.argv[1:]
+    right = "--right" in words
+    word = next((given for given in words if given != "--right"), "")
+    rows = [row for name in sorted(os.listdir(TABLES)) for row in table(f"{TABLES}/{name}")]
+    rows = [row for row in rows if word in row["name"] or word == row["crate"]]
+    places, count = queue.Queue(), 0
+    with tempfile.TemporaryDirectory(prefix="refuted-") as top:
+        for number in range(JOBS):
+            places.put(f"{top}/{number}")
+
+        def judged(row):
+            mine = places.get()
+            try:
+                return row, refused(mine, row, right)
+            finally:
+                places.put(mine)
+
+        with concurrent.futures.ThreadPoolExecutor(JOBS) as pool:
+            for row, (proved, said) in pool.map(judged, rows):
+                count += proved
+                verdict = f"refused by {row['law']}" if proved else f"not refused\n      {said}"
+                print(f"{row['crate']}: {row['name']}: {verdict}", flush=True)
+    print(f"{count} of {len(rows)} refused")
+    return 0 if rows and count == (0 if right else len(rows)) else 1
+
+
+if __name__ == "__main__":
+    sys.exit(main())
