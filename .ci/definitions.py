@@ -1,35 +1,46 @@
 #!/usr/bin/env python3
-"""Holds docs/DEFINITIONS.md against the crates:
+"""Holds the definitions in the README of each crate against the crates:
 
     .ci/definitions.py
     .ci/definitions.py --lists     writes the two lists after each table anew
+    .ci/definitions.py --clauses   writes .ci/public_clauses.txt anew
 
-Each name of `crates/*/specs/` that a public clause cites is in the first column of its crate's table, in a row that names the
-file that defines it; and each name of a first column is defined in a file that its row names. A public clause is one of a
-contract of an item that other crates can name, or what a type or a trait says of itself by `ghost`; in a program it is one of
-any item that is `pub`, or of main.rt. A type's `view` and `invariant` are left out: they say how its private fields hold
-its value, and are proved. Types, constructors and fields of the code itself aren't asked for.
+Each name or operator of `crates/*/specs/` that a public clause cites is in the first column of the table of its crate's README, under
+`## Definitions`, in a row that names the file that defines it and says what it means; and each name of a first column is defined in a
+file that its row names. A public clause is one of a contract of an item that other crates can name, or what a type or a trait says of
+itself by `ghost`; in a program it is one of any item that is `pub`, or of main.rt. A type's `view` and `invariant` are left out: they
+say how its private fields hold its value, and are proved. Types, constructors and fields of the code itself aren't asked for.
 After each table are two lists: the other definitions that those of all public clauses stand on, which are to be believed with
 them, and the definitions that none of these stands on, which serve the proofs alone. Each list has exactly the names that it says.
+.ci/public_clauses.txt has each public clause by crate, item and name, or by its first words where it has no name: a clause that is
+added or deleted shows there. A public clause that names no definition, or has a part that is `Unit`, says nothing, and is refused.
 Prints what is missing and ends with status 1, or prints one line of counts. It needs Python's standard library alone."""
 
+import collections
 import re
 import sys
+import textwrap
 from pathlib import Path
 
 TOP = Path(__file__).resolve().parent.parent
-NAME = r"[^\W\d][\w']*"
+KEPT_CLAUSES = TOP / ".ci" / "public_clauses.txt"
+# A name is a word, or an operator: its words and signs with a hole for each operand.
+WORD = r"[^\W\d][\w']*"
+NAME = rf"(?:[^\s(){{}},;]*◌[^\s(){{}},;]*|{WORD})"
 BLANKED = re.compile(r"""//[^\n]*|b?"(?:\\.|[^"\\])*"|b?'(?:\\.|[^'\\\n])'""", re.S)
 DEFINED = re.compile(rf"^(?:\w+ )*?pub (?:(?:record|data) )?(?!record |data |mod )({NAME})", re.M)
 IMPORT = re.compile(r"\bghost use Rattle\.(\w+)\.specs\.([\w.]+)\.\{([^}]*)\}")
 FUNCTION = re.compile(r"(\bpub\b(?:\([^)]*\))?\s+)?(?:const\s+)?\bfn\s+(\w+)")
-CLAUSE = re.compile(r"\b(?:requires|ensures)\b\*?(?:\s+\w+)?\s*\{|\bghost\s+(?!use\b|view\b|invariant\b)(\w+)\s*[=:]\s*\{")
+CLAUSE = re.compile(r"\b(requires|ensures)\b\*?(?:\s+(\w+))?\s*\{|\bghost\s+(?!use\b|view\b|invariant\b)(\w+)\s*[=:]\s*\{")
 HEADER = re.compile(r"\b(impl|trait)\b\s*(?:<[^{]*?>\s*)?(?:[^{]*\bfor\s+)?[&]?(?:\w+::)*(\w+)")
 IMPORT_IN_SPECS = re.compile(r"^use Rattle\.(\w+)\.specs\.([\w.]+)\.\{([^}]*)\}", re.M)
-TOP_NAME = re.compile(rf"(?:(?:unfoldable|abbrev|pub|record|data) +)*(?!(?:unfoldable|abbrev|pub|record|data)\b)({NAME})")
-ALSO = "Also to be believed, since those of the tables stand on them; each is explained where it is defined."
+DECLARED = re.compile(rf"(?:(?:unfoldable|abbrev|pub|record|data) +)+({NAME})|({NAME}) +:(?= )")
+EQUATION = re.compile(WORD)
+SIGN_EDGE = r"[^\s(){}\[\],;]"
+ALSO = "Also to be believed, since those of the table and of the tables of other crates stand on them; each is explained where it is defined."
 BESIDE = "Beside the code: no public clause and nothing to be believed stands on these."
-CITED = re.compile(rf"(?<![\w.'])({NAME})(?!\s*=(?!=))")
+LISTS = re.compile(rf"^(?:{re.escape(ALSO)}|{re.escape(BESIDE)})", re.M)
+SECTION = re.compile(r"^## Definitions\n(.*?)(?=^## |\Z)", re.M | re.S)
 
 
 def blanked(file):
@@ -68,7 +79,7 @@ class Crate:
         lib = folder / "src" / "lib.rt"
         self.is_program = not lib.exists()
         text = "" if self.is_program else blanked(lib)
-        self.exports = {name for words in re.findall(r"\bpub use ([^;]*);", text) for name in re.findall(NAME, words)}
+        self.exports = {name for words in re.findall(r"\bpub use ([^;]*);", text) for name in re.findall(WORD, words)}
         self.open = set(re.findall(r"\bpub mod (\w+)", text))
 
     def files(self):
@@ -97,7 +108,7 @@ def owner_of(crate, file, around, function, said):
     if headers and not crate.shows(file, headers[-1][2]):
         return None
     if said:
-        return f"{headers[-1][2]}, {said}" if headers else None
+        return " ".join(headers[-1][0].split()) if headers else None
     is_pub = (function[1] or "").strip() == "pub"
     if headers:
         is_trait = headers[-1][1] == "trait" or " for " in headers[-1][0]
@@ -106,8 +117,24 @@ def owner_of(crate, file, around, function, said):
     return function[2] if is_main or is_pub and crate.shows(file, function[2]) else None
 
 
+def stands_in(name, text):
+    """A name stands in a text; an operator does where all its signs do."""
+    if "◌" not in name:
+        return re.search(rf"(?<![\w.']){re.escape(name)}(?![\w'])(?!\s*=(?!=))", text) is not None
+    signs = [sign for sign in name.split("◌") if sign]
+    return all(re.search(rf"(?<!{SIGN_EDGE}){re.escape(sign)}(?!{SIGN_EDGE})", text) for sign in signs)
+
+
+def name_of(found, text):
+    """What a clause is called: its kind and its name, or its first words."""
+    if found[3]:
+        return f"ghost {found[3]}"
+    first = " ".join(text.split())
+    return f"{found[1]} {found[2]}" if found[2] else f"{found[1]} {{ {first[:60].strip()}{' ..' if len(first) > 60 else ''} }}"
+
+
 def citations(crate):
-    """Each public clause: its file, whose it is, and the names of specs that it cites."""
+    """Each public clause: its file, whose it is, what it is called, the names of specs that it cites, and whether it says nothing."""
     for file in crate.files():
         text = blanked(file)
         blocks = blocks_of(text)
@@ -118,24 +145,30 @@ def citations(crate):
             place = found.start()
             around = [block for block in blocks if block[0] < place < block[1]]
             function = max((one for one in functions if one.start() < place), key=lambda one: one.start(), default=None)
-            owner = owner_of(crate, file, around, function, found[1])
+            owner = owner_of(crate, file, around, function, found[3])
             if owner:
                 names = {}
                 for (first, last), imported in imports:
                     names.update(imported if first < place < last else {})
-                cited = CITED.findall(text[found.end() : ends[found.end() - 1]])
-                yield file, owner, [names[name] for name in cited if name in names]
+                clause = text[found.end() : ends[found.end() - 1] - 1]
+                cited = [there for here, there in names.items() if stands_in(here, clause)]
+                yield file, owner, name_of(found, clause), cited, not cited or "Unit" in re.findall(WORD, clause)
 
 
 def parts_of(text):
     """The definitions of a file of specs: the text of each by its name."""
-    parts, name = {}, None
+    parts, declared, name = {}, None, None
     for line in text.splitlines():
         if line.startswith(("--", "use ", "pub mod ", "mod ", "infix")) or not line.strip():
             continue
-        named = TOP_NAME.match(line)
-        if named:
-            name = named[1]
+        found = DECLARED.match(line)
+        equation = EQUATION.match(line)
+        if found:
+            name = declared = found[1] or found[2]
+        elif equation:
+            name = equation[0] if equation[0] in parts else declared
+        elif not line[0].isspace():
+            name = declared
         parts[name] = parts.get(name, "") + re.sub(r"--.*", "", line) + "\n"
     return parts
 
@@ -152,8 +185,10 @@ def bases(crates):
                     name, _, here = word.strip().partition(" as ")
                     names[here.strip() or name] = (there[1], there[2], name)
             names.update({name: (crate.folder.name, module, name) for name in parts})
+            operators = [name for name in names if "◌" in name]
             for name, part in parts.items():
-                cited = re.findall(rf"(?<![\w.'])({NAME})", part)
+                cited = set(re.findall(rf"(?<![\w.'])({WORD})", part))
+                cited.update(operator for operator in operators if stands_in(operator, part))
                 found[(crate.folder.name, module, name)] = {names[word] for word in cited if word in names}
     return found
 
@@ -172,70 +207,106 @@ def reached_from(asked, stand_on):
     return reached
 
 
-def list_of(names):
-    """The names by their files, in one line."""
+def list_of(words, names):
+    """A list of names: what it is, and a line for each file."""
     modules = sorted({module for module, _ in names})
-    return "; ".join(f"in `{each}`: " + ", ".join(f"`{name}`" for module, name in sorted(names) if module == each) for each in modules)
+    lines = [f"- `{each}`: " + ", ".join(f"`{name}`" for module, name in sorted(names) if module == each) for each in modules]
+    wrapped = [textwrap.fill(line, 120, subsequent_indent="  ", break_long_words=False, break_on_hyphens=False) for line in lines]
+    return textwrap.fill(words, 120) + "\n\n" + "\n".join(wrapped)
 
 
-def with_lists(text, told, reached, stand_on):
-    """The text with the two lists after each crate's table."""
-    pieces = re.split(r"^(?=## )", text, flags=re.M)
-    for place, piece in enumerate(pieces[1:], 1):
-        crate = piece.split("`")[1]
-        own = {key[1:] for key in stand_on if key[0] == crate}
-        also = {key for key in own if (crate, *key) in reached and (crate, *reversed(key)) not in told}
-        beside = {key for key in own if (crate, *key) not in reached and (crate, *reversed(key)) not in told}
-        lists = [f"{words} {list_of(names)[0].upper()}{list_of(names)[1:]}." for words, names in ((ALSO, also), (BESIDE, beside)) if names]
-        table = re.split(rf"^(?:{re.escape(ALSO)}|{re.escape(BESIDE)})", piece, flags=re.M)[0].rstrip()
-        pieces[place] = "\n\n".join([table, *lists]) + "\n" + ("\n" if place + 1 < len(pieces) else "")
-    return "".join(pieces)
+def rows(section):
+    """The rows of a table: the names, the modules of the files, and what is said of them."""
+    lines = [line.split("|") for line in section.splitlines() if line.startswith("| `")]
+    return [(re.findall(r"`([^`]*)`", cells[1]), re.findall(r"`([^`]*)`", cells[2]), "|".join(cells[3:])) for cells in lines]
 
 
-def rows(text):
-    """The rows of each crate's table: the names, and the modules of the files."""
-    tables = {}
-    for part in re.split(r"^## ", text, flags=re.M)[1:]:
-        crate = part.split("`")[1]
-        lines = [line.split("|") for line in part.splitlines() if line.startswith("| `")]
-        tables[crate] = [(re.findall(r"`([^`]*)`", cells[1]), re.findall(r"`([^`]*)`", cells[2])) for cells in lines]
-    return tables
+class Document:
+    """The README of a crate, with its section of definitions."""
+
+    def __init__(self, crate):
+        self.crate = crate.folder.name
+        self.file = crate.folder / "README.md"
+        self.name = self.file.relative_to(TOP)
+        self.text = self.file.read_text() if self.file.exists() else ""
+        self.section = SECTION.search(self.text)
+        self.rows = rows(self.section[1]) if self.section else []
+        self.told = {(self.crate, module, name) for names, modules, _ in self.rows for name in names for module in modules}
+
+    def faults(self, crate):
+        """What is wrong with the document alone."""
+        if not self.section:
+            yield f"{self.name}: there is no such file, or it has no `## Definitions`"
+        for names, modules, meaning in self.rows:
+            if len(re.findall(WORD, meaning)) < 3:
+                yield f"{self.name}: the row of {', '.join(names)} doesn't say what it means"
+            for name in names:
+                if not any(name in crate.modules.get(module, ()) for module in modules):
+                    yield f"{self.name}: `{name}` isn't defined in {', '.join(modules) or 'any file that the row names'}"
+
+    def with_lists(self, told, reached, stand_on):
+        """The text with the two lists after the table."""
+        if not self.section:
+            return self.text
+        own = {key[1:] for key in stand_on if key[0] == self.crate and key not in told}
+        also = {key for key in own if (self.crate, *key) in reached}
+        lists = [list_of(words, names) for words, names in ((ALSO, also), (BESIDE, own - also)) if names]
+        wrapped = {words: textwrap.fill(words, 120) for words in (ALSO, BESIDE)}
+        table = re.split("|".join(rf"^{re.escape(words)}" for words in wrapped.values()), self.section[1], flags=re.M)[0].strip("\n")
+        section = "## Definitions\n\n" + "\n\n".join([table, *lists]) + "\n"
+        end = self.section.end()
+        return self.text[: self.section.start()] + section + ("\n" + self.text[end:] if end < len(self.text) else "")
+
+
+def clause_faults(clauses):
+    """The public clauses that are there and not kept, and those that are kept and not there."""
+    kept = collections.Counter(KEPT_CLAUSES.read_text().splitlines() if KEPT_CLAUSES.exists() else [])
+    now = collections.Counter(clauses)
+    yield from (f"a public clause is missing: {clause}" for clause in sorted((kept - now).elements()))
+    yield from (f"{KEPT_CLAUSES.relative_to(TOP)} hasn't the public clause: {clause}" for clause in sorted((now - kept).elements()))
 
 
 def main(words):
-    document = TOP / "docs" / "DEFINITIONS.md"
+    if words not in ([], ["--lists"], ["--clauses"]):
+        print(__doc__)
+        return 2
     crates = {folder.name: Crate(folder) for folder in sorted((TOP / "crates").iterdir()) if (folder / "specs").is_dir()}
-    tables = rows(document.read_text())
-    told = {(crate, file, name) for crate, table in tables.items() for names, files in table for name in names for file in files}
-    missing, asked, clauses = {}, set(), 0
+    documents = {name: Document(crate) for name, crate in crates.items()}
+    told = set().union(*(document.told for document in documents.values()))
+    missing, asked, clauses, empty = {}, set(), [], []
     for crate in crates.values():
-        for file, owner, cited in citations(crate):
-            clauses += 1
+        for file, owner, called, cited, is_empty in citations(crate):
+            clauses.append(f"{crate.folder.name} {file.relative_to(crate.folder / 'src')} {owner}: {called}")
+            empty += clauses[-1:] if is_empty else []
             for there, module, name in cited:
                 if there in crates and name in crates[there].modules.get(module, ()):
                     asked.add((there, module, name))
                     if (there, module, name) not in told:
                         missing.setdefault((there, module, name), f"{file.relative_to(TOP)}, {owner}")
-    for (there, module, name), where in sorted(missing.items()):
-        print(f"docs/DEFINITIONS.md: {there} has no `{name}` of `{module}`, which is cited in {where}")
-    stale = 0
-    for crate, table in tables.items():
-        for names, files in table:
-            for name in names:
-                if not any(name in crates[crate].modules.get(file, ()) for file in files):
-                    print(f"docs/DEFINITIONS.md: {crate} has `{name}`, which isn't defined in {', '.join(files)}")
-                    stale += 1
+    if words == ["--clauses"]:
+        KEPT_CLAUSES.write_text("".join(f"{clause}\n" for clause in sorted(clauses)))
+    faults = [
+        f"{documents[there].name}: the crate {there}, module {module}: `{name}` has no row, and is cited in {where}"
+        for (there, module, name), where in sorted(missing.items())
+    ]
+    for name, document in documents.items():
+        faults.extend(document.faults(crates[name]))
     stand_on = bases(crates)
     reached = reached_from(asked, stand_on)
-    listed = with_lists(document.read_text(), {(crate, name, file) for crate, file, name in told}, reached, stand_on)
-    if words == ["--lists"]:
-        document.write_text(listed)
-    elif listed != document.read_text():
-        print("docs/DEFINITIONS.md: the lists after the tables aren't those of the crates; .ci/definitions.py --lists writes them")
+    for document in documents.values():
+        listed = document.with_lists(told, reached, stand_on)
+        if words == ["--lists"] and document.section:
+            document.file.write_text(listed)
+        elif listed != document.text:
+            faults.append(f"{document.name}: the lists after the table aren't those of the crates; .ci/definitions.py --lists writes them")
+    faults.extend(clause_faults(clauses))
+    faults.extend(f"a public clause says nothing: {clause}" for clause in empty)
+    for fault in faults:
+        print(f"definitions: {fault}")
+    if faults:
+        print("definitions: --lists writes the lists after the tables anew, --clauses the file of public clauses")
         return 1
-    if missing or stale:
-        return 1
-    print(f"definitions: {len(asked)} names of {clauses} public clauses are there; they stand on {len(reached)} of {len(stand_on)} definitions")
+    print(f"definitions: {len(asked)} names of {len(clauses)} public clauses are there; they stand on {len(reached)} of {len(stand_on)} definitions")
     return 0
 
 

@@ -79,7 +79,8 @@ def tried(name, contents, wanted, said, status):
     os.mkdir(pages)
     done = subprocess.run([program, "frames", "--pages", pages, bits], capture_output=True)
     plain = subprocess.run([program, "frames", bits], capture_output=True)
-    got = [open(f"{pages}/page-{number + 1}.pbm", "rb").read() for number in range(len(os.listdir(pages)))]
+    # a page has the number that it has in what is said, where one before it lacks
+    got = [open(f"{pages}/page-{number}.pbm", "rb").read() for number in range(1, 9) if os.path.exists(f"{pages}/page-{number}.pbm")]
     if done.stdout != plain.stdout:
         sys.exit(f"{name}: another list")
     if done.stderr.decode().splitlines() != said:
@@ -119,8 +120,10 @@ for mmr in False, True:
         tried(f"{name}, sent again", call(codes, mmr, small, 7), [large, few], [], 0)
         tried(f"{name}, two calls", both + both, [large, few, large, few], [], 0)
         first = both[:1] + both[2:]
-        tried(f"{name}, frame 0 lost", first, [few], ["page 0 block 0: frame 0 lacks"], 1)
-        tried(f"{name}, no DCS", call([codes[1]], mmr, small)[1:], [], ["page 0 block 0: no DCS before it"], 1)
+        tried(f"{name}, frame 0 lost", first, [few], ["page 1 block 0: frame 0 lacks"], 1)
+        if not os.path.exists(f"{folder}/captured/page-2.pbm"):
+            sys.exit(f"{name}: the second page isn't page-2.pbm where the first one lacks")
+        tried(f"{name}, no DCS", call([codes[1]], mmr, small)[1:], [], ["page 1 block 0: no DCS before it"], 1)
         tried(f"{name}, no end", call([codes[1]], mmr, small)[:-1], [], ["a page has no end"], 1)
         if mmr:
             piece = codes[0][:200]
@@ -128,4 +131,4 @@ for mmr in False, True:
                 file.write(b"".join(blocks_of(piece, small)[0]))
             words = [program, "show", "--code", "mmr", "--order", "lsb", "--width", "2432", f"{folder}/captured.code"]
             fault = subprocess.run(words, capture_output=True, text=True).stderr.strip()
-            tried(f"{name}, cut", call([piece], mmr, small), [], [f"page 0: can't be read, {fault}"], 1)
+            tried(f"{name}, cut", call([piece], mmr, small), [], [f"page 1: can't be read, {fault}"], 1)

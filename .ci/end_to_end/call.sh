@@ -1,0 +1,91 @@
+# The command call.
+
+# try_call FILE: a call by a script.
+try_call() {
+    case=${1%.script} input=$work/in.pbm
+    if [ -f "$case.rows" ]; then
+        printf 'P4\n2432 %s\n' "$(cat "$case.rows")" > "$input"
+        head -c $(($(cat "$case.rows") * 304)) /dev/zero | tr '\0' U >> "$input"
+    elif [ -f "$case.copies" ]; then
+        for copy in $(seq "$(cat "$case.copies")"); do cat "$case.pbm"; done > "$input"
+    else
+        cp "$case.pbm" "$input"
+    fi
+    if [ -f "$case.status" ]; then wanted=$(cat "$case.status"); elif [ -f "$case.fault" ]; then wanted=1; else wanted=0; fi
+    rm -f "$work/pages"
+    gives "$wanted" call --script "$1" $(cat "$case.options" 2> /dev/null) --out "$work/pages" "$input"
+    if [ -f "$case.fault" ]; then
+        is_same "$work/error" "$case.fault" "the fault of call ${case##*/}"
+        [ ! -s "$work/output" ] && [ ! -e "$work/pages" ] || fails "call ${case##*/} left something after a fault"
+        return
+    fi
+    if [ -f "$case.tail" ]; then
+        tail -n "$(wc -l < "$case.tail")" "$work/output" > "$work/last"
+        is_same "$work/last" "$case.tail" "the last lines of call ${case##*/}"
+    else
+        is_same "$work/output" "$case.expected" "call ${case##*/}"
+    fi
+    if [ -e "$work/pages" ]; then
+        stored=$(tail -1 "$work/output" | sed 's/.* //')
+        python3 -B "$data/first_images.py" "$stored" < "$input" > "$work/first" || fails "call ${case##*/} stored more pages than there are"
+        is_same "$work/pages" "$work/first" "the pages of call ${case##*/}"
+    fi
+    ! tail -1 "$work/output" | grep -q ' pages 0$' || [ ! -e "$work/pages" ] || fails "call ${case##*/} made a file of no pages"
+    tail -1 "$work/output" | grep -q ' pages 0$' || [ -e "$work/pages" ] || fails "call ${case##*/} made no file of its pages"
+}
+
+# Scripts that are refused, each at its line: the line, and the script as printf writes it.
+try_scripts() {
+    input=$(octets "$white")
+    while read -r line script; do
+        printf "$script" > "$work/script"
+        faults "fault 30 at line $line" call --script "$work/script" "$input"
+    done << 'CASES'
+1 spoil 0
+1 polite
+3 # x\n\nto-caller  2\n
+1 to-caller\r\n
+2 busy\nspoil +1\n
+1 spoil 1000001
+1 spoil 00000001
+1 spoil\040
+1 spoil 1\040
+1 \040spoil
+1 \040
+1 spoil\t1
+1 spoil 1x
+1 Spoil
+1 deliver
+1 # \377
+3 busy\n\n\303\050\nready\n
+3 ready\nbusy\npolite -1
+CASES
+}
+
+# The calls, of which there are 34 at least.
+try_calls() {
+    calls=0
+    for script in "$top"/.ci/calls/*.script; do
+        [ ! -f "$script" ] || try_call "$script"
+        calls=$((calls + 1))
+    done
+    [ "$calls" -ge 34 ] || fails "there are only $calls calls in .ci/calls"
+    input=$(octets "$white")
+    printf 'polite 11' > "$work/script"
+    faults "fault 8" call --script "$work/missing" "$input"
+    faults "fault 8" call --script "$work/script" "$work/missing"
+    echo "as it was" > "$work/kept"
+    cp "$work/kept" "$work/pages"
+    : > "$work/nothing"
+    works call --script "$work/nothing" --out "$work/pages" "$input"
+    is_same "$work/pages" "$work/kept" "the file of --out with no page"
+    echo "spoil 0" > "$work/wrong"
+    faults "fault 30 at line 1" call --script "$work/wrong" --out "$work/pages" "$input"
+    faults "fault 7" call --script "$work/script" --out "$work/pages" "$work/nothing"
+    is_same "$work/pages" "$work/kept" "the file of --out after a fault"
+    works call --script "$work/script" --out "$work/pages" "$input"
+    is_same "$work/pages" "$input" "the file of --out"
+    refuses call --script "$work/script"
+    refuses call "$input"
+    refuses call --script "$work/script" --frame 128 "$input"
+}

@@ -1,0 +1,78 @@
+# What each file of cases uses: a run of the program, and what it must give.
+
+# fails WORDS: tells what is wrong, and ends.
+fails() {
+    echo "end to end: FAILED: $*" >&2
+    [ ! -s "$work/error" ] || head -5 "$work/error" >&2
+    exit 1
+}
+
+# gives STATUS WORDS: the program ends with the status.
+gives() {
+    end=$1 status=0
+    shift
+    timeout 60 "$program" "$@" > "$work/output" 2> "$work/error" < /dev/null || status=$?
+    [ "$status" = "$end" ] || fails "faxtool $* ended with status $status, and not $end"
+    count=$((count + 1))
+}
+
+# is_same FILE WANTED WORDS: the file has the octets of the other one.
+is_same() {
+    difference=$(cmp "$1" "$2" 2>&1) || fails "$3: other octets: $difference"
+}
+
+# works WORDS: the program ends well and says nothing on standard error.
+works() {
+    gives 0 "$@"
+    [ ! -s "$work/error" ] || fails "$* wrote to standard error"
+}
+
+# faults LINE WORDS: the program ends with status 1 and the line on standard error, and prints nothing; and with --explain a
+# second line comes after it.
+faults() {
+    line=$1
+    shift
+    gives 1 "$@" --explain
+    [ "$(head -n 1 "$work/error")" = "$line" ] || fails "$* --explain didn't write: $line"
+    [ "$(wc -l < "$work/error")" = 2 ] && [ -n "$(tail -n 1 "$work/error")" ] || fails "$* --explain didn't write a second line"
+    gives 1 "$@"
+    [ "$(cat "$work/error")" = "$line" ] || fails "$* didn't write: $line"
+    [ ! -s "$work/output" ] || fails "$* printed something"
+}
+
+# explains LINE SECOND WORDS: as faults, and with --explain the second line is this one.
+explains() {
+    line=$1 second=$2
+    shift 2
+    faults "$line" "$@"
+    gives 1 "$@" --explain
+    printf '%s\n%s\n' "$line" "$second" > "$work/wanted"
+    is_same "$work/error" "$work/wanted" "the words of $*"
+    [ ! -s "$work/output" ] || fails "$* --explain printed something"
+}
+
+# refuses WORDS: the words are no job: status 2, a text on standard error and none on standard output.
+refuses() {
+    gives 2 "$@"
+    [ -s "$work/error" ] || fails "$* gave no text"
+    [ ! -s "$work/output" ] || fails "$* printed something"
+}
+
+# octets TEXT: a file of the octets of a text in hex, whose name it prints.
+octets() {
+    name=$work/octets_$(echo "$1" | cksum | tr -d ' ')
+    for hex in $(echo "$1" | tr _ ' '); do
+        printf "\\$(printf %03o "0x$hex")"
+    done > "$name"
+    echo "$name"
+}
+
+# bits TEXT: a file of the bits of a text of 0 and 1, filled with 0 to an octet, whose name it prints.
+bits() {
+    name=$work/bits_$(echo "$1" | cksum | tr -d ' ')
+    python3 -c 'import sys
+text = sys.argv[1].replace(" ", "")
+text += "0" * (-len(text) % 8)
+sys.stdout.buffer.write(bytes(int(text[at:at + 8], 2) for at in range(0, len(text), 8)))' "$1" > "$name"
+    echo "$name"
+}

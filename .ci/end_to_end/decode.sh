@@ -1,0 +1,174 @@
+# The commands show and decode: refused, cut and broken pages.
+
+# What is told of a page that is decoded: rows, and bits, of which EOL has 12, its row 10 and the six EOLs 72.
+try_told() {
+    code=$(octets "00 17 EC 00 40 04 00 40 04 00 40 04")
+    gives 0 decode --code mh --width 8 --verbose "$code" "$work/decoded"
+    [ "$(cat "$work/error")" = "rows 1 bits 94" ] || fails "decode --verbose didn't tell 1 row of 94 bits"
+    [ ! -s "$work/output" ] || fails "decode --verbose printed something"
+    faults "fault 8" decode --code mh --width 8 "$work/missing" "$work/decoded"
+    faults "fault 8" decode --code mh --width 8 "$code" "$work/missing/decoded"
+    [ ! -c /dev/full ] || faults "fault 8" decode --code mh --width 8 "$code" /dev/full
+}
+
+# Refused pages: the fault and the bit, and OUT is left as it was.
+try_codes() {
+    echo "as it was" > "$work/kept"
+    cp "$work/kept" "$work/decoded"
+    while read -r code fault bit hex; do
+        faults "fault $fault at bit $bit" show --code "$code" --width 8 "$(octets "$hex")"
+        faults "fault $fault at bit $bit" decode --code "$code" --width 8 "$(octets "$hex")" "$work/decoded"
+        is_same "$work/decoded" "$work/kept" "OUT after a refused page"
+    done << CASES
+mmr 16 0 02
+mmr 17 1 80
+mmr 11 1 80 08 00
+mmr 11 3 20
+mmr 14 0 60
+mmr 13 15 26 AA 80
+mmr 15 11 26 A1 B8
+mmr 4 0 00 10 01
+mh 10 12 00 10 08
+mh 12 12 00 1A 00
+mh 4 12 00 10 00
+mh 12 0 17 EC
+CASES
+    faults "fault 17 at bit 0" show --code mmr --width 8 "$work/nothing"
+    faults "fault 4 at bit 0" show --code mh --width 8 "$work/nothing"
+    for words in "show --code mh --width 8" "show --code mmr --width 8" frames; do
+        faults "fault 8" $words "$work/missing"
+        faults "fault 8" $words "$work"
+    done
+}
+
+# What there is of pages that can't be read: whole rows, with the fault as ever, and nothing where no row is whole.
+try_salvage() {
+    while read -r code fault bit rows hex; do
+        rm -f "$work/salvaged"
+        faults "fault $fault at bit $bit" decode --salvage --code "$code" --width 8 "$(octets "$hex")" "$work/salvaged"
+        if [ "$rows" = none ]; then
+            [ ! -e "$work/salvaged" ] || fails "decode --salvage made OUT of no row"
+        else
+            is_same "$work/salvaged" "$(octets "50 34 0A 38 20 $rows")" "decode --salvage of $code $hex"
+        fi
+    done << CASES
+mmr 16 0 none 02
+mmr 10 11 31_0A_30 2F E0 00
+mmr 10 12 31_0A_30 2F F0 00
+mmr 16 13 32_0A_30_30 2F F8 10
+mh 12 12 none 00 1A 00
+mh 12 34 31_0A_30 00 17 EC 00 68 00
+CASES
+    code=$(octets "00 17 EC 00 40 04 00 40 04 00 40 04")
+    works decode --salvage --code mh --width 8 "$code" "$work/salvaged"
+    is_same "$work/salvaged" "$(octets "50 34 0A 38 20 31 0A 30")" "decode --salvage of a whole page"
+    gives 0 decode --salvage --verbose --code mh --width 8 "$code" "$work/salvaged"
+    [ "$(cat "$work/error")" = "rows 1 bits 94" ] || fails "decode --salvage --verbose didn't tell 1 row of 94 bits"
+    faults "fault 8" decode --salvage --code mh --width 8 "$work/missing" "$work/salvaged"
+    for order in msb lsb; do
+        for code in mh mmr; do
+            works decode --salvage --code $code --order $order --width 315 --fine "$data/page.$code.$order" "$work/salvaged"
+            is_same "$work/salvaged" "$data/page.pbm" "decode --salvage --code $code --order $order"
+        done
+        works decode --repair --code mh --order $order --width 315 --fine "$data/page.mh.$order" "$work/repaired"
+        is_same "$work/repaired" "$data/page.pbm" "decode --repair --order $order"
+    done
+    python3 -B "$data/try_salvage.py" "$program" "$work" || fails "decode --salvage of cut pages"
+}
+
+# Pages with rows that can't be read: each is given as the one before it, and named; where no row can be read, that is a fault.
+try_repair() {
+    eol=000000000001 row="0111 11 1011" bad=10100
+    end="$eol $eol $eol $eol $eol $eol"
+    works decode --repair --code mh --width 8 "$(bits "$eol $row $end")" "$work/repaired"
+    is_same "$work/repaired" "$(octets "50 34 0A 38 20 31 0A 30")" "decode --repair of a whole page"
+    gives 0 decode --repair --code mh --width 8 "$(bits "$eol $row $eol $bad $eol $row $end")" "$work/repaired"
+    is_same "$work/repaired" "$(octets "50 34 0A 38 20 33 0A 30 30 30")" "decode --repair of a page with a bad row"
+    printf 'row 2 repaired at bit 34\nrepaired rows: 1\n' > "$work/wanted"
+    is_same "$work/error" "$work/wanted" "what decode --repair tells"
+    [ ! -s "$work/output" ] || fails "decode --repair printed something"
+    gives 0 decode --repair --explain --verbose --code mh --width 8 "$(bits "$eol $bad $eol $row $end")" "$work/repaired"
+    is_same "$work/repaired" "$(octets "50 34 0A 38 20 32 0A 00 30")" "decode --repair of a page with a bad first row"
+    printf 'row 1 repaired at bit 12\nrepaired rows: 1\nrows 2\n' > "$work/wanted"
+    is_same "$work/error" "$work/wanted" "what decode --repair --verbose tells"
+    rm -f "$work/repaired"
+    cp "$(bits "$eol $bad $end")" "$work/bad_page"
+    explains "fault 12 at bit 12" "$work/bad_page: row 1: this run goes past the row's width: is --width right?" \
+        decode --repair --code mh --width 8 "$work/bad_page" "$work/repaired"
+    faults "fault 8" decode --repair --code mh --width 8 "$work/missing" "$work/repaired"
+    [ ! -e "$work/repaired" ] || fails "decode --repair made OUT after a fault"
+    for words in "--repair --salvage --code mh" "--repair --code mmr" "--repair --salvage --code mmr"; do
+        refuses decode $words --width 8 "$work/bad_page" "$work/repaired"
+        grep -qF -e "--repair is for --code mh, and can't be used with --salvage" "$work/error" || fails "decode $words doesn't say what is wrong"
+    done
+    refuses decode --repair --repair --code mh --width 8 "$work/bad_page" "$work/repaired"
+    refuses show --repair --code mh --width 8 "$work/bad_page"
+    python3 -B "$data/try_repair.py" "$program" "$work" || fails "decode --repair of pages with a flipped bit"
+}
+
+# The large page without the last octets of its code, which has so many bits. What is left ends inside a code word of the last
+# row, in or before EOFB, or in 0 bits of an EOL, which end a T.4 page; the fault's bit is counted from the end of the whole code.
+try_cut_pages() {
+    while read -r code bits dropped fault back; do
+        head -c $(((bits + 7) / 8 - dropped)) "$work/large.$code" > "$work/cut"
+        faults "fault $fault at bit $((bits - back))" show --code "$code" --width 2432 "$work/cut"
+    done << CASES
+mmr 352065 1 11 24
+mmr 352065 3 17 24
+mmr 352065 4 11 25
+mmr 352065 5 11 37
+mmr 352065 6 11 50
+mmr 352065 8 11 58
+mmr 352065 9 11 67
+mmr 352065 10 17 73
+mh 307774 10 11 80
+mh 307774 11 11 88
+mh 307774 12 11 100
+mh 307774 14 11 113
+mh 307774 15 11 121
+mh 307774 16 11 130
+CASES
+    for rows in "300 9" "299 17"; do
+        head -c $((38472 - ${rows#* })) "$work/large.mh" > "$work/cut"
+        head -n "${rows% *}" "$work/large.txt" > "$work/wanted"
+        works show --code mh --width 2432 "$work/cut"
+        is_same "$work/output" "$work/wanted" "show of the first ${rows% *} rows"
+    done
+}
+
+# White rows in the code of T.6, a bit each: 20,000 and EOFB are a page, and one row more is refused where it begins.
+try_most_rows() {
+    head -c 2500 /dev/zero | tr '\0' '\377' > "$work/ones"
+    cat "$work/ones" "$(octets "00 10 01")" > "$work/most"
+    works show --code mmr --width 8 "$work/most"
+    [ "$(sort -u "$work/output") $(wc -l < "$work/output")" = "........ 20000" ] || fails "20,000 white rows are shown as something else"
+    cat "$work/ones" "$(octets "80 08 00 80")" > "$work/more"
+    faults "fault 18 at bit 20000" show --code mmr --width 8 "$work/more"
+}
+
+# A page of T.4 that ends without its RTC is told, and --whole makes it status 1; so are the octets after a page.
+try_rtc() {
+    cd "$work"
+    works decode --whole --code mh --width 315 "$data/page.mh.msb" made
+    works decode --whole --code mh --order lsb --width 315 "$data/page.mh.lsb" made
+    works decode --whole --code mmr --width 315 "$data/page.mmr.msb" made
+    size=$(wc -c < "$data/page.mh.msb")
+    cut=0
+    for kept in $(seq 1 "$((size - 1))"); do
+        head -c "$kept" "$data/page.mh.msb" > page
+        status=0
+        "$program" decode --code mh --width 315 page made 2> error || status=$?
+        [ "$status" = 0 ] || continue
+        rows=$(head -c 20 made | sed -n '2s/.* //p')
+        [ "$(cat error)" = "the page ends without its RTC after $rows rows" ] || fails "decode of $kept octets of a page didn't tell that its RTC is missing"
+        gives 1 decode --whole --code mh --width 315 page made
+        cut=$((cut + 1))
+    done
+    [ "$cut" -gt 0 ] || fails "no beginning of a page was a page"
+    printf '123456789' | cat "$data/page.mh.msb" - > page
+    gives 0 decode --verbose --code mh --width 315 page made
+    tail -1 error | grep -q '^octets after the page 9$' || fails "decode --verbose doesn't tell the octets after a page"
+    gives 0 decode --verbose --code mmr --width 315 "$data/page.mmr.msb" made
+    ! grep -q after error || fails "decode --verbose tells octets after a page that ends the file"
+    cd "$top"
+}

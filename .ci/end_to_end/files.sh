@@ -1,0 +1,175 @@
+# Files, standard input and output.
+
+# Standard input and output in the place of files.
+try_standard() {
+    for code in mh mmr; do
+        "$program" code --code $code - - < "$data/page.pbm" > "$work/made"
+        is_same "$work/made" "$data/page.$code.msb" "code --code $code - -"
+        "$program" decode --code $code --width 315 - - < "$work/made" > "$work/decoded"
+        is_same "$work/decoded" "$data/page.pbm" "decode --code $code - -"
+        "$program" show --code $code --width 315 - < "$work/made" > "$work/output"
+        is_same "$work/output" "$data/page.txt" "show --code $code -"
+    done
+    "$program" frames - < "$data/line.bits" > "$work/output"
+    is_same "$work/output" "$data/line.txt" "frames -"
+    input=$(octets "$white")
+    printf 'polite 11' | "$program" call --script - --out - "$input" > "$work/output"
+    tail -c 226 "$work/output" > "$work/pages"
+    is_same "$work/pages" "$input" "call --script - --out -"
+    faults "fault 8" call --script - -
+    count=$((count + 8))
+}
+
+# An output that can't be written to its end: what was there stays, and nothing lies beside it. And one that is a link, or has
+# permissions of its own.
+try_kept() {
+    echo "as it was" > "$work/kept"
+    cp "$work/kept" "$work/made"
+    status=0
+    (trap '' XFSZ; ulimit -f 1; exec "$program" code --code mh "$work/large.pbm" "$work/made" 2> /dev/null) || status=$?
+    [ $status = 1 ] || fails "code above the greatest size of a file ended with status $status"
+    is_same "$work/made" "$work/kept" "OUT where the disk is full"
+    ! ls "$work"/faxtool-* > "$work/listed" 2>&1 || fails "code left a part of OUT"
+    chmod 640 "$work/made"
+    works code --code mh "$data/page.pbm" "$work/made"
+    [ "$(stat -c %a "$work/made")" = 640 ] || fails "OUT has other permissions"
+    ln -s made "$work/link"
+    works code --code mmr "$data/page.pbm" "$work/link"
+    is_same "$work/made" "$data/page.mmr.msb" "OUT by a link"
+    [ -L "$work/link" ] || fails "code replaced a link"
+    rm -f "$work/link" "$work/made"
+    count=$((count + 1))
+}
+
+# What is printed can't be written: a full disk, and a closed output.
+try_outputs() {
+    for words in "show --code mh --width 315 $data/page.mh.msb" "frames $data/line.bits"; do
+        if [ -c /dev/full ]; then
+            status=0
+            "$program" $words > /dev/full 2> "$work/error" || status=$?
+            [ "$status $(cat "$work/error")" = "1 fault 8" ] || fails "$words on a full disk ended with status $status"
+        fi
+        status=0
+        "$program" $words >&- 2> "$work/error" || status=$?
+        [ "$status $(cat "$work/error")" = "1 fault 8" ] || fails "$words on a closed output ended with status $status"
+        count=$((count + 2))
+    done
+    [ ! -c /dev/full ] || faults "fault 8" code --code mh "$data/page.pbm" /dev/full
+}
+
+# A new file beside OUT takes its place: no file that is there, of whatever name, is written, emptied or removed.
+try_safe() {
+    rm -rf "$work/safe"
+    mkdir -p "$work/safe/full"
+    cd "$work/safe"
+    try_beside
+    try_refused_outputs
+    try_numbers
+    cd "$top"
+}
+
+# wrote_page: OUT has the page's code, and beside it lies no new file.
+wrote_page() {
+    is_same out "$data/page.mh.msb" "OUT: $*"
+    ! ls faxtool-* > listed 2>&1 || fails "code left a file beside OUT: $*"
+}
+
+# The files that lie beside OUT, its permissions, and its length of name.
+try_beside() {
+    echo mine > victim
+    for kind in file link pipe folder; do
+        rm -rf out out.part
+        case $kind in
+        file) cp victim out.part ;;
+        link) ln -s victim out.part ;;
+        pipe) mkfifo out.part ;;
+        folder) mkdir out.part ;;
+        esac
+        works code --code mh "$data/page.pbm" out
+        wrote_page "a $kind out.part"
+        [ ! -L out ] || fails "OUT became a link"
+        [ "$kind" = pipe ] || [ "$kind" = folder ] || [ "$(cat victim out.part)" = "$(printf 'mine\nmine')" ] || fails "code wrote into out.part"
+    done
+    rm -rf out.part
+    cp "$data/page.mh.msb" page.part
+    works decode --code mh --width 315 page.part page
+    is_same page "$data/page.pbm" "decode of page.part"
+    is_same page.part "$data/page.mh.msb" "IN beside OUT"
+    long=$(printf '%0252d' 0)
+    echo before > "$long"
+    works code --code mh "$data/page.pbm" "$long"
+    is_same "$long" "$data/page.mh.msb" "OUT with a name of 252 octets"
+    try_taken_names
+}
+
+# Names that are taken already: the next one is used, up to the hundredth. The shell's number is the program's after exec.
+try_taken_names() {
+    for taken in 99 100; do
+        echo before > out
+        status=0
+        timeout 60 sh -c 'for number in $(seq "$1"); do echo mine > faxtool-$$-$number.part; done
+            exec "$2" code --explain --code mh "$3" out' sh "$taken" "$program" "$data/page.pbm" 2> error || status=$?
+        [ "$(cat faxtool-*.part | sort -u) $(ls faxtool-*.part | wc -l)" = "mine $taken" ] || fails "code wrote or removed a file that it hadn't made"
+        rm faxtool-*.part
+        if [ "$taken" = 99 ]; then
+            [ "$status" = 0 ] || fails "code with 99 names taken ended with status $status"
+            wrote_page "99 names taken"
+        else
+            [ "$status $(cat out) $(head -1 error)" = "1 before fault 8" ] || fails "code with 100 names taken ended with status $status"
+        fi
+        count=$((count + 1))
+    done
+}
+
+# OUT stays as it was: read-only, in a folder that takes no new file, and where the program is ended in the midst.
+try_refused_outputs() {
+    echo before > out
+    chmod 444 out
+    explains "fault 8" "out: permission denied" code --code mh "$data/page.pbm" out
+    ln -s out link
+    explains "fault 8" "link: permission denied" code --code mh "$data/page.pbm" link
+    [ "$(cat out)" = before ] || fails "code wrote into a read-only OUT"
+    rm -f out link
+    if [ "$(id -u)" != 0 ]; then
+        echo before > full/out
+        chmod 555 full
+        explains "fault 8" "full/out: permission denied" code --code mh "$data/page.pbm" full/out
+        [ "$(cat full/out)" = before ] || fails "code wrote OUT in a folder that takes no new file"
+        chmod 755 full
+    fi
+    for signal in INT TERM; do
+        echo before > out
+        mkfifo slow
+        { head -c 500 "$data/page.pbm"; sleep 2; } > slow &
+        status=0
+        timeout -s $signal 0.5 "$program" code --code mh slow out 2> error || status=$?
+        [ "$status $(cat out)" = "124 before" ] || fails "code that is ended by $signal wrote OUT, or wasn't ended"
+        rm slow out
+        count=$((count + 1))
+    done
+    if command -v script > /dev/null; then
+        status=0
+        script -qec "'$program' code --code mh '$work/none' -" /dev/null < /dev/null > output || status=$?
+        [ "$status $(head -1 output | tr -d '\r')" = "1 fault 8" ] || fails "code to a terminal ended with status $status"
+        ! grep -q none output || fails "code to a terminal looked at IN first"
+        count=$((count + 1))
+    fi
+}
+
+# The files of pages are new ones: a number that is taken is passed over, and the next one is told.
+try_numbers() {
+    line=$top/docs/examples/line.bits
+    rm -rf pages
+    mkdir pages
+    echo mine > pages/page-1.pbm
+    ln -s ../victim pages/page-2.pbm
+    gives 1 frames --pages pages "$line"
+    [ "$(cat victim pages/page-1.pbm)" = "$(printf 'mine\nmine')" ] || fails "frames --pages wrote into a file that was there"
+    is_same pages/page-3.pbm "$top/docs/examples/row.pbm" "the page of the next free number"
+    [ "$(tail -1 "$work/output")" = "page 1: page-3.pbm" ] || fails "frames --pages didn't print the number"
+    for folder in missing victim; do
+        gives 1 frames --pages $folder "$line"
+        [ ! -s "$work/output" ] || fails "frames --pages printed a line before it looked at its folder"
+        [ "$(cat "$work/error")" = "fault 8" ] || fails "frames --pages $folder"
+    done
+}

@@ -1,0 +1,74 @@
+# The command frames.
+
+# Frames in bits.
+try_frames() {
+    works frames "$data/line.bits"
+    is_same "$work/output" "$data/line.txt" "frames of a line"
+    works frames "$(octets "7E DF 47 30 8A C6 FB 01 7E DF 47 30 8A C6 FB 01")"
+    printf '1 ff138c MCF\n2 ff138c MCF\ngood 2 aborted 0 ragged 0 short 0 long 0 damaged 0\n' > "$work/wanted"
+    is_same "$work/output" "$work/wanted" "frames of two MCF"
+    works frames "$(octets "7E DF 47 31 8A C6 FB 01")"
+    echo "good 0 aborted 0 ragged 0 short 0 long 0 damaged 1" > "$work/wanted"
+    is_same "$work/output" "$work/wanted" "frames of a damaged MCF"
+    : > "$work/nothing"
+    works frames "$work/nothing"
+    echo "good 0 aborted 0 ragged 0 short 0 long 0 damaged 0" > "$work/wanted"
+    is_same "$work/output" "$work/wanted" "frames of nothing"
+}
+
+# A part of each content, and lines that come as their frames do.
+try_data() {
+    frames=$(octets "7E DF 47 30 8A C6 FB 01")
+    for shown in "0 .." "2 ff13.." "3 ff138c" "300 ff138c"; do
+        works frames --data "${shown% *}" "$frames"
+        printf '1 %s MCF\ngood 1 aborted 0 ragged 0 short 0 long 0 damaged 0\n' "${shown#* }" > "$work/wanted"
+        is_same "$work/output" "$work/wanted" "frames --data ${shown% *}"
+    done
+    mkfifo "$work/bits"
+    "$program" frames - < "$work/bits" > "$work/output" &
+    exec 3> "$work/bits"
+    cat "$frames" >&3
+    for _wait in $(seq 100); do [ -s "$work/output" ] || sleep 0.05; done
+    [ "$(cat "$work/output")" = "1 ff138c MCF" ] || fails "frames doesn't list a frame as soon as it has come"
+    exec 3>&-
+    wait
+    rm "$work/bits"
+}
+
+# Bits with one gap of each class that is no good frame, and what there is counted.
+try_gaps() {
+    while read -r hex counts; do
+        works frames "$(octets "$(echo "$hex" | sed 's/../& /g')")"
+        echo "good 0 $counts" > "$work/wanted"
+        is_same "$work/output" "$work/wanted" "frames of a gap"
+    done << CASES
+7EFF7E aborted 1 ragged 0 short 0 long 0 damaged 0
+7E00FC00 aborted 0 ragged 1 short 0 long 0 damaged 0
+7E007E aborted 0 ragged 0 short 1 long 0 damaged 0
+7E$(printf '%0606d' 0)7E aborted 0 ragged 0 short 0 long 1 damaged 0
+CASES
+}
+
+# A mebibyte of frames.
+try_large_frames() {
+    works frames "$work/frames.bits"
+    is_same "$work/output" "$work/frames.txt" "frames of a mebibyte"
+}
+
+# The pages in the frames of calls, whole ones and such as lack something; and of a folder that is missing.
+try_captured() {
+    python3 -B "$data/try_captured.py" "$program" "$work" || fails "frames --pages"
+    mkdir -p "$work/captured"
+    gives 1 frames --pages "$work/captured" "$top/docs/examples/line.bits"
+    is_same "$work/captured/page-1.pbm" "$top/docs/examples/row.pbm" "the page in docs/examples/line.bits"
+    [ "$(head -1 "$work/error")" = "page 2 block 2: the blocks before it lack" ] || fails "frames --pages named other blocks"
+    gives 0 frames --data 2 "$top/docs/examples/line.bits"
+    cp "$work/output" "$work/wanted"
+    rm "$work/captured"/*
+    gives 1 frames --data 2 --pages "$work/captured" "$top/docs/examples/line.bits"
+    is_same "$work/output" "$work/wanted" "what frames --data 2 --pages lists"
+    gives 1 frames --pages "$work/missing" "$top/docs/examples/line.bits"
+    [ "$(cat "$work/error")" = "fault 8" ] || fails "frames --pages into a missing folder"
+    gives 1 frames --pages "$work/captured" "$(octets "7E DF 47 30 8A C6 FB 01")"
+    [ "$(cat "$work/error")" = "no error correction: no pages" ] || fails "frames --pages doesn't tell that there is no error correction"
+}

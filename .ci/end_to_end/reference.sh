@@ -1,0 +1,29 @@
+# The second reading of the tables, in bench/fuzz.
+
+# 300 random scripts and 300 random pages of fixed seeds: what the program prints and decodes is what the reference says.
+try_reference() {
+    for reading in reference_call reference_pages; do
+        python3 -B "$top/bench/fuzz/$reading.py" --dry > "$work/output" || fails "$reading.py doesn't read its worked cases: $(cat "$work/output")"
+    done
+    mkdir -p "$work/reference"
+    timeout 600 python3 -B "$data/try_reference.py" "$program" "$work/reference" || fails "the reference says something else"
+    count=$((count + 600))
+}
+
+# try_streams FAXTOOL: 300 random streams of a fixed seed and the octets of 300 calls: what the programs of crates/stream_tool answer,
+# store and send is what the reference says. The codes of the calls' pages are FAXTOOL's.
+try_streams() {
+    python3 -B "$top/bench/fuzz/fuzz_stream.py" --dry > "$work/output" || fails "fuzz_stream.py doesn't answer its worked streams: $(cat "$work/output")"
+    mkdir -p "$work/reference"
+    built=$top/crates/stream_tool/out/stream_tool
+    [ -z "$STREAM" ] || built=$STREAM
+    if [ ! -x "$built" ]; then
+        (cd "$top/crates/stream_tool" && rt run -- one_page.feeds) > "$work/built" 2>&1 || { cat "$work/built" >&2; exit 1; }
+    fi
+    for stream in "$built" "$built.by-rattle"; do
+        [ -x "$stream" ] || continue
+        timeout 600 python3 -B "$data/try_streams.py" "$stream" "$work/reference" || fails "${stream##*/}: the reference answers something else"
+        timeout 600 python3 -B "$data/try_octets.py" "$stream" "$1" "$work/reference" || fails "${stream##*/}: the reference sends other octets"
+        echo "end to end: ${stream##*/} passed 300 streams and 300 calls"
+    done
+}

@@ -1,0 +1,229 @@
+# Words of the command line, words of faults, completion.
+
+# What fault lines mean, in words: which file, where in it, and what is wrong there.
+try_explained() {
+    cd "$work"
+    mkdir -p folder
+    : > nothing
+    printf 'nothing that' > text
+    printf 'busy\nnothing that\n' > script
+    try_explained_images
+    try_explained_codes
+    explains "fault 8" "missing: no such file or folder" code --code mh missing made
+    explains "fault 8" "folder: it is a folder" frames folder
+    explains "fault 8" "text/page: a part of its path is no folder" show --code mh --width 8 text/page
+    explains "fault 8" "missing/made: no such file or folder" code --code mh "$data/page.pbm" missing/made
+    explains "fault 8" "folder: it is a folder" code --code mh "$data/page.pbm" folder
+    explains "fault 8" "a file: no such file or folder" frames "$(printf 'two\nlines')"
+    explains "fault 8" "standard input: it can't be read or written" call --script - -
+    explains "fault 8" "missing: no such file or folder" call --script missing "$data/page.pbm"
+    explains "fault 30 at line 2" "script: line 2: no command of a script, or no count that it takes" call --script script "$data/page.pbm"
+    if [ -c /dev/full ]; then
+        explains "fault 8" "/dev/full: no space left on the device" code --code mh "$data/page.pbm" /dev/full
+        status=0
+        "$program" frames --explain "$data/line.bits" > /dev/full 2> error || status=$?
+        printf 'fault 8\nstandard output: no space left on the device\n' > wanted
+        [ $status = 1 ] || fails "frames --explain on a full disk ended with status $status"
+        is_same error wanted "the words of frames on a full disk"
+    fi
+    works code --explain --code mh "$data/page.pbm" made
+    works decode --explain --code mh --width 315 made decoded
+    cd "$top"
+}
+
+# The same of images.
+try_explained_images() {
+    while read -r fault hex words; do
+        cp "$(octets "$hex")" image
+        explains "fault $fault" "image: $words" code --code mmr image made
+    done << CASES
+5 50_31_0A_38 a plain PBM (P1): faxtool reads raw ones (P4)
+5 50_32_0A_38 a plain PGM (P2): faxtool reads raw PBM (P4)
+5 50_33_0A_38 a plain PPM (P3): faxtool reads raw PBM (P4)
+5 50_35_0A_38 a raw PGM (P5): faxtool reads raw PBM (P4)
+5 50_36_0A_38 a raw PPM (P6): faxtool reads raw PBM (P4)
+5 50_37_0A_38 a PAM (P7): faxtool reads raw PBM (P4)
+5 49_49_2A_00 perhaps a TIFF: faxtool reads raw PBM (P4)
+5 4D_4D_00_2A perhaps a TIFF: faxtool reads raw PBM (P4)
+5 FF_D8 no raw PBM: it doesn't begin with P4
+5 50_34_0A_78 a header is wrong: after P4 come the width and the height, and after an image the next P4 or the end
+5 50_34_0A_38_20_31_0A_30_0A a header is wrong: after P4 come the width and the height, and after an image the next P4 or the end
+27 50_34_0A_38_20_31_0A_30_50_34_0A_38_20_31_0A_30 several images: code takes one
+1 50_34_0A_32_34_33_33_20_31_0A_30 the width isn't 1 to 2432 pixels
+3 50_34_0A_38_20_32_30_30_30_31_0A the image has more than 20000 rows
+4 50_34_0A_38_20_30_0A the image has no row
+6 50_34_0A_38_20_31_0A the image is cut short: it has fewer octets than its width and height say
+CASES
+    explains "fault 7" "nothing: there is no image: it has no octet" code --code mmr nothing made
+    explains "fault 26" "image: a page has a width that no call carries: 1728, 2048 or 2432 pixels" \
+        call --script nothing "$(cp "$(octets "50 34 0A 38 20 31 0A 30")" image; echo image)"
+}
+
+# The same of coded pages, of a width of 8: the row, and what was expected there.
+try_explained_codes() {
+    while read -r code fault bit row hex words; do
+        cp "$(octets "$hex")" page
+        for command in "show page" "decode page made" "decode --salvage page made"; do
+            explains "fault $fault at bit $bit" "page: row $row: $words" ${command%% *} --code "$code" --width 8 ${command#* }
+        done
+    done << CASES
+mh 10 12 1 00_10_08 no code word of a white run begins here
+mh 10 16 1 00_17_00_80 no code word of a black run begins here
+mh 10 34 2 00_17_EC_00_40_20_00 no code word of a white run begins here
+mh 12 12 1 00_1A_00 this run goes past the row's width: is --width right?
+mh 12 34 2 00_17_EC_00_68_00 this run goes past the row's width: is --width right?
+mh 4 12 1 00_10_00 the page ends before its first row
+mmr 16 0 1 02 an extension code, as of uncompressed mode, which faxtool doesn't read
+mmr 16 13 3 2F_F8_10 an extension code, as of uncompressed mode, which faxtool doesn't read
+mmr 17 1 2 80 the page's end (EOFB) is missing: the file is cut short
+mmr 11 3 1 20 the file ends inside a code or before the next one: it is cut short
+mmr 14 0 1 60 this mode or run goes past the row's width: is --width right?
+mmr 13 15 2 26_AA_80 this vertical mode doesn't move to the right
+mmr 15 11 1 26_A1_B8 a horizontal mode of two runs of 0 pixels
+CASES
+    works code --code mh "$data/page.pbm" page
+    python3 -c 'import sys; octets = bytearray(open("page", "rb").read()); octets[400] ^= 8; sys.stdout.buffer.write(octets)' > flipped
+    explains_standard flipped
+}
+
+# explains_standard FILE: a page on standard input is explained as that in the file.
+explains_standard() {
+    gives 1 show --explain --code mh --width 315 "$1"
+    sed "s/^$1: /standard input: /" "$work/error" > wanted
+    grep -q '^standard input: row [0-9]*: ' wanted || fails "show --explain tells no row"
+    status=0
+    "$program" show --explain --code mh --width 315 - < "$1" > output 2> error || status=$?
+    [ $status = 1 ] || fails "show --explain - ended with status $status"
+    is_same error wanted "the words of a page on standard input"
+    count=$((count + 1))
+}
+
+# On a terminal the words come unasked, and how far reading is where it takes long.
+try_terminal() {
+    if ! command -v script > /dev/null; then
+        echo "end to end: no program script, so nothing was tried on a terminal"
+        return
+    fi
+    cd "$work"
+    cp "$(octets "00 10 08")" page
+    status=0
+    script -qec "'$program' decode --code mh --width 8 page made" /dev/null < /dev/null > output || status=$?
+    printf 'fault 10 at bit 12\r\npage: row 1: no code word of a white run begins here\r\n' > wanted
+    [ $status = 1 ] || fails "decode on a terminal ended with status $status"
+    is_same output wanted "the words on a terminal"
+    script -qec "'$program' decode --code mh --width 8 page made 2> error" /dev/null < /dev/null > output || true
+    [ "$(cat error)$(cat output)" = "fault 10 at bit 12" ] || fails "decode wrote words where standard error is no terminal"
+    script -qec "(head -c 500 '$data/page.pbm'; sleep 3.5; tail -c +501 '$data/page.pbm') | '$program' code --code mh - made" \
+        /dev/null < /dev/null > output
+    is_same made "$data/page.mh.msb" "code of a slow file on a terminal"
+    grep -q '^.read 512 octets in 3 s\|^.read [0-9]* octets in [34] s' output || fails "code doesn't tell how far a slow file is read"
+    script -qec "'$program' code --code mh '$data/page.pbm' made" /dev/null < /dev/null > output
+    [ ! -s output ] || fails "code tells how far a quick file is read"
+    cd "$top"
+    count=$((count + 4))
+}
+
+# The completion for bash names each command and each option of the help, and no others.
+try_completion() {
+    if ! command -v bash > /dev/null; then
+        echo "end to end: no bash, so the completion wasn't tried"
+        return
+    fi
+    completes "code show decode frames call version help --help" ""
+    completes "code call" c
+    gives 2 --help
+    commands=$(sed -n 's/^  \([a-z][a-z]*\)  .*/\1/p' "$work/error")
+    [ "$(echo $commands)" = "code show decode frames call version help" ] || fails "--help has other commands: $commands"
+    for command in code show decode frames call version; do
+        gives 2 "$command" --help
+        options=$(sed -n 's/^  *\(-h, \)\{0,1\}\(--[a-z]*\).*/\2/p' "$work/error" | sort)
+        [ -n "$options" ] || fails "$command --help has no options"
+        [ "$(completed "$command" -- | sort)" = "$options" ] || fails "$command is completed by other options than its help has"
+    done
+    completes "mh mmr" code --code ""
+    completes "mh mmr" code --code =
+    completes "mmr" decode --code = mm
+    completes "msb lsb" show --order ""
+    completes "256 64" call --frame ""
+    completes "v17 v27v29 v29 v27 fallback" call --modems ""
+    completes "page.mh.lsb page.mh.msb" show page.mh
+    completes "line.bits line.txt" call --script lin
+}
+
+# completed WORDS: what the last word of a command line of faxtool is completed to, a line each.
+completed() {
+    (cd "$data" && bash -c '. "$1" && shift && COMP_WORDS=(faxtool "$@") COMP_CWORD=$# && _faxtool && printf "%s\n" "${COMPREPLY[@]}"' \
+        bash "$top/docs/completion/faxtool.bash" "$@")
+}
+
+# completes WANTED WORDS: the last word is completed to these, in any order.
+completes() {
+    wanted=$(printf '%s\n' $1 | sort)
+    shift
+    [ "$(completed "$@" | sort)" = "$wanted" ] || fails "faxtool $* is completed to: $(echo $(completed "$@"))"
+}
+
+# The version is that of the file at the top.
+try_version() {
+    works version
+    is_same "$work/output" "$top/VERSION" "version"
+    refuses version --explain
+    refuses version 1
+}
+
+# FAXTOOL_EXPLAIN=1 is --explain; another value isn't.
+try_environment() {
+    for value in 1 0 ""; do
+        FAXTOOL_EXPLAIN=$value gives 1 code --code mh "$work/missing" "$work/made"
+        lines=1
+        [ "$value" != 1 ] || lines=2
+        [ "$(wc -l < "$work/error")" = $lines ] || fails "FAXTOOL_EXPLAIN=$value told something else"
+    done
+    grep -q "^$work/missing: no such file or folder" "$work/error" && fails "FAXTOOL_EXPLAIN= told the words"
+    gives 2 --help
+    for number in 20 21 22; do
+        grep -q "^  $number  " "$work/error" || fails "--help doesn't tell fault $number"
+    done
+    gives 2 code --help
+    grep -q "FAXTOOL_EXPLAIN=1" "$work/error" || fails "--help doesn't tell FAXTOOL_EXPLAIN"
+}
+
+# Memory that is refused is fault 9, and its words name the file that was read; never fault 8.
+try_memory() {
+    "$program" code --code mh "$work/large.pbm" "$work/large.mh"
+    for most in $(seq 3300 20 3700) 4500; do
+        status=0
+        (ulimit -v "$most"; exec "$program" decode --explain --code mh --width 2432 "$work/large.mh" "$work/made") \
+            > "$work/output" 2> "$work/error" || status=$?
+        [ "$status" = 1 ] || continue
+        [ "$(head -1 "$work/error")" = "fault 9" ] || fails "decode with $most KB of memory"
+        grep -q "^$work/large.mh: memory was refused" "$work/error" || fails "decode with $most KB of memory names no file"
+    done
+    yes "busy 1" | head -c 3000000 > "$work/long.script"
+    status=0
+    (ulimit -v 5000; exec "$program" call --explain --script "$work/long.script" "$data/page.pbm") > "$work/output" 2> "$work/error" || status=$?
+    [ "$status $(head -1 "$work/error")" = "1 fault 9" ] || fails "call with a long script and little memory ended with status $status"
+    grep -q "^$work/long.script: memory was refused" "$work/error" || fails "call doesn't name its script where memory is refused"
+    count=$((count + 3))
+}
+
+# Words that are no job, and those that ask for help.
+try_words() {
+    refuses
+    for words in --help help -h --version "code --help" "show --help" "frames --help" fax \
+        "code a b" "code --code g3 a b" "code --code mh a" "code --code mh a b c" "code --code mh --code mh a b" \
+        "code --code mh --order up a b" "show --code mh a" "show --width 8 a" "show --code mh --width 0 a" \
+        "show --code mh --width 2433 a" "show --code mh --width x a" "frames" "frames a b" "frames --code mh a" \
+        "help show" "call --help" paint "code --code mr a b" "code --code mh --order MSB a b" "show --code mh --width 8" \
+        "frames --data x a" "frames --data 301 a" "frames --data -1 a" "frames --data 1 --data 1 a" "frames --pages a" "frames --pages a --pages b c" "decode --code mh --width 8 --salvage --salvage a b" "show --code mh --width 8.0 a" "show --code mh --width 4294967304 a" "show --code mh --width 18446744073709551624 a" \
+        "call a" "call --script a" "call --script a --frame 128 b" "call --script a --modems v34 b" \
+        "call --script a --fine --fine b" "decode --code mh --width 8 a" "decode --code mh a b" "decode --width 8 a b" \
+        "decode --code mh --width 8 --verbose --verbose a b" "decode --code mh --width 8 a b c" "decode --help"; do
+        refuses $words
+    done
+    refuses show --code mh --width "" a
+    refuses show --help
+    for text in "<FILE>  The file of the coded page" "--width <N>" "[default: msb] [possible values: msb, lsb]"; do
+        grep -qF -e "$text" "$work/error" || fails "show --help doesn't say: $text"
+    done
+}

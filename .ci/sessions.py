@@ -1,0 +1,92 @@
+#!/usr/bin/env python3
+"""Runs the command lines of documents with a built program, and compares what they print with what the documents show:
+
+    .ci/sessions.py PROGRAM DOCUMENT..
+
+Each document's lines run in a copy of docs/examples of their own, where `faxtool` is the program. In a block that is fenced as `console`
+a line that begins with `$ ` is a command, one that begins with `> ` goes on with it, and the lines up to the next command are all that it
+prints, on standard output and standard error; a line `...` stands for any lines. In a table each cell that is a `faxtool` command is run:
+it must end with status 0 and say nothing on standard error. Blocks of another name are not run.
+Prints how many commands were run, or the first difference, and ends with status 1 then. It needs Python's standard library alone."""
+
+import os
+import re
+import shutil
+import subprocess
+import sys
+import tempfile
+from pathlib import Path
+
+TOP = Path(__file__).resolve().parent.parent
+BLOCK = re.compile(r"^```console\n(.*?)^```$", re.M | re.S)
+CELL = re.compile(r"^\|.*?`(faxtool [^`]*)`", re.M)
+
+
+def sessions(text):
+    """Each command of the document in order, with the lines that it prints, or None where that is not shown."""
+    found = [(block.start(), commands_of(block[1])) for block in BLOCK.finditer(text)]
+    found += [(cell.start(), [(cell[1], None)]) for cell in CELL.finditer(text)]
+    return [command for _, commands in sorted(found, key=lambda one: one[0]) for command in commands]
+
+
+def commands_of(block):
+    """The commands of a block, each with the lines that it prints."""
+    commands = []
+    for line in block.splitlines():
+        if line.startswith("$ "):
+            commands.append((line[2:], []))
+        elif line.startswith("> ") and not commands[-1][1]:
+            commands[-1] = (commands[-1][0] + "\n" + line[2:], [])
+        else:
+            commands[-1][1].append(line)
+    return commands
+
+
+def are_shown(printed, shown):
+    """The lines are those shown, where `...` stands for any."""
+    pattern = "".join(r"(?:.*\n)*?" if line == "..." else re.escape(line) + "\n" for line in shown)
+    return re.fullmatch(pattern, printed) is not None
+
+
+def run(command, folder, status, errors):
+    """What a command prints, its errors, and its status. The status of the command before it is `$?` for it."""
+    environment = dict(os.environ, PATH=f"{folder / 'bin'}:{os.environ['PATH']}", LC_ALL="C")
+    done = subprocess.run(
+        ["sh", "-c", f"cd '{folder / 'work'}' && (exit {status})\n{command}"],
+        env=environment, stdin=subprocess.DEVNULL, stdout=subprocess.PIPE, stderr=errors, timeout=60,
+    )  # fmt: skip
+    return done.stdout.decode(), (done.stderr or b"").decode(), done.returncode
+
+
+def try_document(program, document):
+    """Runs all commands of a document, and answers how many they are."""
+    commands = sessions(document.read_text())
+    with tempfile.TemporaryDirectory() as name:
+        folder = Path(name)
+        (folder / "bin").mkdir()
+        (folder / "bin" / "faxtool").symlink_to(program)
+        shutil.copytree(TOP / "docs" / "examples", folder / "work")
+        status = 0
+        for command, shown in commands:
+            printed, errors, status = run(command, folder, status, subprocess.PIPE if shown is None else subprocess.STDOUT)
+            if shown is None and (status != 0 or errors):
+                sys.exit(f"{document.name}: `{command}` ended with status {status}:\n{errors}")
+            if shown is not None and not are_shown(printed, shown):
+                sys.exit(f"{document.name}: `{command}` printed other lines than the document shows:\n{printed}")
+    return len(commands)
+
+
+def main(words):
+    if len(words) < 2:
+        print(__doc__)
+        return 2
+    program = Path(words[0]).resolve()
+    counts = {document: try_document(program, Path(document).resolve()) for document in words[1:]}
+    for document, count in counts.items():
+        if count < 5:
+            sys.exit(f"{document}: it has {count} commands, and not 5 or more")
+    print(sum(counts.values()))
+    return 0
+
+
+sys.exit(main(sys.argv[1:]))
