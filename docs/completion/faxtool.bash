@@ -6,7 +6,7 @@ _faxtool_options() {
     case $1 in
         code) echo --code --order --explain --help ;;
         show) echo --code --width --order --explain --help ;;
-        decode) echo --code --width --order --fine --salvage --repair --verbose --explain --help ;;
+        decode) echo --code --width --order --fine --salvage --repair --whole --verbose --explain --help ;;
         frames) echo --data --pages --explain --help ;;
         call) echo --script --code --frame --modems --fine --out --explain --help ;;
         *) echo --help ;;
@@ -29,7 +29,7 @@ _faxtool() {
     local word=${COMP_WORDS[COMP_CWORD]} before=${COMP_WORDS[COMP_CWORD - 1]} values
     COMPREPLY=()
     if [ "$COMP_CWORD" = 1 ]; then
-        COMPREPLY=($(compgen -W "code show decode frames call help --help" -- "$word"))
+        COMPREPLY=($(compgen -W "code show decode frames call version help --help" -- "$word"))
         return
     fi
     # bash takes --code=mh as three words
@@ -39,7 +39,7 @@ _faxtool() {
     if [ -n "$values" ]; then
         COMPREPLY=($(compgen -W "$values" -- "$word"))
     elif [ "${COMP_WORDS[1]}" = help ]; then
-        COMPREPLY=($(compgen -W "code show decode frames call" -- "$word"))
+        COMPREPLY=($(compgen -W "code show decode frames call version" -- "$word"))
     elif [ "${word#-}" != "$word" ]; then
         COMPREPLY=($(compgen -W "$(_faxtool_options "${COMP_WORDS[1]}")" -- "$word"))
     else
