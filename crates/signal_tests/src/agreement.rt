@@ -111,7 +111,10 @@ fn stations_that_offer_less(rt: HostRuntime) -> Result<(), Fail> {
         coding: Coding::T6,
         ..fine
     };
-    assert_eq!(rt; (allows(&without, &fine), allows(&without, &t6)), (true, false));
+    assert_eq!(rt;
+        (allows(&without, &fine), allows(&without, &t6)),
+        (true, false)
+    );
     let coarse = Caps {
         fine: false,
         ..without
