@@ -10,8 +10,8 @@ try_reference() {
     count=$((count + 600))
 }
 
-# try_streams FAXTOOL: 300 random streams of a fixed seed and the octets of 300 calls: what the programs of crates/stream_tool answer,
-# store and send is what the reference says. The codes of the calls' pages are FAXTOOL's.
+# try_streams FAXTOOL: the rows by octets; 300 random streams of a fixed seed and the octets of 300 calls: what the programs of
+# crates/stream_tool answer, store and send is what the reference says. The codes of the calls' pages are FAXTOOL's.
 try_streams() {
     python3 -B "$top/bench/fuzz/fuzz_stream.py" --dry > "$work/output" || fails "fuzz_stream.py doesn't answer its worked streams: $(cat "$work/output")"
     mkdir -p "$work/reference"
@@ -22,6 +22,7 @@ try_streams() {
     fi
     for stream in "$built" "$built.by-rattle"; do
         [ -x "$stream" ] || continue
+        timeout 600 python3 -B "$data/try_rows.py" "$stream" "$1" "$work/reference" || fails "${stream##*/}: a worked row has other octets"
         timeout 600 python3 -B "$data/try_streams.py" "$stream" "$work/reference" || fails "${stream##*/}: the reference answers something else"
         timeout 600 python3 -B "$data/try_octets.py" "$stream" "$1" "$work/reference" || fails "${stream##*/}: the reference sends other octets"
         echo "end to end: ${stream##*/} passed 300 streams and 300 calls"

@@ -59,7 +59,7 @@ fn show_event(rt: &HostRuntime, world: &mut World, number: u8) -> io::Result<()>
     Ok(())
 }
 
-/// Runs the call that octets tell: the modems' number; whether the code is one-dimensional, the frames are small and the lines
+/// Runs the call that octets say: the modems' number; whether the code is one-dimensional, the frames are small and the lines
 /// fine, an octet each; the number of events in two octets, the high one first, the events' numbers, and the images.
 pub fn show_call(rt: &HostRuntime, octets: &[u8]) -> io::Result<()> {
     if octets.len() < 6 {

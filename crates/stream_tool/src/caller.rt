@@ -42,8 +42,8 @@ fn show_turn(rt: &HostRuntime, caller: &Caller, turn: &Turn) -> io::Result<()> {
     println!(rt; "{count}")
 }
 
-/// Passes a caller what octets tell: a head as that of a call, with the number of octets of what is passed in place of the number of
-/// events, then a kind, the number of octets and the octets of each, and the images. Prints each turn and the end.
+/// Passes a caller what octets say: a head as that of a call, with the number of octets of what is passed in place of the number of
+/// events; then for each input a kind, the number of its octets in two, and these; then the images. Prints each turn, and the end.
 pub fn show_caller(rt: &HostRuntime, octets: &[u8]) -> io::Result<()> {
     if octets.len() < 6 {
         return println!(rt; "no call");

@@ -1,8 +1,8 @@
-//! For the gate: what an answerer makes of a file of feeds, whoever sends them: its turns, a line each, the pages that it stored,
-//! each with a number of its octets, and its end; or, with a second word `call`, the octets on the line of the call that the file
-//! tells; or, with `caller`, what a caller does about what it hears. The first word is the file's name; with a second one, as `few`, the answerer has few capabilities, else all. A feed is an
-//! octet of `O` (octets of the line), `C` (a training check), `1` or `2` (the end of a wait), `B` or `R` (busy, ready), the number of
-//! octets in two, the high one first, and these octets.
+//! For the gate: what the stations do about a file of octets, its first word. With that word alone, what an answerer makes of a file of
+//! feeds, whoever sends them: its turns, a line each, the pages that it stored, each with a number of its octets, and its end; with a
+//! second word `few`, the same of an answerer that has few capabilities. With `call`, the octets on the line of the call that the file
+//! says; with `caller`, what a caller does about what it hears. A feed is an octet of `O` (octets of the line), `C` (a training check),
+//! `1` or `2` (the end of a wait), `B` or `R` (busy, ready), the number of octets in two, the high one first, and these octets.
 
 #![tactic(auto)]
 
