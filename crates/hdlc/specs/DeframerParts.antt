@@ -41,7 +41,7 @@ kept_in cutter = record {
   ending = cutter.gap.unstuffed.window;
 }
 
--- After these bits, of whose good contents so many were handed out, this is kept, these are the counts, and these
+-- After these bits, of whose good contents `handed` were handed out, this is kept, these are the counts, and these
 -- contents wait.
 pub record PartsAfter (cutter : Cutter) (counts : Counts) (queue : List (List ℕ)) (bits : List Bool) (handed : ℕ) : Type 0 where
   pub cuts : Cuts cutter bits

@@ -13,7 +13,7 @@ pub record DeframerState : Type 0 where
   pub counts : Counts
   pub queue : List (List ℕ)
 
--- the state after these bits, of whose good contents so many were handed out
+-- the state after these bits, of whose good contents `handed` were handed out
 pub record IsAfter (state : DeframerState) (bits : List Bool) (handed : ℕ) : Type 0 where
   pub kept : state.kept ≡ kept_of bits
   pub counted : (class : Class) → count_in state.counts class ≡ min (2 ^ 64 - 1) (count_of class bits)

@@ -23,17 +23,17 @@ end_no_flag window (octet ∷ octets) = ends_no_flag window (bits_of LsbFirst (o
 abbrev pub run_after : ℕ → Bool → ℕ
 run_after ones b = cond b (min 5 (ones + 1)) 0
 
--- these bits without the stuffed ones, that come after so many 1 bits in a row
+-- these bits without the stuffed ones, where they come after `ones` 1 bits in a row
 abbrev pub unstuffed_from : ℕ → List Bool → List Bool
 unstuffed_from ones [] = []
 unstuffed_from ones (b ∷ bits) = cond (nat_lt ones 5) (b ∷ []) [] ++ unstuffed_from (run_after ones b) bits
 
--- one of these bits, that come after so many 1 bits in a row, is the sixth 1 bit in a row
+-- one of these bits, where they come after `ones` 1 bits in a row, is the sixth 1 bit in a row
 abbrev pub six_from : ℕ → List Bool → Bool
 six_from ones [] = false
 six_from ones (b ∷ bits) = (not (nat_lt ones 5) && b) || six_from (run_after ones b) bits
 
--- how many 1 bits in a row there are at the end, with these bits after so many
+-- how many 1 bits in a row there are at the end, where these bits come after `ones` of them
 abbrev pub ones_at_end : ℕ → List Bool → ℕ
 ones_at_end ones [] = ones
 ones_at_end ones (b ∷ bits) = ones_at_end (cond b (1 + ones) 0) bits
@@ -57,8 +57,8 @@ unstuffed_entry place =
 abbrev pub unstuffed_entries : List ℕ
 unstuffed_entries = map unstuffed_entry (range_with_len 0 1792)
 
--- From so many bits after a flag, at most seven, and a register of the last eight bits, these bits lead to so many after a
--- flag and such a register, with at most seven bits between two flags.
+-- From `held` bits after a flag, at most seven, and a register of the last eight bits, these bits lead to `last_held` bits after a
+-- flag and to the register `last_window`, with at most seven bits between two flags.
 abbrev pub leads_to : ℕ → ℕ → List Bool → ℕ → ℕ → Bool
 leads_to held window [] last_held last_window = nat_eq held last_held && nat_eq window last_window
 leads_to held window (b ∷ bits) last_held last_window =

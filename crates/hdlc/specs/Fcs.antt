@@ -19,8 +19,8 @@ add (x ∷ xs) (y ∷ ys) = xor x y ∷ add xs ys
 abbrev pub divisor : List Bool
 divisor = false ∷ false ∷ false ∷ true ∷ false ∷ false ∷ false ∷ false ∷ false ∷ false ∷ true ∷ false ∷ false ∷ false ∷ false ∷ true ∷ []
 
--- From the front, each of so many bits that is then 1 is inverted, together with those 4, 11 and 16 places after it; the
--- bits after them are left.
+-- From the front, each of the first bits, a number of them, that is then 1 is inverted, together with those 4, 11 and 16 places
+-- after it; what is left are the bits after these.
 abbrev pub remainder : ℕ → List Bool → List Bool
 remainder zero bits = bits
 remainder (suc n) [] = []

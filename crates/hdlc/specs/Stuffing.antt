@@ -8,7 +8,7 @@ use Rattle.raster.specs.Octets.{number}
 use Rattle.raster.specs.Words.{number_bits}
 use Rattle.hdlc.specs.declared.waiting.Waiting.{Waiting}
 
--- one bit as it is sent after so many 1 bits in a row: a 0 bit comes after the fifth
+-- one bit as it is sent after a number of 1 bits in a row: a 0 bit comes after the fifth
 abbrev pub stuffed_bit : ℕ → Bool → List Bool
 stuffed_bit ones b = b ∷ cond (b && not (nat_lt ones 4)) (false ∷ []) []
 
@@ -16,7 +16,7 @@ stuffed_bit ones b = b ∷ cond (b && not (nat_lt ones 4)) (false ∷ []) []
 abbrev pub run_sent : ℕ → Bool → ℕ
 run_sent ones b = cond (b && nat_lt ones 4) (1 + ones) 0
 
--- bits as they are sent after so many 1 bits in a row
+-- bits as they are sent after a number of 1 bits in a row
 abbrev pub stuffed_from : ℕ → List Bool → List Bool
 stuffed_from ones [] = []
 stuffed_from ones (b ∷ bits) = stuffed_bit ones b ++ stuffed_from (run_sent ones b) bits
@@ -42,7 +42,7 @@ stuffed_numbers = map (λ place. number (reverse (stuffed_at place))) (range_wit
 abbrev pub waiting_bits : Waiting → List Bool
 waiting_bits w = number_bits w.count w.value
 
--- at most so many bits wait
+-- at most `most` bits wait
 pub record IsWaiting (most : ℕ) (w : Waiting) : Type 0 where
   pub fits : w.value < 2 ^ w.count
   pub few : w.count ≤ most

@@ -11,7 +11,7 @@ pub record Alone (xs : List Bool) : Type 0 where
   pub last : last_flag xs ≡ Some 0
   pub none : gaps xs ≡ []
 
--- the stuffed text of some bits, with so many 1 bits at its end
+-- the stuffed text of some bits, with `count` 1 bits at its end
 pub record Written (pre bits : List Bool) (count : ℕ) : Type 0 where
   pub alone : Alone (flag ++ pre)
   pub ends : suffix_len (λ bit. bit) pre ≡ count

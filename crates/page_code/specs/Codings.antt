@@ -22,7 +22,7 @@ unfoldable pub code_of : Coding → ℕ → List (List Color) → List Bool
 code_of OneDim width rows = page_words rows
 code_of T6 width rows = page_code width rows
 
--- the bits read as rows of this width, with so many of them used
+-- the bits read as rows of this width, with `used` of them used
 unfoldable pub ReadsIn : Coding → ℕ → List Bool → List (List Color) → ℕ → Type 0
 ReadsIn OneDim width bits rows used = ReadsAs width bits rows used
 ReadsIn T6 width bits rows used = ReadsAsPage width bits rows used
@@ -37,7 +37,7 @@ unfoldable pub IsLongestIn : Coding → ℕ → List Bool → ℕ → CodeFaultK
 IsLongestIn OneDim width bits place kind = IsLongestOneDim width bits place kind
 IsLongestIn T6 width bits place kind = IsLongestT6 width bits place kind
 
--- whole items of a page, so many bits, begin the bits, and for this reason the page goes no further
+-- whole items of a page, `place` bits, begin the bits, and for this reason the page goes no further
 unfoldable pub IsRefusedIn : Coding → ℕ → List Bool → ℕ → CodeFaultKind → Type 0
 IsRefusedIn OneDim width bits place kind = IsRefusedOneDim width bits place kind
 IsRefusedIn T6 width bits place kind = IsRefusedT6 width bits place kind

@@ -13,7 +13,7 @@ use Rattle.run_tables.specs.declared.fault.CodeFaultKind.TheVariants.{NoMemory}
 abbrev pub AppendsCode : Order → List Bool → List ℕ → List ℕ → Type 0
 AppendsCode order code old new = (octets : List ℕ) × (new ≡ old ++ octets) × FillsOctets order code octets
 
--- a page of this width was read, and so many bits used
+-- a page of this width was read, and `used` bits used
 pub record ReadsPage (Reads : ℕ → List Bool → List (List Color) → ℕ
     → Type 0) (width : ℕ) (fine : Bool) (bits : List Bool) (page : PagePixels) (used : ℕ) : Type 0 where
   pub width_is : page.width ≡ width

@@ -14,7 +14,7 @@ pub record PageReading : Type 0 where
   pub place : ℕ
   pub count : ℕ
 
--- the reader stands for these octets: their bits begin with the rows that it keeps, and spell so many whole rows as it found
+-- the reader stands for these octets: their bits begin with the rows that it keeps, and spell the number of whole rows that it found
 pub record StandsFor (reader : PageReading) (octets : List ℕ) : Type 0 where
   pub kept : IsReadTo reader.coding reader.page.width (bits_of reader.order octets) reader.page.rows reader.place
   pub counted : AreRowsSoFar reader.coding reader.page.width (bits_of reader.order octets) reader.count

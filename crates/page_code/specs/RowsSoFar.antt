@@ -27,7 +27,7 @@ BeginWith OneDim width bits rows = (lead : List Bool) × (front : List Bool) × 
 BeginWith T6 width bits rows = (front : List Bool) × (rest : List Bool) × SpellsT6 width (white_line width) rows front
     × (bits ≡ front ++ rest)
 
--- the bits spell so many whole rows, one after the other, and no more; a page has at most 20,000
+-- the bits spell `count` whole rows, one after the other, and no more; a page has at most 20,000
 pub record AreRowsSoFar (coding : Coding) (width : ℕ) (bits : List Bool) (count : ℕ) : Type 0 where
   pub few : count ≤ max_rows
   pub there : 0 < count → (rows : List (List Color)) × (length rows ≡ count) × BeginWith coding width bits rows
@@ -44,7 +44,7 @@ RowsStay =
     (coding : Coding) (width : ℕ) (bits more : List Bool) (count later : ℕ) → AreRowsSoFar coding width bits count
     → AreRowsSoFar coding width (bits ++ more) later → count ≤ later
 
--- whole items at the beginning of bits lead from a state to another, with so many bits
+-- whole items at the beginning of bits lead from a state to another, with `place` bits
 pub record LeadsTo {State Item : Type 0} (word : Item → List Bool) (Step : State → Item → State
     → Type 0) (from to : State) (bits : List Bool) (place : ℕ) : Type 0 where
   pub items : List Item
@@ -62,7 +62,7 @@ after_rows (row ∷ rows) = row_end (row ∷ rows)
 abbrev pub between_rows : ℕ → List (List Color) → T6State
 between_rows width rows = between (record { rows = rows; reference = reference_at (white_line width) rows (length rows) })
 
--- these rows were read from the beginning of the bits, with so many of them used
+-- these rows were read from the beginning of the bits, with `place` of them used
 unfoldable pub IsReadTo : Coding → ℕ → List Bool → List (List Color) → ℕ → Type 0
 IsReadTo OneDim width bits rows place = LeadsTo one_dim_word (OneDimStep width) first (after_rows rows) bits place
 IsReadTo T6 width bits rows place = LeadsTo page_item_word (PageStep width) (page_begin width) (between_rows width rows) bits place

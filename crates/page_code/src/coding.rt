@@ -82,7 +82,7 @@ pub trait PageCode {
     // the prescribed code of rows of a width
     ghost code: { ℕ → List (List Color) → List Bool };
 
-    // bits read as rows of a width, with so many of them used
+    // bits read as rows of a width, and how many of them were used
     ghost Reads: { ℕ → List Bool → List (List Color) → ℕ → Type 0 };
 
     // what bits read as: rows of a width and the bits used, or the place and the kind of a refusal

@@ -19,11 +19,11 @@ abbrev pub frame_size : Bool → ℕ
 frame_size true = 64
 frame_size false = 256
 
--- how many frames so many octets need
+-- how many frames a number of octets needs
 abbrev pub frames_for : Bool → ℕ → ℕ
 frames_for small octets = div_ceil octets (frame_size small)
 
--- so many pieces of one length, one after the other, from the front of a list; the last may be shorter
+-- the first pieces of a list, a number of them, each of one length; the last may be shorter
 unfoldable pub pieces : {X : Type 0} → ℕ → ℕ → List X → List (List X)
 pieces size zero xs = []
 pieces size (suc count) xs = take size xs ∷ pieces size count (drop size xs)

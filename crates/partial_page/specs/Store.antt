@@ -53,7 +53,7 @@ pub record IsMissingMap (frames : List (Option (List ℕ))) (last : ℕ) (octets
 abbrev pub IsWhole : List (Option (List ℕ)) → ℕ → Type 0
 IsWhole frames last = (n : ℕ) → n ≤ last → has_frame frames n ≡ true
 
--- the data of the first so many numbers, one after the other
+-- the data of the frames below `count`, one after the other
 unfoldable pub joined_frames : List (Option (List ℕ)) → ℕ → List ℕ
 joined_frames frames count = flat_map (λ n. unwrap_or (frame_of frames n) []) (range_with_len 0 count)
 

@@ -20,7 +20,7 @@ abbrev pub AreOctets : List ℕ → Type 0
 AreOctets [] = Unit {0}
 AreOctets (x ∷ xs) = (x < 256) × AreOctets xs
 
--- how many 0 bits fill so many bits to an octet
+-- how many 0 bits fill `count` bits to a whole octet
 abbrev pub fill_of : ℕ → ℕ
 fill_of count = (8 - count % 8) % 8
 

@@ -24,7 +24,7 @@ turned_octet octet = reverse_bits_onto 8 octet 0
 abbrev pub turned_octets : List ℕ
 turned_octets = map turned_octet (range_with_len 0 256)
 
--- so many of the lowest bits of a number, the most significant of them first
+-- the lowest `count` bits of a number, the most significant of them first
 abbrev pub number_bits : ℕ → ℕ → List Bool
 number_bits count value = map (λ place. nat_eq (bit_at value (count - 1 - place)) 1) (range_with_len 0 count)
 

@@ -72,11 +72,11 @@ ReadsRun color old new (Ok run) = (run ≤ 2623) × (begins (run_words color run
 ReadsRun color old new (Err fault) = ((run : ℕ) → run ≤ 2623
     → begins (run_words color run) (rest_of old) ≡ false) × RefusesRun color old fault × (new ≡ old)
 
--- a make-up code of at most so many pixels was read, where a run begins
+-- a make-up code of at most `room` pixels was read, where a run begins
 abbrev pub BeginsRun : Color → ℕ → Reading → Reading → ℕ → Type 0
 BeginsRun color room old new makeup = PicksCode color AllCodes old new (Ok makeup) × (64 ≤ makeup) × (makeup ≤ room)
 
--- a terminating code of at most so many pixels was read
+-- a terminating code of at most `room` pixels was read
 abbrev pub EndsRun : Color → Among → ℕ → Reading → Reading → ℕ → Type 0
 EndsRun color among room old new run = PicksCode color among old new (Ok run) × (run < 64) × (run ≤ room)
 
@@ -87,7 +87,7 @@ RefusesCodeWithin color among room past old fault =
     ((run : ℕ) × (new : Reading) × PicksCode color among old new (Ok run) × (room < run)
     × (fault ≡ record { place = old.place; kind = past }))
 
--- a run of at most so many pixels was read: a terminating code, or a make-up code and a terminating code; or one of its codes is refused
+-- a run of at most `room` pixels was read: a terminating code, or a make-up code and a terminating code; or one of its codes is refused
 abbrev pub ReadsRunWithin : Color → ℕ → CodeFaultKind → Reading → Reading → Result ℕ CodeFault → Type 0
 ReadsRunWithin color room past old new (Ok run) =
     EndsRun color AllCodes room old new run ⊎
@@ -98,7 +98,7 @@ ReadsRunWithin color room past old new (Err fault) =
     ((makeup : ℕ) × (between : Reading) × BeginsRun color room old between makeup
     × RefusesCodeWithin color TerminatingCodes (room - makeup) past between fault)
 
--- two runs were read, the first of a color and the second of the other one, together of at most so many pixels
+-- two runs were read, the first of a color and the second of the other one, together of at most `room` pixels
 pub record ReadsTwoRuns (color : Color) (room : ℕ) (past : CodeFaultKind) (old new : Reading) (first second : ℕ) : Type 0 where
   pub between : Reading
   pub one : ReadsRunWithin color room past old between (Ok first)

@@ -18,7 +18,7 @@ abbrev pub Walk : {State Item : Type 0} → (State → Item → State → Type 0
 Walk Step s [] t = s ≡ t
 Walk Step s (i ∷ is) t = (m : _) × Step s i m × Walk Step m is t
 
--- so many bits of x are whole items that may be there
+-- the first bits of x are these whole items, which may be there
 pub record IsFront {State Item : Type 0} (word : Item → List Bool) (Step : State → Item → State
     → Type 0) (s : State) (x : List Bool) (items : List Item) : Type 0 where
   pub end : State

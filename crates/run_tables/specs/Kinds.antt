@@ -37,11 +37,11 @@ CodeKind color among x kind = ⊥
 
 -- ---- a code of a row
 
--- a code that may come begins the bits, and takes a row of so many pixels past the width
+-- a code that may come begins the bits, and takes a row of `so_far` pixels past the width
 abbrev pub PassesWidth : ℕ → ℕ → Color → Among → List Bool → Type 0
 PassesWidth width so_far color among x = (run : ℕ) × BeginsWithCode color among x run × (width < so_far + run)
 
--- why the row goes no further, which has so many pixels, with those of a make-up code just before
+-- why the row goes no further, which has `so_far` pixels, with those of a make-up code just before
 abbrev pub RowKind : ℕ → ℕ → Color → Among → List Bool → CodeFaultKind → Type 0
 RowKind width so_far color among x RunTooLong = PassesWidth width so_far color among x
 RowKind width so_far color among x kind = CodeKind color among x kind
@@ -81,7 +81,7 @@ IsRowPart width front so_far color TerminatingCodes = EndsWithMakeUp width front
 
 -- ---- refusals
 
--- whole codes of a row of the width, so many bits, begin the bits, and for this reason the row goes no further
+-- whole codes of a row of the width, `place` bits, begin the bits, and for this reason the row goes no further
 pub record IsRefusedRow (width : ℕ) (x : List Bool) (place : ℕ) (kind : CodeFaultKind) : Type 0 where
   pub front : List Bool
   pub rest : List Bool

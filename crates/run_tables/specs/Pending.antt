@@ -9,7 +9,7 @@ use Rattle.raster.specs.Words.{bit_of_word}
 unfoldable pub word_bits : ℕ → ℕ → List Bool
 word_bits count word = map (λ place. bit_of_word word place) (range_with_len 0 count)
 
--- the bits of so many first octets, and then the first bits of a word
+-- the bits of the first `at` octets, and then the first `filled` bits of a word
 unfoldable pub held : Order → List ℕ → ℕ → ℕ → ℕ → List Bool
 held order octets at word filled = bits_in order octets (8 * at) ++ word_bits filled word
 

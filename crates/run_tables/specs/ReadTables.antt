@@ -1,4 +1,4 @@
--- The tables by which run codes are read: an entry for each text of so many bits (ITU-T T.4, 4.1.1, tables 2 and 3).
+-- The tables by which run codes are read: an entry for each text of a number of bits (ITU-T T.4, 4.1.1, tables 2 and 3).
 use Rattle.std.specs.Prelude.{ℕ, ◌-◌, ◌^◌, ◌++◌, Bool, false, List, [], ◌∷◌, map, length, replicate, Option, Some, None, if◌then◌else◌}
 use Rattle.std.specs.List.{range_with_len}
 use Rattle.raster.specs.declared.row.Color.{Color}
@@ -13,7 +13,7 @@ unfoldable pub entry_of : List (ℕ × List Bool) → List Bool → ℕ × ℕ
 entry_of [] bits = (0, 0)
 entry_of ((run, word) ∷ codes) bits = if begins word bits then (run, length word) else entry_of codes bits
 
--- the entries of all texts of so many bits, after so many 0 bits
+-- the entries of all texts of `count` bits, after `zeros` 0 bits
 unfoldable pub entries : List (ℕ × List Bool) → ℕ → ℕ → List (ℕ × ℕ)
 entries codes zeros count = map (λ key. entry_of codes (replicate zeros false ++ number_text count key)) (range_with_len 0 (2 ^ count))
 

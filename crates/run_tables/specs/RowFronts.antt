@@ -25,7 +25,7 @@ run_of (run_item color run) = run
 abbrev pub item_word : RunItem → List Bool
 item_word (run_item color run) = code_word color run
 
--- so many codes of a color, in the table's order: the 64 terminating codes, then the 40 make-up codes
+-- the first `count` codes of a color, in the table's order: the 64 terminating codes, then the 40 make-up codes
 unfoldable pub run_items : Color → ℕ → List RunItem
 run_items color count = map (λ place. run_item color (run_at place)) (range_with_len 0 count)
 

@@ -11,7 +11,7 @@ use Rattle.run_tables.specs.Fronts.{IsFront, Nested}
 use Rattle.run_tables.specs.Longest.{IsLongest}
 use Rattle.run_tables.specs.RowFronts.{RunItem, item_word, Step, look, row_begin, read_row}
 
--- the first bits, so many, spell the row, which has the width
+-- the first `used` bits spell the row, which has the width
 pub record ReadsAsRow (width : ℕ) (x : List Bool) (row : List Color) (used : ℕ) : Type 0 where
   pub front : List Bool
   pub rest : List Bool

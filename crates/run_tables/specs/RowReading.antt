@@ -27,7 +27,7 @@ pub record RefusesRow (width : ℕ) (old : Reading) (fault : CodeFault) : Type 0
   pub refused : IsRefusedRow width (rest_of old) front fault.kind
   pub none : (row : List Color) (used : ℕ) → ¬ ReadsAsRow width (rest_of old) row used
 
--- one run of a row was read, at most so many pixels: reading the row from before it is reading on after it; or it is refused there
+-- one run of a row was read, at most `room` pixels: reading the row from before it is reading on after it; or it is refused there
 abbrev pub RunWithin : Color → ℕ → Reading → Reading → Result ℕ CodeFault → Type 0
 RunWithin color room old new (Ok run) =
     (run ≤ room) × (new.bits ≡ old.bits) × (old.place < new.place) × (new.place ≤ length new.bits) × ((pixels : List Color)
@@ -39,7 +39,7 @@ RunWithin color room old new (Err fault) =
       fault.kind,
     )
 
--- runs of a row were read, so many pixels are left, and a run of this color is next: reading the row is reading on after them
+-- runs of a row were read, `room` pixels are left, and a run of this color is next: reading the row is reading on after them
 pub record IsInRow (width : ℕ) (old new : Reading) (runs : List ℕ) (color : Color) (room : ℕ) : Type 0 where
   pub bits : new.bits ≡ old.bits
   pub within : new.place ≤ length new.bits

@@ -33,7 +33,7 @@ pixels_of W1728 = 1728
 pixels_of W2048 = 2048
 pixels_of W2432 = 2432
 
--- the width of so many pixels; none of other numbers
+-- the width of 1,728, 2,048 or 2,432 pixels; none of other numbers
 abbrev pub width_of_pixels : ℕ → Option PageWidth
 width_of_pixels pixels =
     cond (nat_eq pixels 1728) (Some W1728)

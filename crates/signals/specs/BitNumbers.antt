@@ -31,7 +31,7 @@ sent_bit fields number = slice_index_or (bits_of LsbFirst fields) (number - 1) f
 unfoldable pub numbered : List ℕ → ℕ → Bool
 numbered fields number = sent_bit fields number && (nat_le number 24 || sent_bit fields 24)
 
--- so many bits from a number on
+-- `count` bits from a number on
 abbrev pub numbered_from : List ℕ → ℕ → ℕ → List Bool
 numbered_from fields number count = map (numbered fields) (range_with_len number count)
 

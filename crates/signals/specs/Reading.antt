@@ -115,7 +115,7 @@ abbrev pub pps_or_other : ℕ → Option PageEnd → List ℕ → PlainSignal
 pps_or_other octet (Some ends) fields = pps ends (slice_index fields 1) (slice_index fields 2) (slice_index fields 3)
 pps_or_other octet None fields = other octet
 
--- a signal whose information field has at least so many octets
+-- a signal whose information field has at least `count` octets
 abbrev pub with_octets : ℕ → List ℕ → PlainSignal → Result PlainSignal SignalFault
 with_octets count fields signal = cond (nat_lt (length fields) count) (Err ShortField) (Ok signal)
 

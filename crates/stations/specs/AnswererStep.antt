@@ -28,7 +28,7 @@ use Rattle.stations.specs.declared.turn.Turn.TheVariants.{Ppr as SendPpr, Rnr as
 abbrev pub Frames : Type 0
 Frames = List (Option (List ℕ))
 
--- the first so many numbers all have a frame
+-- each of the first numbers has a frame, up to a count
 abbrev pub is_whole : Frames → ℕ → Bool
 is_whole frames zero = true
 is_whole frames (suc count) = is_whole frames count && has_frame frames count

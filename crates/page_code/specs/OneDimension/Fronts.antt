@@ -15,7 +15,7 @@ use Rattle.run_tables.specs.RowFronts.RowState.{inside, whole}
 use Rattle.run_tables.specs.RowFronts.{item_word as code_bits}
 use Rattle.page_code.specs.OneDimension.Pages.{eol_word}
 
--- an EOL with so many 0 bits, or a run code
+-- an EOL with the number of its 0 bits, or a run code
 pub data PageItem : Type 0 where
   eol : ℕ → PageItem
   coded : RunItem → PageItem
@@ -74,7 +74,7 @@ abbrev pub eol_bits : Option ℕ → (ℕ → ℕ) → ℕ
 eol_bits None after = 0
 eol_bits (Some count) after = if nat_lt count 11 then 0 else after count
 
--- the bits of the EOLs that are there, so many at most
+-- the bits of all EOLs that are there, or of the first `most` of them
 abbrev pub bits_of_eols : ℕ → List Bool → ℕ
 bits_of_eols zero x = 0
 bits_of_eols (suc most) x = eol_bits (zeros_before x) (λ count. count + 1 + bits_of_eols most (drop (count + 1) x))
@@ -83,7 +83,7 @@ bits_of_eols (suc most) x = eol_bits (zeros_before x) (λ count. count + 1 + bit
 unfoldable pub bits_of_five : List Bool → ℕ
 bits_of_five x = bits_of_eols 5 x
 
--- the page ends, with so many bits more
+-- the page ends, with `more` bits more
 abbrev pub ends_with : List (List Color) → ℕ → PageLook
 ends_with [] more = refuse NoRows
 ends_with (row ∷ rows) more = stop (row ∷ rows) more

@@ -13,8 +13,8 @@ use Rattle.page_code.specs.OneDimension.Pages.{eol_word, EolBegins, AreZeros, Is
 
 -- ---- places in a page
 
--- before the page; after an EOL, with so many rows before it; inside a row of so many pixels, before a code of this color that is one of
--- these; after a whole row
+-- before the page; after an EOL, with the number of rows before it; inside a row, with the number of its pixels so far, before a code
+-- of this color that is one of these; after a whole row
 pub data PagePlace : Type 0 where
   page_begin : PagePlace
   line_begin : ℕ → PagePlace
@@ -66,14 +66,14 @@ PageKind width (in_row so_far color among) x kind = RowKind width so_far color a
 PageKind width line_end x BadCode = GoesOnInLine x
 PageKind width line_end x kind = ⊥
 
--- a run code may come at the place, of a row of so many pixels
+-- a run code may come at the place, after `so_far` pixels of its row
 abbrev pub IsBeforeCode : PagePlace → ℕ → Color → Among → Type 0
 IsBeforeCode page_begin so_far color among = (so_far ≡ 0) × (color ≡ White) × (among ≡ AllCodes)
 IsBeforeCode (line_begin rows) so_far color among = (rows < max_rows) × (so_far ≡ 0) × (color ≡ White) × (among ≡ AllCodes)
 IsBeforeCode (in_row pixels next these) so_far color among = (so_far ≡ pixels) × (color ≡ next) × (among ≡ these)
 IsBeforeCode line_end so_far color among = ⊥
 
--- whole items of a page of the width, so many bits, begin the bits, and for this reason the page goes no further
+-- whole items of a page of the width, `place` bits, begin the bits, and for this reason the page goes no further
 pub record IsRefusedPage (width : ℕ) (x : List Bool) (place : ℕ) (kind : CodeFaultKind) : Type 0 where
   pub front : List Bool
   pub rest : List Bool

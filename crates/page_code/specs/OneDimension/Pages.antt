@@ -7,7 +7,7 @@ use Rattle.raster.specs.Pages.{max_rows}
 use Rattle.run_tables.specs.RunWords.{runs_words, SpellsRow}
 use Rattle.page_code.specs.OneDimension.OwnRuns.{own_runs}
 
--- EOL: so many 0 bits, of which all but 11 are fill, and a 1 (4.1.2 and 4.1.3)
+-- EOL: `count` 0 bits, of which all but 11 are fill, and a 1 (4.1.2 and 4.1.3)
 abbrev pub eol_word : ℕ → List Bool
 eol_word count = replicate count false ++ true ∷ []
 
@@ -20,7 +20,7 @@ abbrev pub eol_words : List ℕ → List Bool
 eol_words [] = []
 eol_words (count ∷ more) = eol_word count ++ eol_words more
 
--- as many EOLs as are there, so many at most
+-- all EOLs that are there, or the first `most` of them
 pub record AreEols (most : ℕ) (x : List Bool) (eols : List ℕ) (rest : List Bool) : Type 0 where
   pub long : AllByRecursion (λ count. 11 ≤ count) eols
   pub few : length eols ≤ most
@@ -71,7 +71,7 @@ EndsByEols x used = (eols : List ℕ) × (rest : List Bool) × AreEols 6 x eols 
 abbrev pub IsEnd : List Bool → ℕ → Type 0
 IsEnd x used = EndsBare x used ⊎ (EndsByOne x used ⊎ EndsByEols x used)
 
--- the bits read as the page, with so many of them used: no EOL or one, the rows with one EOL between two, an end
+-- the bits read as the page, with `used` of them used: no EOL or one, the rows with one EOL between two, an end
 pub record ReadsAs (width : ℕ) (x : List Bool) (page : List (List Color)) (used : ℕ) : Type 0 where
   pub lead : List Bool
   pub bits : List Bool

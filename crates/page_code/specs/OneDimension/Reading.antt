@@ -23,7 +23,7 @@ SeesEol x (Present bits) = (count : ℕ) × (zeros_before x ≡ Some count) × (
 SeesEol x Absent = CodeBegins x
 SeesEol x OnlyZeros = zeros_before x ≡ None
 
--- what is found after an EOL, after so many rows: a row's first code, or the page's end or a refusal, whatever the rows are
+-- what is found after an EOL, after `count` rows: a row's first code, or the page's end or a refusal, whatever the rows are
 abbrev pub SeesStart : List Bool → ℕ → ℕ → Start → Type 0
 SeesStart bits place count (Row at) = (at ≡ place) × CodeBegins (drop place bits) × (count < max_rows)
 SeesStart bits place count (End used) =

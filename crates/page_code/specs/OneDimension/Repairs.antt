@@ -22,17 +22,17 @@ pub data Line : Type 0 where
   spelled : List Color → Line
   broken : ℕ → Line
 
--- an EOL of so many bits, its fill among them, is there
+-- an EOL of `used` bits, its fill among them, is there
 abbrev pub EolOf : List Bool → ℕ → Type 0
 EolOf x used = (count : ℕ) × (rest : List Bool) × (11 ≤ count) × (x ≡ eol_word count ++ rest) × (used ≡ count + 1)
 
--- an EOL of so many bits is there but for one of its 0 bits, which is a 1
+-- an EOL of `used` bits is there but for one of its 0 bits, which is a 1
 abbrev pub TornEolOf : List Bool → ℕ → Type 0
 TornEolOf x used =
     (zeros : ℕ) × (more : ℕ) × (rest : List Bool) × (zeros < 11) × (10 ≤ zeros + more) × (x ≡ eol_word zeros ++ (eol_word more ++ rest))
     × (used ≡ zeros + more + 2)
 
--- a line ends after its row, with so many bits: where only 0 bits are left, by an EOL, or by one with a wrong bit
+-- a line ends after its row, with `used` bits: where only 0 bits are left, by an EOL, or by one with a wrong bit
 abbrev pub EndsLine : List Bool → ℕ → Type 0
 EndsLine x used = (AreZeros x × (used ≡ 0)) ⊎ (EolOf x used ⊎ TornEolOf x used)
 
@@ -40,19 +40,19 @@ EndsLine x used = (AreZeros x × (used ≡ 0)) ⊎ (EolOf x used ⊎ TornEolOf x
 abbrev pub EndsPage : List Bool → Type 0
 EndsPage x = AreZeros x ⊎ EolBegins x
 
--- a line can be read for so many bits: for the longest front of a row's run codes, where it begins with no row; or for its row, where
+-- a line can be read for `count` bits: for the longest front of a row's run codes, where it begins with no row; or for its row, where
 -- the line doesn't end after it
 abbrev pub IsReadFor : ℕ → List Bool → ℕ → Type 0
 IsReadFor width x count =
     ((kind : CodeFaultKind) × IsLongestFront width x count kind × ((row : List Color) (used : ℕ) → ¬ ReadsAsRow width x row used)) ⊎
     ((row : List Color) × ReadsAsRow width x row count × ((used : ℕ) → ¬ EndsLine (drop count x) used))
 
--- an EOL ends after so many bits
+-- an EOL ends after `count` bits
 abbrev pub EolEndsAfter : List Bool → ℕ → Type 0
 EolEndsAfter x count =
     (front : List Bool) × (rest : List Bool) × (x ≡ front ++ (eol_word 11 ++ rest)) × (count ≡ length front + 12)
 
--- so many bits are those up to the end of the first EOL; or all of them, where there is none
+-- the first `count` bits are those up to the end of the first EOL; or all of them, where there is none
 abbrev pub IsSkipped : List Bool → ℕ → Type 0
 IsSkipped x count =
     (EolEndsAfter x count × ((other : ℕ) → EolEndsAfter x other → count ≤ other)) ⊎

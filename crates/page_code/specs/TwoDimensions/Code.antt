@@ -44,7 +44,7 @@ moved reference row line pass = record { pixels = take (b2_of reference line) ro
 moved reference row line (vertical shift) = record { pixels = take (a1_of row line) row; begun = true; color = other line.color }
 moved reference row line (horizontal a0a1 a1a2) = record { pixels = take (a2_of row line) row; begun = true; color = line.color }
 
--- the prescribed modes of a row from a0 on to its end, at most so many
+-- the prescribed modes of a row from a0 on to its end, at most `most` of them
 abbrev pub line_code : ℕ → List Color → List Color → CodingLine → List Bool
 line_code zero reference row line = []
 line_code (suc most) reference row line =

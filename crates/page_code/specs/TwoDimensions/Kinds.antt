@@ -175,7 +175,7 @@ PageKind width state x BadCode = (¬ BeginsWithCode state x) × (¬ EndsInCode s
     kind)
 PageKind width state x kind = IsNamed width state x kind
 
--- whole codes of a page, so many bits, begin the bits, and for this reason the page goes no further
+-- whole codes of a page, `place` bits, begin the bits, and for this reason the page goes no further
 pub record IsRefusedPage (width : ℕ) (x : List Bool) (place : ℕ) (kind : CodeFaultKind) : Type 0 where
   pub front : List Bool
   pub rest : List Bool

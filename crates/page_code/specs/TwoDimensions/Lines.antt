@@ -79,7 +79,7 @@ RefusesA1 b1 shift from width kind =
     ((b1 + to_right shift < from + to_left shift) × (kind ≡ Backwards)) ⊎
     ((from + to_left shift ≤ b1 + to_right shift) × (width + to_left shift < b1 + to_right shift) × (kind ≡ PastEnd))
 
--- a mode code that begins what begins with a number's first seven bits leads on, and has so many bits
+-- a mode code that begins what begins with a number's first seven bits leads on, and has `count` bits
 pub record StepsBy (held : List ℕ) (word : ℕ) (line next : CodingLine) (count : ℕ) : Type 0 where
   pub code : ModeCode
   pub begun : (x : List Bool) → AreFirst 7 x word → 7 ≤ length x → begins (mode_word code) x ≡ true

@@ -103,7 +103,7 @@ SpellsRows width reference [] bits = bits ≡ []
 SpellsRows width reference (row ∷ rows) bits =
     (front : List Bool) × (rest : List Bool) × SpellsRow width reference row front × SpellsRows width row rows rest × (bits ≡ front ++ rest)
 
--- x reads as a page of 1 to 20,000 rows, so many bits used: they spell the rows, the first after an imaginary white line, and end with EOFB
+-- x reads as a page of 1 to 20,000 rows, `used` bits used: they spell the rows, the first after an imaginary white line, and end with EOFB
 pub record ReadsAsPage (width : ℕ) (x : List Bool) (rows : List (List Color)) (used : ℕ) : Type 0 where
   pub some : 0 < length rows
   pub few : length rows ≤ max_rows

@@ -58,7 +58,7 @@ IsB2 reference b1 b2 = IsNextChange reference (b1 + 1) b2
 
 -- Their search
 
--- the first place at or above `at` where the test holds, among so many
+-- the first place at or above `at` where the test holds, among a number of places
 abbrev pub first_place : (ℕ → Bool) → ℕ → ℕ → ℕ
 first_place test zero at = at
 first_place test (suc count) at = if test at then at else first_place test count (at + 1)

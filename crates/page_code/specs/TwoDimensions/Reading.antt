@@ -62,11 +62,11 @@ abbrev pub FindsMode : Reading → Reading → Option ModeCode → Type 0
 FindsMode old new (Some code) = (begins (mode_word code) (rest_of old) ≡ true) × (new ≡ after (mode_word code) old)
 FindsMode old new None = (new ≡ old) × ((code : ModeCode) → begins (mode_word code) (rest_of old) ≡ false)
 
--- a run of this color has to be there, with room for so many pixels
+-- a run of this color has to be there, with room for `room` pixels
 abbrev pub HasRoom : ℕ → CodingLine → Option ℕ → Color → ℕ → Type 0
 HasRoom width line first color room = (run_color line first ≡ color) × (length line.pixels + amount first + room ≡ width)
 
--- one run of horizontal mode was read, at most so many pixels; or it is refused where reading the page is
+-- one run of horizontal mode was read, at most `room` pixels; or it is refused where reading the page is
 abbrev pub ReadsRun : Color → ℕ → Reading → Reading → Result ℕ CodeFault → Type 0
 ReadsRun color room old new (Ok run) =
     (run ≤ room) × (new.bits ≡ old.bits) × (old.place < new.place) × (new.place ≤ length new.bits) ×
@@ -146,7 +146,7 @@ ReadsRow reference old new (Err fault) =
     (fault.kind ≡ NoMemory) ⊎ ((page : PageSoFar) → page.reference ≡ reference
     → row_reading (length reference) (inside page line_begin) old.place (rest_of old) ≡ Err (fault.place, fault.kind))
 
--- what is found where a row may begin, after so many rows
+-- what is found where a row may begin, after `count` rows
 abbrev pub SeesStart : List Bool → ℕ → Start → Type 0
 SeesStart x count Row = (begins eofb x ≡ false) × (all_zero x ≡ false) × (begins x eofb ≡ false) × (count < max_rows)
 SeesStart x count End = (begins eofb x ≡ true) × (0 < count)
