@@ -40,6 +40,7 @@ pub mod Streams
 pub mod StreamSteps
 pub mod CallerDrives
 pub mod Driving
+pub mod EventsMean
 pub mod Driven
 pub mod DrivenRuns
 pub mod Bearing

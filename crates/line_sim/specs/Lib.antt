@@ -15,4 +15,5 @@ pub mod Delivering
 pub mod Live
 pub mod Streams
 pub mod Driving
+pub mod EventsMean
 pub mod Tolerance

@@ -3,6 +3,7 @@
 ghost use Rattle.line_sim.specs.Counted.{DcsBetweenGroups, RunsAreCounted};
 ghost use Rattle.line_sim.specs.Driving.{DrivenCallsAreSafe, DrivenCallsEnd};
 ghost use Rattle.line_sim.specs.Tolerance.{AnswerersEndWell, AnyTwoLossesAreBorne, CallersEndWell, DrivenCallsBear, DrivenCallsEndFor};
+ghost use Rattle.line_sim.specs.EventsMean.{EventsMake, EventsRefuse, EventsTouch};
 ghost use Rattle.line_sim.specs.Polite.{GroupsAreAgreed, PoliteCalls, PoliteEvents};
 ghost use Rattle.line_sim.specs.Headline.{EventsMove, LineHolds, LinesCanBeWritten, RunsAreSafe, RunsMove, StationsInStep};
 ghost use Rattle.line_sim.specs.Headline.{WholeBlocksAccepted};
@@ -89,3 +90,12 @@ pub fn calls_bear()
     stations::laws::speeds_hold();
     signals::laws::lowered_is_allowed();
 }
+
+/// What each event may change: a station at the events that it hears of alone, the list of what is under way from it at these
+/// alone, and then what is under way to it is lost; and what each event makes of the first item under way, or of a wait that
+/// is over. An event that was refused before anything happened changes nothing.
+pub fn events_mean()
+    ensures touch { EventsTouch }
+    ensures make { EventsMake }
+    ensures refuse { EventsRefuse }
+{}
