@@ -15,6 +15,7 @@ A table is a text: the lines before the first `name:` are the beginning of each 
     file: PATH            the file of the definition in the crate
     old: TEXT             what stands in it exactly once
     new: TEXT             what takes its place; there may be more pairs
+    unfolding: NAMES      the definitions that the proof opens, where it needs any
     proof: TERM           of type `law → ⊥`
 
 A text goes on in lines that begin with a blank, which is no part of an old or a new one.
@@ -33,7 +34,8 @@ import tempfile
 
 ROOT = os.path.dirname(os.path.dirname(os.path.dirname(os.path.abspath(__file__))))
 TABLES = f"{ROOT}/bench/plant/tables"
-JOBS = 4
+# How many checks run side by side.
+JOBS = int(os.environ.get("JOBS", "4"))
 PARTS = ["src", "specs", "proofs"]
 # A command that the checks are run by, if there is one.
 QUEUE = os.environ.get("QUEUE", "").split()
@@ -48,7 +50,7 @@ pub fn refuted()
 """
 ANSWER = """use Rattle.{crate}.proofs.refuted.refuted.Goals as goal
 {begin}pub returns : goal.returns
-returns c = {proof}
+{unfolding}returns c = {proof}
 """
 
 
@@ -69,8 +71,8 @@ def table(path):
     found = []
     for text in texts:
         name, rest = text.split("\n", 1)
-        pairs = re.findall(r"^(law|file|old|new|proof): (.*(?:\n[ \t].*)*)", rest, flags=re.M)
-        row = {key: value for key, value in pairs if key in ("law", "proof")}
+        pairs = re.findall(r"^(law|file|old|new|unfolding|proof): (.*(?:\n[ \t].*)*)", rest, flags=re.M)
+        row = {key: value for key, value in pairs if key in ("law", "unfolding", "proof")}
         row |= {"name": name, "crate": os.path.basename(path)[:-len(".txt")], "begin": begin, "edits": edits(pairs)}
         found.append(row)
     return found
@@ -135,10 +137,12 @@ def refused(top, row, right):
             return False, f"stands {text.count(old)} times in {path}: {old}"
         if not right:
             write(f"{folder}/{path}", text.replace(old, new))
-    file, law = row["law"].split(".")
+    file, law = row["law"].rsplit(".", 1)
     write(f"{folder}/src/lib.rt", read(f"{folder}/src/lib.rt") + "\npub mod refuted;\n")
     write(f"{folder}/src/refuted.rt", CODE.format(crate=crate, file=file, law=law))
-    write(f"{folder}/proofs/refuted/refuted/Answers.antt", ANSWER.format(crate=crate, begin=row["begin"], proof=row["proof"]))
+    unfolding = f"unfolding {row['unfolding']}\n" if "unfolding" in row else ""
+    answer = ANSWER.format(crate=crate, begin=row["begin"], unfolding=unfolding, proof=row["proof"])
+    write(f"{folder}/proofs/refuted/refuted/Answers.antt", answer)
     command = QUEUE + ["rt", "check", "--jobs", "1", "--only", f"{crate}::refuted::refuted"]
     done = subprocess.run(command, cwd=folder, capture_output=True, text=True)
     lines = (done.stdout + done.stderr).split("\n")

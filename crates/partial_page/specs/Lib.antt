@@ -1,3 +1,4 @@
+pub mod ByNumbers
 pub mod Faults
 pub mod Frames
 pub mod Store

@@ -1,5 +1,6 @@
 //! Laws of the definitions. Nothing runs.
 
+ghost use Rattle.partial_page.specs.ByNumbers.{CutsByPlaces, FaultsHaveNumbers, LimitsByBlocks, MapsByOctets, PutsByPlaces};
 ghost use Rattle.partial_page.specs.Frames.{CutIsFullFrames, JoinedPageIsWithinLimit, OctetsHaveABlock, PageJoinsByBlocks};
 ghost use Rattle.partial_page.specs.Store.{NoFramesHaveNone, StoreJoinsToBlock};
 
@@ -33,4 +34,29 @@ pub fn store_joins_to_block()
 /// Of 256 places none has a frame exactly if they are those of a store with no frame.
 pub fn no_frames_have_none()
     ensures { NoFramesHaveNone }
+{}
+
+/// A fault has its number in the list of all faults, and no other.
+pub fn faults_have_numbers()
+    ensures { FaultsHaveNumbers }
+{}
+
+/// Where each block and each frame of a page begins and ends, by octets: a block has 65,536 octets of the page, or
+/// 16,384 with small frames, the last block what is left, and the last frame 00 after the page's end. A page has at
+/// most 128 such blocks, or 512. ITU-T T.30, A.3.
+pub fn page_is_cut_by_places()
+    ensures places { CutsByPlaces }
+    ensures limits { LimitsByBlocks }
+{}
+
+/// The 32 octets of a PPR's map by number: frame 8 k + i has weight 2^i in octet k, and counts where it is missing or
+/// above the last. No other octets are the map. ITU-T T.30, A.4.4.
+pub fn map_has_octets()
+    ensures { MapsByOctets }
+{}
+
+/// A frame that is stored, for the first time or again, is at its number, and each other number has what it had;
+/// it is refused exactly for more than 64 or 256 octets, or for memory.
+pub fn frame_keeps_others()
+    ensures { PutsByPlaces }
 {}
