@@ -1,16 +1,12 @@
 -- A driven call ends.
-use Rattle.std.proofs.Common.{◌≡◌, ℕ, zero, suc, ◌+◌, ◌*◌, ◌-◌, ◌≤◌, Bool, true, false, cond, Option, Some, None, List, refl, arith, length, ◌∙◌, ap}
-use Rattle.std.specs.Prelude.{[], ◌<◌}
-use Rattle.stations.specs.Lasting.{groups_in, blocks_in}
+use Rattle.std.proofs.Common.{◌≡◌, ℕ, zero, suc, ◌+◌, ◌*◌, ◌≤◌, Bool, true, false, cond, refl, arith, length, ◌∙◌, ap}
+use Rattle.stations.specs.Lasting.{blocks_in}
 use Rattle.stations.proofs.Sizes.{callers_short, placed_are_few, steps_are_placed}
-use Rattle.signals.specs.declared.params.Caps.{Caps}
-use Rattle.signals.specs.declared.params.Wish.{Wish}
-use Rattle.stations.specs.Layers.{Document}
 use Rattle.stations.specs.Laws.{SpeedsHold}
 use Rattle.stations.specs.CallerStep.{Caller}
-use Rattle.line_sim.specs.Driving.{Patience, times, paid, Driven, Fate, drives, is_over, drive, steps_made, new_driven, most_steps, Ends, DrivenCallsEnd}
-use Rattle.stations.specs.Sizes.{AreShort, IsPlaced, BlocksAreFew, PlacedAreFew, StepsArePlaced}
-use Rattle.line_sim.proofs.Driving.{potential, Drives, step_drives}
+use Rattle.line_sim.specs.Driving.{Patience, times, paid, Driven, drives, is_over, drive, steps_made, new_driven, most_steps, DrivenCallsEnd}
+use Rattle.stations.specs.Sizes.{AreShort, IsPlaced, BlocksAreFew, StepsArePlaced}
+use Rattle.line_sim.proofs.Driving.{potential, step_drives}
 
 -- what so many steps take
 record Drove (p : Patience) (made : ℕ) (d after : Driven) : Type 0 where

@@ -1,13 +1,9 @@
 -- A driven call is a run of events, and so it is safe.
-use Rattle.std.proofs.Common.{◌≡◌, ℕ, zero, suc, Bool, true, false, cond, Option, Some, None, List, [], ◌∷◌, ◌++◌, refl, subst, sym, ap, ◌∙◌}
+use Rattle.std.proofs.Common.{◌≡◌, ℕ, zero, suc, Bool, true, false, cond, Option, Some, None, List, [], ◌∷◌, ◌++◌, refl, subst, ap, ◌∙◌}
 use Rattle.std.specs.Prelude.{◌&&◌, not, nat_lt}
-use Rattle.signals.specs.declared.params.Caps.{Caps}
-use Rattle.signals.specs.declared.params.Wish.{Wish}
-use Rattle.stations.specs.Layers.{Document, IsFullPage}
-use Rattle.stations.specs.Laws.{Each}
 use Rattle.stations.specs.Inputs.{PlainItem, framed, checked}
 use Rattle.stations.specs.declared.turn.End.{End}
-use Rattle.line_sim.specs.Line.{World, Outcome, happens, run, new_world}
+use Rattle.line_sim.specs.Line.{World, Outcome, happens, run}
 use Rattle.line_sim.specs.Line.Outcome.{Done}
 use Rattle.line_sim.specs.declared.event.Event.{Event}
 use Rattle.line_sim.specs.declared.event.Event.TheVariants.{DeliverToAnswerer, DeliverToCaller, LoseToAnswerer, LoseToCaller, Spoil}

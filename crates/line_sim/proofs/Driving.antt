@@ -1,19 +1,16 @@
 -- Each step of a driven call takes of what it has left.
-use Rattle.std.proofs.Common.{◌≡◌, ℕ, zero, suc, ◌+◌, ◌*◌, ◌-◌, ◌≤◌, ◌<◌, inl, inr, Bool, true, false, cond, Option, Some, None, List, [], ◌∷◌}
-use Rattle.std.proofs.Common.{refl, arith, ◌++◌, length, subst, sym, ap, ◌∙◌, length-append}
-use Rattle.std.specs.Prelude.{slice_get, nat_lt, ◌⊎◌, IsSome, ◌&&◌, not, take, map}
+use Rattle.std.proofs.Common.{◌≡◌, ℕ, zero, suc, ◌+◌, ◌≤◌, ◌<◌, inl, inr, Bool, true, false, cond, Option, Some, None, List, [], ◌∷◌}
+use Rattle.std.proofs.Common.{refl, arith, ◌++◌, length, subst, sym, ap, length-append}
+use Rattle.std.specs.Prelude.{nat_lt, ◌⊎◌, ◌&&◌, not, map}
 use Rattle.std.proofs.lemmas.Bool.{ltb-true}
 use Rattle.signals.specs.Agreement.{allowed}
-use Rattle.signals.specs.Signals.{PlainSignal, dis, dcs, cfr, ftt, fcd, rcp, pps, ppr, mcf, rnr, rr, dcn}
-use Rattle.signals.specs.declared.params.Caps.{Caps}
-use Rattle.signals.specs.declared.params.Params.{Params}
-use Rattle.signals.specs.declared.params.Wish.{Wish}
-use Rattle.stations.specs.Layers.{Document, within_frame_size}
+use Rattle.signals.specs.Signals.{PlainSignal, dcs, fcd, pps, rnr, rr}
+use Rattle.stations.specs.Layers.{within_frame_size}
 use Rattle.stations.specs.Laws.{SpeedsHold}
 use Rattle.stations.specs.Inputs.{CallerInput, hears, timeout, t5, AnswererInput, listens, trains, t2, t1, PlainItem, framed, checked}
-use Rattle.stations.specs.CallerStep.{Caller, CallerAnswer, caller_step, caller_silent, caller_items}
-use Rattle.stations.specs.AnswererStep.{Answerer, AnswererAnswer, answerer_step, answerer_silent, answerer_table, unless_answerer_ended}
-use Rattle.stations.specs.AnswererStep.{answerer_ends, answerer_items, first_dcs, later_dcs, keeps_frame}
+use Rattle.stations.specs.CallerStep.{Caller, CallerAnswer, caller_step, caller_items}
+use Rattle.stations.specs.AnswererStep.{Answerer, AnswererAnswer, answerer_step, answerer_table, unless_answerer_ended}
+use Rattle.stations.specs.AnswererStep.{answerer_ends, answerer_items}
 use Rattle.stations.specs.declared.turn.CallerState.{CallerState}
 use Rattle.stations.specs.declared.turn.CallerState.TheVariants.{WaitDis, WaitCfr, WaitBlock, WaitReady}
 use Rattle.stations.specs.declared.turn.AnswererState.{AnswererState}
@@ -24,13 +21,12 @@ use Rattle.stations.specs.declared.turn.Turn.{Turn}
 use Rattle.stations.specs.declared.turn.Turn.TheVariants.{Silent, Dis as SendDis, Cfr as SendCfr, Ftt as SendFtt, Mcf as SendMcf}
 use Rattle.stations.specs.declared.turn.Turn.TheVariants.{Ppr as SendPpr, Rnr as SendRnr, Dcn as SendDcn}
 use Rattle.stations.specs.Lasting.{goes_on_by}
-use Rattle.line_sim.specs.Line.{World, Outcome, sent, caller_sends, answerer_sends, caller_acts, answerer_acts, comes_to_answerer}
-use Rattle.line_sim.specs.Line.{delivers_to_answerer, delivers_to_caller, happens, after_first}
+use Rattle.line_sim.specs.Line.{World, caller_sends, answerer_sends, caller_acts, answerer_acts, comes_to_answerer}
+use Rattle.line_sim.specs.Line.{delivers_to_caller, happens, after_first}
 use Rattle.line_sim.specs.Line.Outcome.{Done}
-use Rattle.line_sim.specs.declared.event.Event.{Event}
-use Rattle.line_sim.specs.declared.event.Event.TheVariants.{DeliverToAnswerer, DeliverToCaller, LoseToAnswerer, LoseToCaller, Spoil}
-use Rattle.line_sim.specs.declared.event.Event.TheVariants.{CallerTimeout, CallerT5, AnswererT1, AnswererT2}
-use Rattle.line_sim.specs.Driving.{Patience, times, paid, kept, dis_kept, Driven, Fate, first_fate, later_fates, meets_answerer, meets_caller}
+use Rattle.line_sim.specs.declared.event.Event.TheVariants.{LoseToCaller}
+use Rattle.line_sim.specs.declared.event.Event.TheVariants.{AnswererT1}
+use Rattle.line_sim.specs.Driving.{Patience, paid, kept, dis_kept, Driven, Fate, first_fate, later_fates, meets_answerer, meets_caller}
 use Rattle.line_sim.specs.Driving.{rnrs_with, is_rnr_item, goes_to, dis_is_due, caller_waits, somebody_waits, comes_back, drives, is_over, is_over_at}
 use Rattle.line_sim.specs.Driving.Fate.{comes, lost, spoiled}
 use Rattle.stations.specs.Sizes.{AreShort, IsPlaced, StepsArePlaced}

@@ -9,7 +9,8 @@ use Rattle.hdlc.specs.Laws.{FrameOctetsGrow}
 use Rattle.signals.specs.Reading.{read_content}
 use Rattle.signals.specs.Signals.{PlainSignal}
 use Rattle.signals.specs.Writing.{content_of, ReadsWhatIsWritten}
-use Rattle.line_sim.specs.Octets.{IsFrameOf, Carries, signal_in, signal_said}
+use Rattle.signals.specs.declared.signal.Side.{Side}
+use Rattle.line_sim.specs.Octets.{IsFrameOf, Carries, is_final, signal_in, signal_said}
 
 good_none : good [] ≡ []
 unfolding gaps flags
@@ -20,10 +21,10 @@ only_content : (octets content : List ℕ) → FrameOctetsGrow → IsFrameOf oct
 only_content octets content grows f = (grows [] content f.frame octets (inl refl) f.is f.filled).1 ∙ ap (λ l. l ++ content ∷ []) good_none
 
 -- the signal that is read is the one that was sent
-pub said : (octets : List ℕ) (signal : PlainSignal) → FrameOctetsGrow → ReadsWhatIsWritten → Carries octets signal
+pub said : (side : Side) (octets : List ℕ) (signal : PlainSignal) → FrameOctetsGrow → ReadsWhatIsWritten → Carries side octets signal
     → signal_said octets ≡ signal
 unfolding signal_said
-said octets signal grows reads carries =
+said side octets signal grows reads carries =
     ap (λ l. signal_in (read_content (slice_index_or l 0 [])))
-    (only_content octets (content_of signal carries.side carries.last) grows carries.sent) ∙
-    ap signal_in (reads signal carries.side carries.last carries.writable)
+    (only_content octets (content_of signal side (is_final signal)) grows carries.sent) ∙
+    ap signal_in (reads signal side (is_final signal) carries.writable)

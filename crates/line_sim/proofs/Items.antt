@@ -7,32 +7,33 @@ use Rattle.raster.specs.declared.packed.Order.TheVariants.{LsbFirst}
 use Rattle.signals.specs.Reading.{read_content}
 use Rattle.signals.specs.Signals.{PlainSignal, dis, dcs, cfr, ftt, fcd, rcp, pps, ppr, mcf, rnr, rr, dcn, other}
 use Rattle.signals.specs.Writing.{content_of, ReadsWhatIsWritten}
+use Rattle.signals.specs.declared.signal.Side.{Side}
 use Rattle.stations.specs.Inputs.{framed, checked}
 use Rattle.line_sim.specs.Entries.{kind_of, signal_kind}
 use Rattle.line_sim.specs.Line.{spoiled}
-use Rattle.line_sim.specs.Octets.{AreOctetsOf, Carries, signal_said, item_said, IsItem}
+use Rattle.line_sim.specs.Octets.{AreOctetsOf, Carries, is_final, signal_said, item_said, IsItem}
 use Rattle.line_sim.specs.declared.event.Kind.{Kind}
 use Rattle.line_sim.specs.declared.event.Kind.TheVariants.{Dis, Dcs, Training, Cfr, Ftt, Fcd, Rcp, Pps, Mcf, Ppr, Rnr, Rr, Dcn}
 use Rattle.line_sim.proofs.Frames.{said}
 
 -- what octets carry that aren't a training check
-abbrev pub CarriesKind : Kind → List ℕ → Type 0
-CarriesKind kind octets = (signal : PlainSignal) × Carries octets signal × (signal_kind signal ≡ Some kind)
+abbrev pub CarriesKind : Side → Kind → List ℕ → Type 0
+CarriesKind side kind octets = (signal : PlainSignal) × Carries side octets signal × (signal_kind signal ≡ Some kind)
 
-pub carried : (kind : Kind) (octets : List ℕ) → kind ≢ Training → IsItem kind octets → CarriesKind kind octets
-carried Training octets differs h = absurd (differs refl)
-carried Dis octets differs h = h
-carried Dcs octets differs h = h
-carried Cfr octets differs h = h
-carried Ftt octets differs h = h
-carried (Fcd number) octets differs h = h
-carried Rcp octets differs h = h
-carried Pps octets differs h = h
-carried Mcf octets differs h = h
-carried Ppr octets differs h = h
-carried Rnr octets differs h = h
-carried Rr octets differs h = h
-carried Dcn octets differs h = h
+pub carried : (side : Side) (kind : Kind) (octets : List ℕ) → kind ≢ Training → IsItem side kind octets → CarriesKind side kind octets
+carried side Training octets differs h = absurd (differs refl)
+carried side Dis octets differs h = h
+carried side Dcs octets differs h = h
+carried side Cfr octets differs h = h
+carried side Ftt octets differs h = h
+carried side (Fcd number) octets differs h = h
+carried side Rcp octets differs h = h
+carried side Pps octets differs h = h
+carried side Mcf octets differs h = h
+carried side Ppr octets differs h = h
+carried side Rnr octets differs h = h
+carried side Rr octets differs h = h
+carried side Dcn octets differs h = h
 
 pub said_frame : (kind : Kind) (octets : List ℕ) → kind ≢ Training → item_said kind octets ≡ framed (signal_said octets)
 said_frame Training octets differs = absurd (differs refl)
@@ -65,50 +66,53 @@ no_check dcn kind e is = cc
 no_check (other octet) kind e is = cc
 
 -- the item that octets say is the one that they carry
-pub says_carried : (kind : Kind) (octets : List ℕ) (signal : PlainSignal) → FrameOctetsGrow → ReadsWhatIsWritten → Carries octets signal →
-    signal_kind signal ≡ Some kind → item_said kind octets ≡ framed signal
-says_carried kind octets signal grows reads carries e = said_frame kind octets (no_check signal kind e) ∙
-    ap framed (said octets signal grows reads carries)
+pub says_carried :
+    (side : Side) (kind : Kind) (octets : List ℕ) (signal : PlainSignal) → FrameOctetsGrow → ReadsWhatIsWritten →
+    Carries side octets signal → signal_kind signal ≡ Some kind → item_said kind octets ≡ framed signal
+says_carried side kind octets signal grows reads carries e = said_frame kind octets (no_check signal kind e) ∙
+    ap framed (said side octets signal grows reads carries)
 
-kind_by : (kind : Kind) (octets : List ℕ) → FrameOctetsGrow → ReadsWhatIsWritten → kind ≢ Training → CarriesKind kind octets →
+kind_by :
+    (side : Side) (kind : Kind) (octets : List ℕ) → FrameOctetsGrow → ReadsWhatIsWritten → kind ≢ Training →
+    CarriesKind side kind octets → kind_of (item_said kind octets) ≡ Some kind
+kind_by side kind octets grows reads differs h = ap kind_of (says_carried side kind octets h.0 grows reads h.1 h.2) ∙ h.2
+
+pub kind_said :
+    (side : Side) (kind : Kind) (octets : List ℕ) → FrameOctetsGrow → ReadsWhatIsWritten → IsItem side kind octets →
     kind_of (item_said kind octets) ≡ Some kind
-kind_by kind octets grows reads differs h = ap kind_of (says_carried kind octets h.0 grows reads h.1 h.2) ∙ h.2
+kind_said side Training octets grows reads h = refl
+kind_said side Dis octets grows reads h = kind_by side Dis octets grows reads (λ e. cc) h
+kind_said side Dcs octets grows reads h = kind_by side Dcs octets grows reads (λ e. cc) h
+kind_said side Cfr octets grows reads h = kind_by side Cfr octets grows reads (λ e. cc) h
+kind_said side Ftt octets grows reads h = kind_by side Ftt octets grows reads (λ e. cc) h
+kind_said side (Fcd number) octets grows reads h = kind_by side (Fcd number) octets grows reads (λ e. cc) h
+kind_said side Rcp octets grows reads h = kind_by side Rcp octets grows reads (λ e. cc) h
+kind_said side Pps octets grows reads h = kind_by side Pps octets grows reads (λ e. cc) h
+kind_said side Mcf octets grows reads h = kind_by side Mcf octets grows reads (λ e. cc) h
+kind_said side Ppr octets grows reads h = kind_by side Ppr octets grows reads (λ e. cc) h
+kind_said side Rnr octets grows reads h = kind_by side Rnr octets grows reads (λ e. cc) h
+kind_said side Rr octets grows reads h = kind_by side Rr octets grows reads (λ e. cc) h
+kind_said side Dcn octets grows reads h = kind_by side Dcn octets grows reads (λ e. cc) h
 
-pub kind_said : (kind : Kind) (octets : List ℕ) → FrameOctetsGrow → ReadsWhatIsWritten → IsItem kind octets →
-    kind_of (item_said kind octets) ≡ Some kind
-kind_said Training octets grows reads h = refl
-kind_said Dis octets grows reads h = kind_by Dis octets grows reads (λ e. cc) h
-kind_said Dcs octets grows reads h = kind_by Dcs octets grows reads (λ e. cc) h
-kind_said Cfr octets grows reads h = kind_by Cfr octets grows reads (λ e. cc) h
-kind_said Ftt octets grows reads h = kind_by Ftt octets grows reads (λ e. cc) h
-kind_said (Fcd number) octets grows reads h = kind_by (Fcd number) octets grows reads (λ e. cc) h
-kind_said Rcp octets grows reads h = kind_by Rcp octets grows reads (λ e. cc) h
-kind_said Pps octets grows reads h = kind_by Pps octets grows reads (λ e. cc) h
-kind_said Mcf octets grows reads h = kind_by Mcf octets grows reads (λ e. cc) h
-kind_said Ppr octets grows reads h = kind_by Ppr octets grows reads (λ e. cc) h
-kind_said Rnr octets grows reads h = kind_by Rnr octets grows reads (λ e. cc) h
-kind_said Rr octets grows reads h = kind_by Rr octets grows reads (λ e. cc) h
-kind_said Dcn octets grows reads h = kind_by Dcn octets grows reads (λ e. cc) h
+octets_by : (side : Side) (kind : Kind) (octets : List ℕ) → FrameOctetsGrow → ReadsWhatIsWritten → CarriesKind side kind octets
+    → AreOctetsOf side octets (item_said kind octets)
+octets_by side kind octets grows reads h = subst (AreOctetsOf side octets) (sym (says_carried side kind octets h.0 grows reads h.1 h.2)) h.1
 
-octets_by : (kind : Kind) (octets : List ℕ) → FrameOctetsGrow → ReadsWhatIsWritten → CarriesKind kind octets
-    → AreOctetsOf octets (item_said kind octets)
-octets_by kind octets grows reads h = subst (AreOctetsOf octets) (sym (says_carried kind octets h.0 grows reads h.1 h.2)) h.1
-
-pub octets_said : (kind : Kind) (octets : List ℕ) → FrameOctetsGrow → ReadsWhatIsWritten → IsItem kind octets
-    → AreOctetsOf octets (item_said kind octets)
-octets_said Training octets grows reads h = refl
-octets_said Dis octets grows reads h = octets_by Dis octets grows reads h
-octets_said Dcs octets grows reads h = octets_by Dcs octets grows reads h
-octets_said Cfr octets grows reads h = octets_by Cfr octets grows reads h
-octets_said Ftt octets grows reads h = octets_by Ftt octets grows reads h
-octets_said (Fcd number) octets grows reads h = octets_by (Fcd number) octets grows reads h
-octets_said Rcp octets grows reads h = octets_by Rcp octets grows reads h
-octets_said Pps octets grows reads h = octets_by Pps octets grows reads h
-octets_said Mcf octets grows reads h = octets_by Mcf octets grows reads h
-octets_said Ppr octets grows reads h = octets_by Ppr octets grows reads h
-octets_said Rnr octets grows reads h = octets_by Rnr octets grows reads h
-octets_said Rr octets grows reads h = octets_by Rr octets grows reads h
-octets_said Dcn octets grows reads h = octets_by Dcn octets grows reads h
+pub octets_said : (side : Side) (kind : Kind) (octets : List ℕ) → FrameOctetsGrow → ReadsWhatIsWritten → IsItem side kind octets
+    → AreOctetsOf side octets (item_said kind octets)
+octets_said side Training octets grows reads h = refl
+octets_said side Dis octets grows reads h = octets_by side Dis octets grows reads h
+octets_said side Dcs octets grows reads h = octets_by side Dcs octets grows reads h
+octets_said side Cfr octets grows reads h = octets_by side Cfr octets grows reads h
+octets_said side Ftt octets grows reads h = octets_by side Ftt octets grows reads h
+octets_said side (Fcd number) octets grows reads h = octets_by side (Fcd number) octets grows reads h
+octets_said side Rcp octets grows reads h = octets_by side Rcp octets grows reads h
+octets_said side Pps octets grows reads h = octets_by side Pps octets grows reads h
+octets_said side Mcf octets grows reads h = octets_by side Mcf octets grows reads h
+octets_said side Ppr octets grows reads h = octets_by side Ppr octets grows reads h
+octets_said side Rnr octets grows reads h = octets_by side Rnr octets grows reads h
+octets_said side Rr octets grows reads h = octets_by side Rr octets grows reads h
+octets_said side Dcn octets grows reads h = octets_by side Dcn octets grows reads h
 
 -- the content that a frame's octets have waits alone, and is read as the signal that they say; once it is handed out the receiver is idle
 pub record Heard (kind : Kind) (octets : List ℕ) (fed : DeframerState) : Type 0 where
@@ -119,21 +123,21 @@ pub record Heard (kind : Kind) (octets : List ℕ) (fed : DeframerState) : Type 
   pub is : item_said kind octets ≡ framed (signal_said octets)
 
 pub hears_it :
-    (kind : Kind) (octets : List ℕ) (old fed : DeframerState) → FrameOctetsGrow → FrameIsHeard → ReadsWhatIsWritten → kind ≢ Training →
-    IsItem kind octets → IsIdle old →
+    (side : Side) (kind : Kind) (octets : List ℕ) (old fed : DeframerState) → FrameOctetsGrow → FrameIsHeard → ReadsWhatIsWritten → kind ≢ Training →
+    IsItem side kind octets → IsIdle old →
     ((bits : List Bool) (handed : ℕ) → IsAfter old bits handed → IsAfter fed (bits ++ bits_of LsbFirst octets) handed) →
     Heard kind octets fed
-hears_it kind octets old fed grows hears reads differs item idle feeds =
-    let h : CarriesKind kind octets = carried kind octets differs item in
+hears_it side kind octets old fed grows hears reads differs item idle feeds =
+    let h : CarriesKind side kind octets = carried side kind octets differs item in
     let signal : PlainSignal = h.0 in
-    let carries : Carries octets signal = h.1 in
-    let content : List ℕ = content_of signal carries.side carries.last in
+    let carries : Carries side octets signal = h.1 in
+    let content : List ℕ = content_of signal side (is_final signal) in
     let heard = hears old fed content carries.sent.frame octets idle carries.sent.is carries.sent.filled feeds in
     record {
       content = content;
       waits = heard.0;
       idle = heard.1;
-      reads = reads signal carries.side carries.last carries.writable ∙ ap (λ s. Ok s) (sym (said octets signal grows reads carries));
+      reads = reads signal side (is_final signal) carries.writable ∙ ap (λ s. Ok s) (sym (said side octets signal grows reads carries));
       is = said_frame kind octets differs;
     }
 

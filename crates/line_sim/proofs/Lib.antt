@@ -15,6 +15,7 @@ pub mod Acting
 pub mod Sending
 pub mod Frames
 pub mod Items
+pub mod Finals
 pub mod Lists
 pub mod Groups
 pub mod Marks

@@ -1,16 +1,21 @@
 -- Items that are sent one after the other.
 use Rattle.std.proofs.Common.{◌≡◌, ℕ, zero, suc, ◌+◌, ◌≤◌, List, [], ◌∷◌, ◌++◌, take, drop, min, refl, ap, sym, ◌∙◌, arith, append_assoc}
-use Rattle.stations.specs.Inputs.{PlainItem}
+use Rattle.stations.specs.Inputs.{PlainItem, framed, checked}
+use Rattle.stations.specs.Lending.{TellsLast, plain_item}
+use Rattle.stations.specs.declared.lending.Item.{Item}
+use Rattle.stations.specs.declared.lending.Item.TheVariants.{Frame, Training as Check}
 use Rattle.stations.specs.Laws.{Each}
 use Rattle.line_sim.specs.Entries.{count_fcds}
 use Rattle.line_sim.specs.Headline.{CanBeWritten}
+use Rattle.line_sim.specs.Octets.{AreFinal, TellsFinal}
 
--- of all items so many were made, and those that are left can be written
+-- of all items so many were made, and those that are left can be written and are told to be final where they are
 pub record HasSent (start now all left : List PlainItem) : Type 0 where
   pub made : ℕ
   pub now_is : now ≡ start ++ take made all
   pub left_is : left ≡ drop made all
   pub can : Each CanBeWritten left
+  pub final : AreFinal left
 
 take_more : (k : ℕ) (all left : List PlainItem) (item : PlainItem) → item ∷ left ≡ drop k all →
     (take (suc k) all ≡ take k all ++ item ∷ []) × (left ≡ drop (suc k) all)
@@ -21,6 +26,15 @@ take_more (suc k) (x ∷ all) left item e =
     let h = take_more k all left item e in
     (ap (λ ys. x ∷ ys) h.0, h.1)
 
+final_after : (item : PlainItem) (left : List PlainItem) → AreFinal (item ∷ left) → AreFinal left
+final_after (framed signal) left h = h.1
+final_after (checked octets) left h = h
+
+-- the station's list tells of the first item that it is final where it is
+pub first_final : (item : Item) (left : List PlainItem) → AreFinal (plain_item item ∷ left) → TellsLast item left → TellsFinal item
+first_final (Frame signal last) left h tells = tells ∙ h.0
+first_final (Check count) left h tells = tt
+
 pub one_sent : (start now all left : List PlainItem) (item : PlainItem) → HasSent start now all (item ∷ left) →
     HasSent start (now ++ item ∷ []) all left
 one_sent start now all left item h =
@@ -30,6 +44,7 @@ one_sent start now all left item h =
       now_is = ap (λ l. l ++ item ∷ []) h.now_is ∙ (append_assoc start (take h.made all) (item ∷ []) ∙ ap (λ l. start ++ l) (sym more.0));
       left_is = more.1;
       can = h.can.1;
+      final = final_after item left h.final;
     }
 
 -- nothing is left: all were made

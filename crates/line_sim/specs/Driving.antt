@@ -1,25 +1,22 @@
 -- A driven call: what is first under way meets its fate; where nothing is under way, somebody's wait is over. Nobody chooses but the fates.
-use Rattle.std.specs.Prelude.{◌≡◌, ℕ, zero, suc, ◌+◌, ◌*◌, ◌-◌, ◌≤◌, ◌<◌, Bool, true, false, cond, ◌&&◌, not, is_some, nat_lt, nat_eq, List, [], ◌∷◌}
-use Rattle.std.specs.Prelude.{◌++◌, length, Option, Some, None, slice_get, IsSome}
-use Rattle.signals.specs.Signals.{rnr, pps, rr}
+use Rattle.std.specs.Prelude.{◌≡◌, ℕ, zero, suc, ◌+◌, ◌*◌, ◌≤◌, ◌<◌, Bool, true, false, cond, ◌&&◌, not, nat_lt, nat_eq, List, [], ◌∷◌}
+use Rattle.std.specs.Prelude.{length, Option, Some, None}
+use Rattle.signals.specs.Signals.{rnr}
 use Rattle.signals.specs.declared.params.Caps.{Caps}
-use Rattle.signals.specs.declared.params.Params.{Params}
 use Rattle.signals.specs.declared.params.Wish.{Wish}
-use Rattle.stations.specs.Layers.{Document, IsFullPage, speeds_left}
+use Rattle.stations.specs.Layers.{Document, IsFullPage}
 use Rattle.stations.specs.Laws.{Each}
 use Rattle.line_sim.specs.Headline.{IsSafeWorld}
-use Rattle.stations.specs.Blocks.{Block}
 use Rattle.stations.specs.Inputs.{PlainItem, framed, checked}
-use Rattle.stations.specs.CallerStep.{Caller, blocks_of}
-use Rattle.stations.specs.Lasting.{groups_in, blocks_in, goes_on_by}
+use Rattle.stations.specs.CallerStep.{Caller}
+use Rattle.stations.specs.Lasting.{groups_in, blocks_in}
 use Rattle.stations.specs.declared.turn.CallerState.{CallerState}
 use Rattle.stations.specs.declared.turn.CallerState.TheVariants.{WaitDis, WaitCfr, WaitBlock, WaitReady}
 use Rattle.stations.specs.declared.turn.AnswererState.{AnswererState}
-use Rattle.stations.specs.declared.turn.AnswererState.TheVariants.{PhaseB, WaitTraining, Message}
+use Rattle.stations.specs.declared.turn.AnswererState.TheVariants.{PhaseB}
 use Rattle.stations.specs.declared.turn.End.{End}
-use Rattle.line_sim.specs.Line.{World, Outcome, happens, new_world}
+use Rattle.line_sim.specs.Line.{World, happens, new_world}
 use Rattle.line_sim.specs.Line.Outcome.{Done}
-use Rattle.line_sim.specs.declared.event.Event.{Event}
 use Rattle.line_sim.specs.declared.event.Event.TheVariants.{DeliverToAnswerer, DeliverToCaller, LoseToAnswerer, LoseToCaller, Spoil}
 use Rattle.line_sim.specs.declared.event.Event.TheVariants.{CallerTimeout, CallerT5, AnswererT1, AnswererT2}
 

@@ -1,16 +1,19 @@
 -- The octets that travel, and the signals that they say.
-use Rattle.std.specs.Prelude.{ℕ, ◌≡◌, Bool, List, [], ◌∷◌, slice_index_or, Option, Some, None, Result, Ok, Err}
+use Rattle.std.specs.Prelude.{ℕ, ◌≡◌, Bool, true, false, List, [], ◌∷◌, slice_index_or, Option, Some, None, Result, Ok, Err}
 use Rattle.raster.specs.Packed.{bits_of, FillsOctets}
 use Rattle.raster.specs.declared.packed.Order.TheVariants.{LsbFirst}
 use Rattle.hdlc.specs.Frames.{IsFrame}
 use Rattle.hdlc.specs.Gaps.{good}
 use Rattle.signals.specs.Reading.{read_content}
-use Rattle.signals.specs.Signals.{PlainSignal, dcn}
+use Rattle.signals.specs.Signals.{PlainSignal, plain, fcd, rcp, dcn}
 use Rattle.signals.specs.Writing.{IsWritable, content_of}
 use Rattle.signals.specs.declared.fault.SignalFault.{SignalFault}
 use Rattle.signals.specs.declared.signal.Side.{Side}
 use Rattle.signals.specs.declared.signal.Side.TheVariants.{Caller, Answerer}
 use Rattle.stations.specs.Inputs.{PlainItem, framed, checked}
+use Rattle.stations.specs.Lending.{has_no_frame}
+use Rattle.stations.specs.declared.lending.Item.{Item}
+use Rattle.stations.specs.declared.lending.Item.TheVariants.{Frame, Training as Check}
 use Rattle.line_sim.specs.Entries.{signal_kind}
 use Rattle.line_sim.specs.declared.call.Call.{Call}
 use Rattle.line_sim.specs.declared.event.Kind.{Kind}
@@ -22,12 +25,27 @@ pub record IsFrameOf (octets content : List ℕ) : Type 0 where
   pub is : IsFrame content frame
   pub filled : FillsOctets LsbFirst frame octets
 
--- octets are the frame of what a station writes of a signal
-pub record Carries (octets : List ℕ) (signal : PlainSignal) : Type 0 where
-  pub side : Side
-  pub last : Bool
+-- a frame after which its station sends no other one in its turn, which its control field tells (T.30, 5.3.5): each but FCD and RCP
+abbrev pub is_final : PlainSignal → Bool
+is_final (fcd number octets) = false
+is_final rcp = false
+is_final _ = true
+
+-- an item is told to be the turn's last frame exactly if it is
+abbrev pub TellsFinal : Item → Type 0
+TellsFinal (Frame signal last) = last ≡ is_final (plain signal)
+TellsFinal (Check count) = Unit {0}
+
+-- of items each frame that no other one follows is final, and no other frame is
+abbrev pub AreFinal : List PlainItem → Type 0
+AreFinal [] = Unit {0}
+AreFinal (framed signal ∷ items) = (has_no_frame items ≡ is_final signal) × AreFinal items
+AreFinal (checked octets ∷ items) = AreFinal items
+
+-- octets are the frame of what a station writes of a signal: with its own X, and told to be final where it is
+pub record Carries (side : Side) (octets : List ℕ) (signal : PlainSignal) : Type 0 where
   pub writable : IsWritable signal
-  pub sent : IsFrameOf octets (content_of signal side last)
+  pub sent : IsFrameOf octets (content_of signal side (is_final signal))
 
 -- the signal that was read
 abbrev pub signal_in : Result PlainSignal SignalFault → PlainSignal
@@ -43,21 +61,26 @@ abbrev pub item_said : Kind → List ℕ → PlainItem
 item_said Training octets = checked octets
 item_said _ octets = framed (signal_said octets)
 
--- octets of a training check, or of a frame that says a signal of such a kind
-abbrev pub IsItem : Kind → List ℕ → Type 0
-IsItem Training octets = Unit {0}
-IsItem kind octets = (signal : PlainSignal) × Carries octets signal × (signal_kind signal ≡ Some kind)
+-- octets of a training check, or of a frame that says a signal of such a kind of a station
+abbrev pub IsItem : Side → Kind → List ℕ → Type 0
+IsItem side Training octets = Unit {0}
+IsItem side kind octets = (signal : PlainSignal) × Carries side octets signal × (signal_kind signal ≡ Some kind)
 
--- octets as they are on the line: the frame of what a station writes of the signal, or those of the training check
-abbrev pub AreOctetsOf : List ℕ → PlainItem → Type 0
-AreOctetsOf octets (framed signal) = Carries octets signal
-AreOctetsOf octets (checked sent) = octets ≡ sent
+-- octets as they are on the line: the frame of what the station that sends writes of the signal, or those of the training check
+abbrev pub AreOctetsOf : Side → List ℕ → PlainItem → Type 0
+AreOctetsOf side octets (framed signal) = Carries side octets signal
+AreOctetsOf side octets (checked sent) = octets ≡ sent
 
--- the octets of the item that comes next, and none where nothing is under way
-abbrev pub ComeNext : Option (List ℕ) → List PlainItem → Type 0
-ComeNext None items = items ≡ []
-ComeNext (Some octets) [] = ⊥
-ComeNext (Some octets) (item ∷ items) = AreOctetsOf octets item
+-- the octets of the item that comes next of those that a station sends, and none where nothing is under way
+abbrev pub ComeNext : Side → Option (List ℕ) → List PlainItem → Type 0
+ComeNext side None items = items ≡ []
+ComeNext side (Some octets) [] = ⊥
+ComeNext side (Some octets) (item ∷ items) = AreOctetsOf side octets item
+
+-- the other station, which sends what is under way to one
+abbrev pub sender_to : Side → Side
+sender_to Caller = Answerer
+sender_to Answerer = Caller
 
 -- what is under way to a station
 abbrev pub under_way_to : Side → Call → List PlainItem

@@ -12,8 +12,9 @@ ghost use Rattle.std.specs.Prelude.{◌≡◌, false, true, IsTrue, ◌↔◌, l
 use crate::channel::{Channel, fcd_count};
 use crate::event::{Entry, Event, Kind};
 use crate::fault::WorldFault;
+use crate::sender::{FromAnswerer, FromCaller};
 use raster::Document;
-use signals::{Caps, Side, Wish};
+use signals::{Caps, Wish};
 use stations::{Answerer, AnswererIn, Caller, CallerIn, Turn};
 use std::alloc::{AllocError, Global};
 
@@ -47,8 +48,8 @@ fn has_32_octets(map: &[u8; 32])
 pub struct Call {
     pub(crate) caller: Caller,
     pub(crate) answerer: Answerer,
-    pub(crate) to_answerer: Channel,
-    pub(crate) to_caller: Channel,
+    pub(crate) to_answerer: Channel<FromCaller>,
+    pub(crate) to_caller: Channel<FromAnswerer>,
 }
 
 impl Call {
@@ -66,8 +67,8 @@ impl Call {
     {
         let caller = Caller::new(alloc, document, wish)?;
         let (answerer, turn) = Answerer::new(alloc, caps);
-        let to_answerer = Channel::new(alloc, Side::Caller);
-        let mut to_caller = Channel::new(alloc, Side::Answerer);
+        let to_answerer = Channel::new(alloc, FromCaller);
+        let mut to_caller = Channel::new(alloc, FromAnswerer);
         to_caller.send(answerer.frames(&turn))?;
         Ok(Call {
             caller,

@@ -4,7 +4,7 @@ ghost use Rattle.line_sim.specs.Entries.{count_fcds, head_kind};
 ghost use Rattle.line_sim.specs.Headline.{CanBeWritten};
 ghost use Rattle.line_sim.specs.Hearing.{AnswererHears, CallerHears, HearsFirst};
 ghost use Rattle.line_sim.specs.Line.{after_first, spoiled};
-ghost use Rattle.line_sim.specs.Octets.{ComeNext};
+ghost use Rattle.line_sim.specs.Octets.{AreFinal, ComeNext, TellsFinal};
 ghost use Rattle.stations.specs.Inputs.{PlainItem};
 ghost use Rattle.stations.specs.Laws.{Each};
 ghost use Rattle.stations.specs.Lending.{plain_item};
@@ -12,8 +12,9 @@ ghost use Rattle.std.specs.Prelude.{◌≡◌, ◌+◌, [], ◌∷◌, ◌++◌,
 
 use crate::event::Kind;
 use crate::item::UnderWay;
+use crate::sender::Sender;
 use hdlc::Deframer;
-use signals::{Side, Signal};
+use signals::Signal;
 use stations::{Answerer, Caller, Item, Items, Turn};
 use std::alloc::{AllocError, Global};
 use std::collections::VecDeque;
@@ -45,16 +46,16 @@ pub(crate) fn fcd_count(mut items: Items<'_>) -> u16
     count
 }
 
-/// What is under way to a station, the first item first, and the deframer by which it hears frames.
+/// What one station has sent and is under way to the other one, the first item first, and the deframer by which that one hears frames.
 #[derive(Debug, Drop)]
-pub(crate) struct Channel {
+pub(crate) struct Channel<S: Sender> {
     alloc: Global,
-    sender: Side,
-    items: VecDeque<UnderWay>,
+    sender: S,
+    items: VecDeque<UnderWay<S>>,
     deframer: Deframer,
 }
 
-impl Model for Channel {
+impl<S: Sender> Model for Channel<S> {
     ghost use Rattle.std.specs.Prelude.{List};
     ghost use Rattle.stations.specs.Inputs.{PlainItem};
     ghost use Rattle.hdlc.specs.DeframerState.{IsIdle};
@@ -66,9 +67,9 @@ impl Model for Channel {
     ghost invariant = { λ c. IsIdle c.deframer };
 }
 
-impl Channel {
+impl<S: Sender> Channel<S> {
     /// Nothing is under way.
-    pub(crate) fn new(alloc: Global, sender: Side) -> Channel
+    pub(crate) fn new(alloc: Global, sender: S) -> Channel<S>
         ensures { result ≡ [] }
     {
         hdlc::laws::new_is_idle();
@@ -97,7 +98,7 @@ impl Channel {
 
     /// The octets of the first item.
     pub(crate) fn next_octets(&self) -> Option<&[u8]>
-        ensures { ComeNext (option_map (λ octets. octets.now) result) self.now }
+        ensures { ComeNext S.sends (option_map (λ octets. octets.now) result) self.now }
     {
         let first = self.items.front()?;
         Some(first.octets())
@@ -153,7 +154,8 @@ impl Channel {
 
     /// One item more is under way.
     fn push(&mut self, item: Item<'_>) -> Result<(), AllocError>
-        requires { CanBeWritten (plain_item item) }
+        requires can { CanBeWritten (plain_item item) }
+        requires told { TellsFinal item }
         ensures ok { OnOk result (self.new ≡ self.old ++ plain_item item.entry ∷ []) }
         ensures err { OnErr result (self.new ≡ self.old) }
     {
@@ -164,7 +166,8 @@ impl Channel {
 
     /// Items are sent. Errs where memory is refused: the items that were made are under way.
     pub(crate) fn send(&mut self, mut items: Items<'_>) -> Result<(), AllocError>
-        requires { Each CanBeWritten items }
+        requires can { Each CanBeWritten items }
+        requires told { AreFinal items }
         ensures ok { OnOk result (self.new ≡ self.old ++ items.entry) }
         ensures err { OnErr result ((made : ℕ) × (self.new ≡ self.old ++ take made items.entry)) }
     {

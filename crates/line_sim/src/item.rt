@@ -5,10 +5,10 @@ ghost use Rattle.line_sim.specs.Entries.{kind_of, signal_kind};
 ghost use Rattle.line_sim.specs.Headline.{CanBeWritten};
 ghost use Rattle.line_sim.specs.Hearing.{AnswererHears, CallerHears};
 ghost use Rattle.line_sim.specs.Line.{spoiled};
-ghost use Rattle.line_sim.specs.Octets.{AreOctetsOf, Carries, IsFrameOf};
+ghost use Rattle.line_sim.specs.Octets.{AreOctetsOf, Carries, TellsFinal, is_final};
 ghost use Rattle.signals.specs.Reading.{read_content};
 ghost use Rattle.signals.specs.Signals.{PlainSignal, plain};
-ghost use Rattle.signals.specs.Writing.{IsWritable, content_of};
+ghost use Rattle.signals.specs.Writing.{IsWritable};
 ghost use Rattle.stations.specs.AnswererStep.{StepsOrRefuses, answerer_step};
 ghost use Rattle.stations.specs.CallerStep.{caller_step};
 ghost use Rattle.stations.specs.Inputs.{hears, listens};
@@ -17,6 +17,7 @@ ghost use Rattle.stations.specs.CallerFields.{AnswersOrRefuses};
 ghost use Rattle.std.specs.Prelude.{◌≡◌, [], ◌∷◌, List, ℕ, drop, replicate, IfOk, IsTrue, ◌↔◌};
 
 use crate::event::Kind;
+use crate::sender::Sender;
 use hdlc::{Deframer, write_frame};
 use raster::packed::Order;
 use run_tables::BitWriter;
@@ -60,9 +61,9 @@ fn frame_octets(
     side: Side,
     last: bool,
 ) -> Result<Vec<u8>, AllocError>
-    requires { IsWritable (plain signal.now) }
-    ensures carries { IfOk result (λ octets. Carries octets.items (plain signal.now)) }
-    ensures sent { IfOk result (λ octets. IsFrameOf octets.items (content_of (plain signal.now) side last)) }
+    requires writable { IsWritable (plain signal.now) }
+    requires told { last ≡ is_final (plain signal.now) }
+    ensures { IfOk result (λ octets. Carries side octets.items (plain signal.now)) }
 {
     let content = signals::write(signal, side, last);
     let mut writer = BitWriter::new(alloc, Order::LsbFirst);
@@ -109,14 +110,15 @@ fn answerer_hears(deframer: &mut Deframer, answerer: &mut Answerer) -> Result<Tu
     answerer.step(AnswererIn::Heard(signal))
 }
 
-/// An item under way: the octets of a frame or of a training check.
+/// An item under way, of the station that sends it: the octets of a frame or of a training check.
 #[derive(Debug, Drop)]
-pub(crate) struct UnderWay {
+pub(crate) struct UnderWay<S: Sender> {
+    sender: S,
     kind: Kind,
     octets: Vec<u8>,
 }
 
-impl Model for UnderWay {
+impl<S: Sender> Model for UnderWay<S> {
     ghost use Rattle.stations.specs.Inputs.{PlainItem};
     ghost use Rattle.line_sim.specs.Octets.{item_said, IsItem};
 
@@ -124,27 +126,36 @@ impl Model for UnderWay {
 
     ghost view = { λ i. item_said i.kind i.octets.items };
 
-    ghost invariant = { λ i. IsItem i.kind i.octets.items };
+    ghost invariant = { λ i. IsItem S.sends i.kind i.octets.items };
 }
 
-impl UnderWay {
+impl<S: Sender> UnderWay<S> {
     /// An item as a station sends it. Errs where memory is refused.
-    pub(crate) fn new(alloc: Global, side: Side, item: Item<'_>) -> Result<UnderWay, AllocError>
-        requires { CanBeWritten (plain_item item) }
+    pub(crate) fn new(alloc: Global, sender: S, item: Item<'_>) -> Result<UnderWay<S>, AllocError>
+        requires can { CanBeWritten (plain_item item) }
+        requires told { TellsFinal item }
         ensures { IfOk result (λ made. made ≡ plain_item item.entry) }
     {
         hdlc::laws::frame_octets_grow();
         signals::laws::reads_what_is_written();
         match item {
             Item::Frame { signal, last } => {
-                let octets = frame_octets(alloc, &signal, side, last)?;
+                let octets = frame_octets(alloc, &signal, sender.side(), last)?;
                 let kind = kind_of(&signal);
-                Ok(UnderWay { kind, octets })
+                Ok(UnderWay {
+                    sender,
+                    kind,
+                    octets,
+                })
             }
             Item::Training(count) => {
                 let octets = training_octets(alloc, count)?;
                 let kind = Kind::Training;
-                Ok(UnderWay { kind, octets })
+                Ok(UnderWay {
+                    sender,
+                    kind,
+                    octets,
+                })
             }
         }
     }
@@ -160,7 +171,7 @@ impl UnderWay {
 
     /// Its octets, as they are on the line.
     pub(crate) fn octets(&self) -> &[u8]
-        ensures { AreOctetsOf result.now self.now }
+        ensures { AreOctetsOf S.sends result.now self.now }
     {
         hdlc::laws::frame_octets_grow();
         signals::laws::reads_what_is_written();

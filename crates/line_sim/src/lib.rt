@@ -10,6 +10,7 @@ pub mod laws;
 mod live;
 mod polite;
 mod report;
+mod sender;
 mod stream;
 mod world;
 

@@ -7,7 +7,7 @@ ghost use Rattle.line_sim.specs.Report.{Keeps, KeepsRun, RunsTo, Tells, TellsWho
 ghost use Rattle.line_sim.specs.Standing.{Becomes, BecomesSome, NewWorld, Shows, fields_state};
 ghost use Rattle.stations.specs.Laws.{Each};
 ghost use Rattle.stations.specs.Layers.{IsFullPage};
-ghost use Rattle.line_sim.specs.Octets.{ComeNext, under_way_to};
+ghost use Rattle.line_sim.specs.Octets.{ComeNext, sender_to, under_way_to};
 ghost use Rattle.std.specs.Prelude.{◌≡◌, ◌<◌, ◌+◌, ◌++◌, ◌∷◌, [], true, OnOk, OnErr, IfOk, length, option_map, vec_len, vec_capacity};
 
 use crate::call::Call;
@@ -111,9 +111,10 @@ impl World {
     }
 
     /// The octets that come next to a station over the line, the least significant bit of each first: those of
-    /// a frame with its flags, or of a training check. None where nothing is under way to it. Takes no memory.
+    /// a frame with its flags, as the other station writes it, or of a training check. None where nothing is under way to
+    /// it. Takes no memory.
     pub fn next_octets(&self, to: Side) -> Option<&[u8]>
-        ensures { ComeNext (option_map (λ octets. octets.now) result) (under_way_to to self.now.call) }
+        ensures { ComeNext (sender_to to) (option_map (λ octets. octets.now) result) (under_way_to to self.now.call) }
     {
         match to {
             Side::Caller => self.call.to_caller.next_octets(),

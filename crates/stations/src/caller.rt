@@ -152,6 +152,13 @@ impl Caller {
         matches!(self.state, CallerState::WaitDis) && self.page > 0
     }
 
+    /// Whether the caller waits for a DIS: at the start of a call, and after each group that another one follows.
+    pub fn waits_for_dis(&self) -> bool
+        ensures { (t : CallerTuple) → Represents self.now t → IsTrue result ↔ (t.state ≡ WaitDis) }
+    {
+        matches!(self.state, CallerState::WaitDis)
+    }
+
     /// Why the call ended, if it has.
     pub fn end(&self) -> Option<End>
         ensures { (t : CallerTuple) → Represents self.now t → result ≡ t.ending }

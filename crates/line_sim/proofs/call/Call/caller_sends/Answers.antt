@@ -1,6 +1,13 @@
 use Rattle.std.proofs.lemmas.Bool.{iff_false}
+use Rattle.std.proofs.Common.{subst, sym}
+use Rattle.line_sim.specs.Octets.{AreFinal}
+use Rattle.line_sim.proofs.Finals.{caller_final}
 use Rattle.line_sim.proofs.Sent.{caller_sent_so}
 use Rattle.line_sim.proofs.call.Call.caller_sends.Goals as goal
+
+pub send-requires-clause-told : goal.send-requires-clause-told
+send-requires-clause-told c =
+    subst AreFinal (sym (c.frames.ensures c.requires.0 c.requires.1)) (caller_final c.requires.0 c.args.turn.now)
 
 pub returns : goal.returns
 returns c =

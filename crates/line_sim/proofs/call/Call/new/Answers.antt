@@ -1,5 +1,12 @@
+use Rattle.std.proofs.Common.{subst, sym}
+use Rattle.line_sim.specs.Octets.{AreFinal}
+use Rattle.line_sim.proofs.Finals.{answerer_final}
 use Rattle.line_sim.proofs.Beginning.{shows_new}
 use Rattle.line_sim.proofs.call.Call.new.Goals as goal
+
+pub send-requires-clause-told : goal.send-requires-clause-told
+send-requires-clause-told c =
+    subst AreFinal (sym c.frames.ensures) (answerer_final c.new-answerer.result.0 c.new-answerer.result.1)
 
 pub returns : goal.returns
 returns c = (
