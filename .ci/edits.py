@@ -1,0 +1,65 @@
+#!/usr/bin/env python3
+"""Holds each must-fail edit against its crate, and each source against the formatter, before the gate spends an hour:
+
+    .ci/edits.py
+
+Each `old:` text of crates/*/must-fail/*.edit stands exactly once in the file that the edit names, after the pairs before it; and each .rt
+and .antt file is as the kit's formatter writes it. Prints what is wrong and ends with status 1, or prints one line of counts. It needs
+Python's standard library and the kit's `rattle`."""
+
+import os
+import shutil
+import subprocess
+import sys
+from pathlib import Path
+
+TOP = Path(__file__).resolve().parent.parent
+PARTS = ["src", "specs", "proofs"]
+
+
+def faults_of(edit, crate):
+    """What is wrong with an edit."""
+    file, old, texts = None, None, {}
+    for line in edit.read_text().split("\n"):
+        word, _, text = line.partition(": ")
+        if word == "file":
+            file = text.strip()
+            path = crate / file
+            if not path.is_file():
+                return [f"no file {file}"]
+            texts.setdefault(file, path.read_text())
+        elif word == "old":
+            old = text
+        elif line.startswith("new:"):
+            if file is None or old is None:
+                return ["a new text without a file or an old one"]
+            if texts[file].count(old) != 1:
+                return [f"stands {texts[file].count(old)} times in {file}: {old}"]
+            texts[file] = texts[file].replace(old, line.removeprefix("new:").removeprefix(" "))
+    return [] if texts else ["it changes nothing"]
+
+
+def unformatted(crate):
+    """The files of a crate that the formatter would write in another way, as it says."""
+    files = sorted(str(file) for part in PARTS for file in (crate / part).rglob("*") if file.suffix in (".rt", ".antt"))
+    ran = subprocess.run([RATTLE, "fmt", "--check", *files], capture_output=True, text=True)
+    return [] if ran.returncode == 0 else [f"{crate.name}: run rt fmt in the crate's folder"]
+
+
+def main():
+    crates = sorted(path for path in (TOP / "crates").iterdir() if path.is_dir())
+    edits = [(edit, crate) for crate in crates for edit in sorted((crate / "must-fail").glob("*.edit"))]
+    wrong = [f"{crate.name}/{edit.name}: {fault}" for edit, crate in edits for fault in faults_of(edit, crate)]
+    for crate in crates:
+        wrong += unformatted(crate)
+    for fault in wrong:
+        print(f"edits: {fault}")
+    if not wrong:
+        print(f"edits: {len(edits)} edits can be made, and the sources of {len(crates)} crates are formatted")
+    return 1 if wrong else 0
+
+
+RATTLE = shutil.which("rattle", path=os.environ.get("PATH", "") + ":/opt/rattle/bin")
+if RATTLE is None:
+    sys.exit("edits: the kit's rattle is missing: put its bin on your PATH")
+sys.exit(main())
