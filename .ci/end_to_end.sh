@@ -67,6 +67,7 @@ for program in "$@"; do
     try_outputs
     try_scripts
     try_calls
+    try_counts
     try_reference
     try_readme
     [ "$count" -ge "$least" ] || fails "$count runs, and not $least at least"

@@ -89,3 +89,33 @@ try_calls() {
     refuses call "$input"
     refuses call --script "$work/script" --frame 128 "$input"
 }
+
+# few LINES: a call by the script of counts under little memory, which ends well and prints so many lines.
+few() {
+    lines=$1 status=0
+    (ulimit -v 8000; exec timeout 60 "$program" call --script "$work/counts.script" "$input") > "$work/output" 2> "$work/error" || status=$?
+    [ "$status" = 0 ] || fails "call of $lines lines under little memory ended with status $status"
+    [ "$(wc -l < "$work/output")" = "$lines" ] || fails "call under little memory printed other than $lines lines"
+    count=$((count + 1))
+}
+
+# The memory of a call doesn't grow with the counts of its script: under little of it each event has its line, with no mark.
+try_counts() {
+    input=$(octets "$white")
+    echo 'polite 11' > "$work/script"
+    works call --script "$work/script" "$input"
+    { seq 100000 | sed 's/$/ busy - -/'; echo "100001 ready - -"; awk 'NR <= 11 { $1 += 100001 } 1' "$work/output"; } > "$work/wanted"
+    printf 'busy 100000\nready\npolite 1000\n' > "$work/counts.script"
+    few 100014
+    is_same "$work/output" "$work/wanted" "a call of 100,000 events under little memory"
+    yes 'busy 100000' | head -n 30 > "$work/counts.script"
+    few 3000002
+    [ "$(sed -n 3000000p "$work/output")" = "3000000 busy - -" ] || fails "the last event of a call under little memory has another line"
+    [ -c /dev/full ] || return 0
+    status=0
+    rm -f "$work/pages"
+    "$program" call --script "$work/script" --out "$work/pages" "$input" > /dev/full 2> "$work/error" || status=$?
+    [ "$status $(cat "$work/error")" = "1 fault 8" ] || fails "call to a full device ended with status $status"
+    [ ! -e "$work/pages" ] || fails "call to a full device wrote the file of --out"
+    count=$((count + 1))
+}

@@ -1,38 +1,26 @@
 -- How a call of a script and images ends, over readers that may tell their bytes.
-use Rattle.std.proofs.Common.{◌≡◌, ◌⊎◌, ℕ, Bool, List, Option, Some, None, inl, inr, refl}
+use Rattle.std.proofs.Common.{◌≡◌, ◌⊎◌, ℕ, Bool, List, Option, Some, None, inl, inr}
 use Rattle.std.specs.Prelude.{IfSome}
-use Rattle.std.specs.Io.KnownBytes.{Appends}
+use Rattle.raster.specs.Pages.{PagePixels}
 use Rattle.raster.specs.Pbm.{AreImages}
 use Rattle.stations.specs.CallerFields.{AreCallable}
 use Rattle.stations.specs.Layers.{Document}
-use Rattle.line_sim.specs.declared.report.Report.{Report}
-use Rattle.engines.specs.Calls.{RefusesCall, ReportsCall, RunsCall}
+use Rattle.engines.specs.Calls.{RefusesCall, RunsCall, TellsCall}
 use Rattle.engines.specs.Faults.{IsOutside}
 use Rattle.engines.specs.Scripts.{IsScript}
-use Rattle.engines.specs.Transcripts.{report_text}
 use Rattle.engines.specs.declared.fault.ToolFault.{ToolFault}
 use Rattle.engines.specs.declared.fault.ToolFault.TheVariants.{No}
 use Rattle.engines.specs.declared.options.CallOptions.{CallOptions}
 use Rattle.engines.specs.declared.script.Command.{Command}
 
 pub runs_call : (options : CallOptions) (script images before after : Option (List ℕ)) (commands : List Command) (document : Document)
-    (report : Report) → IfSome script (λ said. IsScript said commands) →
-    IfSome images (λ octets. AreImages options.fine octets document) → ReportsCall options document commands report →
-    Appends before after (report_text report) →
-    IfSome script (λ said. IfSome images (λ octets. RunsCall options said octets before after report.pages.items))
-runs_call options None images before after commands document report said read reported written = tt
-runs_call options (Some script) None before after commands document report said read reported written = tt
-runs_call options (Some script) (Some images) before after commands document report said read reported written =
-    record {
-      commands = commands;
-      said = said;
-      document = document;
-      read = read;
-      report = report;
-      reported = reported;
-      written = written;
-      answered = refl;
-    }
+    (pages : List PagePixels) → IfSome script (λ said. IsScript said commands) →
+    IfSome images (λ octets. AreImages options.fine octets document) → TellsCall options document commands before after pages →
+    IfSome script (λ said. IfSome images (λ octets. RunsCall options said octets before after pages))
+runs_call options None images before after commands document pages said read told = tt
+runs_call options (Some script) None before after commands document pages said read told = tt
+runs_call options (Some script) (Some images) before after commands document pages said read told =
+    record { commands = commands; said = said; document = document; read = read; told = told }
 
 -- why a call was refused, where the readers tell their bytes
 abbrev pub Refuses : Bool → Option (List ℕ) → Option (List ℕ) → ToolFault → Type 0

@@ -1,68 +1,94 @@
--- The steps that commands make of a world, one command after the other.
-use Rattle.std.proofs.Common.{◌≡◌, ℕ, zero, suc, ◌+◌, ◌<◌, List, [], ◌∷◌, ◌++◌, map, replicate, length, take, Option, Some, None}
-use Rattle.std.proofs.Common.{Result, Ok, Err, OnOk, OnErr, inl, inr, refl, ap, sym, subst, ◌∙◌, arith, append_assoc}
+-- The steps that commands make of a call, one command after the other, with the line of each.
+use Rattle.std.proofs.Common.{◌≡◌, ◌≢◌, ℕ, zero, suc, ◌+◌, ◌-◌, ◌<◌, ◌⊎◌, Bool, true, false, not, List, [], ◌∷◌, ◌++◌, map, replicate, length, take}
+use Rattle.std.proofs.Common.{Option, Some, inl, inr, refl, ap, sym, subst, ◌∙◌, arith, append_assoc}
 use Rattle.std.specs.Prelude.{All}
+use Rattle.std.specs.Io.KnownBytes.{Appends}
+use Rattle.std.proofs.KnownBytes.{Appends-trans, Appends-nil}
 use Rattle.std.proofs.Math.Seq.{take-append_seam}
-use Rattle.std.proofs.lemmas.List.{append-nil}
+use Rattle.std.proofs.lemmas.List.{append-nil, length-append}
 use Rattle.std.proofs.lemmas.List.Elements.{All-take}
 use Rattle.raster.specs.Pages.{PagePixels, IsPage, IsDocument}
 use Rattle.stations.specs.CallerFields.{AreCallable}
-use Rattle.stations.specs.CallerStep.{confirmed}
 use Rattle.stations.specs.Laws.{Each}
 use Rattle.stations.specs.Layers.{Document, IsFullPage}
-use Rattle.stations.specs.declared.turn.End.{End}
-use Rattle.line_sim.specs.Delivering.{Made, DeliversAll}
-use Rattle.line_sim.specs.Entries.{and_entries, entries, entry_of}
+use Rattle.line_sim.specs.Entries.{and_entries, entries, entry_of, is_refused}
 use Rattle.line_sim.specs.Headline.{IsSafe, IsSafeWorld, RunsAreSafe}
-use Rattle.line_sim.specs.Line.{World, Outcome, Done, happens, run}
+use Rattle.line_sim.specs.Line.{World, Outcome, Done, Nothing, InputLost, Cut, run}
 use Rattle.line_sim.specs.PageMachine.{IsBeginning}
-use Rattle.line_sim.specs.Polite.{polite_steps}
-use Rattle.line_sim.specs.Report.{Tells}
-use Rattle.line_sim.specs.Standing.{Becomes, BecomesSome, Shows, WorldFields}
+use Rattle.line_sim.specs.Polite.{and_on, next_steps, polite_steps}
+use Rattle.line_sim.specs.Standing.{Acts, Shows}
+use Rattle.line_sim.specs.declared.call.Call.{Call}
 use Rattle.line_sim.specs.declared.event.Entry.{Entry}
 use Rattle.line_sim.specs.declared.event.Event.{Event}
-use Rattle.line_sim.specs.declared.report.Report.{Report}
-use Rattle.engines.specs.Calls.{Follows, FollowsAll, HaveRows, ReportsCall, answerer_caps, call_world, caller_wish, MakeAll, Makes, Steps}
+use Rattle.line_sim.specs.declared.event.Event.TheVariants.{AnswererT2, DeliverToCaller}
+use Rattle.line_sim.specs.declared.live.Ending.{Ending}
+use Rattle.line_sim.proofs.Transcripts.{run_both, entries_both}
+use Rattle.engines.specs.Calls.{EndsAs, HaveRows, MakeAll, Makes, MakesNext, Steps, StopsPolite, TellsCall, TellsCommand, TellsCommands}
+use Rattle.engines.specs.Calls.{TellsEvent, TellsNext, TellsSteps, answerer_caps, call_world, caller_wish}
+use Rattle.engines.specs.Transcripts.{ending_text, entry_line, entry_lines}
 use Rattle.engines.specs.declared.options.CallOptions.{CallOptions}
 use Rattle.engines.specs.declared.script.Command.{Command}
 use Rattle.engines.specs.declared.script.Command.TheVariants.{Events, Polite}
+use Rattle.engines.proofs.EntryLines.{lines_both}
+
+-- the octets of a writer, where it tells them
+abbrev pub Octets : Type 0
+Octets = Option (List ℕ)
 
 -- ---- steps and then others
 
-run_on : (xs ys : Steps) (w : World) → run (xs ++ ys) w ≡ run ys (run xs w)
-run_on [] ys w = refl
-run_on (x ∷ xs) ys w = run_on xs ys (happens w x.0 x.1)
+pub none_told : (v : Call) (w : World) (first : ℕ) (at : Octets) → Shows v w → TellsSteps [] w v first first at at
+none_told v w first at shows = record { shows = shows; each = refl; written = Appends-nil at; number = omega arith }
 
-and_more : (entry : Option Entry) (xs ys : List Entry) → and_entries entry (xs ++ ys) ≡ and_entries entry xs ++ ys
-and_more None xs ys = refl
-and_more (Some entry) xs ys = refl
+pub told_on : (now new : Call) (w : World) (xs ys : Steps) (first mid next : ℕ) (before at after : Octets) →
+    TellsSteps xs w now first mid before at → TellsSteps ys (run xs w) new mid next at after →
+    TellsSteps (xs ++ ys) w new first next before after
+told_on now new w xs ys first mid next before at after one more =
+    let some : List Entry = entries xs w in
+    let others : List Entry = entries ys (run xs w) in
+    let all : entries (xs ++ ys) w ≡ some ++ others = entries_both xs ys w in
+    let place : mid ≡ first + length some = one.number ∙ ap (λ n. first + n) (sym one.each) in
+    let steps : length (xs ++ ys) ≡ length xs + length ys = length-append xs ys in
+    record {
+      shows = subst (Shows new) (sym (run_both xs ys w)) more.shows;
+      each = ap length all ∙ (length-append some others ∙ (ap (λ n. n + length others) one.each ∙
+          (ap (λ n. length xs + n) more.each ∙ sym steps)));
+      written = subst (Appends before after) (sym (ap (entry_lines first) all ∙ (lines_both first some others ∙
+          ap (λ n. entry_lines first some ++ entry_lines n others) (sym place))))
+          (Appends-trans before at after _ _ one.written more.written);
+      number = (let a = one.number in let b = more.number in omega (arith, a, b, steps));
+    }
 
-entries_on : (xs ys : Steps) (w : World) → entries (xs ++ ys) w ≡ entries xs w ++ entries ys (run xs w)
-entries_on [] ys w = refl
-entries_on (x ∷ xs) ys w =
-    let next = happens w x.0 x.1 in
-    ap (and_entries (entry_of w x.0 x.1)) (entries_on xs ys next) ∙
-    and_more (entry_of w x.0 x.1) (entries xs next) (entries ys (run xs next))
+-- ---- an event with its line
 
-none_made : (v : WorldFields) (w : World) → Shows v.call w → Made v v w []
-none_made v w shows = (shows, sym (append-nil v.entries))
+refused_is : (w : World) (event : Event) (outcome : Outcome) (entry : Entry) → entry_of w event outcome ≡ Some entry →
+    is_refused outcome ≡ entry.refused
+refused_is w event Done entry e = cc
+refused_is w event Nothing entry e = absurd (cc)
+refused_is w event InputLost entry e = cc
+refused_is w event (Cut made) entry e = cc
 
-made_on : (old now new : WorldFields) (w : World) (xs ys : Steps) → Made old now w xs → Made now new (run xs w) ys →
-    Made old new w (xs ++ ys)
-made_on old now new w xs ys first second = (
-  subst (Shows new.call) (sym (run_on xs ys w)) second.0,
-  second.1 ∙ (ap (λ l. l ++ entries ys (run xs w)) first.1 ∙
-      (append_assoc old.entries (entries xs w) (entries ys (run xs w)) ∙ ap (λ l. old.entries ++ l) (sym (entries_on xs ys w)))),
-)
+pub event_told : (old new : Call) (event : Event) (entry : Entry) (w : World) (first next : ℕ) (before after : Octets) →
+    Acts old new event entry → Shows old w → Appends before after (entry_line first entry) → next ≡ first + 1 →
+    TellsEvent event w new first next before after entry.refused
+event_told old new event entry w first next before after acts shows line more =
+    let did = acts.1 w shows in
+    let noted : entries ((event, acts.0) ∷ []) w ≡ entry ∷ [] = ap (λ o. and_entries o []) did.1 in (
+      acts.0,
+      refused_is w event acts.0 entry did.1,
+      record {
+        shows = did.0;
+        each = ap length noted;
+        written = subst (Appends before after) (sym (ap (entry_lines first) noted ∙ append-nil (entry_line first entry))) line;
+        number = more;
+      },
+    )
 
 -- ---- an event again and again
 
--- a world was given an event so many times
-abbrev pub Repeats : Event → ℕ → WorldFields → WorldFields → Type 0
-Repeats event count old new = (w : World) → Shows old.call w → Follows (Events event count) old new w
-
-pub none_repeated : (event : Event) (v : WorldFields) → Repeats event 0 v v
-none_repeated event v w shows = ([], refl, none_made v w shows)
+pub none_repeated : (event : Event) (v : Call) (w : World) (first : ℕ) (at : Octets) → Shows v w →
+    TellsCommand (Events event 0) w v first first at at
+none_repeated event v w first at shows = ([], refl, none_told v w first at shows)
 
 firsts_more : (steps : Steps) (step : Event × Outcome) → map (λ x. x.0) (steps ++ step ∷ []) ≡ map (λ x. x.0) steps ++ step.0 ∷ []
 firsts_more [] step = refl
@@ -72,52 +98,198 @@ replicate_more : (event : Event) (count : ℕ) → replicate count event ++ even
 replicate_more event zero = refl
 replicate_more event (suc count) = ap (λ l. event ∷ l) (replicate_more event count)
 
-repeated_with : (event : Event) (outcome : Outcome) (count : ℕ) (old now new : WorldFields) → Repeats event count old now →
-    Becomes now new event outcome → Repeats event (suc count) old new
-repeated_with event outcome count old now new before becomes w shows =
-    let h = before w shows in
-    let one : Steps = (event, outcome) ∷ [] in (
-      h.0 ++ one,
-      firsts_more h.0 (event, outcome) ∙ (ap (λ l. l ++ event ∷ []) h.1 ∙ replicate_more event count),
-      made_on old now new w h.0 one h.2 (becomes (run h.0 w) h.2.0),
+-- one time more, whatever became of it
+pub repeated : (event : Event) (count : ℕ) (now new : Call) (w : World) (first mid next : ℕ) (before at after : Octets) (refused : Bool) →
+    TellsCommand (Events event count) w now first mid before at →
+    ((u : World) → Shows now u → TellsEvent event u new mid next at after refused) →
+    TellsCommand (Events event (count + 1)) w new first next before after
+repeated event count now new w first mid next before at after refused told event_is =
+    let xs : Steps = told.0 in
+    let one = event_is (run xs w) told.2.shows in
+    let ys : Steps = (event, one.0) ∷ [] in
+    let e : suc count ≡ count + 1 = omega arith in (
+      xs ++ ys,
+      firsts_more xs (event, one.0) ∙ (ap (λ l. l ++ event ∷ []) told.1 ∙ (replicate_more event count ∙ ap (λ n. replicate n event) e)),
+      told_on now new w xs ys first mid next before at after told.2 one.2,
     )
 
--- one time more, whatever it answered
-pub repeated : {A E : Type 0} (event : Event) (count : ℕ) (old now new : WorldFields) (result : Result A E) →
-    Repeats event count old now → OnOk result (Becomes now new event Done) → OnErr result (BecomesSome now new event) →
-    Repeats event (count + 1) old new
-repeated event count old now new (Ok done) before ok err =
-    let e : suc count ≡ count + 1 = omega arith in
-    subst (λ n. Repeats event n old new) e (repeated_with event Done count old now new before ok)
-repeated event count old now new (Err refusal) before ok err =
-    let e : suc count ≡ count + 1 = omega arith in
-    subst (λ n. Repeats event n old new) e (repeated_with event err.0 count old now new before err.2)
+-- ---- the next delivery
+
+outcome_done : (outcome : Outcome) → is_refused outcome ≡ false → outcome ≡ Done
+outcome_done Done e = refl
+outcome_done Nothing e = absurd (cc)
+outcome_done InputLost e = absurd (cc)
+outcome_done (Cut made) e = absurd (cc)
+
+outcome_refused : (outcome : Outcome) → is_refused outcome ≡ true → outcome ≢ Done
+outcome_refused outcome e is = (let no : is_refused Done ≡ true = subst (λ o. is_refused o ≡ true) is e in absurd (cc))
+
+some_there : (xs : Steps) (x : Event × Outcome) → xs ++ x ∷ [] ≢ []
+some_there [] x e = absurd (cc)
+some_there (y ∷ ys) x e = absurd (cc)
+
+-- an event that comes last, after others that were whole
+last_next : (coming before : Steps) (event : Event) (w : World) (now new : Call) (first mid next : ℕ) (at here after : Octets) (refused : Bool) →
+    coming ≡ before ++ (event, Done) ∷ [] → TellsSteps before w now first mid at here →
+    TellsEvent event (run before w) new mid next here after refused →
+    (steps : Steps) × MakesNext coming steps (not refused) × TellsSteps steps w new first next at after
+last_next coming before event w now new first mid next at here after false is told one =
+    let done : one.0 ≡ Done = outcome_done one.0 one.1 in
+    let steps : Steps = before ++ (event, one.0) ∷ [] in (
+      steps,
+      (λ none. some_there before (event, Done) (sym is ∙ none), ap (λ o. before ++ (event, o) ∷ []) done ∙ sym is),
+      told_on now new w before ((event, one.0) ∷ []) first mid next at here after told one.2,
+    )
+last_next coming before event w now new first mid next at here after true is told one = (
+  before ++ (event, one.0) ∷ [],
+  inr (record {
+    before = before;
+    event = event;
+    following = [];
+    outcome = one.0;
+    refused = outcome_refused one.0 one.1;
+    polite_is = is;
+    steps_are = refl;
+  }),
+  told_on now new w before ((event, one.0) ∷ []) first mid next at here after told one.2,
+)
+
+-- what is under way first
+pub item_next : (old new : Call) (event : Event) (w : World) (first next : ℕ) (before after : Octets) (refused : Bool) → Shows old w →
+    next_steps w w.to_answerer w.to_caller ≡ (event, Done) ∷ [] → TellsEvent event w new first next before after refused →
+    TellsNext w new first next before after (not refused)
+item_next old new event w first next before after refused shows coming told =
+    last_next _ [] event w old new first first next before before after refused coming (none_told old w first before shows) told
+
+-- another group, whose T2 is refused
+pub group_stops : (new : Call) (w : World) (first next : ℕ) (before after : Octets) (refused : Bool) → refused ≡ true →
+    next_steps w w.to_answerer w.to_caller ≡ (AnswererT2, Done) ∷ (DeliverToCaller, Done) ∷ [] →
+    TellsEvent AnswererT2 w new first next before after refused → TellsNext w new first next before after false
+group_stops new w first next before after refused is coming told = (
+  (AnswererT2, told.0) ∷ [],
+  inr (record {
+    before = [];
+    event = AnswererT2;
+    following = (DeliverToCaller, Done) ∷ [];
+    outcome = told.0;
+    refused = outcome_refused told.0 (told.1 ∙ is);
+    polite_is = coming;
+    steps_are = refl;
+  }),
+  told.2,
+)
+
+-- another group
+pub group_next : (now new : Call) (w : World) (first mid next : ℕ) (before at after : Octets) (group_refused refused : Bool) →
+    group_refused ≡ false → next_steps w w.to_answerer w.to_caller ≡ (AnswererT2, Done) ∷ (DeliverToCaller, Done) ∷ [] →
+    TellsEvent AnswererT2 w now first mid before at group_refused →
+    ((u : World) → Shows now u → TellsEvent DeliverToCaller u new mid next at after refused) →
+    TellsNext w new first next before after (not refused)
+group_next now new w first mid next before at after group_refused refused is coming told more =
+    let one : TellsSteps ((AnswererT2, Done) ∷ []) w now first mid before at =
+    subst (λ o. TellsSteps ((AnswererT2, o) ∷ []) w now first mid before at) (outcome_done told.0 (told.1 ∙ is)) told.2 in
+    last_next _ ((AnswererT2, Done) ∷ []) DeliverToCaller w now new first mid next before at after refused coming one
+    (more (run ((AnswererT2, Done) ∷ []) w) one.shows)
+
+pub nothing_next : (v : Call) (w : World) (first : ℕ) (at : Octets) → Shows v w → next_steps w w.to_answerer w.to_caller ≡ [] →
+    TellsNext w v first first at at false
+nothing_next v w first at shows coming = ([], inl (coming, refl), none_told v w first at shows)
 
 -- ---- a polite run
 
--- a polite run of so many deliveries at most, whole or up to its first refused event
-pub polite_follows : {E : Type 0} (most : ℕ) (old new : WorldFields) (w : World) (result : Result ℕ E) →
-    DeliversAll old new w most result → Follows (Polite most) old new w
-polite_follows most old new w (Ok number) all = (polite_steps most w, inl refl, all.0)
-polite_follows most old new w (Err refusal) stops =
-    let steps : Steps = stops.before ++ (stops.event, stops.outcome) ∷ [] in (
-      steps,
-      inr (record {
-        before = stops.before;
-        event = stops.event;
-        following = stops.following;
-        outcome = stops.outcome;
-        refused = stops.refused;
-        polite_is = stops.steps_are;
-        steps_are = refl;
-      }),
-      stops.made,
+-- deliveries of a polite run, so many of them, which were told, and after which the rest of it comes
+pub record Along (delivered : ℕ) (w : World) (now : Call) (first next : ℕ) (before at : Octets) : Type 0 where
+  pub steps : Steps
+  pub rest : (more : ℕ) → polite_steps (delivered + more) w ≡ steps ++ polite_steps more (run steps w)
+  pub told : TellsSteps steps w now first next before at
+
+pub at_start : (v : Call) (w : World) (first : ℕ) (at : Octets) → Shows v w → Along 0 w v first first at at
+at_start v w first at shows = record {
+  steps = [];
+  rest = λ more. (let e : 0 + more ≡ more = omega arith in ap (λ n. polite_steps n w) e);
+  told = none_told v w first at shows;
+}
+
+some_on : (steps : Steps) (rest : World → Steps) (w : World) → steps ≢ [] → and_on steps rest w ≡ steps ++ rest (run steps w)
+some_on [] rest w some = absurd (some refl)
+some_on (step ∷ steps) rest w some = refl
+
+pub one_along : (delivered : ℕ) (w : World) (now new : Call) (first mid next : ℕ) (before at after : Octets) (whole : Bool) →
+    whole ≡ true → Along delivered w now first mid before at →
+    ((u : World) → Shows now u → TellsNext u new mid next at after whole) → Along (delivered + 1) w new first next before after
+one_along delivered w now new first mid next before at after whole is along more =
+    let xs : Steps = along.steps in
+    let u : World = run xs w in
+    let one : TellsNext u new mid next at after true = subst (TellsNext u new mid next at after) is (more u along.told.shows) in
+    let ys : Steps = one.0 in
+    let coming : Steps = next_steps u u.to_answerer u.to_caller in
+    let some : ys ≢ [] = λ none. one.1.0 (sym one.1.1 ∙ none) in
+    record {
+      steps = xs ++ ys;
+      rest = λ left. (
+          let e : delivered + 1 + left ≡ delivered + suc left = omega arith in
+          ap (λ n. polite_steps n w) e ∙ (along.rest (suc left) ∙ (ap (λ l. xs ++ and_on l (polite_steps left) u) (sym one.1.1) ∙
+          (ap (λ l. xs ++ l) (some_on ys (polite_steps left) u some) ∙ (sym (append_assoc xs ys (polite_steps left (run ys u))) ∙
+          ap (λ v. (xs ++ ys) ++ polite_steps left v) (sym (run_both xs ys w)))))));
+      told = told_on now new w xs ys first mid next before at after along.told one.2;
+    }
+
+pub all_along : (delivered most : ℕ) (w : World) (now : Call) (first next : ℕ) (before at : Octets) → delivered ≡ most →
+    Along delivered w now first next before at → TellsCommand (Polite most) w now first next before at
+all_along delivered most w now first next before at all along =
+    let e : delivered + 0 ≡ most = omega (arith, all) in
+    (along.steps, inl (sym (ap (λ n. polite_steps n w) (sym e) ∙ (along.rest 0 ∙ append-nil along.steps))), along.told)
+
+none_on : (steps : Steps) (rest : World → Steps) (w : World) → steps ≡ [] → and_on steps rest w ≡ []
+none_on [] rest w none = refl
+none_on (step ∷ steps) rest w none = absurd (cc)
+
+stopped_on : (before : Steps) (step : Event × Outcome) (following : Steps) (rest : World → Steps) (w : World) (steps : Steps) →
+    steps ≡ before ++ step ∷ following →
+    and_on steps rest w ≡ before ++ step ∷ (following ++ rest (run steps w))
+stopped_on [] step following rest w [] e = absurd (cc)
+stopped_on [] step following rest w (x ∷ xs) e = ap (λ l. l ++ rest (run (x ∷ xs) w)) e
+stopped_on (first ∷ before) step following rest w [] e = absurd (cc)
+stopped_on (first ∷ before) step following rest w (x ∷ xs) e =
+    ap (λ l. l ++ rest (run (x ∷ xs) w)) e ∙ append_assoc (first ∷ before) (step ∷ following) (rest (run (x ∷ xs) w))
+
+end_of : (all xs coming ys : Steps) (rest : World → Steps) (u : World) → all ≡ xs ++ and_on coming rest u → MakesNext coming ys false →
+    (xs ++ ys ≡ all) ⊎ StopsPolite all (xs ++ ys)
+end_of all xs coming ys rest u whole (inl none) =
+    inl (ap (λ l. xs ++ l) (none.1 ∙ sym (none_on coming rest u none.0)) ∙ sym whole)
+end_of all xs coming ys rest u whole (inr stop) =
+    inr (record {
+      before = xs ++ stop.before;
+      event = stop.event;
+      following = stop.following ++ rest (run coming u);
+      outcome = stop.outcome;
+      refused = stop.refused;
+      polite_is = whole ∙ (ap (λ l. xs ++ l) (stopped_on stop.before (stop.event, Done) stop.following rest u coming stop.polite_is) ∙
+          sym (append_assoc xs stop.before ((stop.event, Done) ∷ (stop.following ++ rest (run coming u)))));
+      steps_are = ap (λ l. xs ++ l) stop.steps_are ∙ sym (append_assoc xs stop.before ((stop.event, stop.outcome) ∷ []));
+    })
+
+-- no delivery comes after these, or not all of one
+pub ends_along : (delivered most : ℕ) (w : World) (now new : Call) (first mid next : ℕ) (before at after : Octets) (whole : Bool) →
+    delivered < most → whole ≡ false → Along delivered w now first mid before at →
+    ((u : World) → Shows now u → TellsNext u new mid next at after whole) → TellsCommand (Polite most) w new first next before after
+ends_along delivered most w now new first mid next before at after whole within is along more =
+    let xs : Steps = along.steps in
+    let u : World = run xs w in
+    let one : TellsNext u new mid next at after false = subst (TellsNext u new mid next at after) is (more u along.told.shows) in
+    let left : ℕ = most - (delivered + 1) in
+    let e : most ≡ delivered + suc left = omega (arith, within) in
+    let all : polite_steps most w ≡ xs ++ and_on (next_steps u u.to_answerer u.to_caller) (polite_steps left) u =
+    ap (λ n. polite_steps n w) e ∙ along.rest (suc left) in (
+      xs ++ one.0,
+      end_of (polite_steps most w) xs (next_steps u u.to_answerer u.to_caller) one.0 (polite_steps left) u all one.1,
+      told_on now new w xs one.0 first mid next before at after along.told one.2,
     )
 
 -- ---- commands
 
-pub none_followed : (v : WorldFields) (w : World) → Shows v.call w → FollowsAll [] v v w
-none_followed v w shows = ([], refl, none_made v w shows)
+pub none_followed : (v : Call) (w : World) (first : ℕ) (at : Octets) → Shows v w → TellsCommands [] w v first first at at
+none_followed v w first at shows = ([], refl, none_told v w first at shows)
 
 make_more : (commands : List Command) (command : Command) (w : World) (xs ys : Steps) → MakeAll commands w xs →
     Makes command (run xs w) ys →
@@ -126,7 +298,7 @@ make_more [] command w xs ys none makes =
     let last : Makes command w ys = subst (λ l. Makes command (run l w) ys) none makes in
     (ys, [], ap (λ l. l ++ ys) none ∙ sym (append-nil ys), last, refl)
 make_more (first ∷ commands) command w xs ys (front, rest, are, makes_front, makes_rest) makes =
-    let there : run xs w ≡ run rest (run front w) = ap (λ l. run l w) are ∙ run_on front rest w in (
+    let there : run xs w ≡ run rest (run front w) = ap (λ l. run l w) are ∙ run_both front rest w in (
       front,
       rest ++ ys,
       ap (λ l. l ++ ys) are ∙ append_assoc front rest ys,
@@ -135,16 +307,18 @@ make_more (first ∷ commands) command w xs ys (front, rest, are, makes_front, m
     )
 
 -- one command more
-pub one_followed : (commands : List Command) (command : Command) (old now new : WorldFields) (w : World) → FollowsAll commands old now w →
-    ((u : World) → Shows now.call u → Follows command now new u) → FollowsAll (commands ++ command ∷ []) old new w
-one_followed commands command old now new w before more =
-    let next = more (run before.0 w) before.2.0 in (
-      before.0 ++ next.0,
-      make_more commands command w before.0 next.0 before.1 next.1,
-      made_on old now new w before.0 next.0 before.2 next.2,
+pub one_followed : (commands : List Command) (command : Command) (now new : Call) (w : World) (first mid next : ℕ)
+    (before at after : Octets) → TellsCommands commands w now first mid before at →
+    ((u : World) → Shows now u → TellsCommand command u new mid next at after) →
+    TellsCommands (commands ++ command ∷ []) w new first next before after
+one_followed commands command now new w first mid next before at after told more =
+    let one = more (run told.0 w) told.2.shows in (
+      told.0 ++ one.0,
+      make_more commands command w told.0 one.0 told.1 one.1,
+      told_on now new w told.0 one.0 first mid next before at after told.2 one.2,
     )
 
--- ---- the report of a call
+-- ---- a whole call
 
 -- pages of a document are full
 full_pages : (pages : List PagePixels) → All IsPage pages → All (λ (page : PagePixels). 0 < length page.rows) pages → Each IsFullPage pages
@@ -154,37 +328,42 @@ full_pages (page ∷ pages) valid some = (
   full_pages pages (λ k d within. valid (suc k) d (omega arith)) (λ k d within. some (suc k) d (omega arith)),
 )
 
--- what is safe of a world is safe as it is told
-safe_told : (document : Document) (w : World) (pages : List PagePixels) (confirms : ℕ) (caller_end answerer_end : Option End) →
-    pages ≡ w.answerer.pages → confirms ≡ confirmed w.caller → caller_end ≡ w.caller.ending → answerer_end ≡ w.answerer.ending →
-    IsSafeWorld document w → IsSafe document pages confirms caller_end answerer_end
-safe_told document w pages confirms caller_end answerer_end p c e f h = rw (p, c, e, f) h
+-- what is safe of a world is safe of what it leaves
+safe_told : (document : Document) (ending : Ending) (w : World) → EndsAs ending w → IsSafeWorld document w →
+    IsSafe document ending.pages.items ending.confirmed ending.caller_end ending.answerer_end
+safe_told document ending w ends safe = rw (ends.pages, ends.confirmed, ends.caller_end, ends.answerer_end) safe
 
--- what holds of the steps that commands make of a new world holds of the report of the world that they lead to
-pub reports : RunsAreSafe →
-    (options : CallOptions) (document : Document) (commands : List Command) (start end : WorldFields) (report : Report) →
-    IsDocument document → AreCallable document → Shows start.call (call_world options document) → start.entries ≡ [] →
-    ((w : World) → Shows start.call w → FollowsAll commands start end w) → ((w : World) → Shows end.call w → Tells report w end.entries) →
-    ReportsCall options document commands report
-reports runs options document commands start end report is callable shows none follows tells =
+-- the steps that commands make of a new world, told, and then what they leave
+pub tells_call : RunsAreSafe → (options : CallOptions) (document : Document) (commands : List Command) (start end : Call) (ending : Ending)
+    (next : ℕ) (before at after : Octets) → IsDocument document → AreCallable document → Shows start (call_world options document) →
+    ((w : World) → Shows start w → TellsCommands commands w end 1 next before at) → ((w : World) → Shows end w → EndsAs ending w) →
+    Appends at after (ending_text ending) → TellsCall options document commands before after ending.pages.items
+tells_call runs options document commands start end ending next before at after is callable shows follows ends line =
     let f = follows (call_world options document) shows in
     let steps : Steps = f.0 in
     let w : World = run steps (call_world options document) in
-    let all : end.entries ≡ entries steps (call_world options document) =
-    f.2.1 ∙ ap (λ l. l ++ entries steps (call_world options document)) none in
-    let told : Tells report w (entries steps (call_world options document)) = subst (Tells report w) all (tells w f.2.0) in
     record {
       callable = callable;
       steps = steps;
       made = f.1;
-      tells = told;
-      safe = safe_told document w report.pages.items report.confirmed report.caller_end report.answerer_end told.pages told.confirmed
-          told.caller_end told.answerer_end
+      each = f.2.each;
+      ending = ending;
+      ends = ends w f.2.shows;
+      written = Appends-trans before at after (entry_lines 1 (entries steps (call_world options document))) (ending_text ending)
+          f.2.written line;
+      answered = refl;
+      safe = safe_told document ending w (ends w f.2.shows)
           (runs document (caller_wish options) (answerer_caps options.modems) steps (full_pages document is.valid is.rows));
     }
 
 -- the first pages of a document have rows
-pub beginning_rows : (pages document : List PagePixels) → IsBeginning pages document → HaveRows document → HaveRows pages
+beginning_rows : (pages document : List PagePixels) → IsBeginning pages document → HaveRows document → HaveRows pages
 beginning_rows pages document begins some =
     subst HaveRows (ap (take (length pages)) (sym begins.1) ∙ take-append_seam pages begins.0)
     (All-take (λ (page : PagePixels). 0 < length page.rows) (length pages) document some)
+
+-- so have the pages that a call answers
+pub told_rows : (options : CallOptions) (document : Document) (commands : List Command) (before after : Octets) (pages : List PagePixels) →
+    TellsCall options document commands before after pages → HaveRows document → HaveRows pages
+told_rows options document commands before after pages told some =
+    subst HaveRows (sym told.answered) (beginning_rows told.ending.pages.items document told.safe.beginning some)

@@ -1,5 +1,5 @@
 -- What the command that runs a call does with a script and images.
-use Rattle.std.specs.Prelude.{◌≡◌, ◌≢◌, ◌<◌, ◌⊎◌, ℕ, Bool, true, List, [], ◌∷◌, ◌++◌, length, map, replicate, All, Option, Err}
+use Rattle.std.specs.Prelude.{◌≡◌, ◌≢◌, ◌<◌, ◌+◌, ◌⊎◌, ℕ, Bool, true, false, List, [], ◌∷◌, ◌++◌, length, map, replicate, All, Option, Err}
 use Rattle.std.specs.Io.KnownBytes.{Appends}
 use Rattle.raster.specs.Faults.{number_of}
 use Rattle.raster.specs.Pages.{PagePixels}
@@ -10,19 +10,19 @@ use Rattle.signals.specs.declared.params.Modems.{Modems}
 use Rattle.signals.specs.declared.params.PageWidth.TheVariants.{W2432}
 use Rattle.signals.specs.declared.params.Wish.{Wish}
 use Rattle.stations.specs.CallerFields.{AreCallable}
+use Rattle.stations.specs.CallerStep.{confirmed}
 use Rattle.stations.specs.Layers.{Document}
-use Rattle.line_sim.specs.Delivering.{Made}
-use Rattle.line_sim.specs.Entries.{entries}
+use Rattle.line_sim.specs.Entries.{entries, is_refused}
 use Rattle.line_sim.specs.Headline.{IsSafe}
 use Rattle.line_sim.specs.Line.{World, Outcome, Done, new_world, run}
-use Rattle.line_sim.specs.Polite.{polite_steps}
-use Rattle.line_sim.specs.Report.{Tells}
-use Rattle.line_sim.specs.Standing.{WorldFields}
+use Rattle.line_sim.specs.Polite.{next_steps, polite_steps}
+use Rattle.line_sim.specs.Standing.{Shows}
+use Rattle.line_sim.specs.declared.call.Call.{Call}
 use Rattle.line_sim.specs.declared.event.Event.{Event}
-use Rattle.line_sim.specs.declared.report.Report.{Report}
+use Rattle.line_sim.specs.declared.live.Ending.{Ending}
 use Rattle.engines.specs.Faults.{IsOutside}
 use Rattle.engines.specs.Scripts.{IsFirstBadLine, IsScript}
-use Rattle.engines.specs.Transcripts.{report_text}
+use Rattle.engines.specs.Transcripts.{call_text, entry_lines}
 use Rattle.engines.specs.declared.fault.ToolFault.{ToolFault}
 use Rattle.engines.specs.declared.fault.ToolFault.TheVariants.{No, AtLine}
 use Rattle.engines.specs.declared.options.CallOptions.{CallOptions}
@@ -67,39 +67,72 @@ MakeAll [] w steps = steps ≡ []
 MakeAll (command ∷ commands) w steps =
     (first : Steps) × (rest : Steps) × (steps ≡ first ++ rest) × Makes command w first × MakeAll commands (run first w) rest
 
--- the fields of a world, which represented w, represent what a command makes of it, and have its entries
-abbrev pub Follows : Command → WorldFields → WorldFields → World → Type 0
-Follows command old new w = (steps : Steps) × Makes command w steps × Made old new w steps
+-- A call that showed a world was given steps: it shows the world that they lead to; each step has its entry, and the lines of the entries
+-- were written, the first with a number, after which the next one comes.
+pub record TellsSteps (steps : Steps) (w : World) (new : Call) (first next : ℕ) (before after : Option (List ℕ)) : Type 0 where
+  pub shows : Shows new (run steps w)
+  pub each : length (entries steps w) ≡ length steps
+  pub written : Appends before after (entry_lines first (entries steps w))
+  pub number : next ≡ first + length steps
+
+-- the same of an event with some outcome, and whether a growth was refused in it
+abbrev pub TellsEvent : Event → World → Call → ℕ → ℕ → Option (List ℕ) → Option (List ℕ) → Bool → Type 0
+TellsEvent event w new first next before after refused =
+    (outcome : Outcome) × (is_refused outcome ≡ refused) × TellsSteps ((event, outcome) ∷ []) w new first next before after
+
+-- of the steps of the next delivery all were made, and there are some; or there are none; or they were made up to a refused event
+abbrev pub MakesNext : Steps → Steps → Bool → Type 0
+MakesNext coming steps true = (coming ≢ []) × (steps ≡ coming)
+MakesNext coming steps false = ((coming ≡ []) × (steps ≡ [])) ⊎ StopsPolite coming steps
+
+-- the same of a call that showed a world, with their lines
+abbrev pub TellsNext : World → Call → ℕ → ℕ → Option (List ℕ) → Option (List ℕ) → Bool → Type 0
+TellsNext w new first next before after whole =
+    (steps : Steps) × MakesNext (next_steps w w.to_answerer w.to_caller) steps whole × TellsSteps steps w new first next before after
+
+-- the same of the steps of a command
+abbrev pub TellsCommand : Command → World → Call → ℕ → ℕ → Option (List ℕ) → Option (List ℕ) → Type 0
+TellsCommand command w new first next before after = (steps : Steps) × Makes command w steps × TellsSteps steps w new first next before after
 
 -- the same of commands
-abbrev pub FollowsAll : List Command → WorldFields → WorldFields → World → Type 0
-FollowsAll commands old new w = (steps : Steps) × MakeAll commands w steps × Made old new w steps
+abbrev pub TellsCommands : List Command → World → Call → ℕ → ℕ → Option (List ℕ) → Option (List ℕ) → Type 0
+TellsCommands commands w new first next before after =
+    (steps : Steps) × MakeAll commands w steps × TellsSteps steps w new first next before after
 
--- The report of a call: a new world of the document is given the commands, one after the other, and the report tells the world that they
--- lead to and all entries. The pages are a beginning of the document, each confirmed page is stored once, and a normal end means that all
--- are stored.
-pub record ReportsCall (options : CallOptions) (document : Document) (commands : List Command) (report : Report) : Type 0 where
+-- what a call leaves is what its world has come to
+pub record EndsAs (ending : Ending) (w : World) : Type 0 where
+  pub pages : ending.pages.items ≡ w.answerer.pages
+  pub confirmed : ending.confirmed ≡ confirmed w.caller
+  pub caller_end : ending.caller_end ≡ w.caller.ending
+  pub answerer_end : ending.answerer_end ≡ w.answerer.ending
+
+-- A call of a document: a new world is given the commands, one after the other. Each event has its entry, and what is written is the line of
+-- each and then how the call ended, in the world that they lead to. The pages stored there are answered: they are a beginning of the
+-- document, each confirmed page is stored once, and a normal end means that all are stored.
+pub record TellsCall (options : CallOptions) (document : Document) (commands : List Command) (before after : Option (List ℕ))
+    (pages : List PagePixels) : Type 0 where
   pub callable : AreCallable document
   pub steps : Steps
   pub made : MakeAll commands (call_world options document) steps
-  pub tells : Tells report (run steps (call_world options document)) (entries steps (call_world options document))
-  pub safe : IsSafe document report.pages.items report.confirmed report.caller_end report.answerer_end
+  pub each : length (entries steps (call_world options document)) ≡ length steps
+  pub ending : Ending
+  pub ends : EndsAs ending (run steps (call_world options document))
+  pub written : Appends before after (call_text (entries steps (call_world options document)) ending)
+  pub answered : pages ≡ ending.pages.items
+  pub safe : IsSafe document ending.pages.items ending.confirmed ending.caller_end ending.answerer_end
 
 -- each page has a row or more
 abbrev pub HaveRows : List PagePixels → Type 0
 HaveRows pages = All (λ page. 0 < length page.rows) pages
 
--- the script says commands, the images are a document's, the text of the call's report is written, and its pages are answered
+-- the script says commands, the images are a document's, and its call by the commands was told and its pages answered
 pub record RunsCall (options : CallOptions) (script images : List ℕ) (before after : Option (List ℕ)) (pages : List PagePixels)
     : Type 0 where
   pub commands : List Command
   pub said : IsScript script commands
   pub document : Document
   pub read : AreImages options.fine images document
-  pub report : Report
-  pub reported : ReportsCall options document commands report
-  pub written : Appends before after (report_text report)
-  pub answered : pages ≡ report.pages.items
+  pub told : TellsCall options document commands before after pages
 
 -- the script is refused at a line
 abbrev pub IsBadScript : List ℕ → ToolFault → Type 0

@@ -9,7 +9,7 @@ use Rattle.line_sim.specs.declared.event.Entry.{Entry}
 use Rattle.line_sim.specs.declared.event.Event.TheVariants.{DeliverToAnswerer, DeliverToCaller, CallerT5}
 use Rattle.line_sim.specs.declared.event.Kind.{Kind}
 use Rattle.line_sim.specs.declared.event.Kind.TheVariants as kind
-use Rattle.line_sim.specs.declared.report.Report.{Report}
+use Rattle.line_sim.specs.declared.live.Ending.{Ending}
 use Rattle.engines.specs.Frames.{line}
 use Rattle.engines.specs.Scripts.{word_of}
 
@@ -82,10 +82,13 @@ caller_line ending confirmed = line (codes "caller" ∷ end_text ending ∷ code
 abbrev pub answerer_line : Option End → ℕ → List ℕ
 answerer_line ending pages = line (codes "answerer" ∷ end_text ending ∷ codes "pages" ∷ decimal pages ∷ [])
 
+-- what a call leaves
+abbrev pub ending_text : Ending → List ℕ
+ending_text ending = caller_line ending.caller_end ending.confirmed ++ answerer_line ending.answerer_end (length ending.pages.items)
+
 -- a line for each event, numbered from 1, and what has become of the call
-abbrev pub report_text : Report → List ℕ
-report_text report = entry_lines 1 report.transcript.items
-    ++ (caller_line report.caller_end report.confirmed ++ answerer_line report.answerer_end (length report.pages.items))
+abbrev pub call_text : List Entry → Ending → List ℕ
+call_text noted ending = entry_lines 1 noted ++ ending_text ending
 
 -- written-out lines of events: a burst, an FCD that came where memory was refused, a PPS that was answered by PPR; and the words
 -- of the ends that no call of a script has

@@ -1,7 +1,7 @@
 //! What `call` does: it runs a call of a document by a script, over any readers and any writer.
 
-ghost use Rattle.engines.specs.Calls.{Follows, FollowsAll, HaveRows, IsAtLine, IsBadScript, RefusesCall, ReportsCall, RunsCall};
-ghost use Rattle.engines.specs.Calls.{answerer_caps};
+ghost use Rattle.engines.specs.Calls.{HaveRows, IsAtLine, IsBadScript, RefusesCall, RunsCall, TellsCall, TellsCommand, TellsCommands};
+ghost use Rattle.engines.specs.Calls.{TellsEvent, TellsNext, answerer_caps};
 ghost use Rattle.engines.specs.Faults.{IsOutside};
 ghost use Rattle.engines.specs.Scripts.{IsScript};
 ghost use Rattle.engines.specs.declared.fault.ToolFault.TheVariants.{No};
@@ -10,14 +10,14 @@ ghost use Rattle.line_sim.specs.Line.{World as WorldValue};
 ghost use Rattle.line_sim.specs.Standing.{Shows};
 ghost use Rattle.raster.specs.Pages.{IsDocument};
 ghost use Rattle.stations.specs.CallerFields.{AreCallable};
-ghost use Rattle.std.specs.Prelude.{◌≡◌, ◌⊎◌, IfErr, IfOk, IfSome};
+ghost use Rattle.std.specs.Prelude.{◌≡◌, ◌+◌, ◌⊎◌, IfErr, IfOk, IfSome, OnOk};
 
-use crate::fault::ToolFault;
+use crate::fault::{FAILED, ToolFault};
 use crate::options::CallOptions;
 use crate::script::{Command, read_script};
-use crate::transcript::write_report;
+use crate::transcript::{write_ending, write_entry};
 use line_sim::laws::headline;
-use line_sim::{Event, Report, World};
+use line_sim::{Event, LiveCall, Next};
 use raster::{Document, Page, read_pbm};
 use signals::{Caps, Modems, PageWidth, Wish};
 use std::alloc::Global;
@@ -38,52 +38,148 @@ fn answerer_caps(modems: Modems) -> Caps
     }
 }
 
-/// A world is given an event so many times, whatever it answers.
-fn repeat(world: &mut World, event: Event, count: u64)
-    ensures { (w : WorldValue) → Shows world.old.call w → Follows (Events event count) world.old world.new w }
+/// The number of the line after the one with this number. Errs with 8 where it would be 2^64.
+fn after(number: u64) -> Result<u64, ToolFault>
+    ensures next { IfOk result (λ next. next ≡ number + 1) }
+    ensures fault { IfErr result IsOutside }
+{
+    number.checked_add(1).ok_or(FAILED)
+}
+
+/// A call is given an event, and the line of its entry is written with a number, after which the next one
+/// comes. Answers whether a growth was refused in the event. Errs with 8 where the writer fails or no number is
+/// left, and with 9.
+fn tell<W: Write>(
+    live: &mut LiveCall,
+    event: Event,
+    number: &mut u64,
+    writer: &mut W,
+) -> Result<bool, ToolFault>
+    ensures told { IfOk result (λ refused. (w : WorldValue) → Shows live.old w →
+        TellsEvent event w live.new number.old number.new (W.contents writer.old) (W.contents writer.new) refused) }
+    ensures fault { IfErr result IsOutside }
+{
+    let entry = live.event(event);
+    write_entry(*number, &entry, writer)?;
+    *number = after(*number)?;
+    Ok(entry.refused)
+}
+
+/// A call is given an event so many times, whatever becomes of each, with the line of each.
+fn repeat<W: Write>(
+    live: &mut LiveCall,
+    event: Event,
+    count: u64,
+    number: &mut u64,
+    writer: &mut W,
+) -> Result<(), ToolFault>
+    ensures told { OnOk result ((w : WorldValue) → Shows live.old w →
+        TellsCommand (Events event count) w live.new number.old number.new (W.contents writer.old) (W.contents writer.new)) }
+    ensures fault { IfErr result IsOutside }
 {
     for _time in 0..count {
-        let _answer = world.event(event);
+        let _refused = tell(live, event, number, writer)?;
+    }
+    Ok(())
+}
+
+/// The next delivery comes, if there is one; between groups the answerer sends its DIS again, which comes.
+/// Answers whether there was one and no growth was refused in it; a refused event is the last one.
+fn deliver_next<W: Write>(
+    live: &mut LiveCall,
+    number: &mut u64,
+    writer: &mut W,
+) -> Result<bool, ToolFault>
+    ensures told { IfOk result (λ whole. (w : WorldValue) → Shows live.old w →
+        TellsNext w live.new number.old number.new (W.contents writer.old) (W.contents writer.new) whole) }
+    ensures fault { IfErr result IsOutside }
+{
+    match live.next_delivery() {
+        Next::Item(event) => {
+            let item_refused = tell(live, event, number, writer)?;
+            Ok(!item_refused)
+        }
+        Next::Group => {
+            let group_refused = tell(live, Event::AnswererT2, number, writer)?;
+            if group_refused {
+                return Ok(false);
+            }
+            let dis_refused = tell(live, Event::DeliverToCaller, number, writer)?;
+            Ok(!dis_refused)
+        }
+        Next::Nothing => Ok(false),
     }
 }
 
-/// A world is given deliveries, so many at most, up to the first that is refused.
-fn politely(world: &mut World, most: u64)
-    ensures { (w : WorldValue) → Shows world.old.call w → Follows (Polite most) world.old world.new w }
+/// A call is given deliveries, so many at most, up to the first that is refused, with the line of each event.
+fn politely<W: Write>(
+    live: &mut LiveCall,
+    most: u64,
+    number: &mut u64,
+    writer: &mut W,
+) -> Result<(), ToolFault>
+    ensures told { OnOk result ((w : WorldValue) → Shows live.old w →
+        TellsCommand (Polite most) w live.new number.old number.new (W.contents writer.old) (W.contents writer.new)) }
+    ensures fault { IfErr result IsOutside }
 {
-    let _answer = world.polite(most);
+    for _delivery in 0..most {
+        let whole = deliver_next(live, number, writer)?;
+        if !whole {
+            return Ok(());
+        }
+    }
+    Ok(())
 }
 
-/// A world is given a command.
-fn follow(world: &mut World, command: Command)
-    ensures { (w : WorldValue) → Shows world.old.call w → Follows command world.old world.new w }
+/// A call is given a command, with the line of each event.
+fn follow<W: Write>(
+    live: &mut LiveCall,
+    command: Command,
+    number: &mut u64,
+    writer: &mut W,
+) -> Result<(), ToolFault>
+    ensures told { OnOk result ((w : WorldValue) → Shows live.old w →
+        TellsCommand command w live.new number.old number.new (W.contents writer.old) (W.contents writer.new)) }
+    ensures fault { IfErr result IsOutside }
 {
     match command {
-        Command::Events { event, count } => repeat(world, event, count),
-        Command::Polite(most) => politely(world, most),
+        Command::Events { event, count } => repeat(live, event, count, number, writer),
+        Command::Polite(most) => politely(live, most, number, writer),
     }
 }
 
-/// A world is given commands, one after the other.
-fn follow_all(world: &mut World, commands: &[Command])
-    ensures { (w : WorldValue) → Shows world.old.call w → FollowsAll commands.now world.old world.new w }
+/// A call is given commands, one after the other, with the line of each event.
+fn follow_all<W: Write>(
+    live: &mut LiveCall,
+    commands: &[Command],
+    number: &mut u64,
+    writer: &mut W,
+) -> Result<(), ToolFault>
+    ensures told { OnOk result ((w : WorldValue) → Shows live.old w →
+        TellsCommands commands.now w live.new number.old number.new (W.contents writer.old) (W.contents writer.new)) }
+    ensures fault { IfErr result IsOutside }
 {
     for command in commands {
-        follow(world, *command);
+        follow(live, *command, number, writer)?;
     }
+    Ok(())
 }
 
-/// A call of a document by commands. Errs with 9, and with 26 where the width of a page is none that a
-/// call can have.
-fn report_call(
+/// Runs a call of a document by commands, writes the line of each event as it happens, and then how the call
+/// ended, and answers the pages stored. Errs with 26 where the width of a page is none that a call can have,
+/// with 8 where the writer fails, and with 9; with 26 nothing is written.
+fn tell_call<W: Write>(
     alloc: Global,
     document: Document,
     commands: &[Command],
     options: &CallOptions,
-) -> Result<Report, ToolFault>
-    ensures reported { IfOk result (ReportsCall options.now document commands.now) }
-    ensures rows { IfOk result (λ report. HaveRows report.pages.items) }
+    writer: &mut W,
+) -> Result<Vec<Page>, ToolFault>
+    ensures told { IfOk result (λ pages.
+        TellsCall options.now document commands.now (W.contents writer.old) (W.contents writer.new) pages.items) }
+    ensures rows { IfOk result (λ pages. HaveRows pages.items) }
     ensures refused { IfErr result (λ fault. IsOutside fault ⊎ (¬ AreCallable document × (fault ≡ No 26))) }
+    ensures unwritten { IfErr result (λ fault. IsOutside fault ⊎ (writer.new ≡ writer.old)) }
 {
     headline();
     let _pages = document.pages();
@@ -92,9 +188,12 @@ fn report_call(
         coding: options.coding,
         small: options.small,
     };
-    let mut world = World::new(alloc, document, wish, answerer_caps(options.modems))?;
-    follow_all(&mut world, commands);
-    Ok(world.report())
+    let mut live = LiveCall::new(alloc, document, wish, answerer_caps(options.modems))?;
+    let mut number = 1;
+    follow_all(&mut live, commands, &mut number, writer)?;
+    let ending = live.into_ending();
+    write_ending(&ending, writer)?;
+    Ok(ending.pages)
 }
 
 /// Reads a script. Errs with 30 at its first line that isn't one, with 8 where the reader fails, and
@@ -108,13 +207,14 @@ fn read_commands<S: Read>(alloc: Global, script: &mut S) -> Result<Vec<Command>,
     read_script(alloc, &said)
 }
 
-/// Reads a script and then a document's images, runs the call that the script tells between a caller
-/// that has the document and an answerer that can take it, writes a line for each event and what has
-/// become of the call, and answers the pages that the answerer has stored. Errs with 30 at the line of
-/// the script that is refused, before it reads images; with the first fault of the images; with 26
-/// where the width of a page is none that a call can have; with 8 where a reader or the writer fails;
-/// and with 9. With any fault but these two nothing is written. A growth that is refused while the call
-/// runs is no fault: the transcript shows it.
+/// Reads a script and then a document's images, and runs the call that the script tells between a caller
+/// that has the document and an answerer that can take it. Writes the line of each event as it happens, of
+/// which it keeps none, and then what has become of the call, and answers the pages that the answerer has
+/// stored. Errs with 30 at the line of the script that is refused, before it reads images; with the first
+/// fault of the images; with 26 where the width of a page is none that a call can have; with 8 where a reader
+/// or the writer fails or there are 2^64 events; and with 9. With any fault but these two nothing is written;
+/// where the writer fails, the call ends after the lines that it took. A growth that is refused while the call
+/// runs is no fault: its line shows it.
 pub fn call_engine<S: Read, R: Read, W: Write>(
     alloc: Global,
     script: &mut S,
@@ -132,7 +232,6 @@ pub fn call_engine<S: Read, R: Read, W: Write>(
 {
     let commands = read_commands(alloc, script)?;
     let document = read_pbm(alloc, input, options.fine)?;
-    let report = report_call(alloc, document, &commands, options)?;
-    write_report(&report, writer)?;
-    Ok(report.pages)
+    let pages = tell_call(alloc, document, &commands, options, writer)?;
+    Ok(pages)
 }

@@ -1,13 +1,13 @@
 //! What `call` prints: a line for each event of a call, and what has become of it.
 
 ghost use Rattle.engines.specs.Faults.{IsOutside};
-ghost use Rattle.engines.specs.Transcripts.{end_text, entry_line, entry_lines, report_text};
+ghost use Rattle.engines.specs.Transcripts.{end_text, ending_text, entry_line};
 ghost use Rattle.engines.specs.Scripts.{word_of};
 ghost use Rattle.std.specs.Io.KnownBytes.{Appends};
 ghost use Rattle.std.specs.Prelude.{◌≡◌, IfErr, OnOk};
 
 use crate::fault::ToolFault;
-use line_sim::{Entry, Event, Kind, Report};
+use line_sim::{Ending, Entry, Event, Kind};
 use stations::{End, Turn};
 use std::fmt;
 use std::io::Write;
@@ -110,7 +110,11 @@ impl fmt::Display for TurnText {
 
 /// Writes the line of an event: its number, its word, the item, the turn, and ` !` where a growth was
 /// refused in it. Errs where the writer fails.
-fn write_entry<W: Write>(number: usize, entry: &Entry, writer: &mut W) -> Result<(), ToolFault>
+pub(crate) fn write_entry<W: Write>(
+    number: u64,
+    entry: &Entry,
+    writer: &mut W,
+) -> Result<(), ToolFault>
     ensures line { OnOk result (Appends (W.contents writer.old) (W.contents writer.new) (entry_line number entry.now)) }
     ensures fault { IfErr result IsOutside }
 {
@@ -125,28 +129,16 @@ fn write_entry<W: Write>(number: usize, entry: &Entry, writer: &mut W) -> Result
     Ok(())
 }
 
-/// Writes a line for each event, numbered from 1.
-fn write_entries<W: Write>(entries: &[Entry], writer: &mut W) -> Result<(), ToolFault>
-    ensures lines { OnOk result (Appends (W.contents writer.old) (W.contents writer.new) (entry_lines 1 entries.now)) }
+/// Writes what a call leaves: how it ended for the caller, with the number of pages that it counts as
+/// confirmed, and for the answerer, with the number of pages that it has stored. Errs with 8 where the
+/// writer fails, and with 9.
+pub(crate) fn write_ending<W: Write>(ending: &Ending, writer: &mut W) -> Result<(), ToolFault>
+    ensures text { OnOk result (Appends (W.contents writer.old) (W.contents writer.new) (ending_text ending.now)) }
     ensures fault { IfErr result IsOutside }
 {
-    for (place, entry) in entries.iter().enumerate() {
-        write_entry(place + 1, entry, writer)?;
-    }
-    Ok(())
-}
-
-/// Writes what has become of a call: a line for each event, numbered from 1, and then how it ended for
-/// the caller, with the number of pages that it counts as confirmed, and for the answerer, with the
-/// number of pages that it has stored. Errs with 8 where the writer fails, and with 9.
-pub(crate) fn write_report<W: Write>(report: &Report, writer: &mut W) -> Result<(), ToolFault>
-    ensures text { OnOk result (Appends (W.contents writer.old) (W.contents writer.new) (report_text report.now)) }
-    ensures fault { IfErr result IsOutside }
-{
-    write_entries(&report.transcript, writer)?;
-    let caller = end_word(report.caller_end);
-    writeln!(writer, "caller {caller} confirmed {}", report.confirmed)?;
-    let answerer = end_word(report.answerer_end);
-    writeln!(writer, "answerer {answerer} pages {}", report.pages.len())?;
+    let caller = end_word(ending.caller_end);
+    writeln!(writer, "caller {caller} confirmed {}", ending.confirmed)?;
+    let answerer = end_word(ending.answerer_end);
+    writeln!(writer, "answerer {answerer} pages {}", ending.pages.len())?;
     Ok(())
 }

@@ -2,8 +2,10 @@
 use Rattle.std.proofs.Common.{take}
 use Rattle.line_sim.specs.Line.{World}
 use Rattle.line_sim.specs.Standing.{Shows}
-use Rattle.engines.specs.Calls.{FollowsAll}
+use Rattle.engines.specs.Calls.{TellsCommands}
 use Rattle.engines.proofs.call.follow_all.Given as goal
 
 abbrev pub invariant-loop-command : goal.invariant-loop-command
-invariant-loop-command l = (w : World) → Shows l.fn.world.call w → FollowsAll (take l.command-index l.commands) l.fn.world l.world w
+invariant-loop-command g l = (w : World) → Shows l.fn.live w →
+    TellsCommands (take l.command-index l.commands) w l.live l.fn.number l.number (g.W.Write.contents l.fn.writer)
+    (g.W.Write.contents l.writer)

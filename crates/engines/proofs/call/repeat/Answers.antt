@@ -1,19 +1,24 @@
 -- What the check asks of `repeat`.
 use Rattle.std.proofs.Common.{◌≡◌, arith, subst}
-use Rattle.engines.proofs.CallSteps.{Repeats, none_repeated, repeated}
+use Rattle.engines.specs.Calls.{TellsCommand}
+use Rattle.engines.specs.declared.script.Command.TheVariants.{Events}
+use Rattle.engines.proofs.CallSteps.{none_repeated, repeated}
 use Rattle.engines.proofs.call.repeat.Goals as goal
 
 pub loop-time-init : goal.loop-time-init
-loop-time-init c = (omega arith, none_repeated c.args.event c.args.world.now)
+loop-time-init g c =
+    (omega arith, λ w shows. none_repeated c.args.event c.args.live.now w c.args.number.now (g.W.Write.contents c.args.writer.now) shows)
 
 pub loop-time-preserved : goal.loop-time-preserved
-loop-time-preserved c = (
+loop-time-preserved g c = (
   omega (arith, c.loop-time-test.true),
-  repeated c.args.event c.loop-time._time c.args.world.now c.loop-time.world c.event-answer.new.self c.event-answer.result
-      c.loop-time.invariant.1 c.event-answer.ensures.ok c.event-answer.ensures.err,
+  λ w shows. repeated c.args.event c.loop-time._time c.loop-time.live c.tell.new.live w c.args.number.now c.loop-time.number
+      c.tell.new.number (g.W.Write.contents c.args.writer.now) (g.W.Write.contents c.loop-time.writer)
+      (g.W.Write.contents c.tell.new.writer) c.in_ok-_refused._refused (c.loop-time.invariant.1 w shows) c.in_ok-_refused.ensures.told,
 )
 
-pub returns : goal.returns
-returns c =
+pub returns-clause-told : goal.returns-clause-told
+returns-clause-told g c w shows =
     let all : c.loop-time._time ≡ c.args.count = omega (arith, c.loop-time-test.false, c.loop-time.invariant.0) in
-    subst (λ n. Repeats c.args.event n c.args.world.now c.loop-time.world) all c.loop-time.invariant.1
+    subst (λ n. TellsCommand (Events c.args.event n) w c.loop-time.live c.args.number.now c.loop-time.number
+    (g.W.Write.contents c.args.writer.now) (g.W.Write.contents c.loop-time.writer)) all (c.loop-time.invariant.1 w shows)

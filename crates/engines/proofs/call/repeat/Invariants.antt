@@ -1,7 +1,11 @@
 -- What holds in the loop of `repeat`.
 use Rattle.std.proofs.Common.{◌≤◌}
-use Rattle.engines.proofs.CallSteps.{Repeats}
+use Rattle.line_sim.specs.Line.{World}
+use Rattle.line_sim.specs.Standing.{Shows}
+use Rattle.engines.specs.Calls.{TellsCommand}
+use Rattle.engines.specs.declared.script.Command.TheVariants.{Events}
 use Rattle.engines.proofs.call.repeat.Given as goal
 
 abbrev pub invariant-loop-time : goal.invariant-loop-time
-invariant-loop-time l = (l._time ≤ l.count) × Repeats l.event l._time l.fn.world l.world
+invariant-loop-time g l = (l._time ≤ l.count) × ((w : World) → Shows l.fn.live w →
+    TellsCommand (Events l.event l._time) w l.live l.fn.number l.number (g.W.Write.contents l.fn.writer) (g.W.Write.contents l.writer))
