@@ -7,3 +7,4 @@ pub mod CodingLaws
 pub mod AppendedOctets
 pub mod CodingPacked
 pub mod PageReaders
+pub mod HandCoded

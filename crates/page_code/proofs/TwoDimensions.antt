@@ -28,3 +28,4 @@ pub mod PageKinds
 pub mod Parts
 pub mod PartWays
 pub mod KindLaws
+pub mod ByPlaces

@@ -5,3 +5,4 @@ pub mod RowsSoFar
 pub mod PageReaders
 pub mod OneDimension
 pub mod TwoDimensions
+pub mod WorkedPages

@@ -11,3 +11,4 @@ pub mod Changes
 pub mod Writing
 pub mod Reading
 pub mod Lines
+pub mod ByPlaces

@@ -2,6 +2,7 @@
 
 ghost use Rattle.page_code.specs.RowsSoFar.{RowsStay};
 ghost use Rattle.page_code.specs.Codings.{GivesCodedRows, ReadsCode, ReadsExactly, RefusesAtLongest, RefusesExactly, RefusesNoPage};
+ghost use Rattle.page_code.specs.WorkedPages.{AreOneDimPages, AreT6Pages};
 
 pub mod one_dim;
 pub mod t6;
@@ -37,4 +38,10 @@ pub fn round_trip()
 /// Rows that are whole stay whole when bits follow.
 pub fn rows_stay()
     ensures { RowsStay }
+{}
+
+/// Pages that were coded by hand from the tables: each end of a T.4 page, and modes of T.6.
+pub fn worked_pages()
+    ensures one_dim { AreOneDimPages }
+    ensures t6 { AreT6Pages }
 {}

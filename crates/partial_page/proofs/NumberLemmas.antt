@@ -58,8 +58,10 @@ frame_begins false n k i h = omega arith
 frames_reach_end : (small : Bool) (n k : ℕ) → k < div_ceil (frames_for small n) 256 →
     (min 256 (frames_for small n - k * 256) ≡ 256) ⊎
     (n ≤ k * octets_a_block small + min 256 (frames_for small n - k * 256) * octets_a_frame small)
-frames_reach_end true n k h = elim (cases_lt (frames_for true n - k * 256) 256) [ inl less ↦ inr (omega arith) | inr more ↦ inl (omega arith) ]
-frames_reach_end false n k h = elim (cases_lt (frames_for false n - k * 256) 256) [ inl less ↦ inr (omega arith) | inr more ↦ inl (omega arith) ]
+frames_reach_end true n k h =
+    elim (cases_lt (frames_for true n - k * 256) 256) [ inl less ↦ inr (omega arith) | inr more ↦ inl (omega arith) ]
+frames_reach_end false n k h =
+    elim (cases_lt (frames_for false n - k * 256) 256) [ inl less ↦ inr (omega arith) | inr more ↦ inl (omega arith) ]
 
 frame_ends : (small : Bool) (n k i : ℕ) → k * 256 + i < frames_for small n →
     (k * 256 + i) * frame_size small + octets_a_frame small ≤ frames_for small n * frame_size small
@@ -166,7 +168,8 @@ bit_is x low (suc (suc (suc (suc (suc (suc (suc (suc i)))))))) l = absurd (omega
 
 -- an octet is its eight bits, each with its weight
 octet_is : (x : ℕ) → x < 256 →
-    x ≡ bit_at x 0 + 2 * bit_at x 1 + 4 * bit_at x 2 + 8 * bit_at x 3 + 16 * bit_at x 4 + 32 * bit_at x 5 + 64 * bit_at x 6 + 128 * bit_at x 7
+    x ≡ bit_at x 0 + 2 * bit_at x 1 + 4 * bit_at x 2 + 8 * bit_at x 3 + 16 * bit_at x 4 + 32 * bit_at x 5 + 64 * bit_at x 6 +
+    128 * bit_at x 7
 octet_is x l = omega arith
 
 first_is : (k : ℕ) → 8 * k ≡ 8 * k + 0

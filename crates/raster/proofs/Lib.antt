@@ -20,3 +20,4 @@ pub mod PbmFaultParts
 pub mod PbmFaults
 pub mod PbmCalls
 pub mod PbmFaultExamples
+pub mod NumberLemmas

@@ -12,3 +12,4 @@ pub mod Pbm
 pub mod PbmText
 pub mod PbmFaults
 pub mod Laws
+pub mod ByNumbers

@@ -1,5 +1,6 @@
 //! Laws of PBM files, and of bits and octets: calls that do nothing, whose contracts are the laws.
 
+ghost use Rattle.raster.specs.ByNumbers.{FaultsHaveNumbers, LimitsByNumber, PbmByOctets};
 ghost use Rattle.raster.specs.Laws.{BitsJoin, PackedHold, PackedAlone};
 ghost use Rattle.raster.specs.Pbm.{ReadsImages};
 ghost use Rattle.raster.specs.PbmFaults.{NamesFirstFault, AreFaultExamples};
@@ -41,4 +42,19 @@ pub fn pbm_fault_examples()
 /// the reader, and no other octets are written of them.
 pub fn pbm_round_trip()
     ensures { ReadsWritten }
+{}
+
+/// A fault has its number in the list of all faults, and no other.
+pub fn faults_have_numbers()
+    ensures { FaultsHaveNumbers }
+{}
+
+/// A row has 1 to 2,432 pixels, and an image 1 to 20,000 rows.
+pub fn limits_by_number()
+    ensures { LimitsByNumber }
+{}
+
+/// The octets that are whitespace, by number, and written-out files with the pages that they are.
+pub fn pbm_by_octets()
+    ensures { PbmByOctets }
 {}

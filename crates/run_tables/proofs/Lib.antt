@@ -25,3 +25,4 @@ pub mod RowWorkedRows
 pub mod CodeLaws
 pub mod RowWriting
 pub mod PendingLemmas
+pub mod FaultNumbers

@@ -19,3 +19,4 @@ pub mod Kinds
 pub mod KindLaws
 pub mod RowReading
 pub mod Laws
+pub mod FaultList

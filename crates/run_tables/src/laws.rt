@@ -1,6 +1,7 @@
 //! Laws of the run codes and of rows in one dimension: what their contracts say is proved, and
 //! nothing runs.
 
+ghost use Rattle.run_tables.specs.FaultList.{FaultsHaveNumbers};
 ghost use Rattle.run_tables.specs.KindLaws.{AreRefusedRows, FrontsGoOn, OneKind, RefusesCodesExactly, RefusesRowsExactly};
 ghost use Rattle.run_tables.specs.Laws.{CodesCover, OneCode};
 ghost use Rattle.run_tables.specs.RowLaws.{OneFront, ReadsExactly, RefusesAtLongest, RefusesNoRow, RoundTrip, TableWords};
@@ -71,4 +72,9 @@ pub fn fronts_go_on()
 /// Refused rows that were coded by hand.
 pub fn refused_rows()
     ensures { AreRefusedRows }
+{}
+
+/// A kind of refusal has its number in the list of all faults, and no other.
+pub fn faults_have_numbers()
+    ensures { FaultsHaveNumbers }
 {}

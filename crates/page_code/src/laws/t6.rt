@@ -1,5 +1,6 @@
 //! Laws of the two-dimensional code: what their contracts say is proved, and nothing runs.
 
+ghost use Rattle.page_code.specs.TwoDimensions.ByPlaces.{ModesByValue, PrescribesByPlaces};
 ghost use Rattle.page_code.specs.TwoDimensions.KindLaws.{AreRefusedPages, FrontsAreParts, FrontsGoOn, OneKind, RefusesPagesExactly};
 ghost use Rattle.page_code.specs.TwoDimensions.Laws.{FindsPositions, OneFront, PassLeadsOn, ReadsExactly};
 ghost use Rattle.page_code.specs.TwoDimensions.Laws.{RefusesAtLongest, RefusesNoPage, RoundTrip};
@@ -63,4 +64,12 @@ pub fn refused_pages()
 /// The code of a page, followed by any bits, reads as the page.
 pub fn round_trip()
     ensures { RoundTrip }
+{}
+
+/// The prescribed mode by the places of the changing elements: pass mode where b2 is to the left of a1, else a
+/// vertical mode where a1 is at most three places from b1, else horizontal mode; and the mode codes by length
+/// and value. ITU-T T.6, 2.2.
+pub fn prescribes_by_places()
+    ensures modes { PrescribesByPlaces }
+    ensures codes { ModesByValue }
 {}
