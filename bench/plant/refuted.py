@@ -21,7 +21,8 @@ A table is a text: the lines before the first `name:` are the beginning of each 
 A text goes on in lines that begin with a blank, which is no part of an old or a new one.
 
 `--right` plants nothing and tells whether a counterexample holds of the definitions as they are: none may.
-Prints a line for each, and a count. Ends with status 1 where one isn't refused, or under `--right` where one is.
+JOBS in the environment is how many checks run side by side, 4 where it isn't set. Prints a line for each, and a count. Ends with
+status 1 where one isn't refused, or under `--right` where one is.
 """
 import concurrent.futures
 import os
@@ -34,7 +35,6 @@ import tempfile
 
 ROOT = os.path.dirname(os.path.dirname(os.path.dirname(os.path.abspath(__file__))))
 TABLES = f"{ROOT}/bench/plant/tables"
-# How many checks run side by side.
 JOBS = int(os.environ.get("JOBS", "4"))
 PARTS = ["src", "specs", "proofs"]
 # A command that the checks are run by, if there is one.
