@@ -54,3 +54,5 @@ pub mod Training
 pub mod DisPhase
 pub mod Tolerance
 pub mod FewLosses
+pub mod Quiet
+pub mod Fates

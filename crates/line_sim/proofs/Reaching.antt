@@ -47,7 +47,7 @@ refused_in : Option Entry → Bool
 refused_in None = false
 refused_in (Some entry) = entry.refused
 
-entry_refused : (w : World) (event : Event) (outcome : Outcome) (entry : Entry) → entry_of w event outcome ≡ Some entry →
+pub entry_refused : (w : World) (event : Event) (outcome : Outcome) (entry : Entry) → entry_of w event outcome ≡ Some entry →
     is_refused outcome ≡ entry.refused
 unfolding refused_in
 entry_refused w event Done entry e = ap refused_in e

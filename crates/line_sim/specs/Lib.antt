@@ -17,3 +17,5 @@ pub mod Streams
 pub mod Driving
 pub mod EventsMean
 pub mod Tolerance
+pub mod Quiet
+pub mod Fates

@@ -3,6 +3,7 @@
 
 mod call;
 mod channel;
+mod drive;
 mod event;
 mod fault;
 mod item;
@@ -14,6 +15,7 @@ mod sender;
 mod stream;
 mod world;
 
+pub use crate::drive::{DrivenCall, Fate, Step};
 pub use crate::event::{Entry, Event, Kind};
 pub use crate::fault::WorldFault;
 pub use crate::live::{Ending, LiveCall, Next};

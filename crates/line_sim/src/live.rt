@@ -5,11 +5,11 @@ ghost use Rattle.line_sim.specs.Line.{World as WorldValue};
 ghost use Rattle.line_sim.specs.Live.{HoldsLive, steps_in};
 ghost use Rattle.line_sim.specs.PageMachine.{AtMostTwo};
 ghost use Rattle.line_sim.specs.Polite.{next_steps};
-ghost use Rattle.line_sim.specs.Standing.{Acts, NewCall, Shows, fields_state};
+ghost use Rattle.line_sim.specs.Standing.{Acts, IsUnheard, NewCall, Shows, fields_state};
 ghost use Rattle.stations.specs.CallerStep.{confirmed};
 ghost use Rattle.stations.specs.Laws.{Each};
 ghost use Rattle.stations.specs.Layers.{IsFullPage};
-ghost use Rattle.std.specs.Prelude.{◌≡◌, IfOk, length, true};
+ghost use Rattle.std.specs.Prelude.{◌≡◌, IfOk, length, false, true};
 
 use crate::call::Call;
 use crate::event::{Entry, Event};
@@ -27,7 +27,7 @@ use std::marker::Model;
 /// one's entry.
 #[derive(Debug, Drop)]
 pub struct LiveCall {
-    call: Call,
+    pub(crate) call: Call,
 }
 
 impl Model for LiveCall {
@@ -107,6 +107,7 @@ impl LiveCall {
     /// after it.
     pub fn event(&mut self, event: Event) -> Entry
         ensures acts { Acts self.old self.new event result }
+        ensures whole { IsUnheard event → result.refused ≡ false }
         ensures moves { AtMostTwo (length self.old.caller.document) (fields_state self.old) (fields_state self.new) }
         ensures document { self.new.caller.document ≡ self.old.caller.document }
         ensures before { HoldsLive self.old }
