@@ -1,6 +1,6 @@
 -- The steps that commands make of a call, one command after the other, with the line of each.
-use Rattle.std.proofs.Common.{◌≡◌, ◌≢◌, ℕ, zero, suc, ◌+◌, ◌-◌, ◌<◌, ◌⊎◌, Bool, true, false, not, List, [], ◌∷◌, ◌++◌, map, replicate, length, take}
-use Rattle.std.proofs.Common.{Option, Some, inl, inr, refl, ap, sym, subst, ◌∙◌, arith, append_assoc}
+use Rattle.std.proofs.Common.{◌≡◌, ◌≢◌, ℕ, zero, suc, ◌+◌, ◌-◌, ◌<◌, ◌⊎◌, Bool, true, false, not, List, [], ◌∷◌, ◌++◌}
+use Rattle.std.proofs.Common.{map, replicate, length, take, Option, Some, inl, inr, refl, ap, sym, subst, ◌∙◌, arith, append_assoc}
 use Rattle.std.specs.Prelude.{All}
 use Rattle.std.specs.Io.KnownBytes.{Appends}
 use Rattle.std.proofs.KnownBytes.{Appends-trans, Appends-nil}
@@ -129,7 +129,8 @@ some_there [] x e = absurd (cc)
 some_there (y ∷ ys) x e = absurd (cc)
 
 -- an event that comes last, after others that were whole
-last_next : (coming before : Steps) (event : Event) (w : World) (now new : Call) (first mid next : ℕ) (at here after : Octets) (refused : Bool) →
+last_next : (coming before : Steps) (event : Event) (w : World) (now new : Call) (first mid next : ℕ) (at here after : Octets)
+    (refused : Bool) →
     coming ≡ before ++ (event, Done) ∷ [] → TellsSteps before w now first mid at here →
     TellsEvent event (run before w) new mid next here after refused →
     (steps : Steps) × MakesNext coming steps (not refused) × TellsSteps steps w new first next at after

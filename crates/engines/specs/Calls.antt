@@ -92,7 +92,8 @@ TellsNext w new first next before after whole =
 
 -- the same of the steps of a command
 abbrev pub TellsCommand : Command → World → Call → ℕ → ℕ → Option (List ℕ) → Option (List ℕ) → Type 0
-TellsCommand command w new first next before after = (steps : Steps) × Makes command w steps × TellsSteps steps w new first next before after
+TellsCommand command w new first next before after =
+    (steps : Steps) × Makes command w steps × TellsSteps steps w new first next before after
 
 -- the same of commands
 abbrev pub TellsCommands : List Command → World → Call → ℕ → ℕ → Option (List ℕ) → Option (List ℕ) → Type 0
@@ -106,8 +107,8 @@ pub record EndsAs (ending : Ending) (w : World) : Type 0 where
   pub caller_end : ending.caller_end ≡ w.caller.ending
   pub answerer_end : ending.answerer_end ≡ w.answerer.ending
 
--- A call of a document: a new world is given the commands, one after the other. Each event has its entry, and what is written is the line of
--- each and then how the call ended, in the world that they lead to. The pages stored there are answered: they are a beginning of the
+-- A call of a document: a new world is given the commands, one after the other. Each event has its entry, and what is written is the line
+-- of each and then how the call ended, in the world that they lead to. The pages stored there are answered: they are a beginning of the
 -- document, each confirmed page is stored once, and a normal end means that all are stored.
 pub record TellsCall (options : CallOptions) (document : Document) (commands : List Command) (before after : Option (List ℕ))
     (pages : List PagePixels) : Type 0 where
