@@ -35,7 +35,8 @@ abbrev pub most_blocks : Bool → ℕ
 most_blocks true = 512
 most_blocks false = 128
 
--- the blocks are those of the octets: block k begins at octet 65,536 k (16,384 k with small frames), and its frame n 256 n (64 n) octets on
+-- the blocks are those of the octets: block k begins at octet 65,536 k, and its frame n 256 n octets after that; with small frames these
+-- are 16,384 k and 64 n
 pub record IsCutByPlaces (small : Bool) (octets : List ℕ) (blocks : List (List (List ℕ))) : Type 0 where
   -- each block begins inside the page, and the last one reaches its end
   pub begins : (k : ℕ) → k < length blocks → k * octets_a_block small < length octets
