@@ -1,7 +1,7 @@
 //! What a run and the octets on the line show beyond the contracts. Worked calls of a world are scripts of the program, in .ci/calls.
 
 use hdlc::Deframer;
-use line_sim::{Event, World, run};
+use line_sim::{DrivenCall, Event, Fate, World, run};
 use page_code::Coding;
 use raster::{Document, Page, Row};
 use signals::{Caps, Modems, PageWidth, Side, Wish};
@@ -95,5 +95,27 @@ fn a_run_of_eleven_deliveries(rt: HostRuntime) -> Result<(), Fail> {
     assert_eq!(rt; report.pages.len(), 1);
     assert_eq!(rt; report.caller_end, Some(End::Normal));
     assert_eq!(rt; report.answerer_end, Some(End::Normal));
+    Ok(())
+}
+
+#[test]
+fn a_driven_call_that_loses_a_dis_and_an_fcd(rt: HostRuntime) -> Result<(), Fail> {
+    let alloc = rt.alloc();
+    let fates = [
+        Fate::Lost,
+        Fate::Comes,
+        Fate::Comes,
+        Fate::Comes,
+        Fate::Comes,
+        Fate::Lost,
+    ];
+    let mut call = DrivenCall::new(alloc, white_page(alloc)?, WISH, CAPS, 3)?;
+    assert_eq!(rt; call.drive(&fates, 1000)?, 19);
+    assert!(rt; call.step(Fate::Comes).is_none());
+    let ending = call.into_live().into_ending();
+    assert_eq!(rt; ending.confirmed, 1);
+    assert_eq!(rt; ending.pages.len(), 1);
+    assert_eq!(rt; ending.caller_end, Some(End::Normal));
+    assert_eq!(rt; ending.answerer_end, Some(End::Normal));
     Ok(())
 }

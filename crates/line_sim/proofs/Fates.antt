@@ -1,5 +1,6 @@
 -- What fates make of the fields of a driven call.
-use Rattle.std.proofs.Common.{◌≡◌, ◌≢◌, ◌↔◌, ℕ, zero, suc, ◌+◌, ◌≤◌, ◌<◌, Bool, true, false, cond, Option, Some, None, List, [], ◌∷◌, ◌++◌, map}
+use Rattle.std.proofs.Common.{◌≡◌, ◌≢◌, ◌↔◌, ℕ, zero, suc, ◌+◌, ◌≤◌, ◌<◌, Bool, true, false, cond, Option, Some}
+use Rattle.std.proofs.Common.{None, List, [], ◌∷◌, ◌++◌, map}
 use Rattle.std.proofs.Common.{drop, refl, ap, sym, subst, ◌∙◌, arith}
 use Rattle.std.specs.Prelude.{nat_lt, ◌&&◌, not, is_some, IsTrue, slice_index_or, length}
 use Rattle.signals.specs.Signals.{PlainSignal}
@@ -9,7 +10,8 @@ use Rattle.stations.specs.declared.turn.AnswererState.TheVariants.{PhaseB, WaitT
 use Rattle.stations.specs.declared.turn.CallerState.{CallerState}
 use Rattle.stations.specs.declared.turn.CallerState.TheVariants.{WaitDis, WaitCfr, WaitBlock, WaitReady}
 use Rattle.stations.specs.declared.turn.End.{End}
-use Rattle.line_sim.specs.Driving.{Driven, Fate, Patience, caller_waits, comes_back, dis_is_due, dis_kept, drive, drives, first_fate, is_over}
+use Rattle.line_sim.specs.Driving.{Driven, Fate, Patience, caller_waits, comes_back, dis_is_due, dis_kept, drive}
+use Rattle.line_sim.specs.Driving.{drives, first_fate, is_over}
 use Rattle.line_sim.specs.Driving.{is_over_at, is_rnr_item, later_fates, meets_answerer, meets_caller, somebody_waits, steps_made}
 use Rattle.line_sim.specs.Driving.Fate.{comes, lost, spoiled}
 use Rattle.line_sim.specs.Entries.{and_entries, entry_of, head_kind, is_refused, signal_kind}

@@ -1,5 +1,6 @@
 -- While nobody sets the answerer busy, it isn't, and no RNR is under way.
-use Rattle.std.proofs.Common.{◌≡◌, ◌≢◌, ℕ, zero, suc, Bool, true, false, Option, Some, None, List, [], ◌∷◌, ◌++◌, take, refl, sym, subst, ◌∙◌}
+use Rattle.std.proofs.Common.{◌≡◌, ◌≢◌, ℕ, zero, suc, Bool, true, false, Option, Some, None, List, [], ◌∷◌, ◌++◌}
+use Rattle.std.proofs.Common.{take, refl, sym, subst, ◌∙◌}
 use Rattle.std.specs.Prelude.{◌||◌}
 use Rattle.signals.specs.Signals.{PlainSignal}
 use Rattle.signals.specs.declared.params.Caps.{Caps}
@@ -14,7 +15,8 @@ use Rattle.stations.specs.declared.turn.End.{End}
 use Rattle.stations.specs.declared.turn.Turn.{Turn}
 use Rattle.stations.specs.declared.turn.Turn.TheVariants.{Silent, Dis, Training, Cfr, Ftt, Burst, Pps, Mcf, Ppr, Rnr, Rr, Dcn}
 use Rattle.line_sim.specs.Driving.{is_rnr_item}
-use Rattle.line_sim.specs.Line.{World, Outcome, Done, Nothing, InputLost, Cut, sent, caller_sends, answerer_sends, caller_acts, answerer_acts}
+use Rattle.line_sim.specs.Line.{World, Outcome, Done, Nothing, InputLost, Cut, sent, caller_sends}
+use Rattle.line_sim.specs.Line.{answerer_sends, caller_acts, answerer_acts}
 use Rattle.line_sim.specs.Line.{happens, new_world, after_first}
 use Rattle.line_sim.specs.Fates.{SpoilsIf}
 use Rattle.line_sim.specs.Live.{HoldsLive}

@@ -7,14 +7,16 @@ use Rattle.stations.specs.CallerFields.{AreCallable}
 use Rattle.stations.specs.Inputs.{PlainItem}
 use Rattle.stations.specs.Layers.{Document}
 use Rattle.stations.specs.declared.turn.End.{End}
-use Rattle.line_sim.specs.Driving.{Driven, Ends, Fate, Patience, dis_kept, drive, drives, is_over, is_over_at, new_driven, steps_made}
+use Rattle.line_sim.specs.Driving.{Driven, Ends, Fate, Patience, dis_kept, drive, drives, is_over, is_over_at, most_steps, new_driven}
+use Rattle.line_sim.specs.Driving.{steps_made}
 use Rattle.line_sim.specs.Driving.Fate.{comes, lost, spoiled}
 use Rattle.line_sim.specs.Entries.{entries}
-use Rattle.line_sim.specs.Line.{Outcome, Done, run}
+use Rattle.line_sim.specs.Line.{World, Outcome, Done, run}
 use Rattle.line_sim.specs.Live.{HoldsLive}
 use Rattle.line_sim.specs.Quiet.{SetsNoBusy}
 use Rattle.line_sim.specs.Report.{all_done}
 use Rattle.line_sim.specs.Standing.{Acts, IsWorldFault, Shows}
+use Rattle.line_sim.specs.Tolerance.{CanBear, IsBorne, bad_fates, spoiling_fates}
 use Rattle.line_sim.specs.declared.call.Call.{Call}
 use Rattle.line_sim.specs.declared.drive.Act.{Act}
 use Rattle.line_sim.specs.declared.drive.Fate.{Fate as CallFate}
@@ -22,7 +24,8 @@ use Rattle.line_sim.specs.declared.drive.Fate.TheVariants.{Comes, Lost, Spoiled}
 use Rattle.line_sim.specs.declared.drive.Step.{Step}
 use Rattle.line_sim.specs.declared.event.Entry.{Entry}
 use Rattle.line_sim.specs.declared.event.Event.{Event}
-use Rattle.line_sim.specs.declared.event.Event.TheVariants.{AnswererT1, AnswererT2, CallerTimeout, DeliverToAnswerer, DeliverToCaller, LoseToAnswerer}
+use Rattle.line_sim.specs.declared.event.Event.TheVariants.{AnswererT1, AnswererT2, CallerTimeout, DeliverToAnswerer}
+use Rattle.line_sim.specs.declared.event.Event.TheVariants.{DeliverToCaller, LoseToAnswerer}
 use Rattle.line_sim.specs.declared.event.Event.TheVariants.{LoseToCaller, Spoil}
 use Rattle.line_sim.specs.declared.fault.WorldFault.{WorldFault}
 
@@ -155,8 +158,17 @@ DrivesAll p new d most (Err refusal) = Broken p new d most
 -- a call that is driven from its start ends, whatever the fates
 abbrev pub EndsDriven : DrivenFields → List Fate → ℕ → ℕ → Type 0
 EndsDriven old fates most number =
-    (document : Document) (wish : Wish) (caps : Caps) (p : Patience) → ShowsDriven old p (new_driven document wish caps fates) → 1 ≤ p.calls →
+    (document : Document) (wish : Wish) (caps : Caps) (p : Patience) → ShowsDriven old p (new_driven document wish caps fates) →
+    1 ≤ p.calls →
     Ends p most number document (drive most p (new_driven document wish caps fates))
+
+-- a call that is driven from its start bears any two losses, where both stations agree on each page, each code fits a call, and enough DIS
+-- are sent: it ends normally, with all pages stored and confirmed
+abbrev pub BearsTwo : DrivenFields → DrivenFields → List Fate → ℕ → Type 0
+BearsTwo old new fates most =
+    (document : Document) (wish : Wish) (caps : Caps) (p : Patience) → ShowsDriven old p (new_driven document wish caps fates) →
+    CanBear document wish caps p (spoiling_fates fates) → bad_fates fates ≤ 2 → most_steps p document < most →
+    (w : World) × Shows new.live w × IsBorne document w
 
 -- the start of a driven call, unless memory is refused or a page's width isn't callable: one DIS is under way
 abbrev pub NewDriven : Document → Wish → Caps → ℕ → Result DrivenFields WorldFault → Type 0

@@ -2,7 +2,7 @@
 
 ghost use Rattle.line_sim.specs.Driving.{Driven, Patience, dis_is_due, first_fate};
 ghost use Rattle.line_sim.specs.Entries.{head_kind};
-ghost use Rattle.line_sim.specs.Fates.{ComesNext, DrivesAll, EndsDriven, MayAct, NewDriven, ShowsDriven, SpoilsIf, Steps};
+ghost use Rattle.line_sim.specs.Fates.{BearsTwo, ComesNext, DrivesAll, EndsDriven, MayAct, NewDriven, ShowsDriven, SpoilsIf, Steps};
 ghost use Rattle.line_sim.specs.Fates.{act_to_answerer, act_to_caller, act_waiting, dis_with, is_fate_due, plain_fate, plainly};
 ghost use Rattle.line_sim.specs.Line.{World as WorldValue};
 ghost use Rattle.line_sim.specs.Quiet.{IsQuiet, has_rnr};
@@ -13,7 +13,7 @@ ghost use Rattle.std.specs.Prelude.{◌≡◌, ◌+◌, ◌<◌, ◌^◌, IsTrue
 use crate::call::Call;
 use crate::event::{Entry, Event, Kind};
 use crate::fault::WorldFault;
-use crate::laws::driven_calls_end;
+use crate::laws::{calls_bear, driven_calls_end};
 use crate::live::LiveCall;
 use raster::Document;
 use signals::{Caps, Wish};
@@ -292,8 +292,10 @@ impl DrivenCall {
         ensures drives { (p : Patience) (d : Driven) → ShowsDriven self.old p d → d.fates ≡ map plain_fate fates.now →
             DrivesAll p self.new d most result }
         ensures ends { IfOk result (λ number. EndsDriven self.old (map plain_fate fates.now) most number) }
+        ensures bears { IfOk result (λ number. BearsTwo self.old self.new (map plain_fate fates.now) most) }
     {
         driven_calls_end();
+        calls_bear();
         let mut made = 0;
         let mut at = 0;
         while made < most {

@@ -47,7 +47,8 @@ loop-made-preserved c =
           (c.in-Some.ensures p (drive c.loop-made.made p d) along.shows (ap first_fate along.left ∙ sym c.fate_at.ensures))
           c.if-step.false c.is_fate_due-due.ensures.due c.is_fate_due-due.ensures.quiet c.past-at.ensures;
       few = omega arith;
-      near = past_near c.is_fate_due-due.result c.loop-made.at c.loop-made.made c.past-at.result c.past-at.ensures c.loop-made.invariant.near;
+      near = past_near c.is_fate_due-due.result c.loop-made.at c.loop-made.made c.past-at.result
+          c.past-at.ensures c.loop-made.invariant.near;
     }
 
 pub returns-clause-drives : goal.returns-clause-drives
@@ -63,3 +64,27 @@ returns-clause-ends c document wish caps p shows some =
     (c.loop-made.invariant.along p d shows refl) c.loop-made.invariant.few c.loop-made-test.false in
     subst (λ n. Ends p c.args.most n document (drive c.args.most p d)) (sym made.1)
     (c.driven_calls_end.ensures.driven document wish caps p (map plain_fate c.args.fates.now) c.args.most some)
+
+pub returns-in_default-clause-bears : goal.returns-in_default-clause-bears
+returns-in_default-clause-bears c document wish caps p shows can few long =
+    let d : Driven = new_driven document wish caps (map plain_fate c.args.fates.now) in
+    let along = c.loop-made.invariant.along p d shows refl in
+    let made =
+    along_over p c.loop-made.self c.step.new.self (map plain_fate c.args.fates.now) d c.loop-made.made c.loop-made.at c.args.most along
+    c.loop-made-test.true
+    (c.in_default.ensures p (drive c.loop-made.made p d) along.shows (ap first_fate along.left ∙ sym c.fate_at.ensures)) in (
+      (drive c.args.most p d).world,
+      made.0.world,
+      c.calls_bear.ensures.two document wish caps p (map plain_fate c.args.fates.now) c.args.most can few long,
+    )
+
+pub returns-clause-bears : goal.returns-clause-bears
+returns-clause-bears c document wish caps p shows can few long =
+    let d : Driven = new_driven document wish caps (map plain_fate c.args.fates.now) in
+    let made =
+    along_all p c.loop-made.self (map plain_fate c.args.fates.now) d c.loop-made.made c.loop-made.at c.args.most
+    (c.loop-made.invariant.along p d shows refl) c.loop-made.invariant.few c.loop-made-test.false in (
+      (drive c.args.most p d).world,
+      made.0.world,
+      c.calls_bear.ensures.two document wish caps p (map plain_fate c.args.fates.now) c.args.most can few long,
+    )
