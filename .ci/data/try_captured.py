@@ -120,7 +120,7 @@ for mmr in False, True:
         tried(f"{name}, sent again", call(codes, mmr, small, 7), [large, few], [], 0)
         tried(f"{name}, two calls", both + both, [large, few, large, few], [], 0)
         first = both[:1] + both[2:]
-        tried(f"{name}, frame 0 lost", first, [few], ["page 1 block 0: frame 0 lacks"], 1)
+        tried(f"{name}, frame 0 lost", first, [few], ["page 1 block 0: frame 0 is missing"], 1)
         if not os.path.exists(f"{folder}/captured/page-2.pbm"):
             sys.exit(f"{name}: the second page isn't page-2.pbm where the first one lacks")
         tried(f"{name}, no DCS", call([codes[1]], mmr, small)[1:], [], ["page 1 block 0: no DCS before it"], 1)

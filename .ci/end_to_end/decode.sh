@@ -93,7 +93,7 @@ try_repair() {
     is_same "$work/error" "$work/wanted" "what decode --repair --verbose tells"
     rm -f "$work/repaired"
     cp "$(bits "$eol $bad $end")" "$work/bad_page"
-    explains "fault 12 at bit 12" "$work/bad_page: row 1: this run goes past the row's width: is --width right?" \
+    explains "fault 12 at bit 12" "$work/bad_page: row 1: this run goes past the row's width: is --width right? (try --order lsb, or --code mmr)" \
         decode --repair --code mh --width 8 "$work/bad_page" "$work/repaired"
     faults "fault 8" decode --repair --code mh --width 8 "$work/missing" "$work/repaired"
     [ ! -e "$work/repaired" ] || fails "decode --repair made OUT after a fault"

@@ -16,7 +16,7 @@ try_standard() {
     printf 'polite 11' | "$program" call --script - --out - "$input" > "$work/output"
     tail -c 226 "$work/output" > "$work/pages"
     is_same "$work/pages" "$input" "call --script - --out -"
-    faults "fault 8" call --script - -
+    refuses call --script - -
     count=$((count + 8))
 }
 

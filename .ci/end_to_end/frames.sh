@@ -55,13 +55,13 @@ try_large_frames() {
     is_same "$work/output" "$work/frames.txt" "frames of a mebibyte"
 }
 
-# The pages in the frames of calls, whole ones and such as lack something; and of a folder that is missing.
+# The pages in the frames of calls, whole ones and incomplete ones; and of a folder that is missing.
 try_captured() {
     python3 -B "$data/try_captured.py" "$program" "$work" || fails "frames --pages"
     mkdir -p "$work/captured"
     gives 1 frames --pages "$work/captured" "$top/docs/examples/line.bits"
     is_same "$work/captured/page-1.pbm" "$top/docs/examples/row.pbm" "the page in docs/examples/line.bits"
-    [ "$(head -1 "$work/error")" = "page 2 block 2: the blocks before it lack" ] || fails "frames --pages named other blocks"
+    [ "$(head -1 "$work/error")" = "page 2 block 2: the blocks before it are missing" ] || fails "frames --pages named other blocks"
     gives 0 frames --data 2 "$top/docs/examples/line.bits"
     cp "$work/output" "$work/wanted"
     rm "$work/captured"/*

@@ -14,10 +14,9 @@ try_explained() {
     explains "fault 8" "text/page: a part of its path is no folder" show --code mh --width 8 text/page
     explains "fault 8" "missing/made: no such file or folder" code --code mh "$data/page.pbm" missing/made
     explains "fault 8" "folder: it is a folder" code --code mh "$data/page.pbm" folder
-    explains "fault 8" "a file: no such file or folder" frames "$(printf 'two\nlines')"
-    explains "fault 8" "standard input: it can't be read or written" call --script - -
     explains "fault 8" "missing: no such file or folder" call --script missing "$data/page.pbm"
-    explains "fault 30 at line 2" "script: line 2: no command of a script, or no count that it takes" call --script script "$data/page.pbm"
+    try_explained_names
+    try_explained_lines
     if [ -c /dev/full ]; then
         explains "fault 8" "/dev/full: no space left on the device" code --code mh "$data/page.pbm" /dev/full
         status=0
@@ -29,6 +28,73 @@ try_explained() {
     works code --explain --code mh "$data/page.pbm" made
     works decode --explain --code mh --width 315 made decoded
     cd "$top"
+}
+
+# Names with a control character are shown as "a file", and others as they are; and a word that isn't UTF-8.
+try_explained_names() {
+    for control in 001 012 015 033 037 177 302\\200 302\\205 302\\233 302\\237; do
+        name=$(printf "two\\${control}lines")
+        explains "fault 8" "a file: no such file or folder" frames "$name"
+        explains "fault 8" "a file: no such file or folder" call --script "$name" "$data/page.pbm"
+        for words in "code --code mh a b" "code --code mh a --order" "show"; do
+            refuses $words "$name"
+            [ "$(head -1 "$work/error")" = "error: the words are not a command, and one of them has a control character" ] \
+                || fails "$words and a name with the control character $control: shown as it is"
+        done
+    done
+    for name in 'a b' 'a~b' "$(printf 'a\302\240b')" "$(printf 'a\303\200b')" "$(printf 'a\342\202\254b')" "$(printf 'a\303\237')"; do
+        explains "fault 8" "$name: no such file or folder" frames "$name"
+    done
+    name=$(printf 'a\377')
+    explains "fault 8" "a word of the command: it isn't UTF-8" frames "$name"
+    explains "fault 8" "a word of the command: it isn't UTF-8" code --code mh "$name" made
+}
+
+# Lines of scripts: what is wrong with the word, the count, a blank or the text.
+try_explained_lines() {
+    while read -r wrong text; do
+        case $wrong in
+        word) wrong="no command of a script begins with this word" ;;
+        count) wrong="the count is missing or isn't 1 to 1000000" ;;
+        blank) wrong="a blank is wrong: a line is a word, or a word, one space and a count" ;;
+        text) wrong="it isn't UTF-8" ;;
+        esac
+        printf "busy\n# a comment \n\n$text\nready\n" > script
+        explains "fault 30 at line 4" "script: line 4: $wrong" call --script script "$data/page.pbm"
+        printf "$text" > script
+        explains "fault 30 at line 1" "script: line 1: $wrong" call --script script "$data/page.pbm"
+        printf "$text\n" > script
+        status=0
+        "$program" call --explain --script - "$data/page.pbm" < script > output 2> error || status=$?
+        printf 'fault 30 at line 1\nstandard input: line 1: %s\n' "$wrong" > wanted
+        [ "$status" = 1 ] || fails "call --script - of $text ended with status $status"
+        is_same error wanted "the words of a script on standard input: $text"
+    done << 'CASES'
+word nothing that
+word nothing
+word Spoil
+word politely 1
+word busy2
+count spoil 0
+count spoil 1000001
+count spoil 00000001
+count spoil +1
+count spoil -1
+count spoil 1x
+count spoil once
+count polite
+blank spoil\040
+blank spoil 1\040
+blank \040spoil
+blank \040
+blank spoil \0402
+blank nothing at all
+blank spoil\t1
+blank to-caller\r
+text #\377
+text \303\050
+text spoil 1\302
+CASES
 }
 
 # The same of images.
@@ -55,7 +121,7 @@ try_explained_images() {
 6 50_34_0A_38_20_31_0A the image is cut short: it has fewer octets than its width and height say
 CASES
     explains "fault 7" "nothing: there is no image: it has no octet" code --code mmr nothing made
-    explains "fault 26" "image: a page has a width that no call carries: 1728, 2048 or 2432 pixels" \
+    explains "fault 26" "image: a page's width isn't 1728, 2048 or 2432 pixels, the widths that a call carries" \
         call --script nothing "$(cp "$(octets "50 34 0A 38 20 31 0A 30")" image; echo image)"
 }
 
@@ -67,23 +133,46 @@ try_explained_codes() {
             explains "fault $fault at bit $bit" "page: row $row: $words" ${command%% *} --code "$code" --width 8 ${command#* }
         done
     done << CASES
-mh 10 12 1 00_10_08 no code word of a white run begins here
-mh 10 16 1 00_17_00_80 no code word of a black run begins here
+mh 10 12 1 00_10_08 no code word of a white run begins here (try --order lsb, or --code mmr)
+mh 10 16 1 00_17_00_80 no code word of a black run begins here (try --order lsb, or --code mmr)
 mh 10 34 2 00_17_EC_00_40_20_00 no code word of a white run begins here
-mh 12 12 1 00_1A_00 this run goes past the row's width: is --width right?
+mh 12 12 1 00_1A_00 this run goes past the row's width: is --width right? (try --order lsb, or --code mmr)
+mh 10 22 2 00_17_EC_80 an EOL is expected here, and no EOL begins here
+mh 10 22 2 00_17_EC_40 an EOL is expected here, and no EOL begins here
+mh 10 22 2 00_17_EC_01_00_10_01 an EOL is expected here, and no EOL begins here
+mh 10 44 3 00_17_EC_00_5F_B4 an EOL is expected here, and no EOL begins here
 mh 12 34 2 00_17_EC_00_68_00 this run goes past the row's width: is --width right?
-mh 4 12 1 00_10_00 the page ends before its first row
-mmr 16 0 1 02 an extension code, as of uncompressed mode, which faxtool doesn't read
+mh 4 12 1 00_10_00 the page ends before its first row (try --order lsb, or --code mmr)
+mmr 16 0 1 02 an extension code, as of uncompressed mode, which faxtool doesn't read (try --order lsb, or --code mh)
 mmr 16 13 3 2F_F8_10 an extension code, as of uncompressed mode, which faxtool doesn't read
 mmr 17 1 2 80 the page's end (EOFB) is missing: the file is cut short
 mmr 11 3 1 20 the file ends inside a code or before the next one: it is cut short
-mmr 14 0 1 60 this mode or run goes past the row's width: is --width right?
+mmr 14 0 1 60 this mode or run goes past the row's width: is --width right? (try --order lsb, or --code mh)
 mmr 13 15 2 26_AA_80 this vertical mode doesn't move to the right
-mmr 15 11 1 26_A1_B8 a horizontal mode of two runs of 0 pixels
+mmr 15 11 1 26_A1_B8 a horizontal mode of two runs of 0 pixels (try --order lsb, or --code mh)
 CASES
+    try_explained_others
     works code --code mh "$data/page.pbm" page
     python3 -c 'import sys; octets = bytearray(open("page", "rb").read()); octets[400] ^= 8; sys.stdout.buffer.write(octets)' > flipped
     explains_standard flipped
+}
+
+# A page that was read by another order of bits, or as another code: what to try is named, and nothing else is where a later row or
+# the file's end is refused.
+try_explained_others() {
+    for made in mh.msb mh.lsb mmr.msb mmr.lsb; do
+        for read in mh.msb mh.lsb mmr.msb mmr.lsb; do
+            [ "$made" != "$read" ] || continue
+            gives 1 show --explain --code ${read%.*} --order ${read#*.} --width 315 "$data/page.$made"
+            case $read in
+            mh.msb) words="(try --order lsb, or --code mmr)" ;;
+            mh.lsb) words="(try --order msb, or --code mmr)" ;;
+            mmr.msb) words="(try --order lsb, or --code mh)" ;;
+            mmr.lsb) words="(try --order msb, or --code mh)" ;;
+            esac
+            grep -q "^$data/page.$made: row 1: .* $words\$" error || fails "show of $made as $read names nothing to try"
+        done
+    done
 }
 
 # explains_standard FILE: a page on standard input is explained as that in the file.
@@ -108,7 +197,7 @@ try_terminal() {
     cp "$(octets "00 10 08")" page
     status=0
     script -qec "'$program' decode --code mh --width 8 page made" /dev/null < /dev/null > output || status=$?
-    printf 'fault 10 at bit 12\r\npage: row 1: no code word of a white run begins here\r\n' > wanted
+    printf 'fault 10 at bit 12\r\npage: row 1: no code word of a white run begins here (try --order lsb, or --code mmr)\r\n' > wanted
     [ $status = 1 ] || fails "decode on a terminal ended with status $status"
     is_same output wanted "the words on a terminal"
     script -qec "'$program' decode --code mh --width 8 page made 2> error" /dev/null < /dev/null > output || true
@@ -207,6 +296,21 @@ try_memory() {
     count=$((count + 3))
 }
 
+# Standard input can't be both the script and the document: that is refused with words, and nothing is read.
+try_twice_standard() {
+    for words in "call --script - -" "call --script - --out - -" "call --explain --script - -" "call - --script -"; do
+        refuses $words
+        grep -qF -e "--script and <IN> can't both be standard input" "$work/error" || fails "$words doesn't say what is wrong"
+        ! grep -q "^fault" "$work/error" || fails "$words has a fault line"
+    done
+    printf 'busy\nready\n' > "$work/script"
+    status=0
+    { "$program" call --script - - > "$work/output" 2> "$work/error" || status=$?; cat > "$work/left"; } < "$work/script"
+    [ "$status" = 2 ] || fails "call --script - - ended with status $status"
+    is_same "$work/left" "$work/script" "what call --script - - left of standard input"
+    count=$((count + 1))
+}
+
 # Words that are no job, and those that ask for help.
 try_words() {
     refuses
@@ -222,6 +326,7 @@ try_words() {
         refuses $words
     done
     refuses show --code mh --width "" a
+    try_twice_standard
     refuses show --help
     for text in "<FILE>  The file of the coded page" "--width <N>" "[default: msb] [possible values: msb, lsb]"; do
         grep -qF -e "$text" "$work/error" || fails "show --help doesn't say: $text"

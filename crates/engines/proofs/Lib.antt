@@ -14,3 +14,5 @@ mod FirstImage
 mod CapturedSteps
 mod Capturing
 mod RepairedLines
+mod LineFaults
+mod MissingEol

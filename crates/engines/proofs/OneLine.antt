@@ -1,80 +1,110 @@
 -- A fault in words is one line.
-use Rattle.std.proofs.Common.{◌≡◌, ◌%◌, ◌/◌, ◌++◌, ◌∷◌, [], ◌&&◌, ℕ, Bool, true, false, List, Option, Some, None, refl, arith}
+use Rattle.std.proofs.Common.{◌≡◌, ◌<◌, ◌+◌, ◌%◌, ◌/◌, ◌++◌, ◌∷◌, [], ◌&&◌, ℕ, Bool, true, false, List, Option, Some, None, refl, arith}
 use Rattle.std.proofs.Common.{codes, zero, suc, nat_lt}
 use Rattle.std.proofs.lemmas.Grind.{common_steps}
 use Rattle.std.specs.Fmt.{decimal, digit_glyph, digits, digits_onto}
+use Rattle.std.proofs.lemmas.Bool.{and_from, and_parts, le-leb, lt-ltb}
+use Rattle.std.proofs.lemmas.Bool.Decides.{nat_tests}
 use Rattle.std.specs.List.{list_all}
-use Rattle.std.specs.Prelude.{◌==◌}
+use Rattle.std.specs.Prelude.{◌==◌, nat_le, not}
 use Rattle.std.specs.declared.io.ErrorKind.{ErrorKind}
 use Rattle.std.specs.declared.io.ErrorKind.TheVariants as kind
-use Rattle.raster.specs.declared.row.Color.{Color}
+use Rattle.raster.specs.declared.packed.Order.{Order}
+use Rattle.raster.specs.declared.packed.Order.TheVariants.{MsbFirst, LsbFirst}
 use Rattle.raster.specs.declared.row.Color.TheVariants.{White, Black}
+use Rattle.page_code.specs.declared.Coding.{Coding}
+use Rattle.page_code.specs.declared.Coding.TheVariants.{OneDim, T6}
 use Rattle.engines.specs.declared.explain.Known.{Known}
+use Rattle.engines.specs.declared.line_fault.LineFault.{LineFault}
+use Rattle.engines.specs.declared.line_fault.LineFault.TheVariants.{NotUtf8, Blank, Word, Count}
+use Rattle.engines.specs.declared.refused.Expected.{Expected}
+use Rattle.engines.specs.declared.refused.Expected.TheVariants.{RunOf, Eol}
 use Rattle.engines.specs.declared.fault.ToolFault.{ToolFault}
 use Rattle.engines.specs.declared.fault.ToolFault.TheVariants.{No, AtBit, AtLine}
-use Rattle.engines.specs.Explanations.{IsOneLine, code_table, code_words, explained, image_table, image_words, is_shown, name_text}
-use Rattle.engines.specs.Explanations.{netpbm_table, no_raw_pbm, reason_words, row_text, tiff_table, whole_words, words_in}
+use Rattle.engines.specs.Explanations.{IsOneLine, are_shown, code_table, code_words, explained, image_table, image_words, is_at_end, is_plain}
+use Rattle.engines.specs.Explanations.{is_shown, line_words, name_text, netpbm_table, no_raw_pbm, other_words, reason_words, row_text}
+use Rattle.engines.specs.Explanations.{tiff_table, try_words, whole_words, words_in}
+
+-- ---- plain texts: characters of ASCII with no control character
+
+abbrev IsPlain : List ℕ → Type 0
+IsPlain text = list_all is_plain text ≡ true
+
+plain_shown : (before octet : ℕ) → is_plain octet ≡ true → is_shown before octet ≡ true
+plain_shown before octet h = grind (arith, nat_tests, h)
+
+-- after any octet a plain text has no control character
+plain_line : (before : ℕ) (text : List ℕ) → IsPlain text → are_shown before text ≡ true
+plain_line before [] h = refl
+plain_line before (octet ∷ text) h =
+    let parts = and_parts (is_plain octet) (list_all is_plain text) h in
+    and_from (is_shown before octet) (are_shown octet text) (plain_shown before octet parts.0) (plain_line octet text parts.1)
+
+-- a plain text after a text with no control character
+shown_then_plain : (before : ℕ) (a b : List ℕ) → are_shown before a ≡ true → IsPlain b → are_shown before (a ++ b) ≡ true
+shown_then_plain before [] b ha hb = plain_line before b hb
+shown_then_plain before (octet ∷ a) b ha hb =
+    let parts = and_parts (is_shown before octet) (are_shown octet a) ha in
+    and_from (is_shown before octet) (are_shown octet (a ++ b)) parts.0 (shown_then_plain octet a b parts.1 hb)
 
 -- a text after a text
-pub both_lines : (a b : List ℕ) → IsOneLine a → IsOneLine b → IsOneLine (a ++ b)
+both_lines : (a b : List ℕ) → IsPlain a → IsPlain b → IsPlain (a ++ b)
 both_lines a b ha hb = grind (arith, common_steps, ha, hb)
 
-glyph_shown : (d : ℕ) → is_shown (digit_glyph false d) ≡ true
-glyph_shown d = by_test (nat_lt d 10) refl
-  where
-    by_test : (test : Bool) → nat_lt d 10 ≡ test → is_shown (digit_glyph false d) ≡ true
-    by_test true e = rw e (grind (arith, common_steps))
-    by_test false e = rw e (grind (arith, common_steps))
+glyph_plain : (d : ℕ) → d < 10 → is_plain (digit_glyph false d) ≡ true
+glyph_plain d low = rw (lt-ltb d 10 low) (and_from (nat_le 32 (48 + d)) (nat_lt (48 + d) 127) (le-leb 32 (48 + d) (omega arith))
+    (lt-ltb (48 + d) 127 (omega (arith, low))))
 
-digits_line : (k n : ℕ) (after : List ℕ) → IsOneLine after → IsOneLine (digits_onto k 10 false n after)
+digits_line : (k n : ℕ) (after : List ℕ) → IsPlain after → IsPlain (digits_onto k 10 false n after)
 digits_line zero n after h = h
 digits_line (suc k) n after h = by_test (n / 10 == 0) refl (λ more one. digits_line k (n / 10) more one)
   where
-    one : IsOneLine (digit_glyph false (n % 10) ∷ after)
-    one = grind (arith, common_steps, h, glyph_shown (n % 10))
+    one : IsPlain (digit_glyph false (n % 10) ∷ after)
+    one = and_from (is_plain (digit_glyph false (n % 10))) (list_all is_plain after) (glyph_plain (n % 10) (omega arith)) h
 
     by_test : (test : Bool) → (n / 10 == 0) ≡ test
-        → ((more : List ℕ) → IsOneLine more → IsOneLine (digits_onto k 10 false (n / 10) more))
-        → IsOneLine (digits_onto (suc k) 10 false n after)
+        → ((more : List ℕ) → IsPlain more → IsPlain (digits_onto k 10 false (n / 10) more))
+        → IsPlain (digits_onto (suc k) 10 false n after)
     by_test true e on = rw e one
     by_test false e on = rw e (on _ one)
 
-pub decimal_line : (n : ℕ) → IsOneLine (decimal n)
+decimal_line : (n : ℕ) → IsPlain (decimal n)
 unfolding digits
 decimal_line n = digits_line 64 n [] refl
 
-pub name_line : (name : List ℕ) → IsOneLine (name_text name)
-name_line name = by_test (list_all is_shown name) refl
+name_line : (name : List ℕ) → IsOneLine (name_text name)
+name_line name = by_test (are_shown 0 name) refl
   where
-    by_test : (test : Bool) → list_all is_shown name ≡ test → IsOneLine (name_text name)
+    by_test : (test : Bool) → are_shown 0 name ≡ test → IsOneLine (name_text name)
     by_test true e = rw e e
     by_test false e = rw e refl
 
--- every text of a table is one line
+-- every text of a table is plain
 abbrev are_lines : List (ℕ × List ℕ) → Bool
 are_lines [] = true
-are_lines (row ∷ rows) = list_all is_shown row.1 && are_lines rows
+are_lines (row ∷ rows) = list_all is_plain row.1 && are_lines rows
 
-words_line : (table : List (ℕ × List ℕ)) (others : List ℕ) (number : ℕ) → are_lines table ≡ true → IsOneLine others
-    → IsOneLine (words_in table others number)
+words_line : (table : List (ℕ × List ℕ)) (others : List ℕ) (number : ℕ) → are_lines table ≡ true → IsPlain others
+    → IsPlain (words_in table others number)
 words_line [] others number all other = other
 words_line (row ∷ rows) others number all other =
     by_test (number == row.0) refl (words_line rows others number (grind (arith, common_steps, all)) other)
   where
-    by_test : (test : Bool) → (number == row.0) ≡ test → IsOneLine (words_in rows others number)
-        → IsOneLine (words_in (row ∷ rows) others number)
+    by_test : (test : Bool) → (number == row.0) ≡ test → IsPlain (words_in rows others number)
+        → IsPlain (words_in (row ∷ rows) others number)
     by_test true e on = rw e (grind (arith, common_steps, all))
     by_test false e on = rw e on
 
-pub image_line : (number : ℕ) → IsOneLine (image_words number)
+image_line : (number : ℕ) → IsPlain (image_words number)
 image_line number = words_line image_table (codes "it can't be used") number refl refl
 
-pub code_line : (number : ℕ) (color : Option Color) → IsOneLine (code_words number color)
-code_line number (Some White) = words_line (code_table (Some White)) (codes "no page can go on here") number refl refl
-code_line number (Some Black) = words_line (code_table (Some Black)) (codes "no page can go on here") number refl refl
+code_line : (number : ℕ) (expected : Option Expected) → IsPlain (code_words number expected)
+code_line number (Some (RunOf White)) = words_line (code_table (Some (RunOf White))) (codes "no page can go on here") number refl refl
+code_line number (Some (RunOf Black)) = words_line (code_table (Some (RunOf Black))) (codes "no page can go on here") number refl refl
+code_line number (Some Eol) = words_line (code_table (Some Eol)) (codes "no page can go on here") number refl refl
 code_line number None = words_line (code_table None) (codes "no page can go on here") number refl refl
 
-pub reason_line : (reason : Option ErrorKind) → IsOneLine (reason_words reason)
+reason_line : (reason : Option ErrorKind) → IsPlain (reason_words reason)
 reason_line (Some kind.NotFound) = refl
 reason_line (Some kind.PermissionDenied) = refl
 reason_line (Some kind.IsADirectory) = refl
@@ -87,52 +117,84 @@ reason_line (Some kind.BrokenPipe) = refl
 reason_line (Some kind.InvalidFilename) = refl
 reason_line (Some kind.FilesystemLoop) = refl
 reason_line (Some kind.ExecutableFileBusy) = refl
+reason_line (Some kind.InvalidData) = refl
 reason_line reason = refl
 
-image_header_line : (octets : List ℕ) → IsOneLine (no_raw_pbm octets)
+image_header_line : (octets : List ℕ) → IsPlain (no_raw_pbm octets)
 image_header_line [] = refl
 image_header_line (first ∷ []) = refl
 image_header_line (first ∷ (second ∷ rest)) = if_p (first == 80) refl
   where
     if_m : (test : Bool) → (first == 77) ≡ test → (first == 73) ≡ false → (first == 80) ≡ false
-        → IsOneLine (no_raw_pbm (first ∷ (second ∷ rest)))
+        → IsPlain (no_raw_pbm (first ∷ (second ∷ rest)))
     if_m true e n o = rw (o, n, e) (words_line (tiff_table 77) (codes "no raw PBM: it doesn't begin with P4") second refl refl)
     if_m false e n o = rw (o, n, e) refl
 
-    if_i : (test : Bool) → (first == 73) ≡ test → (first == 80) ≡ false → IsOneLine (no_raw_pbm (first ∷ (second ∷ rest)))
+    if_i : (test : Bool) → (first == 73) ≡ test → (first == 80) ≡ false → IsPlain (no_raw_pbm (first ∷ (second ∷ rest)))
     if_i true e n = rw (n, e) (words_line (tiff_table 73) (codes "no raw PBM: it doesn't begin with P4") second refl refl)
     if_i false e n = if_m (first == 77) refl e n
 
-    if_p : (test : Bool) → (first == 80) ≡ test → IsOneLine (no_raw_pbm (first ∷ (second ∷ rest)))
+    if_p : (test : Bool) → (first == 80) ≡ test → IsPlain (no_raw_pbm (first ∷ (second ∷ rest)))
     if_p true e = rw e (words_line netpbm_table (codes "no raw PBM: it doesn't begin with P4") second refl refl)
     if_p false e = if_i (first == 73) refl e
 
-whole_line : (number : ℕ) (known : Known) → IsOneLine (whole_words number known)
+whole_line : (number : ℕ) (known : Known) → IsPlain (whole_words number known)
 whole_line number known = if_5 (number == 5) refl
   where
-    if_8 : (test : Bool) → (number == 8) ≡ test → (number == 5) ≡ false → IsOneLine (whole_words number known)
+    if_8 : (test : Bool) → (number == 8) ≡ test → (number == 5) ≡ false → IsPlain (whole_words number known)
     if_8 true e n = rw (n, e) (reason_line known.reason)
     if_8 false e n = rw (n, e) (image_line number)
 
-    if_5 : (test : Bool) → (number == 5) ≡ test → IsOneLine (whole_words number known)
+    if_5 : (test : Bool) → (number == 5) ≡ test → IsPlain (whole_words number known)
     if_5 true e = rw e (image_header_line known.begins.now)
     if_5 false e = if_8 (number == 8) refl e
 
-row_line : (row : Option ℕ) → IsOneLine (row_text row)
+row_line : (row : Option ℕ) → IsPlain (row_text row)
 row_line (Some row) = both_lines (codes "row ") (decimal row ++ codes ": ") refl
     (both_lines (decimal row) (codes ": ") (decimal_line row) refl)
 row_line None = refl
 
-after_name : (name what : List ℕ) → IsOneLine what → IsOneLine (name_text name ++ (codes ": " ++ what))
-after_name name what h = both_lines (name_text name) (codes ": " ++ what) (name_line name) (both_lines (codes ": ") what refl h)
+other_line : (read_as : Coding × Order) → IsPlain (other_words read_as)
+other_line (OneDim, MsbFirst) = refl
+other_line (OneDim, LsbFirst) = refl
+other_line (T6, MsbFirst) = refl
+other_line (T6, LsbFirst) = refl
+
+try_line : (number : ℕ) (row : Option ℕ) (read_as : Option (Coding × Order)) → IsPlain (try_words number row read_as)
+try_line number (Some row) (Some read_as) = by_test (row == 1 && not (is_at_end number)) refl
+  where
+    by_test : (test : Bool) → (row == 1 && not (is_at_end number)) ≡ test → IsPlain (try_words number (Some row) (Some read_as))
+    by_test true e = rw e (other_line read_as)
+    by_test false e = rw e refl
+try_line number (Some row) None = refl
+try_line number None read_as = refl
+
+said_line : (line : Option LineFault) → IsPlain (line_words line)
+said_line (Some NotUtf8) = refl
+said_line (Some Blank) = refl
+said_line (Some Word) = refl
+said_line (Some Count) = refl
+said_line None = refl
+
+after_name : (name what : List ℕ) → IsPlain what → IsOneLine (name_text name ++ (codes ": " ++ what))
+after_name name what h = shown_then_plain 0 (name_text name) (codes ": " ++ what) (name_line name) (both_lines (codes ": ") what refl h)
+
+place_line : (number : ℕ) (known : Known)
+    → IsPlain (row_text known.row ++ (code_words number known.expected ++ try_words number known.row known.read_as))
+place_line number known = both_lines (row_text known.row) (code_words number known.expected ++ try_words number known.row known.read_as)
+    (row_line known.row)
+    (both_lines (code_words number known.expected) (try_words number known.row known.read_as) (code_line number known.expected)
+    (try_line number known.row known.read_as))
 
 pub explained_line : (fault : ToolFault) (known : Known) → IsOneLine (explained fault known)
 explained_line (No number) known = after_name known.file.now (whole_words number known) (whole_line number known)
-explained_line (AtBit number place) known = after_name known.file.now (row_text known.row ++ code_words number known.color)
-    (both_lines (row_text known.row) (code_words number known.color) (row_line known.row) (code_line number known.color))
+explained_line (AtBit number place) known =
+    after_name known.file.now (row_text known.row ++ (code_words number known.expected ++ try_words number known.row known.read_as))
+    (place_line number known)
 explained_line (AtLine number) known =
-    both_lines (name_text known.file.now) (codes ": line " ++ (decimal number ++ rest)) (name_line known.file.now)
-    (both_lines (codes ": line ") (decimal number ++ rest) refl (both_lines (decimal number) rest (decimal_line number) refl))
+    shown_then_plain 0 (name_text known.file.now) (codes ": line " ++ (decimal number ++ rest)) (name_line known.file.now)
+    (both_lines (codes ": line ") (decimal number ++ rest) refl (both_lines (decimal number) rest (decimal_line number)
+    (both_lines (codes ": ") (line_words known.line) refl (said_line known.line))))
   where
     rest : List ℕ
-    rest = codes ": no command of a script, or no count that it takes"
+    rest = codes ": " ++ line_words known.line

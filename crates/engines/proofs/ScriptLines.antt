@@ -2,10 +2,11 @@
 use Rattle.std.proofs.Common.{◌≡◌, ◌+◌, ◌≤◌, ℕ, List, [], ◌∷◌, ◌++◌, Option, Some, None, length, refl, ap, sym, ◌∙◌, append_assoc}
 use Rattle.std.proofs.Common.{length-append, arith, inl, inr}
 use Rattle.std.proofs.lemmas.List.{append-nil}
+use Rattle.std.specs.List.{AllByRecursion}
 use Rattle.engines.specs.declared.fault.ToolFault.{ToolFault}
 use Rattle.engines.specs.declared.fault.ToolFault.TheVariants.{No, AtBit, AtLine}
 use Rattle.engines.specs.declared.script.Command.{Command}
-use Rattle.engines.specs.Scripts.{AddsLine, HasNoFeed, IsScript, LinesSay, RefusesLine, RefusesScript, ended}
+use Rattle.engines.specs.Scripts.{AddsLine, HasNoFeed, IsLineAt, IsScript, LinesSay, RefusesLine, RefusesScript, ended}
 use Rattle.engines.specs.Scripts.{said_before}
 
 -- one line more says more
@@ -108,4 +109,58 @@ last_refused text last old number (AtLine n) so_far one (inr (e, bad)) = record 
   ends = inl refl;
   bad = bad;
   number_is = let same : n ≡ number = cc in same ∙ so_far.number_is;
+}
+
+-- ---- a line by its number
+
+-- the rest of a text begins with the line of this number
+pub record LinesBefore (text rest : List ℕ) (number : ℕ) : Type 0 where
+  pub lines : List (List ℕ)
+  pub text_is : text ≡ ended lines ++ rest
+  pub fed : AllByRecursion HasNoFeed lines
+  pub number_is : number ≡ length lines + 1
+  pub room : number + length rest ≤ length text + 1
+
+pub none_before : (text : List ℕ) → LinesBefore text text 1
+none_before text = record { lines = []; text_is = refl; fed = _; number_is = refl; room = omega arith }
+
+fed_more : (lines : List (List ℕ)) (line : List ℕ) → AllByRecursion HasNoFeed lines → HasNoFeed line
+    → AllByRecursion HasNoFeed (lines ++ line ∷ [])
+fed_more [] line fed one = (one, _)
+fed_more (first ∷ lines) line (first_fed, fed) one = (first_fed, fed_more lines line fed one)
+
+-- a line further
+pub one_before : (text rest line after : List ℕ) (number next : ℕ) → LinesBefore text rest number → HasNoFeed line → rest ≡ line ++ 10 ∷ after
+    → next ≡ number + 1 → LinesBefore text after next
+one_before text rest line after number next so_far one is more = record {
+  lines = so_far.lines ++ line ∷ [];
+  text_is = so_far.text_is ∙ (ap (λ xs. ended so_far.lines ++ xs) is ∙ sym (ended_more so_far.lines line after));
+  fed = fed_more so_far.lines line so_far.fed one;
+  number_is = omega (arith, so_far.number_is, more, length-append so_far.lines (line ∷ []));
+  room = omega (arith, so_far.room, more, ap length is, length-append line (10 ∷ after));
+}
+
+-- the line of this number, and another one after it
+pub line_there : (text rest line after : List ℕ) (number : ℕ) → LinesBefore text rest number → HasNoFeed line → rest ≡ line ++ 10 ∷ after
+    → IsLineAt text number line
+line_there text rest line after number so_far one is = record {
+  before = so_far.lines;
+  rest = 10 ∷ after;
+  text_is = so_far.text_is ∙ ap (λ xs. ended so_far.lines ++ xs) is;
+  lines = so_far.fed;
+  one = one;
+  ends = inr (after, refl);
+  number_is = so_far.number_is;
+}
+
+-- the last line has this number
+pub last_there : (text last : List ℕ) (number : ℕ) → LinesBefore text last number → HasNoFeed last → IsLineAt text number last
+last_there text last number so_far one = record {
+  before = so_far.lines;
+  rest = [];
+  text_is = so_far.text_is ∙ ap (λ xs. ended so_far.lines ++ xs) (sym (append-nil last));
+  lines = so_far.fed;
+  one = one;
+  ends = inl refl;
+  number_is = so_far.number_is;
 }

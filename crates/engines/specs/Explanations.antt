@@ -1,31 +1,49 @@
 -- What fault lines mean, in words.
-use Rattle.std.specs.Prelude.{ℕ, ◌≡◌, ◌==◌, ◌+◌, ◌++◌, ◌∷◌, [], Bool, true, List, Option, Some, None, codes, cond}
-use Rattle.std.specs.Prelude.{if◌then◌else◌, length, nat_le}
+use Rattle.std.specs.Prelude.{ℕ, ◌≡◌, ◌==◌, ◌+◌, ◌++◌, ◌∷◌, ◌&&◌, ◌||◌, [], Bool, true, not, List, Option, Some, None, codes, cond}
+use Rattle.std.specs.Prelude.{drop, if◌then◌else◌, length, nat_le, nat_lt}
 use Rattle.std.specs.Fmt.{decimal}
-use Rattle.std.specs.List.{list_all}
 use Rattle.std.specs.declared.io.ErrorKind.{ErrorKind}
 use Rattle.std.specs.declared.io.ErrorKind.TheVariants as kind
+use Rattle.raster.specs.declared.packed.Order.{Order}
+use Rattle.raster.specs.declared.packed.Order.TheVariants.{MsbFirst, LsbFirst}
 use Rattle.raster.specs.declared.row.Color.{Color}
 use Rattle.raster.specs.declared.row.Color.TheVariants.{White, Black}
 use Rattle.page_code.specs.RowsSoFar.{AreWholeRows}
+use Rattle.page_code.specs.OneDimension.Pages.{EolBegins}
 use Rattle.page_code.specs.declared.Coding.{Coding}
+use Rattle.page_code.specs.declared.Coding.TheVariants.{OneDim, T6}
 use Rattle.run_tables.specs.CodeReading.{RefusesRun}
+use Rattle.run_tables.specs.RowLaws.{ReadsAsRow}
 use Rattle.run_tables.specs.declared.fault.CodeFault.{CodeFault}
 use Rattle.engines.specs.declared.explain.Known.{Known}
+use Rattle.engines.specs.declared.refused.Expected.{Expected}
+use Rattle.engines.specs.declared.refused.Expected.TheVariants.{RunOf, Eol}
+use Rattle.engines.specs.declared.line_fault.LineFault.{LineFault}
+use Rattle.engines.specs.declared.line_fault.LineFault.TheVariants.{NotUtf8, Blank, Word, Count}
 use Rattle.engines.specs.declared.fault.ToolFault.{ToolFault}
 use Rattle.engines.specs.declared.fault.ToolFault.TheVariants.{No, AtBit, AtLine}
 
--- an octet is no control character below the space
-abbrev pub is_shown : ℕ → Bool
-is_shown octet = nat_le 32 octet
+-- the octet is a character of ASCII, and no control character: from the space to the tilde
+abbrev pub is_plain : ℕ → Bool
+is_plain octet = nat_le 32 octet && nat_lt octet 127
 
--- the text has no control character below the space, LF among them
+-- An octet after another one is no control character, and none ends with it: U+0000 to U+001F and U+007F are an octet each, and U+0080 to
+-- U+009F are C2 and one of 80 to 9F in UTF-8.
+abbrev pub is_shown : ℕ → ℕ → Bool
+is_shown before octet = nat_le 32 octet && not (octet == 127 || (nat_le 128 octet && nat_lt octet 160 && before == 194))
+
+-- octets after another one have no control character
+abbrev pub are_shown : ℕ → List ℕ → Bool
+are_shown before [] = true
+are_shown before (octet ∷ octets) = is_shown before octet && are_shown octet octets
+
+-- the text has no control character, LF among them
 abbrev pub IsOneLine : List ℕ → Type 0
-IsOneLine text = list_all is_shown text ≡ true
+IsOneLine text = are_shown 0 text ≡ true
 
--- the name of a file, where it is one line
+-- the name of a file, where it has no control character
 abbrev pub name_text : List ℕ → List ℕ
-name_text name = cond (list_all is_shown name) name (codes "a file")
+name_text name = cond (are_shown 0 name) name (codes "a file")
 
 -- the words of a number in a table, or others
 abbrev pub words_in : List (ℕ × List ℕ) → List ℕ → ℕ → List ℕ
@@ -41,7 +59,7 @@ image_table = (1, codes "the width isn't 1 to 2432 pixels")
     ∷ (6, codes "the image is cut short: it has fewer octets than its width and height say")
     ∷ (7, codes "there is no image: it has no octet")
     ∷ (9, codes "memory was refused: try it with less input or more memory")
-    ∷ (26, codes "a page has a width that no call carries: 1728, 2048 or 2432 pixels")
+    ∷ (26, codes "a page's width isn't 1728, 2048 or 2432 pixels, the widths that a call carries")
     ∷ (27, codes "several images: code takes one") ∷ []
 
 -- the words of a fault of images
@@ -84,6 +102,7 @@ reason_words (Some kind.BrokenPipe) = codes "what reads the pipe has closed it"
 reason_words (Some kind.InvalidFilename) = codes "the name is too long"
 reason_words (Some kind.FilesystemLoop) = codes "its links lead in a circle"
 reason_words (Some kind.ExecutableFileBusy) = codes "it is a program that is running"
+reason_words (Some kind.InvalidData) = codes "it isn't UTF-8"
 reason_words reason = codes "it can't be read or written"
 
 -- what is wrong with a file as a whole, or with the system
@@ -91,16 +110,17 @@ abbrev pub whole_words : ℕ → Known → List ℕ
 whole_words number known = if number == 5 then no_raw_pbm known.begins.now
     else if number == 8 then reason_words known.reason else image_words number
 
--- what was expected where no code word begins: that of a run of the color, or any code
-abbrev pub missing_code : Option Color → List ℕ
-missing_code (Some White) = codes "no code word of a white run begins here"
-missing_code (Some Black) = codes "no code word of a black run begins here"
-missing_code None = codes "no code begins here that may come"
+-- what was expected where no code word begins: that of a run of the color, an EOL, or any code
+abbrev pub missing_code : Option Expected → List ℕ
+missing_code (Some (RunOf White)) = codes "no code word of a white run begins here"
+missing_code (Some (RunOf Black)) = codes "no code word of a black run begins here"
+missing_code (Some Eol) = codes "an EOL is expected here, and no EOL begins here"
+missing_code None = codes "no valid code begins here"
 
 -- what was refused of a coded page, by the fault's number
-abbrev pub code_table : Option Color → List (ℕ × List ℕ)
-code_table color = (4, codes "the page ends before its first row")
-    ∷ (10, missing_code color)
+abbrev pub code_table : Option Expected → List (ℕ × List ℕ)
+code_table expected = (4, codes "the page ends before its first row")
+    ∷ (10, missing_code expected)
     ∷ (11, codes "the file ends inside a code or before the next one: it is cut short")
     ∷ (12, codes "this run goes past the row's width: is --width right?")
     ∷ (13, codes "this vertical mode doesn't move to the right")
@@ -111,21 +131,46 @@ code_table color = (4, codes "the page ends before its first row")
     ∷ (18, codes "one row more than 20000, the most that a page has") ∷ []
 
 -- the words of a fault of a coded page
-abbrev pub code_words : ℕ → Option Color → List ℕ
-code_words number color = words_in (code_table color) (codes "no page can go on here") number
+abbrev pub code_words : ℕ → Option Expected → List ℕ
+code_words number expected = words_in (code_table expected) (codes "no page can go on here") number
 
 -- the row, counted from 1, where it is known
 abbrev pub row_text : Option ℕ → List ℕ
 row_text (Some row) = codes "row " ++ (decimal row ++ codes ": ")
 row_text None = []
 
+-- what to try in place of a code and an order of bits: the other ones
+abbrev pub other_words : Coding × Order → List ℕ
+other_words (OneDim, MsbFirst) = codes " (try --order lsb, or --code mmr)"
+other_words (OneDim, LsbFirst) = codes " (try --order msb, or --code mmr)"
+other_words (T6, MsbFirst) = codes " (try --order lsb, or --code mh)"
+other_words (T6, LsbFirst) = codes " (try --order msb, or --code mh)"
+
+-- the file ends where the page is refused
+abbrev pub is_at_end : ℕ → Bool
+is_at_end number = number == 11 || number == 17
+
+-- what to try where the first row of a page is refused, and not because the file ends
+abbrev pub try_words : ℕ → Option ℕ → Option (Coding × Order) → List ℕ
+try_words number (Some row) (Some read_as) = if row == 1 && not (is_at_end number) then other_words read_as else []
+try_words number (Some row) None = []
+try_words number None read_as = []
+
+-- what is wrong with a line of a script, where it is known
+abbrev pub line_words : Option LineFault → List ℕ
+line_words (Some NotUtf8) = codes "it isn't UTF-8"
+line_words (Some Blank) = codes "a blank is wrong: a line is a word, or a word, one space and a count"
+line_words (Some Word) = codes "no command of a script begins with this word"
+line_words (Some Count) = codes "the count is missing or isn't 1 to 1000000"
+line_words None = codes "no command of a script, or no count that it takes"
+
 -- a fault in words: the file, the place in it, and what is wrong there
 abbrev pub explained : ToolFault → Known → List ℕ
 explained (No number) known = name_text known.file.now ++ (codes ": " ++ whole_words number known)
-explained (AtBit number place) known =
-    name_text known.file.now ++ (codes ": " ++ (row_text known.row ++ code_words number known.color))
-explained (AtLine number) known = name_text known.file.now
-    ++ (codes ": line " ++ (decimal number ++ codes ": no command of a script, or no count that it takes"))
+explained (AtBit number place) known = name_text known.file.now
+    ++ (codes ": " ++ (row_text known.row ++ (code_words number known.expected ++ try_words number known.row known.read_as)))
+explained (AtLine number) known =
+    name_text known.file.now ++ (codes ": line " ++ (decimal number ++ (codes ": " ++ line_words known.line)))
 
 -- the row after all whole rows of the bits, counted from 1
 abbrev pub IsRefusedRow : Coding → ℕ → List Bool → ℕ → Type 0
@@ -136,3 +181,17 @@ IsRefusedRow coding width bits row =
 abbrev pub IsRefusedRun : List Bool → ℕ → Color → Type 0
 IsRefusedRun bits place color = (start : ℕ) × (fault : CodeFault) × (fault.place ≡ place)
     × RefusesRun color (record { bits = bits; place = start }) fault
+
+-- from some bit on, the bits are a whole row of the width up to the place, and no EOL begins there
+pub record HasNoEol (width : ℕ) (bits : List Bool) (place : ℕ) : Type 0 where
+  pub start : ℕ
+  pub row : List Color
+  pub used : ℕ
+  pub reads : ReadsAsRow width (drop start bits) row used
+  pub ends : start + used ≡ place
+  pub none : ¬ EolBegins (drop place bits)
+
+-- what is expected at the place where bits are refused: a run of the color, or an EOL
+abbrev pub IsExpected : ℕ → List Bool → ℕ → Expected → Type 0
+IsExpected width bits place (RunOf color) = IsRefusedRun bits place color
+IsExpected width bits place Eol = HasNoEol width bits place

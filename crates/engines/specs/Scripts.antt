@@ -1,6 +1,7 @@
 -- What a script says: its lines, and the command of each.
-use Rattle.std.specs.Prelude.{◌≡◌, ◌≢◌, ◌≤◌, ◌<◌, ◌+◌, ◌⊎◌, ℕ, true, false, List, [], ◌∷◌, ◌++◌, Option, Some, None, codes, length}
-use Rattle.std.specs.Prelude.{slice_index}
+use Rattle.std.specs.Prelude.{◌≡◌, ◌≢◌, ◌≤◌, ◌<◌, ◌+◌, ◌⊎◌, ◌==◌, ◌&&◌, ◌||◌, ℕ, Bool, true, false, List, [], ◌∷◌, ◌++◌, Option, Some}
+use Rattle.std.specs.Prelude.{None, codes, length, nat_lt, slice_index}
+use Rattle.std.specs.List.{AllByRecursion, after_first, before_first, position_or_len}
 use Rattle.std.specs.Str.{IsUtf8}
 use Rattle.std.specs.Str.Parse.{IsNumeral, digits_value}
 use Rattle.line_sim.specs.declared.event.Event.{Event}
@@ -8,6 +9,8 @@ use Rattle.line_sim.specs.declared.event.Event.TheVariants.{DeliverToAnswerer, D
 use Rattle.line_sim.specs.declared.event.Event.TheVariants.{Spoil, CallerTimeout, CallerT5, AnswererT1, AnswererT2, Busy}
 use Rattle.engines.specs.declared.fault.ToolFault.{ToolFault}
 use Rattle.engines.specs.declared.fault.ToolFault.TheVariants.{No, AtBit, AtLine}
+use Rattle.engines.specs.declared.line_fault.LineFault.{LineFault}
+use Rattle.engines.specs.declared.line_fault.LineFault.TheVariants.{NotUtf8, Blank, Word, Count}
 use Rattle.engines.specs.declared.script.Command.{Command}
 use Rattle.engines.specs.declared.script.Command.TheVariants.{Events, Polite}
 
@@ -117,3 +120,55 @@ AddsLine line before after = (said : Option Command) × IsLineOf line said × (a
 -- why no line was added
 abbrev pub RefusesLine : List ℕ → ℕ → ToolFault → Type 0
 RefusesLine line number fault = (fault ≡ No 9) ⊎ ((fault ≡ AtLine number) × IsNoLine line)
+
+-- ---- what is wrong with a line
+
+-- the octet is a space
+abbrev pub is_space : ℕ → Bool
+is_space octet = octet == 32
+
+-- there is a space
+abbrev pub has_space : List ℕ → Bool
+has_space octets = nat_lt (position_or_len is_space octets) (length octets)
+
+-- there is a tab or a CR
+abbrev pub has_tab : List ℕ → Bool
+has_tab octets = nat_lt (position_or_len (λ octet. octet == 9) octets) (length octets)
+    || nat_lt (position_or_len (λ octet. octet == 13) octets) (length octets)
+
+-- the word that a line begins with: what stands before its first space
+abbrev pub word_in : List ℕ → List ℕ
+word_in line = before_first is_space line
+
+-- of a line with a space, nothing stands before its first one, or nothing after it, or another space does
+abbrev pub is_badly_spaced : List ℕ → List ℕ → Bool
+is_badly_spaced before after = length before == 0 || (length after == 0 || has_space after)
+
+-- a line has a space that doesn't stand alone between two words
+abbrev pub is_wrongly_spaced : List ℕ → Bool
+is_wrongly_spaced line = has_space line && is_badly_spaced (before_first is_space line) (after_first is_space line)
+
+-- a line has a tab or a CR, or such a space
+abbrev pub has_wrong_blank : List ℕ → Bool
+has_wrong_blank line = has_tab line || is_wrongly_spaced line
+
+-- the word is that of an event, or `polite`
+abbrev pub IsWord : List ℕ → Type 0
+IsWord word = (word ≡ codes "polite") ⊎ ((event : Event) × (word ≡ word_of event))
+
+-- what is wrong with a line that says no command: it isn't UTF-8; else a blank is; else the word that it begins with; else the count
+abbrev pub IsLineFault : List ℕ → LineFault → Type 0
+IsLineFault line NotUtf8 = ¬ IsUtf8 line
+IsLineFault line Blank = IsUtf8 line × (has_wrong_blank line ≡ true)
+IsLineFault line Word = IsUtf8 line × (has_wrong_blank line ≡ false) × ¬ IsWord (word_in line)
+IsLineFault line Count = IsUtf8 line × (has_wrong_blank line ≡ false) × IsWord (word_in line)
+
+-- the line of this number, from 1
+pub record IsLineAt (text : List ℕ) (number : ℕ) (line : List ℕ) : Type 0 where
+  pub before : List (List ℕ)
+  pub rest : List ℕ
+  pub text_is : text ≡ ended before ++ (line ++ rest)
+  pub lines : AllByRecursion HasNoFeed before
+  pub one : HasNoFeed line
+  pub ends : (rest ≡ []) ⊎ ((more : List ℕ) × (rest ≡ 10 ∷ more))
+  pub number_is : number ≡ length before + 1

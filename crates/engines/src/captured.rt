@@ -109,7 +109,7 @@ fn is_same(mark: Mark, other: Mark) -> bool
 
 /// Appends what is found.
 fn tell(out: &mut Vec<Captured>, found: Captured) -> Result<(), ToolFault>
-    ensures told { OnOk result (out.new.items ≡ out.old.items ++ found ∷ []) }
+    ensures appended { OnOk result (out.new.items ≡ out.old.items ++ found ∷ []) }
     ensures fault { IfErr result IsOutside }
 {
     match out.push(found) {

@@ -1,12 +1,15 @@
 //! What a fault line means, in words: which file, where in it, and what is wrong there.
 
-ghost use Rattle.engines.specs.Explanations.{code_words, image_words, is_shown, missing_code, no_raw_pbm};
-ghost use Rattle.engines.specs.Explanations.{reason_words, whole_words};
-ghost use Rattle.std.specs.List.{list_all};
+ghost use Rattle.engines.specs.Explanations.{are_shown, code_words, image_words, is_at_end, is_shown, line_words, missing_code, no_raw_pbm};
+ghost use Rattle.engines.specs.Explanations.{other_words, reason_words, try_words, whole_words};
 ghost use Rattle.std.specs.Prelude.{◌≡◌};
 
 use crate::fault::ToolFault;
+use crate::line_fault::LineFault;
+use crate::refused::Expected;
+use page_code::Coding;
 use raster::Color;
+use run_tables::Order;
 use std::fmt;
 use std::io::ErrorKind;
 
@@ -21,8 +24,12 @@ pub struct Known<'a> {
     pub begins: &'a [u8],
     /// The row of a coded page in which the refused bit lies, counted from 1.
     pub row: Option<usize>,
-    /// The color of the run whose code word was expected at the refused bit.
-    pub color: Option<Color>,
+    /// What was expected at the refused bit.
+    pub expected: Option<Expected>,
+    /// The code and the order of bits that a coded page was read by.
+    pub read_as: Option<(Coding, Order)>,
+    /// What is wrong with the refused line of a script.
+    pub line: Option<LineFault>,
 }
 
 /// A fault in words: one line, with no LF and no other control character, that depends on the fault and on what is
@@ -39,7 +46,7 @@ impl fmt::Display for Explained<'_> {
     ghost use Rattle.std.specs.Prelude.{Some};
     ghost use Rattle.engines.specs.Explanations.{explained};
 
-    ghost output = { λ told. Some (explained told.fault told.known) };
+    ghost output = { λ words. Some (explained words.fault words.known) };
 
     fn fmt<W: fmt::Write>(&self, f: &mut fmt::Formatter<W>) -> fmt::Result {
         let name = NameText(self.known.file);
@@ -47,15 +54,13 @@ impl fmt::Display for Explained<'_> {
             ToolFault::No(no) => write!(f, "{name}: {}", whole_words(no, self.known)),
             ToolFault::AtBit { no, place: _ } => write!(
                 f,
-                "{name}: {}{}",
+                "{name}: {}{}{}",
                 RowText(self.known.row),
-                code_words(no, self.known.color),
+                code_words(no, self.known.expected),
+                try_words(no, self.known.row, self.known.read_as),
             ),
             ToolFault::AtLine(line) => {
-                write!(
-                    f,
-                    "{name}: line {line}: no command of a script, or no count that it takes"
-                )
+                write!(f, "{name}: line {line}: {}", line_words(self.known.line))
             }
         }
     }
@@ -72,7 +77,7 @@ impl fmt::Display for NameText<'_> {
     ghost output = { λ text. Some (name_text text.0.now) };
 
     fn fmt<W: fmt::Write>(&self, f: &mut fmt::Formatter<W>) -> fmt::Result {
-        if is_shown(self.0.as_bytes()) {
+        if is_shown(self.0) {
             write!(f, "{}", self.0)
         } else {
             write!(f, "a file")
@@ -80,11 +85,25 @@ impl fmt::Display for NameText<'_> {
     }
 }
 
-/// Whether octets have no control character of ASCII below the space.
-fn is_shown(octets: &[u8]) -> bool
-    ensures { result ≡ list_all is_shown octets.now }
+/// Whether a text has no control character: none of U+0000 to U+001F and U+007F to U+009F.
+pub fn is_shown(text: &str) -> bool
+    ensures { result ≡ are_shown 0 text.now }
 {
-    octets.iter().all(|octet| *octet >= 32)
+    let mut before = 0;
+    for octet in text.as_bytes() {
+        if !is_shown_after(before, *octet) {
+            return false;
+        }
+        before = *octet;
+    }
+    true
+}
+
+/// Whether an octet after another one is no control character and doesn't end one, which is C2 and 80 to 9F.
+fn is_shown_after(before: u8, octet: u8) -> bool
+    ensures { result ≡ is_shown before octet }
+{
+    octet >= 32 && !(octet == 127 || (octet >= 128 && octet < 160 && before == 194))
 }
 
 /// The row in which a coded page is refused.
@@ -128,7 +147,7 @@ fn image_words(no: u8) -> &'static str
         6 => "the image is cut short: it has fewer octets than its width and height say",
         7 => "there is no image: it has no octet",
         9 => "memory was refused: try it with less input or more memory",
-        26 => "a page has a width that no call carries: 1728, 2048 or 2432 pixels",
+        26 => "a page's width isn't 1728, 2048 or 2432 pixels, the widths that a call carries",
         27 => "several images: code takes one",
         _ => "it can't be used",
     }
@@ -170,17 +189,18 @@ fn reason_words(reason: Option<ErrorKind>) -> &'static str
         Some(ErrorKind::InvalidFilename) => "the name is too long",
         Some(ErrorKind::FilesystemLoop) => "its links lead in a circle",
         Some(ErrorKind::ExecutableFileBusy) => "it is a program that is running",
+        Some(ErrorKind::InvalidData) => "it isn't UTF-8",
         _ => "it can't be read or written",
     }
 }
 
 /// What was refused of a coded page.
-fn code_words(no: u8, color: Option<Color>) -> &'static str
-    ensures { result.now ≡ code_words no color }
+fn code_words(no: u8, expected: Option<Expected>) -> &'static str
+    ensures { result.now ≡ code_words no expected }
 {
     match no {
         4 => "the page ends before its first row",
-        10 => missing_code(color),
+        10 => missing_code(expected),
         11 => "the file ends inside a code or before the next one: it is cut short",
         12 => "this run goes past the row's width: is --width right?",
         13 => "this vertical mode doesn't move to the right",
@@ -194,12 +214,57 @@ fn code_words(no: u8, color: Option<Color>) -> &'static str
 }
 
 /// What was expected where no code word begins.
-fn missing_code(color: Option<Color>) -> &'static str
-    ensures { result.now ≡ missing_code color }
+fn missing_code(expected: Option<Expected>) -> &'static str
+    ensures { result.now ≡ missing_code expected }
 {
-    match color {
-        Some(Color::White) => "no code word of a white run begins here",
-        Some(Color::Black) => "no code word of a black run begins here",
-        None => "no code begins here that may come",
+    match expected {
+        Some(Expected::RunOf(Color::White)) => "no code word of a white run begins here",
+        Some(Expected::RunOf(Color::Black)) => "no code word of a black run begins here",
+        Some(Expected::Eol) => "an EOL is expected here, and no EOL begins here",
+        None => "no valid code begins here",
+    }
+}
+
+/// What to try where the first row of a page is refused, and not because the file ends.
+fn try_words(no: u8, row: Option<usize>, read_as: Option<(Coding, Order)>) -> &'static str
+    ensures { result.now ≡ try_words no row read_as }
+{
+    match (row, read_as) {
+        (Some(1), Some((coding, order))) if !is_at_end(no) => other_words(coding, order),
+        _ => "",
+    }
+}
+
+/// Whether a fault of a coded page is that its file ends.
+fn is_at_end(no: u8) -> bool
+    ensures { result ≡ is_at_end no }
+{
+    no == 11 || no == 17
+}
+
+/// What to try in place of a code and an order of bits: the other ones.
+fn other_words(coding: Coding, order: Order) -> &'static str
+    ensures { result.now ≡ other_words (coding, order) }
+{
+    match (coding, order) {
+        (Coding::OneDim, Order::MsbFirst) => " (try --order lsb, or --code mmr)",
+        (Coding::OneDim, Order::LsbFirst) => " (try --order msb, or --code mmr)",
+        (Coding::T6, Order::MsbFirst) => " (try --order lsb, or --code mh)",
+        (Coding::T6, Order::LsbFirst) => " (try --order msb, or --code mh)",
+    }
+}
+
+/// What is wrong with a line of a script.
+fn line_words(line: Option<LineFault>) -> &'static str
+    ensures { result.now ≡ line_words line }
+{
+    match line {
+        Some(LineFault::NotUtf8) => "it isn't UTF-8",
+        Some(LineFault::Blank) => {
+            "a blank is wrong: a line is a word, or a word, one space and a count"
+        }
+        Some(LineFault::Word) => "no command of a script begins with this word",
+        Some(LineFault::Count) => "the count is missing or isn't 1 to 1000000",
+        None => "no command of a script, or no count that it takes",
     }
 }

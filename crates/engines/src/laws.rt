@@ -1,11 +1,12 @@
 //! Laws of the definitions. Nothing runs.
 
 ghost use Rattle.engines.specs.Explanations.{IsOneLine, explained};
-ghost use Rattle.engines.specs.Scripts.{IsScript, RefusesScript};
+ghost use Rattle.engines.specs.Scripts.{IsLineFault, IsScript, RefusesScript};
 ghost use Rattle.engines.specs.Transcripts.{ArePrintedLines};
 ghost use Rattle.engines.specs.declared.explain.Known.{Known};
 ghost use Rattle.engines.specs.declared.fault.ToolFault.{ToolFault};
 ghost use Rattle.engines.specs.declared.fault.ToolFault.TheVariants.{No};
+ghost use Rattle.engines.specs.declared.line_fault.LineFault.{LineFault};
 ghost use Rattle.engines.specs.declared.script.Command.{Command};
 ghost use Rattle.std.specs.Prelude.{ℕ, ◌≡◌, List};
 
@@ -19,6 +20,11 @@ pub fn one_script()
     ensures says { (text : List ℕ) (a b : List Command) → IsScript text a → IsScript text b → a ≡ b }
     ensures refused { (text : List ℕ) (fault : ToolFault) → RefusesScript text fault → (commands : List Command)
         → IsScript text commands → fault ≡ No 9 }
+{}
+
+/// A line of a script is wrong in one way alone.
+pub fn one_line_fault()
+    ensures { (line : List ℕ) (a b : LineFault) → IsLineFault line a → IsLineFault line b → a ≡ b }
 {}
 
 /// Written-out lines of events and words of ends are printed as they are written here.

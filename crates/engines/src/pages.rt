@@ -88,8 +88,8 @@ pub fn decode_engine<R: Read, W: Write>(
     fine: bool,
 ) -> Result<(usize, u128), ToolFault>
     requires { IsWidth width }
-    ensures decoded { IfOk result (λ told. IfSome (R.remaining reader.old)
-        (DecodesPage coding order width fine (W.contents writer.old) (W.contents writer.new) told.0 told.1)) }
+    ensures decoded { IfOk result (λ counts. IfSome (R.remaining reader.old)
+        (DecodesPage coding order width fine (W.contents writer.old) (W.contents writer.new) counts.0 counts.1)) }
     ensures refused { IfErr result (λ fault. IfSome (R.remaining reader.old) (λ octets. RefusesShow coding order width octets fault)) }
     ensures unwritten { IfErr result (λ fault. IsOutside fault ⊎ (writer.new ≡ writer.old)) }
 {

@@ -1,9 +1,10 @@
-//! Where in a coded page a refused bit lies: its row, and the color of the run that was expected there.
+//! Where in a coded page a refused bit lies: its row, and what was expected there.
 
-ghost use Rattle.engines.specs.Explanations.{IsRefusedRow, IsRefusedRun};
+ghost use Rattle.engines.specs.Explanations.{HasNoEol, IsExpected, IsRefusedRow, IsRefusedRun};
 ghost use Rattle.raster.specs.Packed.{bits_of};
 ghost use Rattle.raster.specs.Pixels.{IsWidth};
 ghost use Rattle.page_code.specs.declared.coding.Coding.TheVariants.{T6};
+ghost use Rattle.std.specs.Bool.{OnTrue};
 ghost use Rattle.std.specs.Prelude.{◌≡◌, ◌≤◌, ◌*◌, IfSome, None, length};
 
 use page_code::Coding;
@@ -11,9 +12,18 @@ use raster::Color;
 use run_tables::{BitReader, Order};
 use std::alloc::Global;
 
+/// What is expected at a refused bit of a page in the one-dimensional code.
+#[derive(Clone, Copy, Debug, PartialEq, Eq)]
+pub enum Expected {
+    /// The code word of a run of this color.
+    RunOf(Color),
+    /// An EOL, after a whole row.
+    Eol,
+}
+
 /// Where a page of this width in pixels is refused at a bit: its row, counted from 1, which is the one after all whole
-/// rows of the octets, and none where memory is refused; and in the one-dimensional code the color of the run that is
-/// refused there, and none where another thing is.
+/// rows of the octets, and none where memory is refused; and in the one-dimensional code what is expected at the bit: a
+/// run, or an EOL after a whole row, and none where that isn't known.
 pub fn refused_at(
     alloc: Global,
     octets: &[u8],
@@ -21,15 +31,15 @@ pub fn refused_at(
     order: Order,
     width: u32,
     place: u128,
-) -> (Option<usize>, Option<Color>)
+) -> (Option<usize>, Option<Expected>)
     requires { IsWidth width }
     ensures row { IfSome result.0 (IsRefusedRow coding width (bits_of order octets.now)) }
-    ensures color { IfSome result.1 (IsRefusedRun (bits_of order octets.now) place) }
-    ensures of_runs { coding ≡ T6 → result.1 ≡ None }
+    ensures expected { IfSome result.1 (IsExpected width (bits_of order octets.now) place) }
+    ensures of_rows { coding ≡ T6 → result.1 ≡ None }
 {
     let row = refused_row(alloc, octets, coding, order, width);
     match coding {
-        Coding::OneDim => (row, refused_color(octets, order, width, place)),
+        Coding::OneDim => (row, expected_at(alloc, octets, order, width, place)),
         Coding::T6 => (row, None),
     }
 }
@@ -52,26 +62,62 @@ fn refused_row(
     }
 }
 
-/// The color of the run that is refused at a bit of a page in the one-dimensional code, as the runs of its row are
-/// read from the last EOL on. None where another thing is refused there.
-fn refused_color(octets: &[u8], order: Order, width: u32, place: u128) -> Option<Color>
-    ensures { IfSome result (IsRefusedRun (bits_of order octets.now) place) }
+/// What is expected at a bit where a page in the one-dimensional code is refused, as its row is read from the last EOL
+/// on. None where that is not known.
+fn expected_at(
+    alloc: Global,
+    octets: &[u8],
+    order: Order,
+    width: u32,
+    place: u128,
+) -> Option<Expected>
+    requires { IsWidth width }
+    ensures { IfSome result (IsExpected width (bits_of order octets.now) place) }
 {
     if place > 8 * octets.len() as u128 {
         return None;
     }
-    let mut reader = BitReader::at(octets, order, row_start(octets, order, place));
+    let reader = BitReader::at(octets, order, row_start(octets, order, place));
+    if has_no_eol(alloc, reader.look_ahead(), width, place) {
+        return Some(Expected::Eol);
+    }
+    match refused_color(reader, width, place) {
+        Some(color) => Some(Expected::RunOf(color)),
+        None => None,
+    }
+}
+
+/// Whether a row of this width in pixels that begins where a reader stands ends at a place, and no EOL begins there.
+fn has_no_eol(alloc: Global, reader: BitReader<'_>, width: u32, place: u128) -> bool
+    requires { IsWidth width }
+    ensures { OnTrue result (HasNoEol width reader.entry.bits place) }
+{
+    let mut reader = reader;
+    let Ok(_row) = reader.read_row_1d(alloc, width) else {
+        return false;
+    };
+    if reader.place() != place {
+        return false;
+    }
+    !reader.starts_with(0, 11)
+}
+
+/// The color of the run that is refused at a bit, as the runs of a row of this width are read from where a reader stands.
+/// None where another thing is refused there.
+fn refused_color(reader: BitReader<'_>, width: u32, place: u128) -> Option<Color>
+    ensures { IfSome result (IsRefusedRun reader.entry.bits place) }
+{
+    let mut reader = reader;
     let mut color = Color::White;
     let mut pixels = 0u32;
     for _number in 0..MOST_RUNS {
+        if pixels >= width {
+            return None;
+        }
         match reader.read_run(color) {
             Ok(run) => {
                 pixels = pixels.saturating_add(run);
-                if pixels < width {
-                    color = color.other();
-                } else {
-                    (pixels, color) = (0, Color::White);
-                }
+                color = color.other();
             }
             Err(fault) if fault.place == place => return Some(color),
             Err(_fault) => return None,

@@ -20,19 +20,19 @@ const MOST_DIGITS: usize = 7;
 /// What a line of a script says.
 #[derive(Clone, Copy, Debug, PartialEq, Eq)]
 pub enum Command {
-    /// An event, so many times, 1 to 1,000,000.
+    /// An event, this number of times.
     Events {
         /// The event.
         event: Event,
-        /// How many times.
+        /// How many times, 1 to 1,000,000.
         count: u64,
     },
-    /// So many deliveries at most, 1 to 1,000,000, until nothing is under way.
+    /// Deliveries until nothing is under way, at most this number of them, 1 to 1,000,000.
     Polite(u64),
 }
 
 /// The event that a word names.
-fn event_named(word: &str) -> Option<Event>
+pub(crate) fn event_named(word: &str) -> Option<Event>
     ensures { MatchOption result ((event : EventValue) → word.now ≡ word_of event → ⊥) (λ event. word.now ≡ word_of event) }
 {
     match word {
@@ -112,7 +112,7 @@ fn add_line(commands: &mut Vec<Command>, line: &[u8], number: u64) -> Result<(),
 
 /// The line that a text begins with, without its LF, and what follows the LF. A text with no LF
 /// answers `None`.
-fn split_line(text: &[u8]) -> Option<(&[u8], &[u8])>
+pub(crate) fn split_line(text: &[u8]) -> Option<(&[u8], &[u8])>
     ensures { MatchOption result (HasNoFeed text.now)
         (λ parts. HasNoFeed parts.0.now × (text.now ≡ parts.0.now ++ 10 ∷ parts.1.now)) }
 {

@@ -11,7 +11,7 @@ use Rattle.clap.proofs.OnLiterals.{clap_on_literals}
 use Rattle.clap.proofs.WalkLemmas.{one_text-rows}
 use Rattle.faxtool.specs.declared.words.Job.TheVariants.{Call, Code, Decode, Frames, Show, Version}
 use Rattle.faxtool.specs.declared.words.Outcome.{Outcome}
-use Rattle.faxtool.specs.declared.words.Outcome.TheVariants.{Done, Fault, Lacking, Words}
+use Rattle.faxtool.specs.declared.words.Outcome.TheVariants.{Done, Fault, Incomplete, Words}
 use Rattle.faxtool.specs.Jobs.{AreOptionsIn, HasNoJob, HasNoOptions, IsFaxtool, IsOutcomeOf, IsRefusalOf, IsWidthIn, ReadsNumber}
 use Rattle.faxtool.specs.Jobs.{faxtool_app}
 
@@ -76,7 +76,7 @@ is_faxtool_free a is = ap is_simple_and_free is.commands ∙ faxtool_free is.cod
 pub refused_by_kind : (words : List Text) (a : App) (error : Error) (outcome : Outcome) → IsFaxtool a
     → HasKind (fault_of a words) error → IsOutcomeOf error outcome → IsRefusalOf words outcome
 refused_by_kind words a error Done is kinds made = made
-refused_by_kind words a error Lacking is kinds made = elim made [ ]
+refused_by_kind words a error Incomplete is kinds made = elim made [ ]
 refused_by_kind words a error (Fault fault) is kinds made = made.1
 refused_by_kind words a error (Words given) is (inl memory) made = absurd (made.0 memory)
 refused_by_kind words a error (Words given) is (inr among) made =
@@ -86,7 +86,7 @@ refused_by_kind words a error (Words given) is (inr among) made =
 pub refused_for_job : (words : List Text) (a : App) (error : Error) (outcome : Outcome) → IsFaxtool a
     → HasNoJob (subcommand_of a words) → IsOutcomeOf error outcome → IsRefusalOf words outcome
 refused_for_job words a error Done is none made = made
-refused_for_job words a error Lacking is none made = elim made [ ]
+refused_for_job words a error Incomplete is none made = elim made [ ]
 refused_for_job words a error (Fault fault) is none made = made.1
 refused_for_job words a error (Words given) is none made = (a, is, inr none)
 

@@ -23,7 +23,7 @@ use Rattle.faxtool.specs.declared.words.Job.{Job}
 use Rattle.faxtool.specs.declared.words.Job.TheVariants.{Call, Code, Decode, Frames, Show, Version}
 use Rattle.faxtool.specs.declared.words.Request.{Request}
 use Rattle.faxtool.specs.declared.words.Outcome.{Outcome}
-use Rattle.faxtool.specs.declared.words.Outcome.TheVariants.{Done, Fault, Lacking, Words}
+use Rattle.faxtool.specs.declared.words.Outcome.TheVariants.{Done, Fault, Incomplete, Words}
 
 -- ---- the commands
 
@@ -252,13 +252,18 @@ pub record AreOptionsIn (rows : List Row) (options : CallOptions) : Type 0 where
 abbrev pub HasNoOptions : List Row → Type 0
 HasNoOptions rows = (options : CallOptions) → AreOptionsIn rows options → ⊥
 
--- the values of the command `call` are those of the job
+-- the script and the image are both standard input
+abbrev pub are_both_standard : Text → Text → Bool
+are_both_standard script input = bytes_eq script (codes "-") && bytes_eq input (codes "-")
+
+-- the values of the command `call` are those of the job, which reads standard input once at most
 pub record IsCallOf (rows : List Row) (script : Text) (options : CallOptions) (out : Option Text) (input : Text)
     : Type 0 where
   pub script_is : first_of (codes "script") rows ≡ Some script
   pub options_are : AreOptionsIn rows options
   pub out_is : first_of (codes "out") rows ≡ out
   pub input_is : first_of (codes "in") rows ≡ Some input
+  pub apart : are_both_standard script input ≡ false
 
 -- the job of a command's name and values
 abbrev pub IsJobOf : Option (Text × List Row) → Job → Type 0
@@ -285,7 +290,7 @@ IsJobOf met Version = (rows : List Row) × (met ≡ Some (codes "version", rows)
 abbrev pub HasNoJob : Option (Text × List Row) → Type 0
 HasNoJob met = (job : Job) → IsJobOf met job → ⊥
 
--- a fault is told in words too: the values of a command say so
+-- a fault is explained in words too: the values of a command say so
 abbrev pub explains : Option (Text × List Row) → Bool
 explains None = false
 explains (Some met) = is_named (codes "true") (first_of (codes "explain") met.1)
@@ -300,7 +305,7 @@ ReadsAs words request = (a : App) × IsFaxtool a × (fault_of a words ≡ []) ×
 -- memory was refused, or clap refuses the words by this kind of error, or they have no job
 abbrev pub IsRefusalOf : List Text → Outcome → Type 0
 IsRefusalOf words Done = ⊥
-IsRefusalOf words Lacking = ⊥
+IsRefusalOf words Incomplete = ⊥
 IsRefusalOf words (Fault fault) = fault ≡ No 9
 IsRefusalOf words (Words error) = (a : App) × IsFaxtool a
     × (IsAmong (kind_of error) (fault_of a words)
@@ -309,16 +314,16 @@ IsRefusalOf words (Words error) = (a : App) × IsFaxtool a
 -- the outcome where clap gives this error
 abbrev pub IsOutcomeOf : Error → Outcome → Type 0
 IsOutcomeOf error Done = ⊥
-IsOutcomeOf error Lacking = ⊥
+IsOutcomeOf error Incomplete = ⊥
 IsOutcomeOf error (Fault fault) = (kind_of error ≡ OutOfMemory) × (fault ≡ No 9)
 IsOutcomeOf error (Words given) = (kind_of error ≢ OutOfMemory) × (given ≡ error)
 
 -- ---- the exit status
 
--- 0 where the job is done, 1 for a fault or where something lacks, 2 for the words
+-- 0 where the job is done, 1 for a fault or where something is missing, 2 for the words
 abbrev pub status_of : Outcome → ℕ
 status_of Done = 0
-status_of Lacking = 1
+status_of Incomplete = 1
 status_of (Fault fault) = 1
 status_of (Words error) = 2
 

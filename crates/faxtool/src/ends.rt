@@ -10,8 +10,8 @@ const RTC_EOLS: u32 = 6;
 /// The 0 bits of an EOL.
 const EOL_ZEROS: u32 = 11;
 
-/// Tells the rows of a page and the bits of its code on standard error, and the octets that come after it.
-pub fn tell_counts(rt: &HostRuntime, rows: usize, bits: u128, read: u64) -> Result<(), ToolFault> {
+/// Shows the rows of a page and the bits of its code on standard error, and the octets that come after it.
+pub fn show_counts(rt: &HostRuntime, rows: usize, bits: u128, read: u64) -> Result<(), ToolFault> {
     eprintln!(rt; "rows {rows} bits {bits}")?;
     let after = u128::from(read).saturating_sub(bits.div_ceil(8));
     if after > 0 {
@@ -29,7 +29,7 @@ pub fn has_rtc(notes: &Notes, order: Order, bits: u128) -> Result<bool, ToolFaul
     }
 }
 
-/// Whether so many bits end with six EOLs in a row, each with fill before it or none.
+/// Whether the first `bits` bits end with six EOLs in a row, each with fill before it or none.
 fn ends_with_rtc(octets: &[u8], order: Order, bits: usize) -> bool {
     let mut eols: u32 = 0;
     let mut zeros = EOL_ZEROS;

@@ -6,12 +6,12 @@ pub const FAULTS: &str =
    1  an image's width isn't 1 to 2432 pixels
    3  an image has more than 20000 rows
    4  an image has no row; at a bit: a page ends before its first row
-   5  a file is no raw PBM (P4)
+   5  a file is not a raw PBM (P4)
    6  an image is cut short
    7  an image's file is empty
    8  a file or standard output can't be read or written
    9  memory was refused
-  10  at a bit: no code begins there that may come
+  10  at a bit: no valid code begins there
   11  at a bit: the file ends inside a code or before the next one
   12  at a bit: a run goes past the row's width (mh)
   13  at a bit: a vertical mode doesn't move to the right (mmr)
@@ -23,7 +23,7 @@ pub const FAULTS: &str =
   20  in a list of frames: a content whose address isn't FF
   21  in a list of frames: a content whose control field is neither 03 nor 13
   22  in a list of frames: a content of which a field is missing or cut short
-  26  a page has a width other than 1728, 2048 and 2432 pixels, those that a call carries
+  26  a page's width isn't 1728, 2048 or 2432 pixels, the widths that a call carries
   27  code was given several images
-  30  at a line: no command of a script
-Status 2: the words are no job. With --explain a second line says which file it is, where and why.";
+  30  at a line: not a command of a script, or a wrong count or blank
+Status 2: the words are not a command. With --explain a second line says which file it is, where and why.";

@@ -89,9 +89,13 @@ impl Source<'_> {
         if let Some(kind) = failed {
             notes.blame(part, kind);
         }
-        if part == Part::Input {
-            notes.octets = octets;
-            notes.read = read;
+        match part {
+            Part::Input => {
+                notes.octets = octets;
+                notes.read = read;
+            }
+            Part::Script => notes.script = octets,
+            Part::Output | Part::Printed => {}
         }
     }
 }
@@ -132,7 +136,11 @@ pub fn open<'a>(
         is_open: false,
         image: notes.image && part == Part::Input,
         read: 0,
-        most: notes.most,
+        most: if part == Part::Script {
+            notes.most_script
+        } else {
+            notes.most
+        },
         octets: Vec::new(rt.alloc()),
     })
 }

@@ -17,15 +17,17 @@ mod progress;
 mod table;
 mod words;
 
+use clap::Error;
 use engines::{
-    CallOptions, Captured, Explained, FAILED, Known, NO_MEMORY, ToolFault, call_engine,
-    captured_pages, code_engine, decode_engine, frames_engine, refused_at, repair_engine,
-    salvage_engine, show_engine,
+    CallOptions, Captured, Expected, Explained, Known, LineFault, NO_MEMORY, ToolFault,
+    call_engine, captured_pages, code_engine, decode_engine, frames_engine, is_shown,
+    line_fault_at, refused_at, repair_engine, salvage_engine, show_engine,
 };
 use notes::{Notes, Part};
 use page_code::Coding;
-use raster::{Color, Page, write_pbm};
+use raster::{Page, write_pbm};
 use run_tables::Order;
+use std::env::{Env, FillError};
 use std::io::{IsTerminal, Read, Write};
 use std::process::ExitCode;
 use std::{env, io};
@@ -36,9 +38,6 @@ const VERSION: &str = "0.1.0";
 
 fn main(rt: HostRuntime) -> ExitCode {
     let outcome = run_words(&rt);
-    if let Outcome::Words(error) = &outcome {
-        let _shown = rt.eprint(error);
-    }
     ExitCode::from(status(&outcome))
 }
 
@@ -60,7 +59,24 @@ fn run_words(rt: &HostRuntime) -> Outcome {
     match read_words(rt.alloc(), texts.as_slice()) {
         Ok(request) => run_request(rt, &request),
         Err(Outcome::Fault(fault)) => refused(rt, fault, "the command's words", None),
-        Err(outcome) => outcome,
+        Err(outcome) => {
+            if let Outcome::Words(error) = &outcome {
+                refuse_words(rt, texts.as_slice(), error);
+            }
+            outcome
+        }
+    }
+}
+
+/// Shows what is wrong with words that are not a command, or the help that they ask for. Where a word has a control
+/// character, which would be shown as it is, that alone.
+fn refuse_words(rt: &HostRuntime, texts: &[&str], error: &Error) {
+    if texts.iter().all(|text| is_shown(text)) {
+        let _shown = rt.eprint(error);
+    } else {
+        let _shown = eprintln!(rt;
+            "error: the words are not a command, and one of them has a control character\n\nFor more information, try '--help'."
+        );
     }
 }
 
@@ -77,13 +93,15 @@ fn refused(
     reason: Option<io::ErrorKind>,
 ) -> Outcome {
     let _shown = eprintln!(rt; "{fault}");
-    if is_explained(rt) {
+    if is_explained(rt) || is_asked(rt) {
         let known = Known {
             file,
             reason,
             begins: &[],
             row: None,
-            color: None,
+            expected: None,
+            read_as: None,
+            line: None,
         };
         let words = Explained { fault, known };
         let _explained = eprintln!(rt; "{words}");
@@ -91,7 +109,24 @@ fn refused(
     Outcome::Fault(fault)
 }
 
-/// Whether faults are told in words unasked: on a terminal, and where the environment says so.
+/// Whether one of the command's words is `--explain`, also where another one isn't UTF-8.
+fn is_asked(rt: &HostRuntime) -> bool {
+    let mut word = [0u8; 16];
+    for number in 1..usize::MAX {
+        match rt.arg(number, &mut word) {
+            Ok(size) => {
+                if word.get(..size) == Some(b"--explain") {
+                    return true;
+                }
+            }
+            Err(FillError::TooLong) => {}
+            Err(FillError::NotPresent) => return false,
+        }
+    }
+    false
+}
+
+/// Whether faults are explained in words unasked: on a terminal, and where the environment says so.
 fn is_explained(rt: &HostRuntime) -> bool {
     if rt.stderr().is_terminal() {
         return true;
@@ -102,14 +137,15 @@ fn is_explained(rt: &HostRuntime) -> bool {
     }
 }
 
-/// Does a job, and tells its fault: a line, and on a terminal or where that is asked for, one of words.
+/// Does a job, and shows its fault: a line, and on a terminal or where that is asked for, one of words.
 fn run_request(rt: &HostRuntime, request: &Request) -> Outcome
     requires { HasWidth request.now.job }
 {
     let explains = request.explain || is_explained(rt);
     let kept = kept_of(&request.job, explains);
     let image = takes_image(&request.job);
-    let mut notes = Notes::new(rt.alloc(), kept, is_long(&request.job), image);
+    let script = if explains { usize::MAX } else { 0 };
+    let mut notes = Notes::new(rt.alloc(), kept, script, is_long(&request.job), image);
     match run_job(rt, &request.job, &mut notes) {
         Ok(outcome) => outcome,
         Err(fault) => {
@@ -151,30 +187,40 @@ fn is_long(job: &Job) -> bool {
     }
 }
 
-/// Tells a fault of a job in words on standard error.
+/// Explains a fault of a job in words on standard error.
 fn explain<'a>(rt: &HostRuntime, job: &'a Job, fault: ToolFault, notes: &'a Notes)
     requires { HasWidth job.now }
 {
-    let (row, color) = refused_place(rt, job, fault, notes);
+    let (row, expected) = refused_place(rt, job, fault, notes);
     let known = Known {
         file: file_of(job, part_of(fault, notes)),
         reason: notes.failed.map(|failed| failed.1),
         begins: notes.octets.as_slice(),
         row,
-        color,
+        expected,
+        read_as: page_of(job).map(|page| (page.0, page.1)),
+        line: refused_line(fault, notes),
     };
     let words = Explained { fault, known };
     let _explained = eprintln!(rt; "{words}");
 }
 
-/// The row, counted from 1, and the color of the run in which the page that a job reads is refused, as far as they are
+/// What is wrong with the line of a script that is refused.
+fn refused_line(fault: ToolFault, notes: &Notes) -> Option<LineFault> {
+    match fault {
+        ToolFault::AtLine(line) => line_fault_at(notes.script.as_slice(), line),
+        ToolFault::No(_) | ToolFault::AtBit { .. } => None,
+    }
+}
+
+/// The row, counted from 1, in which the page that a job reads is refused, and what is expected there, as far as they are
 /// known.
 fn refused_place(
     rt: &HostRuntime,
     job: &Job,
     fault: ToolFault,
     notes: &Notes,
-) -> (Option<usize>, Option<Color>)
+) -> (Option<usize>, Option<Expected>)
     requires { HasWidth job.now }
 {
     let ToolFault::AtBit { no: _, place } = fault else {
@@ -237,7 +283,7 @@ fn output_of<'a>(job: &'a Job) -> Option<&'a str> {
     }
 }
 
-/// Errs with 8 where what a job writes can't be: on a terminal, or into a folder that is none.
+/// Errs with 8 where a job's output can't be written: octets on a terminal, or pages into a folder that isn't there.
 fn check_output(rt: &HostRuntime, job: &Job, notes: &mut Notes) -> Result<(), ToolFault> {
     let Some(name) = output_of(job) else {
         return Ok(());
@@ -248,7 +294,7 @@ fn check_output(rt: &HostRuntime, job: &Job, notes: &mut Notes) -> Result<(), To
     }
 }
 
-/// The name of a file of a job, as it is told.
+/// The name of a file of a job, as messages have it.
 fn file_of<'a>(job: &'a Job, part: Part) -> &'a str {
     let output = if part == Part::Output {
         output_of(job)
@@ -256,7 +302,7 @@ fn file_of<'a>(job: &'a Job, part: Part) -> &'a str {
         None
     };
     if let Some(output) = output {
-        return told_name(output, part);
+        return shown_name(output, part);
     }
     let named = match (job, part) {
         (_, Part::Printed) => files::STANDARD,
@@ -271,11 +317,11 @@ fn file_of<'a>(job: &'a Job, part: Part) -> &'a str {
         ) => input.as_str(),
         (Job::Version, _) => files::STANDARD,
     };
-    told_name(named, part)
+    shown_name(named, part)
 }
 
-/// A name as it is told.
-fn told_name<'a>(named: &'a str, part: Part) -> &'a str {
+/// A name as messages have it.
+fn shown_name<'a>(named: &'a str, part: Part) -> &'a str {
     match part {
         Part::Output | Part::Printed if named == files::STANDARD => "standard output",
         _ if named == files::STANDARD => "standard input",
@@ -302,7 +348,7 @@ fn run_job(rt: &HostRuntime, job: &Job, notes: &mut Notes) -> Result<Outcome, To
         } => show_file(rt, *coding, *order, *width, input, notes)?,
         Job::Decode { .. } => {
             if !decode_job(rt, job, notes)? {
-                return Ok(Outcome::Lacking);
+                return Ok(Outcome::Incomplete);
             }
         }
         Job::Frames {
@@ -316,7 +362,7 @@ fn run_job(rt: &HostRuntime, job: &Job, notes: &mut Notes) -> Result<Outcome, To
             input,
         } => {
             if !frames_file(rt, *most, folder, input, notes)? {
-                return Ok(Outcome::Lacking);
+                return Ok(Outcome::Incomplete);
             }
         }
         Job::Call {
@@ -370,7 +416,7 @@ fn decode_job(rt: &HostRuntime, job: &Job, notes: &mut Notes) -> Result<bool, To
     };
     let (rows, bits) = decoded?;
     if *verbose {
-        ends::tell_counts(rt, rows, bits, notes.read)?;
+        ends::show_counts(rt, rows, bits, notes.read)?;
     }
     if *coding == Coding::OneDim && !ends::has_rtc(notes, *order, bits)? {
         eprintln!(rt; "the page ends without its RTC after {rows} rows")?;
@@ -442,9 +488,9 @@ fn decode_file(
         fine,
     );
     reader.close(notes);
-    let told = decoded.map_err(|fault| in_memory(fault, notes))?;
+    let counts = decoded.map_err(|fault| in_memory(fault, notes))?;
     outputs::write(rt, output, octets.as_slice(), notes)?;
-    Ok(told)
+    Ok(counts)
 }
 
 /// Decodes the page in a file as far as it can be read, and answers its rows and the bits of its code, or the
@@ -516,7 +562,7 @@ fn repair_file(
     Ok(())
 }
 
-/// Lists the frames in a file, with at most so many octets of a content.
+/// Lists the frames in a file, with at most `most` octets of a content.
 fn list_file(
     rt: &HostRuntime,
     most: Option<u32>,
@@ -534,7 +580,7 @@ fn list_file(
 }
 
 /// Lists the frames in a file, writes the pages that they carry into the files page-1.pbm and so on of a
-/// folder, and tells what lacks of others on standard error; whether nothing does.
+/// folder, and names what is missing of others on standard error. Answers whether nothing is.
 fn frames_file(
     rt: &HostRuntime,
     most: Option<u32>,
@@ -557,7 +603,8 @@ fn frames_file(
     write_found(rt, folder, octets.as_slice(), notes)
 }
 
-/// Writes the pages that the frames in bits carry into a folder, and tells what lacks of others; whether nothing does.
+/// Writes the pages that the frames in bits carry into a folder, and names what is missing of others. Answers whether
+/// nothing is.
 fn write_found(
     rt: &HostRuntime,
     folder: &str,
@@ -567,7 +614,7 @@ fn write_found(
     let mut bits = octets;
     let mut last: u64 = 0;
     let mut number: u64 = 0;
-    let mut lacks = false;
+    let mut is_whole = true;
     let all_found = captured_pages(rt.alloc(), &mut bits)?;
     if all_found.is_empty() {
         eprintln!(rt; "no error correction: no pages")?;
@@ -581,13 +628,13 @@ fn write_found(
                 println!(rt; "page {last}: page-{number}.pbm")?;
             }
         } else {
-            lacks = true;
-            let page = lacking_page(&found);
-            tell_captured(rt, &found, page)?;
+            is_whole = false;
+            let page = broken_page(&found);
+            name_missing(rt, &found, page)?;
             last = last.max(page);
         }
     }
-    Ok(!lacks)
+    Ok(is_whole)
 }
 
 /// Writes a page into a folder, under the first number from this one on that is free, and answers that number.
@@ -607,8 +654,8 @@ fn write_captured(
     outputs::write_page(rt, folder, number, octets.as_slice(), notes)
 }
 
-/// The number of a page of which something lacks, from 1 as those of the files, and 0 where it isn't known.
-fn lacking_page(found: &Captured) -> u64 {
+/// The number of a page of which something is missing, from 1 as those of the files, and 0 where it isn't known.
+fn broken_page(found: &Captured) -> u64 {
     match found {
         Captured::Unread { mark, .. }
         | Captured::Lacks { mark, .. }
@@ -618,9 +665,9 @@ fn lacking_page(found: &Captured) -> u64 {
     }
 }
 
-/// Tells what lacks of the page of a number on standard error. Blocks have the numbers of their PPS, frames those of their
-/// FCD, from 0.
-fn tell_captured(rt: &HostRuntime, found: &Captured, page: u64) -> Result<(), ToolFault> {
+/// Names on standard error what is missing of the page of a number. Blocks have the numbers of their PPS, frames those of
+/// their FCD, from 0.
+fn name_missing(rt: &HostRuntime, found: &Captured, page: u64) -> Result<(), ToolFault> {
     match found {
         Captured::Page(_) => {}
         Captured::Unread { mark: _, fault } => {
@@ -630,11 +677,11 @@ fn tell_captured(rt: &HostRuntime, found: &Captured, page: u64) -> Result<(), To
         }
         Captured::Lacks { mark, frame } => {
             let block = mark.block;
-            eprintln!(rt; "page {page} block {block}: frame {frame} lacks")?;
+            eprintln!(rt; "page {page} block {block}: frame {frame} is missing")?;
         }
         Captured::Skipped(mark) => {
             let block = mark.block;
-            eprintln!(rt; "page {page} block {block}: the blocks before it lack")?;
+            eprintln!(rt; "page {page} block {block}: the blocks before it are missing")?;
         }
         Captured::Unended => eprintln!(rt; "a page has no end")?,
         Captured::NoDcs(mark) => {
@@ -646,7 +693,7 @@ fn tell_captured(rt: &HostRuntime, found: &Captured, page: u64) -> Result<(), To
 }
 
 /// Runs a call by a script's file, and prints what has become of it. The file of the stored pages is
-/// opened last, and only where there are any. Standard input can't be both files.
+/// opened last, and only where there are any.
 fn call_file(
     rt: &HostRuntime,
     script: &str,
@@ -655,9 +702,6 @@ fn call_file(
     input: &str,
     notes: &mut Notes,
 ) -> Result<(), ToolFault> {
-    if script == files::STANDARD && input == files::STANDARD {
-        return Err(FAILED);
-    }
     let mut script = files::open(rt, script, Part::Script, notes)?;
     let mut reader = files::open(rt, input, Part::Input, notes)?;
     let mut writer = files::print(rt)?;

@@ -31,15 +31,20 @@ pub struct Notes {
     pub read: u64,
     /// How many octets of the input are kept at most.
     pub most: usize,
-    /// Whether it is told how far reading is, where that takes long.
+    /// Whether it is shown how far reading is, where that takes long.
     pub long: bool,
     /// The first octets of the input.
     pub octets: Vec<u8>,
+    /// How many octets of the script are kept at most.
+    pub most_script: usize,
+    /// The first octets of the script.
+    pub script: Vec<u8>,
 }
 
 impl Notes {
-    /// Nothing is noted yet. At most so many octets of the input, which is an image or none, will be kept.
-    pub fn new(alloc: Global, most: usize, long: bool, image: bool) -> Notes
+    /// Nothing is noted yet. At most `most` octets of the input, which is an image or none, will be kept, and at most
+    /// `most_script` of the script.
+    pub fn new(alloc: Global, most: usize, most_script: usize, long: bool, image: bool) -> Notes
         ensures failed { result.failed ≡ None }
         ensures unread { result.unread ≡ None }
         ensures image { result.image ≡ image }
@@ -47,6 +52,8 @@ impl Notes {
         ensures most { result.most ≡ most }
         ensures long { result.long ≡ long }
         ensures octets { result.octets.items ≡ [] }
+        ensures most_script { result.most_script ≡ most_script }
+        ensures script { result.script.items ≡ [] }
     {
         Notes {
             failed: None,
@@ -56,6 +63,8 @@ impl Notes {
             most,
             long,
             octets: Vec::new(alloc),
+            most_script,
+            script: Vec::new(alloc),
         }
     }
 

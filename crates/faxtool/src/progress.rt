@@ -1,24 +1,24 @@
-//! How far reading is, told on standard error where that takes long.
+//! How far reading is, shown on standard error where that takes long.
 
 use std::io::{Eprint, IsTerminal, Write};
 use std::time::Instant;
 
-/// The seconds after which progress is told.
+/// The seconds after which progress is shown.
 const QUIET: u64 = 2;
 
-/// How far the reading of a file is. It is told on a terminal alone, once a second, after the first two.
+/// How far the reading of a file is. It is shown on a terminal alone, once a second, after the first two.
 #[derive(Drop)]
 pub struct Progress<'a> {
     rt: &'a HostRuntime,
     begun: Option<Instant>,
-    told: u64,
+    shown: u64,
     octets: u64,
 }
 
 impl<'a> Progress<'a> {
-    /// Nothing was read yet, of a file whose reading is told or not.
-    pub fn new(rt: &'a HostRuntime, told: bool) -> Progress<'a> {
-        let begun = if told && rt.stderr().is_terminal() {
+    /// Nothing was read yet. `is_shown` says whether it is shown how far the reading is.
+    pub fn new(rt: &'a HostRuntime, is_shown: bool) -> Progress<'a> {
+        let begun = if is_shown && rt.stderr().is_terminal() {
             Instant::now(rt).ok()
         } else {
             None
@@ -26,12 +26,12 @@ impl<'a> Progress<'a> {
         Progress {
             rt,
             begun,
-            told: QUIET,
+            shown: QUIET,
             octets: 0,
         }
     }
 
-    /// So many octets more were read.
+    /// More octets were read, this number.
     pub fn read(&mut self, octets: usize) {
         self.octets = self.octets.saturating_add(octets as u64);
         let Some(begun) = self.begun else {
@@ -41,17 +41,17 @@ impl<'a> Progress<'a> {
             return;
         };
         let seconds = time.as_secs();
-        if seconds > self.told {
-            self.told = seconds;
+        if seconds > self.shown {
+            self.shown = seconds;
             let read = self.octets;
-            let _told = eprint!(self.rt; "\rread {read} octets in {seconds} s");
+            let _shown = eprint!(self.rt; "\rread {read} octets in {seconds} s");
         }
     }
 
-    /// Reading has ended: what was told is wiped out.
+    /// Reading has ended: what was shown is wiped out.
     pub fn end(&self) {
-        if self.told > QUIET {
-            let _told = eprint!(self.rt; "\r\x1b[K");
+        if self.shown > QUIET {
+            let _shown = eprint!(self.rt; "\r\x1b[K");
         }
     }
 }

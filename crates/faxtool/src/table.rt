@@ -99,7 +99,7 @@ const CODED_PAGE: Argument<'static> = Argument {
 
 const EXPLAIN: Argument<'static> = Argument {
     id: "explain",
-    help: "Tells a fault in words too, on a second line, as on a terminal or with FAXTOOL_EXPLAIN=1 in the environment",
+    help: "Explains a fault in words too, on a second line, as on a terminal or with FAXTOOL_EXPLAIN=1 in the environment",
     ..FLAG
 };
 
@@ -149,7 +149,7 @@ const DECODE_ARGUMENTS: &[Argument<'static>] = &[
     },
     Argument {
         id: "verbose",
-        help: "Tells the page's rows, the bits of its code and the octets after it",
+        help: "Shows the page's rows, the bits of its code and the octets after it",
         ..FLAG
     },
     CODED_PAGE,

@@ -4,7 +4,8 @@ ghost use Rattle.std.specs.Prelude.{ℕ, map, option_map, string_bytes};
 ghost use Rattle.clap.specs.Words.{first_of, found_of, kind_of, rows_of, subcommand_rows_of};
 ghost use Rattle.clap.specs.declared.error.kind.ErrorKind.TheVariants.{OutOfMemory};
 ghost use Rattle.faxtool.specs.Jobs.{AreOptionsIn, HasNoJob, HasNoOptions, IsJobOf, IsOutcomeOf, IsRefusalOf, IsWidthIn, ReadsAs};
-ghost use Rattle.faxtool.specs.Jobs.{ReadsNumber, coding_named, explains, go_together, is_named, modems_named, order_named, status_of};
+ghost use Rattle.faxtool.specs.Jobs.{ReadsNumber, are_both_standard, coding_named, explains, go_together, is_named, modems_named};
+ghost use Rattle.faxtool.specs.Jobs.{order_named, status_of};
 
 use crate::commands::faxtool_command;
 use clap::error::ErrorKind;
@@ -54,9 +55,9 @@ pub enum Job {
         salvage: bool,
         /// Whether a row that can't be read is given as the one before it.
         repair: bool,
-        /// Whether a page that ends without its RTC is one that lacks something.
+        /// Whether it is an incomplete page that ends without its RTC.
         whole: bool,
-        /// Whether its rows and the bits of its code are told on standard error.
+        /// Whether its rows and the bits of its code are shown on standard error.
         verbose: bool,
         /// The name of the page's file.
         input: String,
@@ -87,12 +88,12 @@ pub enum Job {
     Version,
 }
 
-/// What the program is asked to do, and how it is to tell a fault.
+/// What the program is asked to do, and how it is to show a fault.
 #[derive(Debug, PartialEq, Eq, Drop)]
 pub struct Request {
     /// The job.
     pub job: Job,
-    /// Whether a fault is told in words too.
+    /// Whether a fault is explained in words too.
     pub explain: bool,
 }
 
@@ -101,21 +102,22 @@ pub struct Request {
 pub enum Outcome {
     /// The job is done.
     Done,
-    /// The job is done as far as it can be: what lacks was told.
-    Lacking,
+    /// The job is done as far as it can be, and what is missing was named.
+    Incomplete,
     /// The job failed.
     Fault(ToolFault),
-    /// The words are no job, or ask for help: the error has the text.
+    /// The words are not a command, or ask for help: the error has the text.
     Words(Error),
 }
 
-/// The exit status of the program: 0 where the job is done, 1 for a fault or where something lacks, and 2 for the words.
+/// The exit status of the program: 0 where the job is done, 1 for a fault or where something is missing, and 2 for the
+/// words.
 pub fn status(outcome: &Outcome) -> u8
     ensures { result ≡ status_of outcome.now }
 {
     match outcome {
         Outcome::Done => 0,
-        Outcome::Lacking | Outcome::Fault(_) => 1,
+        Outcome::Incomplete | Outcome::Fault(_) => 1,
         Outcome::Words(_) => 2,
     }
 }
@@ -163,7 +165,10 @@ pub fn read_words(alloc: Global, words: &[&str]) -> Result<Request, Outcome>
             job,
             explain: explains(&matches),
         }),
-        None => Err(Outcome::from(unfit(&mut command)?)),
+        None => {
+            let text = unfit_text(&matches);
+            Err(Outcome::from(unfit(&mut command, text)?))
+        }
     }
 }
 
@@ -317,12 +322,22 @@ fn call_job(alloc: Global, matches: &ArgMatches<'_>) -> Result<Option<Job>, Allo
     let Some(input) = text_in(matches, "in") else {
         return Ok(None);
     };
+    if are_both_standard(script, input) {
+        return Ok(None);
+    }
     Ok(Some(Job::Call {
         script: String::from_str(alloc, script)?,
         options,
         out: copy_of(alloc, text_in(matches, "out"))?,
         input: String::from_str(alloc, input)?,
     }))
+}
+
+// Whether a script and an image are both standard input.
+fn are_both_standard(script: &str, input: &str) -> bool
+    ensures { result ≡ are_both_standard script.now input.now }
+{
+    script == "-" && input == "-"
 }
 
 // The options of a call, where the code of its pages isn't missing.
@@ -429,12 +444,19 @@ fn number_in(matches: &ArgMatches<'_>, id: &str) -> Option<u32>
     matches.get_one::<u32>(id)
 }
 
-// The error for words whose options don't go together, or that miss a value, which a parse refuses by itself.
-fn unfit(command: &mut Command<'_>) -> Result<Error, AllocError>
+// What is wrong with words whose options don't go together, which a parse doesn't refuse by itself.
+fn unfit_text(matches: &ArgMatches<'_>) -> &'static str {
+    match matches.subcommand() {
+        Some((name, _inner)) if name == "call" => {
+            "--script and <IN> can't both be standard input"
+        }
+        _ => "--repair is for --code mh, and can't be used with --salvage",
+    }
+}
+
+// The error for words whose options don't go together, or that miss a value.
+fn unfit(command: &mut Command<'_>, text: &'static str) -> Result<Error, AllocError>
     ensures { IfOk result (λ error. kind_of error ≡ ErrorKind.ArgumentConflict) }
 {
-    command.error(
-        ErrorKind::ArgumentConflict,
-        "--repair is for --code mh, and can't be used with --salvage",
-    )
+    command.error(ErrorKind::ArgumentConflict, text)
 }
