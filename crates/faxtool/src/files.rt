@@ -12,6 +12,9 @@ use std::{fs, io};
 /// The name of standard input and of standard output.
 pub const STANDARD: &str = "-";
 
+/// How many octets of the input are kept while it is read: those by which an image is known.
+const FIRST_OCTETS: usize = 4;
+
 /// A file or standard input.
 #[derive(Drop)]
 enum Origin {
@@ -139,7 +142,7 @@ pub fn open<'a>(
         most: if part == Part::Script {
             notes.most_script
         } else {
-            notes.most
+            FIRST_OCTETS
         },
         octets: Vec::new(rt.alloc()),
     })

@@ -142,10 +142,9 @@ fn run_request(rt: &HostRuntime, request: &Request) -> Outcome
     requires { HasWidth request.now.job }
 {
     let explains = request.explain || is_explained(rt);
-    let kept = kept_of(&request.job, explains);
     let image = takes_image(&request.job);
     let script = if explains { usize::MAX } else { 0 };
-    let mut notes = Notes::new(rt.alloc(), kept, script, is_long(&request.job), image);
+    let mut notes = Notes::new(rt.alloc(), script, is_long(&request.job), image);
     match run_job(rt, &request.job, &mut notes) {
         Ok(outcome) => outcome,
         Err(fault) => {
@@ -155,19 +154,6 @@ fn run_request(rt: &HostRuntime, request: &Request) -> Outcome
             }
             Outcome::Fault(fault)
         }
-    }
-}
-
-/// How many octets of a job's input are kept: all of a coded page whose end is looked at or whose fault is explained, and
-/// the first ones of images.
-fn kept_of(job: &Job, explains: bool) -> usize {
-    match job {
-        Job::Decode {
-            coding: Coding::OneDim,
-            ..
-        } => usize::MAX,
-        Job::Show { .. } | Job::Decode { .. } if explains => usize::MAX,
-        _ => 4,
     }
 }
 
@@ -425,6 +411,17 @@ fn decode_job(rt: &HostRuntime, job: &Job, notes: &mut Notes) -> Result<bool, To
     Ok(true)
 }
 
+/// Reads a file or standard input, whose octets are then those of the notes. Errs with 8 where it can't be read, and with 9.
+fn read_input(rt: &HostRuntime, input: &str, notes: &mut Notes) -> Result<(), ToolFault> {
+    let mut reader = files::open(rt, input, Part::Input, notes)?;
+    let mut octets = Vec::new(rt.alloc());
+    let read = reader.read_to_end(&mut octets);
+    reader.close(notes);
+    read?;
+    notes.octets = octets;
+    Ok(())
+}
+
 /// Codes an image's file. The output's file is opened only once its whole content is made.
 fn code_file(
     rt: &HostRuntime,
@@ -453,10 +450,10 @@ fn show_file(
 ) -> Result<(), ToolFault>
     requires { IsWidth width }
 {
-    let mut reader = files::open(rt, input, Part::Input, notes)?;
+    read_input(rt, input, notes)?;
+    let mut reader = notes.octets.as_slice();
     let mut writer = files::print(rt)?;
     let shown = show_engine(rt.alloc(), &mut reader, &mut writer, coding, order, width);
-    reader.close(notes);
     let printed = files::end_print(writer, shown.is_ok(), notes);
     shown?;
     printed
@@ -476,7 +473,8 @@ fn decode_file(
 ) -> Result<(usize, u128), ToolFault>
     requires { IsWidth width }
 {
-    let mut reader = files::open(rt, input, Part::Input, notes)?;
+    read_input(rt, input, notes)?;
+    let mut reader = notes.octets.as_slice();
     let mut octets = Vec::new(rt.alloc());
     let decoded = decode_engine(
         rt.alloc(),
@@ -487,7 +485,6 @@ fn decode_file(
         width,
         fine,
     );
-    reader.close(notes);
     let counts = decoded.map_err(|fault| in_memory(fault, notes))?;
     outputs::write(rt, output, octets.as_slice(), notes)?;
     Ok(counts)
@@ -507,7 +504,8 @@ fn salvage_file(
 ) -> Result<(usize, u128), ToolFault>
     requires { IsWidth width }
 {
-    let mut reader = files::open(rt, input, Part::Input, notes)?;
+    read_input(rt, input, notes)?;
+    let mut reader = notes.octets.as_slice();
     let mut octets = Vec::new(rt.alloc());
     let salvaged = salvage_engine(
         rt.alloc(),
@@ -518,7 +516,6 @@ fn salvage_file(
         width,
         fine,
     );
-    reader.close(notes);
     let salvage = salvaged.map_err(|fault| in_memory(fault, notes))?;
     if salvage.rows > 0 {
         outputs::write(rt, output, octets.as_slice(), notes)?;
@@ -540,7 +537,8 @@ fn repair_file(
 ) -> Result<(), ToolFault>
     requires { IsWidth width }
 {
-    let mut reader = files::open(rt, input, Part::Input, notes)?;
+    read_input(rt, input, notes)?;
+    let mut reader = notes.octets.as_slice();
     let mut octets = Vec::new(rt.alloc());
     let mut lines = Vec::new(rt.alloc());
     let repaired = repair_engine(
@@ -552,7 +550,6 @@ fn repair_file(
         width,
         fine,
     );
-    reader.close(notes);
     let repair = repaired.map_err(|fault| in_memory(fault, notes))?;
     outputs::write(rt, output, octets.as_slice(), notes)?;
     Write::write_all(&mut rt.stderr(), lines.as_slice())?;
@@ -588,30 +585,21 @@ fn frames_file(
     input: &str,
     notes: &mut Notes,
 ) -> Result<bool, ToolFault> {
-    let mut reader = files::open(rt, input, Part::Input, notes)?;
-    let mut octets = Vec::new(rt.alloc());
-    let read = reader.read_to_end(&mut octets);
-    reader.close(notes);
-    read?;
+    read_input(rt, input, notes)?;
     let mut writer = files::print(rt)?;
     let most = most.map(|most| most as usize);
-    let mut bits = octets.as_slice();
+    let mut bits = notes.octets.as_slice();
     let listed = frames_engine(rt.alloc(), &mut bits, &mut writer, most);
     let printed = files::end_print(writer, listed.is_ok(), notes);
     listed?;
     printed?;
-    write_found(rt, folder, octets.as_slice(), notes)
+    write_found(rt, folder, notes)
 }
 
 /// Writes the pages that the frames in bits carry into a folder, and names what is missing of others. Answers whether
 /// nothing is.
-fn write_found(
-    rt: &HostRuntime,
-    folder: &str,
-    octets: &[u8],
-    notes: &mut Notes,
-) -> Result<bool, ToolFault> {
-    let mut bits = octets;
+fn write_found(rt: &HostRuntime, folder: &str, notes: &mut Notes) -> Result<bool, ToolFault> {
+    let mut bits = notes.octets.as_slice();
     let mut last: u64 = 0;
     let mut number: u64 = 0;
     let mut is_whole = true;

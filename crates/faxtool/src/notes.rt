@@ -29,11 +29,9 @@ pub struct Notes {
     pub image: bool,
     /// How many octets of the input were read.
     pub read: u64,
-    /// How many octets of the input are kept at most.
-    pub most: usize,
     /// Whether it is shown how far reading is, where that takes long.
     pub long: bool,
-    /// The first octets of the input.
+    /// All octets of the input where they are read before anything is done with them; else the first ones.
     pub octets: Vec<u8>,
     /// How many octets of the script are kept at most.
     pub most_script: usize,
@@ -42,14 +40,12 @@ pub struct Notes {
 }
 
 impl Notes {
-    /// Nothing is noted yet. At most `most` octets of the input, which is an image or none, will be kept, and at most
-    /// `most_script` of the script.
-    pub fn new(alloc: Global, most: usize, most_script: usize, long: bool, image: bool) -> Notes
+    /// Nothing is noted yet. At most `most_script` octets of the script will be kept. The input is an image or none.
+    pub fn new(alloc: Global, most_script: usize, long: bool, image: bool) -> Notes
         ensures failed { result.failed ≡ None }
         ensures unread { result.unread ≡ None }
         ensures image { result.image ≡ image }
         ensures read { result.read ≡ 0 }
-        ensures most { result.most ≡ most }
         ensures long { result.long ≡ long }
         ensures octets { result.octets.items ≡ [] }
         ensures most_script { result.most_script ≡ most_script }
@@ -60,7 +56,6 @@ impl Notes {
             unread: None,
             image,
             read: 0,
-            most,
             long,
             octets: Vec::new(alloc),
             most_script,
