@@ -51,7 +51,7 @@ explains() {
     [ ! -s "$work/output" ] || fails "$* --explain printed something"
 }
 
-# refuses WORDS: the words are no job: status 2, a text on standard error and none on standard output.
+# refuses WORDS: the words are not a command: status 2, a text on standard error and none on standard output.
 refuses() {
     gives 2 "$@"
     [ -s "$work/error" ] || fails "$* gave no text"

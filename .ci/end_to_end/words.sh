@@ -311,7 +311,7 @@ try_twice_standard() {
     count=$((count + 1))
 }
 
-# Words that are no job, and those that ask for help.
+# Words that are not a command, and those that ask for help.
 try_words() {
     refuses
     for words in --help help -h --version "code --help" "show --help" "frames --help" fax \
