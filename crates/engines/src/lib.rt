@@ -26,3 +26,4 @@ pub use crate::options::CallOptions;
 pub use crate::pages::{Salvage, code_engine, decode_engine, salvage_engine, show_engine};
 pub use crate::refused::{Expected, refused_at};
 pub use crate::repair::{Repair, repair_engine};
+pub use crate::script::{Command, read_script};

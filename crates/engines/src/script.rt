@@ -124,10 +124,9 @@ pub(crate) fn split_line(text: &[u8]) -> Option<(&[u8], &[u8])>
     None
 }
 
-/// The commands that a script says, in order. A line ends with LF, the last one with or without.
-///
-/// Errs with the fault of a script at the first line that isn't one of a script, and with 9.
-pub(crate) fn read_script(alloc: Global, text: &[u8]) -> Result<Vec<Command>, ToolFault>
+/// The commands that the octets of a script say, in order. A line ends with LF, the last one with or without. Errs with 30 at the
+/// first line that isn't one of a script, counted from 1, and with 9.
+pub fn read_script(alloc: Global, text: &[u8]) -> Result<Vec<Command>, ToolFault>
     ensures says { MatchResult result (λ commands. IsScript text.now commands.items) (RefusesScript text.now) }
     ensures only { (script : List CommandValue) → IsScript text.now script
         → MatchResult result (λ commands. commands.items ≡ script) (λ fault. fault ≡ No 9) }

@@ -33,7 +33,7 @@ pub struct Source<'a> {
     is_open: bool,
     image: bool,
     read: u64,
-    most: usize,
+    room: usize,
     octets: Vec<u8>,
 }
 
@@ -63,12 +63,13 @@ impl Read for Source<'_> {
 }
 
 impl Source<'_> {
-    /// Keeps octets that were read, up to the most that are to be kept.
+    /// Keeps the first octets that were read. Where there is no memory for them, none of those after them is kept.
     fn keep(&mut self, read: &[u8]) {
-        let room = self.most.saturating_sub(self.octets.len());
-        let kept = read.get(..room.min(read.len())).unwrap_or(&[]);
-        if self.octets.extend_from_slice(kept).is_err() {
-            self.most = 0;
+        let kept = read.get(..self.room.min(read.len())).unwrap_or(&[]);
+        if self.octets.extend_from_slice(kept).is_ok() {
+            self.room = self.room.saturating_sub(kept.len());
+        } else {
+            self.room = 0;
         }
     }
 
@@ -82,7 +83,7 @@ impl Source<'_> {
             is_open,
             image: _,
             read,
-            most: _,
+            room: _,
             octets,
         } = self;
         progress.end();
@@ -92,13 +93,9 @@ impl Source<'_> {
         if let Some(kind) = failed {
             notes.blame(part, kind);
         }
-        match part {
-            Part::Input => {
-                notes.octets = octets;
-                notes.read = read;
-            }
-            Part::Script => notes.script = octets,
-            Part::Output | Part::Printed => {}
+        if part == Part::Input {
+            notes.octets = octets;
+            notes.read = read;
         }
     }
 }
@@ -139,11 +136,7 @@ pub fn open<'a>(
         is_open: false,
         image: notes.image && part == Part::Input,
         read: 0,
-        most: if part == Part::Script {
-            notes.most_script
-        } else {
-            FIRST_OCTETS
-        },
+        room: FIRST_OCTETS,
         octets: Vec::new(rt.alloc()),
     })
 }

@@ -21,7 +21,7 @@ use clap::Error;
 use engines::{
     CallOptions, Captured, Expected, Explained, Known, LineFault, NO_MEMORY, ToolFault,
     call_engine, captured_pages, code_engine, decode_engine, frames_engine, is_shown,
-    line_fault_at, refused_at, repair_engine, salvage_engine, show_engine,
+    line_fault_at, read_script, refused_at, repair_engine, salvage_engine, show_engine,
 };
 use notes::{Notes, Part};
 use page_code::Coding;
@@ -143,8 +143,7 @@ fn run_request(rt: &HostRuntime, request: &Request) -> Outcome
 {
     let explains = request.explain || is_explained(rt);
     let image = takes_image(&request.job);
-    let script = if explains { usize::MAX } else { 0 };
-    let mut notes = Notes::new(rt.alloc(), script, is_long(&request.job), image);
+    let mut notes = Notes::new(rt.alloc(), is_long(&request.job), image);
     match run_job(rt, &request.job, &mut notes) {
         Ok(outcome) => outcome,
         Err(fault) => {
@@ -411,14 +410,25 @@ fn decode_job(rt: &HostRuntime, job: &Job, notes: &mut Notes) -> Result<bool, To
     Ok(true)
 }
 
-/// Reads a file or standard input, whose octets are then those of the notes. Errs with 8 where it can't be read, and with 9.
-fn read_input(rt: &HostRuntime, input: &str, notes: &mut Notes) -> Result<(), ToolFault> {
-    let mut reader = files::open(rt, input, Part::Input, notes)?;
+/// All octets of a file or of standard input. Of a file that begins as no image does, where an image is wanted, those are all.
+/// Errs with 8 where it can't be read, and with 9.
+fn read_file(
+    rt: &HostRuntime,
+    name: &str,
+    part: Part,
+    notes: &mut Notes,
+) -> Result<Vec<u8>, ToolFault> {
+    let mut reader = files::open(rt, name, part, notes)?;
     let mut octets = Vec::new(rt.alloc());
     let read = reader.read_to_end(&mut octets);
     reader.close(notes);
     read?;
-    notes.octets = octets;
+    Ok(octets)
+}
+
+/// Reads the input, whose octets are then those of the notes. Errs with 8 where it can't be read, and with 9.
+fn read_input(rt: &HostRuntime, input: &str, notes: &mut Notes) -> Result<(), ToolFault> {
+    notes.octets = read_file(rt, input, Part::Input, notes)?;
     Ok(())
 }
 
@@ -431,11 +441,11 @@ fn code_file(
     output: &str,
     notes: &mut Notes,
 ) -> Result<(), ToolFault> {
-    let mut reader = files::open(rt, input, Part::Input, notes)?;
+    read_input(rt, input, notes)?;
+    let mut reader = notes.octets.as_slice();
     let mut octets = Vec::new(rt.alloc());
     let coded = code_engine(rt.alloc(), &mut reader, &mut octets, coding, order);
-    reader.close(notes);
-    coded?;
+    coded.map_err(|fault| in_memory(fault, notes))?;
     outputs::write(rt, output, octets.as_slice(), notes)
 }
 
@@ -690,12 +700,14 @@ fn call_file(
     input: &str,
     notes: &mut Notes,
 ) -> Result<(), ToolFault> {
-    let mut script = files::open(rt, script, Part::Script, notes)?;
-    let mut reader = files::open(rt, input, Part::Input, notes)?;
+    notes.script = read_file(rt, script, Part::Script, notes)?;
+    // a script that is refused is so before anything waits for images
+    let _commands = read_script(rt.alloc(), notes.script.as_slice())?;
+    read_input(rt, input, notes)?;
+    let mut script = notes.script.as_slice();
+    let mut images = notes.octets.as_slice();
     let mut writer = files::print(rt)?;
-    let called = call_engine(rt.alloc(), &mut script, &mut reader, &mut writer, options);
-    script.close(notes);
-    reader.close(notes);
+    let called = call_engine(rt.alloc(), &mut script, &mut images, &mut writer, options);
     let printed = files::end_print(writer, called.is_ok(), notes);
     let pages = called?;
     printed?;

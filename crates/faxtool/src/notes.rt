@@ -33,22 +33,19 @@ pub struct Notes {
     pub long: bool,
     /// All octets of the input where they are read before anything is done with them; else the first ones.
     pub octets: Vec<u8>,
-    /// How many octets of the script are kept at most.
-    pub most_script: usize,
-    /// The first octets of the script.
+    /// All octets of the script.
     pub script: Vec<u8>,
 }
 
 impl Notes {
-    /// Nothing is noted yet. At most `most_script` octets of the script will be kept. The input is an image or none.
-    pub fn new(alloc: Global, most_script: usize, long: bool, image: bool) -> Notes
+    /// Nothing is noted yet. The input is an image or none; reading may take long.
+    pub fn new(alloc: Global, long: bool, image: bool) -> Notes
         ensures failed { result.failed ≡ None }
         ensures unread { result.unread ≡ None }
         ensures image { result.image ≡ image }
         ensures read { result.read ≡ 0 }
         ensures long { result.long ≡ long }
         ensures octets { result.octets.items ≡ [] }
-        ensures most_script { result.most_script ≡ most_script }
         ensures script { result.script.items ≡ [] }
     {
         Notes {
@@ -58,7 +55,6 @@ impl Notes {
             read: 0,
             long,
             octets: Vec::new(alloc),
-            most_script,
             script: Vec::new(alloc),
         }
     }
