@@ -55,8 +55,8 @@ pub record StopsPolite (polite steps : Steps) : Type 0 where
   pub polite_is : polite ≡ before ++ (event, Done) ∷ following
   pub steps_are : steps ≡ before ++ (event, outcome) ∷ []
 
--- The steps that a command makes of a world: an event as often as its count says, whatever became of each; or a polite run of so many
--- deliveries at most, up to its first refused event.
+-- The steps that a command makes of a world: an event as often as its count says, whatever became of each; or a polite run of a number
+-- of deliveries at most, up to its first refused event.
 abbrev pub Makes : Command → World → Steps → Type 0
 Makes (Events event count) w steps = map (λ step. step.0) steps ≡ replicate count event
 Makes (Polite most) w steps = (steps ≡ polite_steps most w) ⊎ StopsPolite (polite_steps most w) steps
@@ -126,7 +126,7 @@ pub record TellsCall (options : CallOptions) (document : Document) (commands : L
 abbrev pub HaveRows : List PagePixels → Type 0
 HaveRows pages = All (λ page. 0 < length page.rows) pages
 
--- the script says commands, the images are a document's, and its call by the commands was told and its pages answered
+-- the script says commands, the images are a document's, the lines of its call by the commands were written, and its pages answered
 pub record RunsCall (options : CallOptions) (script images : List ℕ) (before after : Option (List ℕ)) (pages : List PagePixels)
     : Type 0 where
   pub commands : List Command

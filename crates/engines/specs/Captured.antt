@@ -26,8 +26,8 @@ use Rattle.engines.specs.declared.captured.Waiting.{Waiting}
 -- ---- what is known while signals come
 
 -- how pages are sent, by the last DCS; the frames since the last PPS, and whether there were any; the last block, where frames of it
--- lack, and those that are there; the last block that was whole; of the open page the octets of its blocks, the number that its next
--- block has modulo 256, and whether a block of it lacks
+-- are missing, and those that are there; the last block that was whole; of the open page the octets of its blocks, the number that its next
+-- block has modulo 256, and whether a block of it is missing
 pub record Capture : Type 0 where
   pub params : Option Params
   pub coming : Frames
@@ -73,16 +73,16 @@ a >>> f = record { then = (f a.then).then; found = a.found ++ (f a.then).found }
 abbrev pub next_block : ℕ → ℕ
 next_block block = (block + 1) % 256
 
--- after a block that lacks, its page can't be read; after the page's last one another begins
+-- after a block that is missing, its page can't be read; after the page's last one another begins
 abbrev pub after_lack : PageEnd → Mark → Capture → Capture
 after_lack Null mark s = record s { octets = []; next = next_block mark.block; spoiled = true }
 after_lack _ mark s = record s { octets = []; next = 0; spoiled = false }
 
--- the numbers of a block's frames that lack
+-- the numbers of a block's frames that are missing
 abbrev pub lacking : Frames → ℕ → List ℕ
 lacking frames last = filter (is_missing frames) (range_with_len 0 (last + 1))
 
--- the block that waits for frames is given up: each frame that lacks is named
+-- the block that waits for frames is given up: each frame that is missing is named
 unfoldable pub gives_up : Capture → Option Waiting → Step
 gives_up s None = finds_none s
 gives_up s (Some waiting) = record {
@@ -99,7 +99,7 @@ is_waiting (Some waiting) mark = same_mark waiting.mark mark
 abbrev pub turns_from : Mark → Capture → Step
 turns_from mark s = cond (is_waiting s.waiting mark) (finds_none s) (gives_up s s.waiting)
 
--- a block whose number isn't the next one of its page: blocks before it lack, and the page can't be read
+-- a block whose number isn't the next one of its page: blocks before it are missing, and the page can't be read
 abbrev pub turns_to : Mark → Capture → Step
 turns_to mark s = cond (nat_eq mark.block s.next) (finds_none s) (record {
   then = record s { octets = []; next = mark.block; spoiled = true };
@@ -135,11 +135,11 @@ found_of params mark (Err fault) = Unread mark (record { place = fault.0; kind =
 unfoldable pub page_in : Params → Mark → List ℕ → Captured
 page_in params mark octets = found_of params mark (read_rows params.coding (pixels_of params.width) (bits_of LsbFirst octets))
 
--- the open page with a whole block after it; a page that lacks a block has no octets
+-- the open page with a whole block after it; a page of which a block is missing has no octets
 abbrev pub with_block : Capture → List ℕ → List ℕ
 with_block s block = cond s.spoiled [] (s.octets ++ block)
 
--- a block is whole: the page goes on, or is at its end and is read, unless a block of it lacks
+-- a block is whole: the page goes on, or is at its end and is read, unless a block of it is missing
 unfoldable pub takes_block : Params → PageEnd → Mark → List ℕ → Capture → Step
 takes_block params Null mark block s = finds_none (record s {
   waiting = None;
@@ -153,7 +153,7 @@ takes_block params _ mark block s = record {
   found = cond s.spoiled [] (page_in params mark (with_block s block) ∷ []);
 }
 
--- a block is whole, or waits for the frames that lack
+-- a block is whole, or waits for the frames that are missing
 unfoldable pub judges : Params → PageEnd → Mark → ℕ → Capture → Step
 judges params ends mark last s =
     cond (all_there s.kept last)
@@ -166,7 +166,7 @@ judges params ends mark last s =
 unfoldable pub left_open : Capture → List Captured
 left_open s = cond (s.begun || not (nat_eq (length s.octets) 0)) (Unended ∷ []) []
 
--- what there is at the end of a document: the frames that lack, and whether a page has no end
+-- what there is at the end of a document: the frames that are missing, and whether a page has no end
 unfoldable pub at_end : Capture → List Captured
 at_end s = (gives_up s s.waiting).found ++ left_open (gives_up s s.waiting).then
 
@@ -215,7 +215,7 @@ unfoldable pub hears_all : List (List ℕ) → Capture → Step
 hears_all [] s = finds_none s
 hears_all (content ∷ contents) s = hears_read (read_content content) s >>> hears_all contents
 
--- the pages that contents carry, in order, with what lacks of them
+-- the pages that contents carry, in order, with what is missing of others
 unfoldable pub captured : List (List ℕ) → List Captured
 captured contents =
     let heard = hears_all contents (empty_capture None) in

@@ -49,7 +49,7 @@ pub record ShowsPage (coding : Coding) (order : Order) (width : ℕ) (before aft
   pub reads : ReadsIn coding width (bits_of order octets) rows used
   pub written : Appends before after (page_text rows)
 
--- the octets read begin with a page's code, of so many bits, and the image of the page, which has so many rows, is written
+-- the octets read begin with a page's code, of `used` bits, and the image of the page, which has `rows` rows, is written
 pub record DecodesPage (coding : Coding) (order : Order) (width : ℕ) (fine : Bool) (before after : Option (List ℕ)) (rows used : ℕ)
     (octets : List ℕ) : Type 0 where
   pub page : PagePixels

@@ -13,7 +13,7 @@ use Rattle.engines.specs.Texts.{content_text, spaced}
 abbrev pub line : List (List ℕ) → List ℕ
 line words = spaced words ++ 10 ∷ []
 
--- a content in lower-case hex: the whole of it, or at most so many of its octets and `..` where it has more
+-- a content in lower-case hex: the whole of it, or its first `most` octets and `..` where it has more
 abbrev pub shown : Option ℕ → List ℕ → List ℕ
 shown None content = encode_lower content
 shown (Some most) content = encode_lower (take most content) ++ (if nat_lt most (length content) then codes ".." else [])

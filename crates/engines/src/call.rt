@@ -65,7 +65,7 @@ fn tell<W: Write>(
     Ok(entry.refused)
 }
 
-/// A call is given an event so many times, whatever becomes of each, with the line of each.
+/// A call is given an event `count` times, whatever becomes of each, with the line of each.
 fn repeat<W: Write>(
     live: &mut LiveCall,
     event: Event,
@@ -111,7 +111,7 @@ fn deliver_next<W: Write>(
     }
 }
 
-/// A call is given deliveries, so many at most, up to the first that is refused, with the line of each event.
+/// A call is given deliveries, `most` at most, up to the first that is refused, with the line of each event.
 fn politely<W: Write>(
     live: &mut LiveCall,
     most: u64,
@@ -207,7 +207,7 @@ fn read_commands<S: Read>(alloc: Global, script: &mut S) -> Result<Vec<Command>,
     read_script(alloc, &said)
 }
 
-/// Reads a script and then a document's images, and runs the call that the script tells between a caller
+/// Reads a script and then a document's images, and runs the call that the script says between a caller
 /// that has the document and an answerer that can take it. Writes the line of each event as it happens, of
 /// which it keeps none, and then what has become of the call, and answers the pages that the answerer has
 /// stored. Errs with 30 at the line of the script that is refused, before it reads images; with the first

@@ -108,7 +108,7 @@ groups_through w = length w.caller.finished
 abbrev pub groups_begun : World → ℕ
 groups_begun w = length w.caller.finished + length w.caller.present
 
--- what is counted in the transcript of a run in which the caller has begun so many groups
+-- what is counted in the transcript of a run in which the caller has begun `groups` groups
 pub record IsCounted (groups : ℕ) (transcript : List Entry) : Type 0 where
   -- at most 18 DCS for each group begun
   pub dcs : count shows_dcs transcript ≤ 18 * groups

@@ -35,7 +35,7 @@ abbrev pub DeliversNext : {E : Type 0} → WorldFields → WorldFields → World
 DeliversNext old new w (Ok delivered) = NextDone old new w delivered
 DeliversNext old new w (Err refusal) = Stopped old new w (next_steps w w.to_answerer w.to_caller)
 
--- a polite run of so many deliveries at most was made, or a growth was refused
+-- a polite run of `most` deliveries at most was made, or a growth was refused
 abbrev pub DeliversAll : {E : Type 0} → WorldFields → WorldFields → World → ℕ → Result ℕ E → Type 0
 DeliversAll old new w most (Ok number) = Made old new w (polite_steps most w) × (number ≡ count_deliveries (polite_steps most w))
 DeliversAll old new w most (Err refusal) = Stopped old new w (polite_steps most w)

@@ -24,7 +24,7 @@ use Rattle.line_sim.specs.declared.event.Event.TheVariants.{CallerTimeout, Calle
 pub data Fate : Type 0 where
   comes lost spoiled : Fate
 
--- how patient stations are: the answerer sends DIS at most so often before the caller's wait for one is over, and so many RNRs come for a
+-- how patient stations are: the answerer sends at most `calls` DIS before the caller's wait for one is over, and `busy` RNRs come for a
 -- block before its long wait is
 pub record Patience : Type 0 where
   pub calls : ℕ
@@ -131,7 +131,7 @@ is_over_at _ _ _ _ = false
 abbrev pub is_over : Driven → Bool
 is_over d = is_over_at d.world.to_answerer d.world.to_caller d.world.caller.ending d.world.answerer.ending
 
--- so many steps, or fewer where the call is over
+-- a number of steps, or fewer where the call is over
 abbrev pub drive : ℕ → Patience → Driven → Driven
 drive zero p d = d
 drive (suc most) p d = cond (is_over d) d (drive most p (drives p d.world.to_answerer d.world.to_caller d))
@@ -145,7 +145,7 @@ steps_made (suc most) p d = cond (is_over d) 0 (suc (steps_made most p (drives p
 abbrev pub new_driven : Document → Wish → Caps → List Fate → Driven
 new_driven document wish caps fates = record { world = new_world document wish caps; dis = 1; rnrs = 0; fates = fates }
 
--- so many times a number
+-- a number of times a cost
 abbrev pub times : ℕ → ℕ → ℕ
 times zero cost = 0
 times (suc k) cost = cost + times k cost

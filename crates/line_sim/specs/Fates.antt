@@ -138,7 +138,7 @@ abbrev pub Steps : Patience → DrivenFields → DrivenFields → Driven → Opt
 Steps p old new d None = (is_over d ≡ true) × (new ≡ old)
 Steps p old new d (Some step) = MakesStep p new d step
 
--- a growth was refused: so many steps were made, and of the next one the events before one that was refused
+-- a growth was refused: `made` steps were made, and of the next one the events before one that was refused
 pub record Broken (p : Patience) (new : DrivenFields) (d : Driven) (most : ℕ) : Type 0 where
   pub made : ℕ
   pub few : made < most
@@ -150,7 +150,7 @@ pub record Broken (p : Patience) (new : DrivenFields) (d : Driven) (most : ℕ) 
   pub refused : outcome ≢ Done
   pub shows : Shows new.live (run (all_done before ++ (event, outcome) ∷ []) (drive made p d).world)
 
--- a driven call made so many steps at most, or a growth was refused
+-- a driven call made `most` steps at most, or a growth was refused
 abbrev pub DrivesAll : {E : Type 0} → Patience → DrivenFields → Driven → ℕ → Result ℕ E → Type 0
 DrivesAll p new d most (Ok number) = ShowsDriven new p (drive most p d) × (number ≡ steps_made most p d)
 DrivesAll p new d most (Err refusal) = Broken p new d most

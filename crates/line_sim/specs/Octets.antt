@@ -31,7 +31,7 @@ is_final (fcd number octets) = false
 is_final rcp = false
 is_final _ = true
 
--- an item is told to be the turn's last frame exactly if it is
+-- an item is marked as the turn's last frame exactly if it is
 abbrev pub TellsFinal : Item → Type 0
 TellsFinal (Frame signal last) = last ≡ is_final (plain signal)
 TellsFinal (Check count) = Unit {0}
@@ -42,7 +42,7 @@ AreFinal [] = Unit {0}
 AreFinal (framed signal ∷ items) = (has_no_frame items ≡ is_final signal) × AreFinal items
 AreFinal (checked octets ∷ items) = AreFinal items
 
--- octets are the frame of what a station writes of a signal: with its own X, and told to be final where it is
+-- octets are the frame of what a station writes of a signal: with its own X, and marked as final where it is
 pub record Carries (side : Side) (octets : List ℕ) (signal : PlainSignal) : Type 0 where
   pub writable : IsWritable signal
   pub sent : IsFrameOf octets (content_of signal side (is_final signal))

@@ -48,7 +48,7 @@ abbrev pub and_on : List (Event × Outcome) → (World → List (Event × Outcom
 and_on [] rest w = []
 and_on (step ∷ steps) rest w = step ∷ steps ++ rest (run (step ∷ steps) w)
 
--- the steps of a polite run: delivery after delivery while there is one, and at most so many
+-- the steps of a polite run: delivery after delivery while there is one, and at most a number of them
 abbrev pub polite_steps : ℕ → World → List (Event × Outcome)
 polite_steps zero w = []
 polite_steps (suc most) w = and_on (next_steps w w.to_answerer w.to_caller) (polite_steps most) w

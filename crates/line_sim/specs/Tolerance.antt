@@ -93,7 +93,7 @@ tries_after old new t =
     })
     no_tries
 
--- in so many steps of a driven call no phase has more than two bad tries, and no group more than so many spoiled checks
+-- in a number of steps of a driven call no phase has more than two bad tries, and no group more than `checks` spoiled checks
 abbrev pub BadTriesAreFew : ℕ → ℕ → Patience → Tries → Driven → Type 0
 BadTriesAreFew zero checks p t d = Unit {0}
 BadTriesAreFew (suc most) checks p t d =
@@ -101,7 +101,7 @@ BadTriesAreFew (suc most) checks p t d =
     let next = drives p d.world.to_answerer d.world.to_caller d in
     (met.bad ≤ 2) × (met.checks ≤ checks) × BadTriesAreFew most checks p (tries_after d.world next.world met) next
 
--- both agree on each page of a document and its code fits a call, and at least so many common speeds are below the first
+-- both agree on each page of a document and its code fits a call, and at least `checks` common speeds are below the first
 pub record CanGoThrough (document : Document) (wish : Wish) (caps : Caps) (checks : ℕ) : Type 0 where
   pub some : 0 < length document
   pub full : Each IsFullPage document
@@ -121,7 +121,7 @@ tries_of (suc most) p t d =
     let next = drives p d.world.to_answerer d.world.to_caller d in
     cond (is_over d) t (tries_of most p (tries_after d.world next.world (noted p d.world.to_answerer d.world.to_caller d t)) next)
 
--- what an end has cost, in bad tries or spoiled checks of the last phase, where at most so many DIS come in a wait
+-- what an end has cost, in bad tries or spoiled checks of the last phase, where at most `most` DIS come in a wait
 abbrev pub Costs : ℕ → ℕ → Tries → End → Type 0
 Costs most checks t Normal = Unit {0}
 Costs most checks t NoAnswer = most ≤ t.bad
@@ -130,7 +130,7 @@ Costs most checks t Unreadable = 4 ≤ t.bad
 Costs most checks t BadTraining = checks < t.checks
 Costs most checks t _ = ⊥
 
--- a driven call's caller ends normally; or for one of four reasons, each of which costs so many bad tries of one phase
+-- a driven call's caller ends normally; or for one of four reasons, each of which costs a number of bad tries of one phase
 abbrev pub DrivenCallsEndFor : Type 0
 DrivenCallsEndFor =
     (document : Document) (wish : Wish) (caps : Caps) (p : Patience) (checks : ℕ) (fates : List Fate) (most : ℕ) →

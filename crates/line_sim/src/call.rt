@@ -198,7 +198,7 @@ impl Call {
         self.caller_answers(event, None, answered)
     }
 
-    /// One of the answerer's timers runs out, or it is told whether it can take pages.
+    /// One of the answerer's timers runs out, or it is said whether it can take pages.
     fn answerer_timer(&mut self, event: Event, input: AnswererIn<'_>) -> Entry
         requires timer { AnswererTimer event (answerer_input input) }
         requires writes { EventWrites self.old event }

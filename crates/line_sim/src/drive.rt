@@ -217,7 +217,7 @@ impl LiveCall {
 
 /// A call over a bad line, with no script: what is first under way comes, is lost or is spoiled, as its fate says; where nothing
 /// is under way a wait is over. Waits are over in a fixed order, which is a scheduler's choice and no duration of T.30: while the
-/// caller waits for a DIS the answerer's T2, until so many DIS were sent in this wait; then, and in each other wait, the caller's; and
+/// caller waits for a DIS the answerer's T2, until `calls` DIS were sent in this wait; then, and in each other wait, the caller's; and
 /// once the caller has ended the answerer's T1. It keeps no transcript: each step answers its entries.
 #[derive(Debug, Drop)]
 pub struct DrivenCall {
@@ -312,7 +312,7 @@ impl DrivenCall {
         Ok(made)
     }
 
-    /// The call as it stands: it can be told any event, or what it leaves.
+    /// The call as it stands: any event can be passed to it, and it says what it leaves.
     pub fn into_live(self) -> LiveCall
         ensures { result ≡ self.live }
     {

@@ -23,8 +23,8 @@ use stations::laws::{layers_hold, signals_hold};
 use std::alloc::Global;
 use std::marker::Model;
 
-/// A caller and an answerer, and what is under way between them, with no transcript: who tells it the events has each
-/// one's entry.
+/// A caller and an answerer, and what is under way between them, with no transcript: who passes it an event has
+/// the event's entry.
 #[derive(Debug, Drop)]
 pub struct LiveCall {
     pub(crate) call: Call,

@@ -21,8 +21,8 @@ use stations::laws::{layers_hold, signals_hold};
 use std::alloc::{AllocError, Global};
 use std::marker::Model;
 
-/// A caller and an answerer, what is under way between them, and a transcript of all events. Of each
-/// event it is told what happens, so every schedule can be run.
+/// A caller and an answerer, what is under way between them, and a transcript of all events. Each event is passed to it, so every
+/// schedule can be run.
 #[derive(Debug, Drop)]
 pub struct World {
     pub(crate) call: Call,

@@ -65,7 +65,7 @@ supports_speed V17 _ = true
 abbrev pub v17_order : List Speed
 v17_order = V17At14400 ∷ V17At12000 ∷ V17At9600 ∷ V17At7200 ∷ V27At4800 ∷ V27At2400 ∷ []
 
--- the order of the speeds where one lacks V.17
+-- the order of the speeds where one has no V.17
 abbrev pub other_order : List Speed
 other_order = V29At9600 ∷ V29At7200 ∷ V27At4800 ∷ V27At2400 ∷ []
 

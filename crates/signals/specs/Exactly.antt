@@ -106,7 +106,7 @@ pub record Agrees (caps : Caps) (wish : Wish) (width : PageWidth) (fine : Bool) 
   pub frames : params.small ≡ wish.small
   pub speed : IsFastest wish.modems caps.modems params.speed
 
--- nothing is agreed on: the caps lack what the pages need, or no speed is tried
+-- nothing is agreed on: the caps are without what the pages need, or no speed is tried
 abbrev pub Differ : Caps → Wish → PageWidth → Bool → Type 0
 Differ caps wish width fine =
     (caps.receiver ≡ false) ⊎ (caps.ecm ≡ false) ⊎ (pixels_of caps.widest < pixels_of width) ⊎ ((fine ≡ true) × (caps.fine ≡ false)) ⊎

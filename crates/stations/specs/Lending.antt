@@ -17,7 +17,7 @@ has_no_frame [] = true
 has_no_frame (framed signal ∷ items) = false
 has_no_frame (checked octets ∷ items) = has_no_frame items
 
--- a frame is told to be the last one exactly if no frame is left
+-- a frame is marked as the last one exactly if no frame is left
 abbrev pub TellsLast : Item → List PlainItem → Type 0
 TellsLast (Frame signal last) left = last ≡ has_no_frame left
 TellsLast (Training count) left = Unit {0}

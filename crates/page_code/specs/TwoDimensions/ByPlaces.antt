@@ -50,7 +50,7 @@ abbrev pub PrescribesByPlaces : Type 0
 PrescribesByPlaces =
     (reference row : List Color) (line : CodingLine) → IsModeFor (elements_of reference row line) (prescribed reference row line)
 
--- the mode codes: so many bits, and their value
+-- the mode codes: the number of their bits, and their value
 pub record ModesByValue : Type 0 where
   pub v0 : vertical_word V0 ≡ number_text 1 1
   pub horizontal_flag : horizontal_word ≡ number_text 3 1
