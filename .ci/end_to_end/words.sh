@@ -280,14 +280,19 @@ try_environment() {
 # Memory that is refused is fault 9, and its words name the file that was read; never fault 8.
 try_memory() {
     "$program" code --code mh "$work/large.pbm" "$work/large.mh"
-    for most in $(seq 3300 20 3700) 4500; do
+    named=0
+    for most in $(seq 3300 20 3900) 4500; do
         status=0
         (ulimit -v "$most"; exec "$program" decode --explain --code mh --width 2432 "$work/large.mh" "$work/made") \
             > "$work/output" 2> "$work/error" || status=$?
         [ "$status" = 1 ] || continue
         [ "$(head -1 "$work/error")" = "fault 9" ] || fails "decode with $most KB of memory"
+        # with the least memory not even the command's words are read
+        grep -q "^a word of the command: memory was refused\|^the command's words: memory was refused" "$work/error" && continue
         grep -q "^$work/large.mh: memory was refused" "$work/error" || fails "decode with $most KB of memory names no file"
+        named=$((named + 1))
     done
+    [ "$named" -gt 0 ] || fails "decode was never refused memory for its file"
     yes "busy 1" | head -c 3000000 > "$work/long.script"
     status=0
     (ulimit -v 5000; exec "$program" call --explain --script "$work/long.script" "$data/page.pbm") > "$work/output" 2> "$work/error" || status=$?
