@@ -19,3 +19,4 @@ pub mod PageKinds
 pub mod PageParts
 pub mod PageRefusals
 pub mod PagesGoOn
+pub mod LinesMean

@@ -14,6 +14,7 @@ pub mod WritesMode
 pub mod RowReading
 pub mod StepsOn
 pub mod FrontSteps
+pub mod CodesOn
 pub mod QuickModes
 pub mod BothLines
 pub mod ModeTable

@@ -8,3 +8,4 @@ pub mod Repairs
 pub mod Repairing
 pub mod Kinds
 pub mod KindLaws
+pub mod LinesMean

@@ -12,3 +12,4 @@ pub mod Writing
 pub mod Reading
 pub mod Lines
 pub mod ByPlaces
+pub mod Coding

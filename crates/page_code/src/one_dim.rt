@@ -164,7 +164,7 @@ fn write_rows(alloc: Global, rows: &[Row], bits: &mut BitWriter) -> Result<(), A
     let mut list = Vec::new(alloc);
     for row in rows {
         bits.write_eol()?;
-        bits.write_row_1d_in(alloc, row, &mut list)?;
+        bits.write_row_1d_in(row, &mut list)?;
     }
     Ok(())
 }

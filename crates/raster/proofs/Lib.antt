@@ -21,3 +21,4 @@ pub mod PbmFaults
 pub mod PbmCalls
 pub mod PbmFaultExamples
 pub mod NumberLemmas
+mod Exchanged

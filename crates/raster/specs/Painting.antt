@@ -1,5 +1,8 @@
 -- Rows that are painted in order, with the last bits in a word.
-use Rattle.std.specs.Prelude.{ℕ, ◌≡◌, ◌<◌, ◌≤◌, ◌+◌, ◌-◌, [], ◌∷◌, Bool, false, List, if◌then◌else◌, length, nat_lt, not}
+use Rattle.std.specs.Prelude.{ℕ, ◌≡◌, ◌<◌, ◌≤◌, ◌+◌, ◌-◌, ◌*◌, ◌%◌, ◌++◌, [], ◌∷◌, Bool, false, List, if◌then◌else◌, length, nat_lt, not, sum}
+use Rattle.raster.specs.Changes.{differ}
+use Rattle.raster.specs.Pixels.{IsWidth}
+use Rattle.raster.specs.declared.painting.Painter.{Painter}
 use Rattle.raster.specs.declared.packed.Order.TheVariants.{MsbFirst}
 use Rattle.raster.specs.Packed.{bit_in}
 use Rattle.raster.specs.Words.{bit_of_word}
@@ -24,3 +27,20 @@ pub record IsStored (old : List ℕ) (from word : ℕ) (new : List ℕ) : Type 0
   pub before : (k : ℕ) → k < from → bit_in MsbFirst new k ≡ bit_in MsbFirst old k
   pub inside : (k : ℕ) → k < 64 → bit_in MsbFirst new (from + k) ≡ bit_of_word word k
   pub after : (k : ℕ) → from + 64 ≤ k → bit_in MsbFirst new k ≡ bit_in MsbFirst old k
+
+-- a painter of a row: its word is the one that its place is in, and its octets are 0 from that word on
+pub record FitsPainter (painter : Painter) : Type 0 where
+  pub wide : IsWidth painter.width
+  pub within : painter.place ≤ painter.width
+  pub room : painter.width + 64 ≤ 8 * length painter.octets.items
+  pub begun : 64 ≤ painter.end
+  pub aligned : painter.end % 64 ≡ 0
+  pub low : painter.end ≤ painter.place + 64
+  pub clear : (k : ℕ) → painter.end ≤ k + 64 → bit_in MsbFirst painter.octets.items k ≡ false
+
+-- these runs are painted: whatever runs follow, with the turns that are left the bits become those of all the runs
+pub record Paints (runs : List ℕ) (painter : Painter) : Type 0 where
+  pub total : sum runs ≡ painter.place
+  pub drawn : (tail : List ℕ) (k : ℕ)
+      → differ (bit_of_turns (ends_of painter.place tail) k) (drawn_bit painter.octets.items (painter.end - 64) painter.word k)
+      ≡ bit_of_turns (ends_of 0 (runs ++ tail)) k

@@ -1,17 +1,18 @@
 //! Bits that are kept eight an octet, in either order.
 
-ghost use Rattle.raster.specs.Changes.{AppendsChanges, IsRising, turning};
+ghost use Rattle.raster.specs.Changes.{AppendsChanges, AreChanges, IsRising, turning};
 ghost use Rattle.raster.specs.Pixels.{colors, IsWidth};
 ghost use Rattle.raster.specs.Packed.{bit_in, bits_in, bits_of, place_in, AreAlike, IsPacked, Bits, FillsOctets};
+ghost use Rattle.raster.specs.Painting.{FitsPainter, Paints};
 ghost use Rattle.raster.specs.Runs.{colored};
 ghost use Rattle.raster.specs.Words.{IsWordAt, IsFirstOtherBit, bit_of_word};
 ghost use Rattle.raster.specs.declared.row.Color.{Color};
 ghost use Rattle.std.specs.Int.{bit_at};
-ghost use Rattle.std.specs.Prelude.{ℕ, ◌≡◌, ◌≤◌, ◌<◌, ◌+◌, ◌-◌, ◌*◌, ◌/◌, ◌++◌, length};
-ghost use Rattle.std.specs.Prelude.{if◌then◌else◌, replicate, sum, slice_get, All, IfOk, IfSome, OnOk, OnErr};
+ghost use Rattle.std.specs.Prelude.{ℕ, List, ◌≡◌, ◌≤◌, ◌<◌, ◌+◌, ◌-◌, ◌*◌, ◌/◌, ◌++◌, length};
+ghost use Rattle.std.specs.Prelude.{if◌then◌else◌, replicate, sum, slice_get, take, All, IfOk, IfSome, OnOk, OnErr};
 
-use crate::changes::changes;
-use crate::painting::{paint, paint_turns};
+use crate::changes::{changes, put_changes};
+use crate::painting::{Painter, paint, paint_turns};
 use crate::row::MAX_WIDTH;
 use crate::words::{bit_of_all, first_other, in_order, moved_word, octets_of, shifted_word};
 use std::alloc::{AllocError, Global};
@@ -205,6 +206,24 @@ impl PackedBits {
         })
     }
 
+    /// The bits of a painted row.
+    #[tactic(auto, using(crate::proofs::PackedLemmas::views))]
+    pub(crate) fn of_painter(painter: Painter) -> Self
+        requires fits { FitsPainter painter }
+        requires whole { painter.place ≡ painter.width }
+        ensures order { result.order ≡ Order.MsbFirst }
+        ensures length { length result.bits ≡ painter.width }
+        ensures colors { (runs : List ℕ) → Paints runs painter → colors result.bits ≡ colored Color.White runs }
+    {
+        let count = painter.width();
+        PackedBits {
+            octets: painter.into_octets(),
+            alike: None,
+            order: Order::MsbFirst,
+            count,
+        }
+    }
+
     /// The bits up to a width that turn at rising places, a 0 bit first, where they are one run that a row
     /// may be kept as. Takes no memory.
     #[inline(always)]
@@ -319,6 +338,29 @@ impl PackedBits {
             out.push(0)?;
         }
         Ok(())
+    }
+
+    /// Writes all changing positions of the bits as a row over the first places of a list, and answers how
+    /// many they are.
+    #[inline(always)]
+    #[tactic(auto, using(crate::proofs::PackedLemmas::views))]
+    pub(crate) fn put_changes(&self, out: &mut Vec<u32>) -> usize
+        requires order { self.now.order ≡ Order.MsbFirst }
+        requires some { 0 < length self.now.bits }
+        requires small { length self.now.bits ≤ 2432 }
+        requires room { length self.now.bits + 64 ≤ length out.old.items }
+        ensures length { length out.new.items ≡ length out.old.items }
+        ensures few { result ≤ length out.new.items }
+        ensures changes { AreChanges (colors self.now.bits) (take result out.new.items) }
+    {
+        let Some(bit) = self.alike else {
+            return put_changes(&self.octets, self.count, out);
+        };
+        if bit {
+            out[0] = 0;
+            return 1;
+        }
+        0
     }
 
     /// The octets that hold the bits, lent, the last one filled with 0 bits.

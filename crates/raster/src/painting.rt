@@ -2,14 +2,15 @@
 
 ghost use Rattle.raster.specs.Changes.{IsRising, turning};
 ghost use Rattle.raster.specs.Packed.{bit_in, bits_in, IsPacked};
-ghost use Rattle.raster.specs.Painting.{drawn_bit, IsStored};
-ghost use Rattle.raster.specs.Pixels.{colors};
+ghost use Rattle.raster.specs.Painting.{drawn_bit, FitsPainter, IsStored, Paints};
+ghost use Rattle.raster.specs.Pixels.{colors, IsWidth};
 ghost use Rattle.raster.specs.Runs.{colored};
 ghost use Rattle.raster.specs.declared.row.Color.{Color};
-ghost use Rattle.std.specs.Prelude.{ℕ, true, false, ◌≡◌, ◌≤◌, ◌<◌, ◌+◌, ◌-◌, ◌*◌, ◌%◌, All, if◌then◌else◌, length, nat_lt, not, sum};
+ghost use Rattle.std.specs.Prelude.{ℕ, true, false, ◌≡◌, ◌≤◌, ◌<◌, ◌+◌, ◌-◌, ◌*◌, ◌%◌, All, IfOk, [], ◌∷◌, ◌++◌, List, if◌then◌else◌, length, nat_lt, not, sum};
 
 use crate::packed::Order;
 use crate::words::{first_bits, octets_of, put_octets};
+use std::alloc::{AllocError, Global};
 
 /// How far a row is painted: the 64 bits before a place are those of a word, which no octet has yet, and
 /// all bits from there on are as its last one.
@@ -181,4 +182,84 @@ pub(crate) fn paint_turns(octets: &mut [u8], places: &[u32], width: u32)
         at += 1;
     }
     finish(octets, brush, width);
+}
+
+/// A row that is painted from its beginning on, run by run, white first. Who reads a coded row passes it each run as it is read, and
+/// keeps no list of them; `Row::of_painter` makes the row.
+#[derive(Drop)]
+pub struct Painter {
+    octets: Vec<u8>,
+    width: u32,
+    place: u32,
+    end: u32,
+    word: u64,
+}
+
+impl Painter {
+    /// A painter of a row of this width in pixels, with no run painted. Errs where memory is refused.
+    #[inline(always)]
+    pub fn begin(alloc: Global, width: u32) -> Result<Painter, AllocError>
+        requires { IsWidth width }
+        ensures fits { IfOk result (λ painter. FitsPainter painter) }
+        ensures width { IfOk result (λ painter. painter.width ≡ width) }
+        ensures paints { IfOk result (λ painter. Paints [] painter) }
+    {
+        let mut octets = Vec::with_capacity(alloc, width as usize / 8 + 9)?;
+        octets.resize(width as usize / 8 + 9, 0)?;
+        Ok(Painter {
+            octets,
+            width,
+            place: 0,
+            end: 64,
+            word: 0,
+        })
+    }
+
+    /// Paints one more run, in pixels: white and black by turns, white first. It must fit into the row.
+    #[inline(always)]
+    pub fn push_run(&mut self, run: u32)
+        requires fits { FitsPainter self.old }
+        requires within { self.old.place + run ≤ self.old.width }
+        ensures fits { FitsPainter self.new }
+        ensures width { self.new.width ≡ self.old.width }
+        ensures place { self.new.place ≡ self.old.place + run }
+        ensures paints { (runs : List ℕ) → Paints runs self.old → Paints (runs ++ run ∷ []) self.new }
+    {
+        let place = self.place + run;
+        let brush = Brush {
+            end: self.end,
+            word: self.word,
+        };
+        let Brush { end, word } = turn(&mut self.octets, brush, place);
+        self.place = place;
+        self.end = end;
+        self.word = word;
+    }
+
+    /// The row's width.
+    #[inline(always)]
+    pub(crate) fn width(&self) -> u32
+        ensures { result ≡ self.now.width }
+    {
+        self.width
+    }
+
+    /// The octets of the whole row.
+    #[inline(always)]
+    pub(crate) fn into_octets(self) -> Vec<u8>
+        requires fits { FitsPainter self }
+        requires whole { self.place ≡ self.width }
+        ensures packed { IsPacked Order.MsbFirst result.items self.width }
+        ensures painted { (runs : List ℕ) → Paints runs self → colors (bits_in Order.MsbFirst result.items self.width) ≡ colored Color.White runs }
+    {
+        let Painter {
+            mut octets,
+            width,
+            place: _,
+            end,
+            word,
+        } = self;
+        finish(&mut octets, Brush { end, word }, width);
+        octets
+    }
 }

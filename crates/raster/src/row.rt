@@ -6,11 +6,13 @@ ghost use Rattle.raster.specs.PbmText.{HoldsRow};
 ghost use Rattle.raster.specs.Pixels.{other, color_of, colors, IsWidth};
 ghost use Rattle.raster.specs.Runs.{colored, FromRuns, AppendsRuns, AreOwnRuns};
 ghost use Rattle.raster.specs.Words.{EndsRun};
-ghost use Rattle.std.specs.Prelude.{◌≡◌, ◌≤◌, ◌<◌, ◌+◌, ◌*◌, ◌^◌, ◌↔◌, ℕ, ◌++◌, ◌∷◌, [], replicate, length, slice_get, sum, OnOk, OnErr};
+ghost use Rattle.raster.specs.Painting.{FitsPainter, Paints};
+ghost use Rattle.std.specs.Prelude.{List, ◌≡◌, ◌≤◌, ◌<◌, ◌+◌, ◌*◌, ◌^◌, ◌↔◌, ℕ, ◌++◌, ◌∷◌, [], replicate, length, slice_get, sum, take, OnOk, OnErr};
 ghost use Rattle.std.specs.Prelude.{All, IfOk, IfErr, SomeIff, IsOkUnless, IsTrue};
 
 use crate::fault::RasterFault;
 use crate::packed::{Order, PackedBits};
+use crate::painting::Painter;
 use std::alloc::{AllocError, Global};
 use std::marker::Model;
 
@@ -143,6 +145,18 @@ impl Row {
         Ok(Row { pixels })
     }
 
+    /// The row of a painter whose runs fill its width. Takes no memory.
+    #[tactic(auto, using(crate::proofs::RowLemmas::lengths))]
+    pub fn of_painter(painter: Painter) -> Row
+        requires fits { FitsPainter painter }
+        requires whole { painter.place ≡ painter.width }
+        ensures { (runs : List ℕ) → Paints runs painter → result ≡ colored Color.White runs }
+    {
+        Row {
+            pixels: PackedBits::of_painter(painter),
+        }
+    }
+
     /// The row of the first bits of octets: in each octet the highest bit is leftmost, and a 1 is
     /// black. Later bits are ignored. Errs with `NoMemory`.
     #[tactic(auto, using(crate::proofs::RowLemmas::lengths, crate::proofs::PackedLemmas::views))]
@@ -195,6 +209,20 @@ impl Row {
         }
         let before = from > 0 && self.pixels.bit(from as u128 - 1);
         self.pixels.first_other(from, before)
+    }
+
+    /// Writes all changing positions of the row, in rising order (ITU-T T.6, 2.2.1), over the first places of
+    /// a list that has room for one a pixel and 64 more, and answers how many they are.
+    #[inline(always)]
+    #[tactic(auto, using(crate::proofs::RowLemmas::lengths))]
+    pub fn put_changes(&self, out: &mut Vec<u32>) -> usize
+        requires { length self.now + 64 ≤ length out.old.items }
+        ensures length { length out.new.items ≡ length out.old.items }
+        ensures few { result ≤ length out.new.items }
+        ensures changes { AreChanges self.now (take result out.new.items) }
+    {
+        let _width = self.width();
+        self.pixels.put_changes(out)
     }
 
     /// Appends all changing positions of the row, in rising order (ITU-T T.6, 2.2.1). Errs where memory

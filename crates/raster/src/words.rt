@@ -37,31 +37,41 @@ fn whole_word(octets: &[u8], at: usize) -> u64
     ])
 }
 
-/// The octets, each with its bits in the other order.
-fn turned_eight(octets: [u8; 8]) -> [u8; 8]
-    ensures { (i : ℕ) → i < 8 → slice_index result i ≡ turned_octet (slice_index octets i) }
+/// The word with each two bits in the other order.
+#[inline(always)]
+fn bits_exchanged(word: u64) -> u64
+    ensures { (k : ℕ) → k < 64 → bit_of_word result k ≡ bit_of_word word (2 * (k / 2) + (k + 1) % 2) }
 {
-    [
-        turned(octets[0]),
-        turned(octets[1]),
-        turned(octets[2]),
-        turned(octets[3]),
-        turned(octets[4]),
-        turned(octets[5]),
-        turned(octets[6]),
-        turned(octets[7]),
-    ]
+    word >> 1 & 0x5555_5555_5555_5555 | (word & 0x5555_5555_5555_5555) << 1
+}
+
+/// The word with each two pairs of bits in the other order.
+#[inline(always)]
+fn pairs_exchanged(word: u64) -> u64
+    ensures { (k : ℕ) → k < 64 → bit_of_word result k ≡ bit_of_word word (4 * (k / 4) + (k + 2) % 4) }
+{
+    word >> 2 & 0x3333_3333_3333_3333 | (word & 0x3333_3333_3333_3333) << 2
+}
+
+/// The word with each two halves of an octet in the other order.
+#[inline(always)]
+fn halves_exchanged(word: u64) -> u64
+    ensures { (k : ℕ) → k < 64 → bit_of_word result k ≡ bit_of_word word (8 * (k / 8) + (k + 4) % 8) }
+{
+    word >> 4 & 0x0F0F_0F0F_0F0F_0F0F | (word & 0x0F0F_0F0F_0F0F_0F0F) << 4
 }
 
 /// The word with the bits of each of its eight octets turned.
+#[inline(always)]
 fn turned_word(word: u64) -> u64
     ensures { (k : ℕ) → k < 64 → bit_of_word result k ≡ bit_of_word word (8 * (k / 8) + (7 - k % 8)) }
 {
-    whole_word(&turned_eight(word.to_be_bytes()), 0)
+    halves_exchanged(pairs_exchanged(bits_exchanged(word)))
 }
 
 /// The word with each of its eight octets in an order of bits: turned where its least significant bit is
 /// to be the first.
+#[inline(always)]
 pub(crate) fn in_order(order: Order, word: u64) -> u64
     ensures { (k : ℕ) → k < 64 → bit_of_word result k ≡ bit_of_word word (8 * (k / 8) + (7 - place_in order k)) }
 {

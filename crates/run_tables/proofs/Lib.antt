@@ -26,3 +26,4 @@ pub mod CodeLaws
 pub mod RowWriting
 pub mod PendingLemmas
 pub mod FaultNumbers
+pub mod PaintedRows

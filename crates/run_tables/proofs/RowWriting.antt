@@ -16,7 +16,9 @@ use Rattle.raster.specs.Words.{EndsRun}
 use Rattle.raster.proofs.RowLemmas.{RunsTo, runs_first, runs_more, before_next, other_from_ne}
 use Rattle.run_tables.specs.Codes.{run_words}
 use Rattle.run_tables.specs.RunWords.{runs_words}
-use Rattle.run_tables.specs.Written.{Appends}
+use Rattle.run_tables.specs.Written.{Appends, AppendsRow, KeepsBits}
+use Rattle.std.proofs.Math.Seq.{take-length}
+use Rattle.std.specs.Prelude.{take}
 
 -- two colors that don't differ are one
 same_or_not : (a b : Color) → ((a ≢ b) → ⊥) → a ≡ b
@@ -160,6 +162,28 @@ change_after row places index at place all some before h is =
     (λ i early. omega (arith, last, not_less row places i (index - 1) all (omega (arith, early)) there))
     (λ l. omega (arith, last, all.rising (index - 1) index (omega (arith, some)) l)) is
 
+-- the changing position at an index that isn't the first one, after the one before it
+pub change_on : (row : List Color) (places : List ℕ) (width index at place : ℕ) → AreChanges row places → length row ≡ width → 0 < index
+    → index < length places → at ≡ slice_index_or places (index - 1) width → place ≡ slice_index_or places index 0
+    → (at < length row) × (at < place) × (place < length row) × IsNextChange row (at + 1) place
+change_on row places width index at place all wide some h before is =
+    let there : at ≡ slice_index_or places (index - 1) (length row) = before ∙ ap (λ (w : ℕ). slice_index_or places (index - 1) w) (sym wide) in
+    let early : index - 1 < length places = omega (arith, some, h) in
+    let last : at ≡ slice_index_or places (index - 1) 0 = there ∙ get_or_default places (index - 1) (length row) 0 early in
+    let low : at < length row = omega (arith, last, (all.changing (index - 1) early).0) in (
+      low,
+      omega (arith, last, is, all.rising (index - 1) index (omega (arith, some)) h),
+      omega (arith, is, (all.changing index h).0),
+      change_after row places index at place all some there low (is ∙ sym (get_or_default places index (length row) 0 h)),
+    )
+
+-- after the last changing position the next one is the row's end
+pub change_none : (row : List Color) (places : List ℕ) (width index at : ℕ) → AreChanges row places → length row ≡ width → 0 < index
+    → length places ≤ index → at ≡ slice_index_or places (index - 1) width → at < width → IsNextChange row (at + 1) width
+change_none row places width index at all wide some h before low =
+    change_after row places index at width all some (before ∙ ap (λ (w : ℕ). slice_index_or places (index - 1) w) (sym wide))
+    (omega (arith, low, wide)) (sym wide ∙ sym (get_or_past places index (length row) h))
+
 pub is_after : (row : List Color) (at end : ℕ) → at < length row → IsNextChange row (at + 1) end → at < end
 is_after row at end h next = elim (cases_lt end (length row)) [
   | inl l ↦ omega (arith, (next.changing l).0)
@@ -209,3 +233,44 @@ next_written row old mid now at end color so_far h next wrote = record {
       ap (λ (x : List Bool). record old { bits = x }) (append_assoc old.bits (runs_words White so_far.runs) (run_words color (end - at)) ∙
       ap (λ (x : List Bool). old.bits ++ x) (sym (words_push so_far.runs (end - at) color so_far.follow))));
 }
+
+-- all of the row's own runs are written
+pub all_written : (row : List Color) (old now : Bits) (at : ℕ) (color : Color) → WritesTo row old now at color → at ≡ length row
+    → AppendsRow row old now
+all_written row old now at color done full = (
+  done.runs,
+  record {
+    spelled = sym (done.to.spelled ∙ (ap (λ (n : ℕ). take n row) full ∙ take-length row));
+    later = done.to.later;
+  },
+  done.wrote,
+)
+
+-- a list has the same at an index whatever stands for none
+pub same_at : (places : List ℕ) (i j default : ℕ) → i < length places → i ≡ j → slice_index_or places i 0 ≡ slice_index_or places j default
+same_at places i j default h e =
+    sym (get_or_default places i default 0 h) ∙ ap (λ (n : ℕ). slice_index_or places n default) e
+
+pub keeps_on : (old mid now : Bits) (bits : List Bool) → KeepsBits old mid → Appends bits mid now → KeepsBits old now
+keeps_on old mid now bits kept wrote = (
+  kept.0 ++ bits,
+  wrote ∙ (ap (λ (b : Bits). record b { bits = b.bits ++ bits }) kept.1
+      ∙ ap (λ (x : List Bool). record old { bits = x }) (append_assoc old.bits kept.0 bits)),
+)
+
+-- one more run is written, up to the changing position at an index
+pub written_on : (row : List Color) (places : List ℕ) (width index at place : ℕ) (old mid now : Bits) (color : Color)
+    → WritesTo row old mid at color → AreChanges row places → length row ≡ width → 0 < index → index < length places
+    → at ≡ slice_index_or places (index - 1) width → place ≡ slice_index_or places index 0
+    → Appends (run_words color (place - at)) mid now → WritesTo row old now place (other color)
+written_on row places width index at place old mid now color done all wide some h before is wrote =
+    let step = change_on row places width index at place all wide some h before is in
+    next_written row old mid now at place color done step.0 step.3 wrote
+
+-- the last run is written, after the last changing position
+pub last_written : (row : List Color) (places : List ℕ) (width index at : ℕ) (old mid now : Bits) (color : Color)
+    → WritesTo row old mid at color → AreChanges row places → length row ≡ width → 0 < index → length places ≤ index
+    → at ≡ slice_index_or places (index - 1) width → at < width → Appends (run_words color (width - at)) mid now → AppendsRow row old now
+last_written row places width index at old mid now color done all wide some h before low wrote =
+    all_written row old now width (other color) (next_written row old mid now at width color done (omega (arith, low, wide))
+    (change_none row places width index at all wide some h before low) wrote) (sym wide)

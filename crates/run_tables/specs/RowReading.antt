@@ -1,5 +1,5 @@
 -- What reading a one-dimensional row answers, and what it leaves (ITU-T T.4, 4.1.1).
-use Rattle.std.specs.Prelude.{ℕ, ◌≡◌, ◌≢◌, ◌+◌, ◌<◌, ◌≤◌, ◌++◌, List, length, replicate, None, Result, Ok, Err, sum, ◌⊎◌}
+use Rattle.std.specs.Prelude.{ℕ, ◌≡◌, ◌≢◌, ◌+◌, ◌<◌, ◌≤◌, ◌++◌, List, length, replicate, None, Some, Option, Result, Ok, Err, sum, ◌⊎◌}
 use Rattle.raster.specs.declared.row.Color.{Color}
 use Rattle.raster.specs.declared.row.Color.TheVariants.{White}
 use Rattle.raster.specs.Runs.{colored}
@@ -61,3 +61,8 @@ RowRuns width old new runs (Err fault) = (fault.kind ≡ NoMemory) ⊎ (reading 
 abbrev pub WholeRow : ℕ → Reading → Reading → Result (List Color) CodeFault → Type 0
 WholeRow width old new (Ok row) = ReadsRow width old new row
 WholeRow width old new (Err fault) = fault.kind ≢ NoMemory → RefusesRow width old fault
+
+-- a row was read, as its runs were, or nothing changed
+abbrev pub IsQuickRow : ℕ → Reading → Reading → Option (List Color) → Type 0
+IsQuickRow width old new None = new ≡ old
+IsQuickRow width old new (Some row) = (runs : List ℕ) × RowRuns width old new runs (Ok tt) × (row ≡ colored White runs)

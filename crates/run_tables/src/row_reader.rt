@@ -2,14 +2,14 @@
 
 ghost use Rattle.raster.specs.Pixels.{IsWidth};
 ghost use Rattle.raster.specs.Runs.{colored};
-ghost use Rattle.run_tables.specs.RowReading.{IsInRow, ReadsRow, RefusesRow, RowRuns, WholeRow};
+ghost use Rattle.run_tables.specs.RowReading.{IsInRow, IsQuickRow, ReadsRow, RefusesRow, RowRuns, WholeRow};
 ghost use Rattle.run_tables.specs.Reading.{Reading};
 ghost use Rattle.std.specs.Prelude.{ℕ, IfOk, IfErr, OnErr, sum, ◌≡◌, ◌≢◌};
 
 use crate::fault::{CodeFault, CodeFaultKind};
 use crate::reader::BitReader;
 use crate::window::Window;
-use raster::{Color, RasterFault, Row};
+use raster::{Color, Painter, RasterFault, Row};
 use std::alloc::{AllocError, Global};
 
 /// The row of these runs, white first, which add up to a width. Errs where memory is refused.
@@ -59,6 +59,57 @@ impl<'a> BitReader<'a> {
         Ok((color, room))
     }
 
+    /// The next row, painted while it is read, where all of it can be read quickly. Else none, and nothing is changed. A row of one
+    /// color takes no memory of its own.
+    #[inline(always)]
+    fn quick_row(&mut self, alloc: Global, width: u32) -> Result<Option<Row>, AllocError>
+        requires { IsWidth width }
+        ensures { IfOk result (IsQuickRow width self.old self.new) }
+    {
+        let _place = self.place(); // tells the proof that it is within the bits
+        let Some(mut window) = Window::at(self.look_ahead()) else {
+            return Ok(None);
+        };
+        let Some(first) = window.run(Color::White, width) else {
+            return Ok(None);
+        };
+        if first == width {
+            let row = row_of(alloc, &[width])?;
+            *self = window.into_reader();
+            return Ok(Some(row));
+        }
+        let Some(second) = window.run(Color::Black, width - first) else {
+            return Ok(None);
+        };
+        if second == width {
+            let row = row_of(alloc, &[first, second])?;
+            *self = window.into_reader();
+            return Ok(Some(row));
+        }
+        let mut painter = Painter::begin(alloc, width)?;
+        painter.push_run(first);
+        painter.push_run(second);
+        let mut room = width - first - second;
+        while room > 0 {
+            let Some(white) = window.run(Color::White, room) else {
+                return Ok(None);
+            };
+            painter.push_run(white);
+            room -= white;
+            if room == 0 {
+                *self = window.into_reader();
+                return Ok(Some(Row::of_painter(painter)));
+            }
+            let Some(black) = window.run(Color::Black, room) else {
+                return Ok(None);
+            };
+            painter.push_run(black);
+            room -= black;
+        }
+        *self = window.into_reader();
+        Ok(Some(Row::of_painter(painter)))
+    }
+
     /// The other runs of a row, code by code: `next` is the color of the next one, and `left` pixels are left.
     #[cold]
     #[inline(never)]
@@ -103,6 +154,9 @@ impl<'a> BitReader<'a> {
         requires { IsWidth width }
         ensures { WholeRow width self.old self.new result }
     {
+        if let Some(row) = self.quick_row(alloc, width)? {
+            return Ok(row);
+        }
         self.row_runs(width, list)?;
         Ok(row_of(alloc, list)?)
     }

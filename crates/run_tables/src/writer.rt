@@ -1,11 +1,12 @@
 //! Writing of bits, and of runs and rows by their code words (ITU-T T.4, 4.1.1 and 4.1.2).
 
-ghost use Rattle.raster.specs.Changes.{AreChanges, IsNextChange};
+ghost use Rattle.raster.specs.Changes.{AreChanges};
+ghost use Rattle.raster.specs.Pixels.{IsWidth};
 ghost use Rattle.raster.specs.Packed.{bit_in, bits_of, FillsOctets};
 ghost use Rattle.raster.specs.Words.{bit_of_word, number_bits};
 ghost use Rattle.run_tables.specs.Codes.{run_words, text};
 ghost use Rattle.run_tables.specs.Pending.{word_bits, IsClear, IsStored};
-ghost use Rattle.run_tables.specs.Written.{Appends, AppendsRow, eol};
+ghost use Rattle.run_tables.specs.Written.{Appends, AppendsRow, KeepsBits, eol};
 ghost use Rattle.raster.specs.declared.row.Color.{Color};
 ghost use Rattle.std.specs.Prelude.{ℕ, List, ◌≡◌, ◌≤◌, ◌<◌, ◌+◌, ◌-◌, ◌*◌, ◌++◌, ◌∷◌, [], length};
 ghost use Rattle.std.specs.Prelude.{slice_index_or, take, IfOk, OnOk, OnErr};
@@ -28,15 +29,14 @@ fn place_at(places: &[u32], index: usize, width: u32) -> u32
     }
 }
 
-/// The end of the run that begins at the changing position before an index: the next one, or the width.
-fn end_of_run(changes: &[u32], index: usize, at: u32, width: u32) -> u32
-    requires some { 0 < index }
-    requires place { at ≡ slice_index_or changes.now (index - 1) width }
-    requires within { at < width }
-    ensures next { (row : List Color) → AreChanges row changes.now → length row ≡ width → IsNextChange row (at + 1) result }
-    ensures place { result ≡ slice_index_or changes.now index width }
+/// Makes a list at least `room` places long; the new ones are 0.
+fn list_room(list: &mut Vec<u32>, room: usize) -> Result<(), AllocError>
+    ensures { OnOk result (room ≤ length list.new.items) }
 {
-    place_at(changes, index, width)
+    if list.len() < room {
+        list.resize(room, 0)?;
+    }
+    Ok(())
 }
 
 /// Makes the list at least `needed` octets long; the new ones are 0.
@@ -286,6 +286,37 @@ impl BitWriter {
         self.push_bits(1, 12)
     }
 
+    /// Appends the code words of the runs that end at a row's changing positions and at its width, white first. After an
+    /// error some of them are appended.
+    #[inline(always)]
+    fn write_runs(&mut self, places: &[u32], width: u32) -> Result<(), AllocError>
+        requires wide { IsWidth width }
+        requires places { (row : List Color) × AreChanges row places.now × (length row ≡ width) }
+        ensures ok { OnOk result ((row : List Color) → AreChanges row places.now → length row ≡ width → AppendsRow row self.old self.new) }
+        ensures err { OnErr result (KeepsBits self.old self.new) }
+    {
+        let last = places.len().saturating_sub(1);
+        let mut at = place_at(places, 0, width);
+        self.write_run(Color::White, at)?;
+        let mut index = 1;
+        while index < last {
+            let black = places[index];
+            self.write_run(Color::Black, black - at)?;
+            at = places[index + 1];
+            self.write_run(Color::White, at - black)?;
+            index += 2;
+        }
+        if index < places.len() {
+            let black = places[index];
+            self.write_run(Color::Black, black - at)?;
+            return self.write_run(Color::White, width - black);
+        }
+        if at < width {
+            self.write_run(Color::Black, width - at)?;
+        }
+        Ok(())
+    }
+
     /// Appends the code words of the row's own runs, white first (ITU-T T.4, 4.1.1). Errs where memory
     /// is refused, which changes nothing.
     pub fn write_row_1d(&mut self, alloc: Global, row: &Row) -> Result<(), AllocError>
@@ -293,37 +324,22 @@ impl BitWriter {
         ensures err { OnErr result (self.new ≡ self.old) }
     {
         let mut changes = Vec::new(alloc);
-        self.write_row_1d_in(alloc, row, &mut changes)
+        self.write_row_1d_in(row, &mut changes)
     }
 
     /// As `write_row_1d`, in the memory of a list, for rows one after the other. What the list holds
     /// before is forgotten, and what it holds after is no matter.
-    pub fn write_row_1d_in(
-        &mut self,
-        alloc: Global,
-        row: &Row,
-        changes: &mut Vec<u32>,
-    ) -> Result<(), AllocError>
+    pub fn write_row_1d_in(&mut self, row: &Row, changes: &mut Vec<u32>) -> Result<(), AllocError>
         ensures ok { OnOk result (AppendsRow row.now self.old self.new) }
         ensures err { OnErr result (self.new ≡ self.old) }
     {
         let start = self.bits();
         let width = row.width();
-        changes.clear();
-        row.changes(alloc, changes)?;
-        let mut color = Color::White;
-        let mut index = 1;
-        let mut at = place_at(changes, 0, width);
-        self.write_run(color, at)?;
-        while at < width {
-            color = color.other();
-            let end = end_of_run(changes, index, at, width);
-            if let Err(refused) = self.write_run(color, end - at) {
-                self.truncate(start);
-                return Err(refused);
-            }
-            at = end;
-            index += 1;
+        list_room(changes, width as usize + 64)?;
+        let count = row.put_changes(changes);
+        if let Err(refused) = self.write_runs(&changes[..count], width) {
+            self.truncate(start);
+            return Err(refused);
         }
         Ok(())
     }

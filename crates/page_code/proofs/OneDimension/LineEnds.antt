@@ -17,10 +17,10 @@ use Rattle.page_code.proofs.OneDimension.ZerosBefore.{zeros_eol, zeros_split, no
 -- lengths of rows by their runs
 pub ruleset lengths = (length-colored)
 
-none_some : (o : Option ℕ) (n : ℕ) → o ≡ None → o ≡ Some n → ⊥
+pub none_some : (o : Option ℕ) (n : ℕ) → o ≡ None → o ≡ Some n → ⊥
 none_some o n none some = let both : ◌≡◌ {A = Option ℕ} None (Some n) = sym none ∙ some in cc
 
-same_count : (o : Option ℕ) (n m : ℕ) → o ≡ Some n → o ≡ Some m → n ≡ m
+pub same_count : (o : Option ℕ) (n m : ℕ) → o ≡ Some n → o ≡ Some m → n ≡ m
 same_count o n m one two = let both : ◌≡◌ {A = Option ℕ} (Some n) (Some m) = sym one ∙ two in cc
 
 -- the bits after the first 1
@@ -61,14 +61,14 @@ first_zeros x is = inr (
 -- The end of a line
 
 -- what is seen where a line ends
-abbrev Seen : List Bool → ℕ → Type 0
+abbrev pub Seen : List Bool → ℕ → Type 0
 Seen x used =
     ((zeros_before x ≡ None) × (used ≡ 0)) ⊎
     (((n : ℕ) × (zeros_before x ≡ Some n) × (11 ≤ n) × (used ≡ n + 1)) ⊎
     ((n : ℕ) × (m : ℕ) × (zeros_before x ≡ Some n) × (n < 11) × (zeros_before (drop (n + 1) x) ≡ Some m) × (10 ≤ n + m)
     × (used ≡ n + m + 2)))
 
-end_seen : (x : List Bool) (used : ℕ) → EndsLine x used → Seen x used
+pub end_seen : (x : List Bool) (used : ℕ) → EndsLine x used → Seen x used
 end_seen x used (inl end) = inl (zeros_none x end.0, end.1)
 end_seen x used (inr (inl end)) = inr (inl (end.0, ap zeros_before end.3 ∙ zeros_eol end.0 end.1, end.2, end.4))
 end_seen x used (inr (inr end)) =

@@ -1,6 +1,7 @@
 //! Laws of pages in the one-dimensional code: what their contracts say is proved, and nothing runs.
 
 ghost use Rattle.page_code.specs.OneDimension.KindLaws.{AreRefusedPages, FrontsGoOn, OneKind, RefusesPagesExactly};
+ghost use Rattle.page_code.specs.OneDimension.LinesMean.{FirstLineMeans, LineEndsMean, SkippingMeans};
 ghost use Rattle.page_code.specs.OneDimension.OwnRuns.{OwnRunsOwn, OwnRunsOnly};
 ghost use Rattle.page_code.specs.OneDimension.Repairs.{OneRepair, RepairsNothing};
 ghost use Rattle.page_code.specs.OneDimension.Laws.{ReadsExactly, RefusesNoPage, RefusesAtLongest, OneFront, ReadsCode};
@@ -48,6 +49,14 @@ pub fn repair_of_a_whole_page()
 /// Bits give one page, with the same rows repaired.
 pub fn one_repair()
     ensures { OneRepair }
+{}
+
+/// Of a page that is repaired: a line ends with an EOL, also with one of which any one of the first eleven bits is wrong; after a line
+/// that can't be read, reading goes on after the next EOL and nowhere else; the first line begins after an EOL, or at once.
+pub fn lines_mean()
+    ensures ends { LineEndsMean }
+    ensures skips { SkippingMeans }
+    ensures first { FirstLineMeans }
 {}
 
 /// One place of a page has one kind of refusal.

@@ -22,7 +22,7 @@ use std::mem;
 
 /// The width three times after the first places of a list that has room for it.
 #[inline(always)]
-fn end_list(list: &mut Vec<u32>, count: usize, width: u32)
+pub(crate) fn end_list(list: &mut Vec<u32>, count: usize, width: u32)
     requires { count + 3 ≤ length list.old.items }
     ensures length { length list.new.items ≡ length list.old.items }
     ensures ends { take (count + 3) list.new.items ≡ take count list.old.items ++ width ∷ width ∷ width ∷ [] }

@@ -1,19 +1,24 @@
 //! Writing of a page in the two-dimensional code (ITU-T T.6, 2.2).
 
+ghost use Rattle.page_code.specs.TwoDimensions.Changes.{AreHeld};
 ghost use Rattle.page_code.specs.TwoDimensions.Code.{page_code, row_code, rows_code, verticals, vertical_to};
+ghost use Rattle.page_code.specs.TwoDimensions.Coding.{FitsCoding, IsListed, WritesOn};
 ghost use Rattle.page_code.specs.TwoDimensions.Fronts.{mode_word};
-ghost use Rattle.page_code.specs.TwoDimensions.Writing.{IsCodedTo, WritesMode, reference_at, row_at};
-ghost use Rattle.raster.specs.Pixels.{max_width};
+ghost use Rattle.page_code.specs.TwoDimensions.Modes.{horizontal_word};
+ghost use Rattle.page_code.specs.TwoDimensions.Writing.{reference_at, row_at};
+ghost use Rattle.raster.specs.Pixels.{IsWidth, max_width, other};
+ghost use Rattle.run_tables.specs.Codes.{run_words};
 ghost use Rattle.run_tables.specs.Written.{Appends, KeepsBits};
-ghost use Rattle.std.specs.Prelude.{◌≡◌, ◌≤◌, ◌<◌, ◌+◌, All, length, OnErr, OnOk};
+ghost use Rattle.std.specs.Prelude.{ℕ, List, ◌≡◌, ◌≤◌, ◌<◌, ◌+◌, ◌++◌, All, IfOk, length, slice_index_or, OnErr, OnOk};
 
 use crate::page::row_of;
-use crate::t6::a0::A0;
-use crate::t6::changes::Changes;
+use crate::t6::changes::put_held;
+use crate::t6::front::{Front, b1_at, index_after};
 use crate::t6::mode::{EOFB, ModeCode, Shift};
-use raster::{Page, Row};
+use raster::{Color, Page, Row};
 use run_tables::BitWriter;
 use std::alloc::{AllocError, Global};
+use std::mem;
 
 /// The vertical mode that leads from b1 to a1, where there is one (ITU-T T.6, 2.2.3).
 #[inline(always)]
@@ -47,86 +52,161 @@ fn push_mode(writer: &mut BitWriter, code: ModeCode) -> Result<(), AllocError>
     writer.push_bits(value, count)
 }
 
-/// Appends the prescribed mode, and moves a0.
-fn write_mode(
-    writer: &mut BitWriter,
-    reference: &mut Changes,
-    row: &mut Changes,
-    a0: &mut A0,
-) -> Result<(), AllocError>
-    requires even { length reference.old ≡ length row.old }
-    requires coded { IsCodedTo row.old a0.old }
-    requires short { a0.old.place < length row.old }
-    ensures writes { OnOk result (WritesMode reference.old row.old a0.old a0.new writer.old writer.new) }
-    ensures err { OnErr result (KeepsBits writer.old writer.new) }
-    ensures same_reference { reference.new ≡ reference.old }
-    ensures same_row { row.new ≡ row.old }
+/// How many places of two lists, from an index of each on, are the same: at most 32, and none after one that is
+/// the width.
+#[inline(always)]
+fn same_places(reference: &[u32], at: usize, row: &[u32], turns: usize, width: u32) -> u32
+    requires above { IsListed reference.now width }
+    requires listed { IsListed row.now width }
+    requires index { at + 1 < length reference.now }
+    requires turns { turns + 3 ≤ length row.now }
+    ensures few { result ≤ 32 }
+    ensures within { turns + result + 2 ≤ length row.now }
+    ensures same { (k : ℕ) → k < result → slice_index_or reference.now (at + k) 0 ≡ slice_index_or row.now (turns + k) 0 }
+    ensures inside { (k : ℕ) → k + 1 < result → slice_index_or row.now (turns + k) 0 < width }
 {
-    let _width = row.width(); // tells the proof that it is at most 2,432
-    let color = a0.color;
-    let (a1, a2) = row.next_two(a0.right());
-    let (b1, b2) = a0.b1_b2(reference);
+    let mut count = 0;
+    while count < 32 {
+        let place = row[turns + count];
+        if reference[at + count] != place {
+            return count as u32;
+        }
+        count += 1;
+        if place >= width {
+            return count as u32;
+        }
+    }
+    32
+}
+
+/// Appends horizontal mode and its two runs.
+#[inline(always)]
+fn push_horizontal(
+    writer: &mut BitWriter,
+    color: Color,
+    a0a1: u32,
+    a1a2: u32,
+) -> Result<(), AllocError>
+    requires first { a0a1 ≤ max_width }
+    requires second { a1a2 ≤ max_width }
+    ensures ok { OnOk result (Appends (horizontal_word ++ (run_words color a0a1 ++ run_words (other color) a1a2)) writer.old writer.new) }
+    ensures err { OnErr result (KeepsBits writer.old writer.new) }
+{
+    push_mode(writer, ModeCode::Horizontal)?;
+    writer.write_run(color, a0a1)?;
+    writer.write_run(color.other(), a1a2)
+}
+
+/// Appends the next prescribed mode, or as many V0 as there are next up to 32, and answers the front after them.
+#[inline(always)]
+fn write_modes(
+    writer: &mut BitWriter,
+    reference: &[u32],
+    row: &[u32],
+    width: u32,
+    front: Front,
+) -> Result<Front, AllocError>
+    requires fits { FitsCoding reference.now row.now width front }
+    requires short { front.from ≤ width }
+    ensures fits { IfOk result (λ next. FitsCoding reference.now row.now width next) }
+    ensures further { IfOk result (λ next. front.from < next.from) }
+    ensures writes { IfOk result (λ next. WritesOn reference.now row.now front next writer.old writer.new) }
+    ensures err { OnErr result (KeepsBits writer.old writer.new) }
+{
+    let at = b1_at(reference, front.from, front.at, width);
+    let same = same_places(reference, at, row, front.turns, width);
+    if same > 0 {
+        writer.push_bits(u32::MAX >> (32 - same), same)?;
+        let turns = front.turns + same as usize;
+        return Ok(Front {
+            from: row[turns - 1] + 1,
+            at: at + same as usize,
+            turns,
+        });
+    }
+    let a1 = row[front.turns];
+    let b1 = reference[at];
+    let b2 = reference[at + 1];
     if b2 < a1 {
         push_mode(writer, ModeCode::Pass)?;
-        a0.move_to(b2, color);
-        return Ok(());
-    }
-    if a1 == b1 {
-        push_mode(writer, ModeCode::Vertical(Shift::V0))?; // the most frequent, as a constant
-        a0.move_to(a1, color.other());
-        return Ok(());
+        return Ok(Front {
+            from: b2 + 1,
+            at,
+            turns: front.turns,
+        });
     }
     if let Some(shift) = shift_to(b1, a1) {
         push_mode(writer, ModeCode::Vertical(shift))?;
-        a0.move_to(a1, color.other());
-        return Ok(());
+        return Ok(Front {
+            from: a1 + 1,
+            at: index_after(reference, front.from, at, a1),
+            turns: front.turns + 1,
+        });
     }
-    push_mode(writer, ModeCode::Horizontal)?;
-    writer.write_run(color, a1 - a0.place)?;
-    writer.write_run(color.other(), a2 - a1)?;
-    a0.move_to(a2, color);
+    let a2 = row[front.turns + 1];
+    push_horizontal(
+        writer,
+        front.color(),
+        a1 - front.from.saturating_sub(1),
+        a2 - a1,
+    )?;
+    Ok(Front {
+        from: a2 + 1,
+        at,
+        turns: front.turns + 2,
+    })
+}
+
+/// Appends the code of a row after its reference row (ITU-T T.6, 2.2), both as the lists of their changing elements.
+fn write_row(
+    writer: &mut BitWriter,
+    reference: &[u32],
+    row: &[u32],
+    width: u32,
+) -> Result<(), AllocError>
+    requires wide { IsWidth width }
+    requires above { IsListed reference.now width }
+    requires listed { IsListed row.now width }
+    ensures code { OnOk result ((a b : List Color) → AreHeld a reference.now → AreHeld b row.now → length a ≡ length b
+        → Appends (row_code a b) writer.old writer.new) }
+    ensures err { OnErr result (KeepsBits writer.old writer.new) }
+{
+    let mut front = Front::begin();
+    while front.from <= width {
+        front = write_modes(writer, reference, row, width, front)?;
+    }
     Ok(())
 }
 
-/// Appends the code of a row after its reference row (ITU-T T.6, 2.2).
-fn write_row(
-    writer: &mut BitWriter,
-    reference: &mut Changes,
-    row: &mut Changes,
-) -> Result<(), AllocError>
-    requires { length reference.old ≡ length row.old }
-    ensures code { OnOk result (Appends (row_code reference.old row.old) writer.old writer.new) }
-    ensures err { OnErr result (KeepsBits writer.old writer.new) }
-    ensures same_reference { reference.new ≡ reference.old }
-    ensures same_row { row.new ≡ row.old }
+/// A list with room for the changing elements of a row of a width, and 67 places more.
+fn list_for(alloc: Global, width: u32) -> Result<Vec<u32>, AllocError>
+    ensures { IfOk result (λ list. length list.items ≡ width + 67) }
 {
-    let width = row.width();
-    let mut a0 = A0::begin();
-    while a0.place < width {
-        write_mode(writer, reference, row, &mut a0)?;
-    }
-    Ok(())
+    let mut list = Vec::new(alloc);
+    list.resize(width as usize + 67, 0)?;
+    Ok(list)
 }
 
 /// Appends the codes of rows, each after the one before and the first after a white row.
-fn write_rows<'a>(
+fn write_rows(
     alloc: Global,
     writer: &mut BitWriter,
-    white: &'a Row,
-    rows: &'a [Row],
+    white: &Row,
+    rows: &[Row],
 ) -> Result<(), AllocError>
     requires { All (λ row. length row ≡ length white.now) rows.now }
     ensures ok { OnOk result (Appends (rows_code white.now rows.now) writer.old writer.new) }
     ensures err { OnErr result (KeepsBits writer.old writer.new) }
 {
-    let mut spare = Changes::of(alloc, white)?;
-    let mut reference = Changes::of(alloc, white)?;
+    let width = white.width();
+    let mut reference = list_for(alloc, width)?;
+    let mut row = list_for(alloc, width)?;
+    let mut known = put_held(white, &mut reference);
     for at in 0..rows.len() {
-        let mut row = spare.of_next(alloc, &rows[at])?;
-        write_row(writer, &mut reference, &mut row)?;
-        spare = reference;
-        row.begin();
-        reference = row;
+        let count = put_held(&rows[at], &mut row);
+        write_row(writer, &reference[..known], &row[..count], width)?;
+        mem::swap(&mut reference, &mut row);
+        known = count;
     }
     Ok(())
 }

@@ -1,0 +1,38 @@
+-- When a line of a page ends, where reading goes on after a line that can't be read, and where the first line begins, said by bits
+-- (ITU-T T.4, 4.1.2).
+use Rattle.std.specs.Prelude.{ℕ, ◌≡◌, ◌+◌, ◌<◌, ◌≤◌, ◌++◌, Bool, true, List, codes, slice_set}
+use Rattle.run_tables.specs.Codes.{text}
+use Rattle.page_code.specs.OneDimension.Pages.{eol_word}
+use Rattle.page_code.specs.OneDimension.Repairs.{EndsLine, IsFirstLine, IsSkipped, TornEolOf}
+
+-- when a line ends
+pub record LineEndsMean : Type 0 where
+  -- an EOL ends it, with more than eleven 0 bits too, and also if any one of its first eleven is a 1
+  pub whole : (count : ℕ) (rest : List Bool) → 11 ≤ count → EndsLine (eol_word count ++ rest) (count + 1)
+  pub torn : (count place : ℕ) (rest : List Bool) → 11 ≤ count → place < 11
+      → TornEolOf (slice_set (eol_word count ++ rest) place true) (count + 1)
+  -- ten 0 bits and two 1s are such an EOL; nine aren't
+  pub last_wrong : TornEolOf (text (codes "000000000011" ++ codes "10011")) 12
+  pub short : (used : ℕ) → EndsLine (text (codes "0000000001" ++ codes "10011")) used → ⊥
+  -- nothing and 0 bits alone do, with no bit
+  pub nothing : EndsLine (text (codes "")) 0
+  pub zeros : EndsLine (text (codes "000")) 0
+  -- with one number of bits
+  pub one_way : (x : List Bool) (a b : ℕ) → EndsLine x a → EndsLine x b → a ≡ b
+
+-- where reading goes on after a line that can't be read
+pub record SkippingMeans : Type 0 where
+  -- after the first EOL, also where it is a long one
+  pub after_eol : IsSkipped (text (codes "110" ++ codes "000000000001" ++ codes "01")) 15
+  pub after_long : IsSkipped (text (codes "1" ++ codes "00000000000001" ++ codes "1")) 15
+  pub after_first : IsSkipped (text (codes "000000000001" ++ codes "000000000001")) 12
+  -- with ten 0 bits it is none: after all bits
+  pub after_all : IsSkipped (text (codes "1" ++ codes "00000000001")) 12
+  -- nowhere else
+  pub nowhere_else : (x : List Bool) (a b : ℕ) → IsSkipped x a → IsSkipped x b → a ≡ b
+
+-- where the first line begins
+pub record FirstLineMeans : Type 0 where
+  pub after_eol : (count : ℕ) (rest : List Bool) → 11 ≤ count → IsFirstLine (eol_word count ++ rest) (count + 1)
+  pub at_once : IsFirstLine (text (codes "10011")) 0
+  pub with_short_eol : IsFirstLine (text (codes "00000000001")) 0
