@@ -10,3 +10,4 @@ pub mod Sending
 pub mod BitNumbers
 pub mod Exactly
 pub mod Refusals
+pub mod Reasons
