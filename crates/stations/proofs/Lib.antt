@@ -5,7 +5,7 @@ pub mod PageReads
 pub mod Progress
 pub mod ItemLaws
 pub mod Spending
-pub mod Limits
+pub mod OpenLimits
 pub mod RunLaws
 pub mod Lasting
 pub mod Sizes
@@ -20,3 +20,12 @@ pub mod Keeping
 pub mod AnswererKeeping
 pub mod PprMaps
 pub mod AnswererTaking
+pub mod TurnsShow
+pub mod Waits
+pub mod CarrierCuts
+pub mod TakenOut
+pub mod Hearing
+pub mod CutsEnd
+pub mod Room
+pub mod BusyBefore
+pub mod LimitedPlain

@@ -17,3 +17,12 @@ pub mod TurnsMean
 pub mod Marks
 pub mod Keeping
 pub mod AnswererKeeping
+pub mod TurnsShow
+pub mod Waits
+pub mod Bursts
+pub mod GivenBursts
+pub mod Listening
+pub mod Taken
+pub mod Stopping
+pub mod Limiting
+pub mod LimitedRuns

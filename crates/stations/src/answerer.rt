@@ -2,6 +2,7 @@
 
 ghost use Rattle.partial_page.specs.Store.{no_frames, joined_frames, IsMissingMap};
 ghost use Rattle.std.specs.Prelude.{◌≡◌, ◌≢◌, ◌+◌, ◌++◌, ℕ, true, Some, None, Ok, IsOk, IsSome, IsTrue, ◌↔◌, ◌⊎◌, false};
+ghost use Rattle.std.specs.Prelude.{[], is_some};
 ghost use Rattle.stations.specs.AnswererStep.{Answerer as AnswererTuple, new_answerer, same_mark, is_repeated, last_counted, all_there};
 ghost use Rattle.stations.specs.AnswererStep.{ppr_map, confirms, first_dcs, later_dcs, keeps_frame, judges_training, answers_pps};
 ghost use Rattle.stations.specs.AnswererStep.{takes_block, Steps, StepsOrRefuses, AnswererTakesNoMemory, answers_rr, answers_repeated};
@@ -27,6 +28,7 @@ use raster::Page;
 use signals::{Caps, PageEnd, Params, Signal, allows, training_good};
 use std::alloc::{AllocError, Global};
 use std::marker::Model;
+use std::mem;
 
 /// The answering station of a call (ITU-T T.30, phases B to E and Annex A).
 #[derive(Debug, Drop)]
@@ -132,6 +134,14 @@ impl Answerer {
         &self.pages
     }
 
+    /// The stored pages, in the order in which they came; none is stored then, and nothing else changes. Takes no memory.
+    pub fn take_pages(&mut self) -> Vec<Page>
+        ensures pages { result.items ≡ self.old.pages }
+        ensures left { self.new ≡ record self.old { pages = [] } }
+    {
+        mem::replace(&mut self.pages, Vec::new(self.alloc))
+    }
+
     /// The stored pages, in the order in which they came; the station is given up.
     pub fn into_pages(self) -> Vec<Page>
         ensures { result.items ≡ self.pages }
@@ -144,6 +154,34 @@ impl Answerer {
         ensures { result ≡ self.now.ending }
     {
         self.end
+    }
+
+    /// What the answerer waits for.
+    pub(crate) fn state(&self) -> AnswererState
+        ensures { result ≡ self.now.state }
+    {
+        self.state
+    }
+
+    /// The parameters of the last DCS that was allowed.
+    pub(crate) fn agreed_params(&self) -> Params
+        ensures { result ≡ self.now.params }
+    {
+        self.open_page.params()
+    }
+
+    /// The answerer is busy from now on, or not, and nothing else changes.
+    pub(crate) fn become_busy(&mut self, busy: bool)
+        ensures { self.new ≡ record self.old { busy = busy } }
+    {
+        self.busy = busy;
+    }
+
+    /// Whether a block was accepted.
+    pub(crate) fn has_accepted_any(&self) -> bool
+        ensures { result ≡ is_some self.now.accepted }
+    {
+        self.accepted.is_some()
     }
 
     /// Whether the station is in phase B, in which it waits for a DCS.
@@ -362,7 +400,7 @@ impl Answerer {
     }
 
     /// Whether the mark is that of the last accepted block.
-    fn has_accepted(&self, mark: Mark) -> bool
+    pub(crate) fn has_accepted(&self, mark: Mark) -> bool
         ensures { result ≡ is_repeated self.now.accepted mark }
     {
         match self.accepted {

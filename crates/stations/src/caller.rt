@@ -144,6 +144,15 @@ impl Caller {
         self.page as u64
     }
 
+    /// The document, and how many of its first pages are confirmed; the station is given up. Who calls again sends the others.
+    pub fn into_document(self) -> (Document, u64)
+        ensures document { result.0 ≡ self.document }
+        ensures confirmed { (t : CallerTuple) → Represents self t → result.1 ≡ confirmed t }
+    {
+        let confirmed = self.confirmed();
+        (self.document, confirmed)
+    }
+
     /// Whether the caller waits for the DIS of a further group: a page is confirmed, and the next one has another width
     /// or other lines.
     pub fn between_groups(&self) -> bool
@@ -157,6 +166,27 @@ impl Caller {
         ensures { (t : CallerTuple) → Represents self.now t → IsTrue result ↔ (t.state ≡ WaitDis) }
     {
         matches!(self.state, CallerState::WaitDis)
+    }
+
+    /// What the caller waits for.
+    pub(crate) fn state(&self) -> CallerState
+        ensures { result ≡ self.now.state }
+    {
+        self.state
+    }
+
+    /// The capabilities of the last DIS that was agreed on.
+    pub(crate) fn agreed_caps(&self) -> Caps
+        ensures { result ≡ self.now.caps }
+    {
+        self.caps
+    }
+
+    /// Whether the call has ended.
+    pub(crate) fn has_ended(&self) -> bool
+        ensures { IsTrue result ↔ IsSome self.now.ending }
+    {
+        self.end.is_some()
     }
 
     /// Why the call ended, if it has.
@@ -582,7 +612,7 @@ impl Caller {
     }
 
     /// The parameters of the present group.
-    fn agreed_params(&self) -> Params
+    pub(crate) fn agreed_params(&self) -> Params
         ensures { result ≡ self.now.params }
     {
         self.params

@@ -5,6 +5,14 @@ ghost use Rattle.stations.specs.EndsMean.{AnswerersEndsMean, CallersEndsMean};
 ghost use Rattle.stations.specs.Keeping.{CallersKeep, CallersTake};
 ghost use Rattle.stations.specs.TurnsMean.{AnswerersAlwaysAnswer, AnswerersHearNothingElse, AnswerersTurnsMean};
 ghost use Rattle.stations.specs.TurnsMean.{CallersHearNothingElse, CallersTurnsMean};
+ghost use Rattle.stations.specs.Bursts.{CutByCarrier, TurnsCut};
+ghost use Rattle.stations.specs.LimitedRuns.{LimitedIsPlain};
+ghost use Rattle.stations.specs.Limiting.{BusyBefore};
+ghost use Rattle.stations.specs.Listening.{AnswerersHear};
+ghost use Rattle.stations.specs.Stopping.{CutsEnd};
+ghost use Rattle.stations.specs.Taken.{FrontStays, TakenAndThere};
+ghost use Rattle.stations.specs.TurnsShow.{AnswerersShow};
+ghost use Rattle.stations.specs.Waits.{AnswerersWait, CallersWait};
 ghost use Rattle.stations.specs.Marks.{ListsEndSo, MarksTell, NeighboursDiffer};
 ghost use Rattle.stations.specs.Lasting.{CallersEnd, StepsLast};
 ghost use Rattle.stations.specs.Left.{StepsSpend};
@@ -154,3 +162,48 @@ pub fn answerers_keep()
 {
     reads_by_grammar();
 }
+
+/// A turn of an answerer is one frame at most, and each of its seven signals is sent by one turn alone.
+pub fn answerers_show()
+    ensures { AnswerersShow }
+{}
+
+/// A wait runs in a station exactly where its end does what the wait is for, and none runs after the end.
+pub fn waits_run()
+    ensures caller { CallersWait }
+    ensures answerer { AnswerersWait }
+{}
+
+/// The bursts of a turn have its items in order, each those of one carrier, and the carrier changes after each. A block is a
+/// burst at the message speed and PPS by V.21, DCS is by V.21 and the training check after it, and an answerer sends by V.21.
+pub fn bursts_cut()
+    ensures items { CutByCarrier }
+    ensures turns { TurnsCut }
+{}
+
+/// What an answerer hears at a message speed does something only where it listens for that.
+pub fn answerers_hear()
+    ensures { AnswerersHear }
+{}
+
+/// No step of an answerer depends on the pages that are stored; and pages taken and pages there, joined in order, are what the same
+/// inputs store with none taken, with the same turns.
+pub fn taken_and_there()
+    ensures steps { FrontStays }
+    ensures runs { TakenAndThere }
+{}
+
+/// A call that runs ends by what cuts it off, and one that has ended stays as it ended.
+pub fn cuts_end()
+    ensures { CutsEnd }
+{}
+
+/// An answerer that was busy before an input answers RNR where it would answer MCF, and all else is the same.
+pub fn busy_before()
+    ensures { BusyBefore }
+{}
+
+/// Each step of an answerer with limits leads where some inputs lead one without: so what holds over any inputs holds of it.
+pub fn limited_is_plain()
+    ensures { LimitedIsPlain }
+{}

@@ -4,6 +4,7 @@ ghost use Rattle.partial_page.specs.Store.{bit_of};
 ghost use Rattle.std.specs.Prelude.{◌≡◌, ◌<◌, ◌≤◌, ◌∷◌, [], ℕ, List, length, slice_index_or, Some, None, false, true};
 ghost use Rattle.signals.specs.Signals.{plain, rcp, dcs};
 ghost use Rattle.signals.specs.declared.params.Params.{Params};
+ghost use Rattle.stations.specs.Bursts.{BeginsWith};
 ghost use Rattle.stations.specs.CallerStep.{burst_of, pps_of};
 ghost use Rattle.stations.specs.Inputs.{framed, checked};
 ghost use Rattle.stations.specs.Layers.{training};
@@ -73,6 +74,26 @@ impl<'a> Items<'a> {
         }
         let count = self.training.take()?;
         Some(Item::Training(count))
+    }
+
+    /// The items that are left, to be lent once more.
+    pub(crate) fn again(&self) -> Items<'a>
+        ensures { result ≡ self.now }
+    {
+        Items {
+            marked: marked_again(&self.marked),
+            rcps: self.rcps,
+            end: self.end,
+            training: self.training,
+        }
+    }
+
+    /// The next item, which is left; none where all were lent.
+    pub(crate) fn first(&self) -> Option<Item<'a>>
+        ensures { BeginsWith self.now result }
+    {
+        let mut ahead = self.again();
+        ahead.take_next()
     }
 
     /// No item.
@@ -216,6 +237,21 @@ impl<'a> Marked<'a> {
             number: number as u8,
             octets,
         })
+    }
+}
+
+/// The FCDs that are left, to be lent once more.
+fn marked_again<'a>(marked: &Option<Marked<'a>>) -> Option<Marked<'a>>
+    ensures { result ≡ marked.now }
+{
+    match marked {
+        Some(frames) => Some(Marked {
+            blocks: frames.blocks,
+            block: frames.block,
+            map: frames.map,
+            next: frames.next,
+        }),
+        None => None,
     }
 }
 

@@ -1,6 +1,6 @@
 use Rattle.stations.specs.Inputs.{answerer_input}
 use Rattle.stations.proofs.AnswererKeeping.{keeps_by}
-use Rattle.stations.proofs.Limits.{step_limited}
+use Rattle.stations.proofs.OpenLimits.{step_limited}
 use Rattle.stations.proofs.answerer.Answerer.step.Goals as goal
 
 pub returns-clause-limits : goal.returns-clause-limits

@@ -1,0 +1,188 @@
+//! An answerer that stores no more pages than it is given room for.
+
+ghost use Rattle.std.specs.Prelude.{◌≡◌, ◌<◌, ◌≤◌, ◌↔◌, ◌&&◌, true, false, [], IsTrue};
+ghost use Rattle.stations.specs.AnswererStep.{new_answerer};
+ghost use Rattle.stations.specs.CallerStep.{no_params};
+ghost use Rattle.stations.specs.Inputs.{answerer_input};
+ghost use Rattle.stations.specs.Limiting.{is_full, is_kept_out, busy_while, told_by, not_ready, page_octets, octets_of_pages};
+ghost use Rattle.stations.specs.Limiting.{freed, IsWithin, LimitedSteps};
+
+use crate::answerer::Answerer;
+use crate::input::AnswererIn;
+use crate::laws::stored_is_read;
+use crate::mark::Mark;
+use crate::turn::Turn;
+use raster::Page;
+use signals::{Caps, Signal};
+use std::alloc::{AllocError, Global};
+use std::marker::Model;
+
+/// How much an answerer stores until its pages are taken. The page that reaches a limit is stored too, and the page that is open, of
+/// at most 8,388,608 octets of code, comes on top.
+#[derive(Clone, Copy, Debug, PartialEq, Eq)]
+pub struct Limits {
+    /// The number of pages.
+    pub pages: u64,
+    /// The octets of their packed rows.
+    pub octets: u64,
+}
+
+/// An answerer that is busy while what it stores has reached a limit: it answers RNR, keeps no FCD, and is silent at the PPS of another
+/// block. Its pages are to be taken after each RNR.
+#[derive(Debug, Drop)]
+pub struct LimitedAnswerer {
+    station: Answerer,
+    limits: Limits,
+    told: bool,
+}
+
+impl Model for LimitedAnswerer {
+    ghost use Rattle.stations.specs.Limiting.{IsWithin, LimitedFields};
+
+    ghost Value = { LimitedFields };
+
+    ghost view = { λ a. record { station = a.station; limits = a.limits; told = a.told } };
+
+    ghost invariant = { λ a. IsWithin a.limits a.station.pages };
+}
+
+impl LimitedAnswerer {
+    /// An answerer in phase B with limits, neither of them 0, and its first turn, which is DIS. Takes no memory.
+    pub fn new(alloc: Global, caps: Caps, limits: Limits) -> (LimitedAnswerer, Turn)
+        requires receiver { caps.receiver ≡ true }
+        requires ecm { caps.ecm ≡ true }
+        requires pages { 0 < limits.pages }
+        requires octets { 0 < limits.octets }
+        ensures station { result.0 ≡ record { station = new_answerer caps no_params; limits = limits; told = false } }
+        ensures turn { result.1 ≡ Turn.Dis }
+    {
+        let (station, turn) = Answerer::new(alloc, caps);
+        let limited = LimitedAnswerer {
+            station,
+            limits,
+            told: false,
+        };
+        (limited, turn)
+    }
+
+    /// Answers an input; an ended call answers silently. Errs where memory is refused, which changes nothing.
+    pub fn step(&mut self, input: AnswererIn<'_>) -> Result<Turn, AllocError>
+        ensures steps { LimitedSteps self.old (answerer_input input.entry) self.new result }
+        ensures within { IsWithin self.new.limits self.new.station.pages }
+    {
+        stored_is_read();
+        let full = is_full(self.limits, self.station.pages());
+        if is_out(full, &self.station, input) {
+            return Ok(Turn::Silent);
+        }
+        let turn = self.station.step(as_heard(full, input))?;
+        self.told = as_told(self.told, input);
+        let filled = is_full(self.limits, self.station.pages());
+        let becomes_full = !full && filled;
+        if !becomes_full {
+            return Ok(turn);
+        }
+        self.station.become_busy(true);
+        Ok(as_not_ready(turn))
+    }
+
+    /// The stored pages, in the order in which they came; none is stored then, and the answerer is as busy as it was told. Takes no
+    /// memory.
+    pub fn take_pages(&mut self) -> Vec<Page>
+        ensures pages { result.items ≡ self.old.station.pages }
+        ensures left { self.new ≡ record self.old { station = freed self.old.station.ending self.old.told self.old.station } }
+    {
+        let pages = self.station.take_pages();
+        if self.station.end().is_none() {
+            self.station.become_busy(self.told);
+        }
+        pages
+    }
+
+    /// The answerer itself: its items, waits, pages and end.
+    pub fn station(&self) -> &Answerer
+        ensures { result.now ≡ self.now.station }
+    {
+        &self.station
+    }
+}
+
+/// Whether pages reach a limit.
+fn is_full(limits: Limits, pages: &[Page]) -> bool
+    ensures { result ≡ is_full limits pages.now }
+{
+    pages.len() as u64 >= limits.pages || reach(pages, limits.octets)
+}
+
+/// Whether the rows of pages have this number of octets, packed.
+fn reach(pages: &[Page], octets: u64) -> bool
+    ensures { IsTrue result ↔ (octets ≤ octets_of_pages pages.now) }
+{
+    let mut left = octets as u128;
+    for page in pages {
+        let more = page_octets(page);
+        if more >= left {
+            return true;
+        }
+        left -= more;
+    }
+    left == 0
+}
+
+/// The octets of a page's packed rows.
+fn page_octets(page: &Page) -> u128
+    ensures { result ≡ page_octets page.now }
+{
+    let width = page.width() as u128;
+    page.rows().len() as u128 * ((width + 7) / 8)
+}
+
+/// Whether a full answerer doesn't hear an input.
+fn keeps_out(station: &Answerer, input: AnswererIn<'_>) -> bool
+    ensures { result ≡ is_kept_out station.now (answerer_input input.entry) }
+{
+    match input {
+        AnswererIn::Heard(Signal::Fcd { .. }) => true,
+        AnswererIn::Heard(Signal::Pps { page, block, .. }) => {
+            !station.has_accepted(Mark { page, block })
+        }
+        _ => false,
+    }
+}
+
+/// Whether an answerer that is full, or isn't, doesn't hear an input.
+fn is_out(full: bool, station: &Answerer, input: AnswererIn<'_>) -> bool
+    ensures { result ≡ full && is_kept_out station.now (answerer_input input.entry) }
+{
+    full && keeps_out(station, input)
+}
+
+/// An input as the answerer hears it: one that is full stays busy.
+fn as_heard(full: bool, input: AnswererIn<'_>) -> AnswererIn<'_>
+    ensures { answerer_input result ≡ busy_while full (answerer_input input.entry) }
+{
+    match input {
+        AnswererIn::Busy(busy) => AnswererIn::Busy(busy || full),
+        _ => input,
+    }
+}
+
+/// Whether the answerer is busy, as it was told.
+fn as_told(told: bool, input: AnswererIn<'_>) -> bool
+    ensures { result ≡ told_by told (answerer_input input.entry) }
+{
+    match input {
+        AnswererIn::Busy(busy) => busy,
+        _ => told,
+    }
+}
+
+/// RNR in place of MCF.
+fn as_not_ready(turn: Turn) -> Turn
+    ensures { result ≡ not_ready turn }
+{
+    match turn {
+        Turn::Mcf => Turn::Rnr,
+        _ => turn,
+    }
+}
