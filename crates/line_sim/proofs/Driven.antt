@@ -9,7 +9,7 @@ use Rattle.stations.specs.Sizes.{AreShort, IsPlaced, BlocksAreFew, StepsArePlace
 use Rattle.line_sim.proofs.Driving.{potential, step_drives}
 
 -- what so many steps take
-record Drove (p : Patience) (made : ℕ) (d after : Driven) : Type 0 where
+pub record Drove (p : Patience) (made : ℕ) (d after : Driven) : Type 0 where
   pub placed : IsPlaced after.world.caller
   pub document : after.world.caller.document ≡ d.world.caller.document
   pub less : made + potential p after + paid p d.world.caller ≤ potential p d + paid p after.world.caller
@@ -56,7 +56,7 @@ times_more (suc n) zero cost few = absurd (omega arith)
 times_more (suc n) (suc m) cost few = let less = times_more n m cost (omega arith) in omega arith
 
 -- what is paid is bounded by the document
-paid_few : BlocksAreFew → (p : Patience) (c : Caller) → IsPlaced c → suc (suc (paid p c)) ≤ most_steps p c.document
+pub paid_few : BlocksAreFew → (p : Patience) (c : Caller) → IsPlaced c → suc (suc (paid p c)) ≤ most_steps p c.document
 paid_few law p c placed =
     let few = placed_are_few law c placed in
     let calls =

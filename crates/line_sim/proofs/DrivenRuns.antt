@@ -22,16 +22,16 @@ run_on : (steps more : List (Event × Outcome)) (w : World) → run (steps ++ mo
 run_on [] more w = refl
 run_on (step ∷ steps) more w = run_on steps more (happens w step.0 step.1)
 
-both : (w middle after : World) → LeadsTo w middle → LeadsTo middle after → LeadsTo w after
+pub both : (w middle after : World) → LeadsTo w middle → LeadsTo middle after → LeadsTo w after
 both w middle after one two = record {
   steps = one.steps ++ two.steps;
   leads = run_on one.steps two.steps w ∙ (ap (λ world. run two.steps world) one.leads ∙ two.leads);
 }
 
-stays_there : (w : World) → LeadsTo w w
+pub stays_there : (w : World) → LeadsTo w w
 stays_there w = record { steps = []; leads = refl }
 
-once : (w : World) (event : Event) → LeadsTo w (happens w event Done)
+pub once : (w : World) (event : Event) → LeadsTo w (happens w event Done)
 once w event = record { steps = (event, Done) ∷ []; leads = refl }
 
 twice : (w : World) (event then : Event) → LeadsTo w (happens (happens w event Done) then Done)

@@ -43,6 +43,7 @@ pub mod CallerDrives
 pub mod Driving
 pub mod EventsMean
 pub mod Driven
+pub mod BusyCalls
 pub mod DrivenRuns
 pub mod Bearing
 pub mod BurstsCome
@@ -54,5 +55,7 @@ pub mod Training
 pub mod DisPhase
 pub mod Tolerance
 pub mod FewLosses
+pub mod Breaking
 pub mod Quiet
 pub mod Fates
+pub mod Putting

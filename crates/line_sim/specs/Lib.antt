@@ -16,6 +16,9 @@ pub mod Live
 pub mod Streams
 pub mod Driving
 pub mod EventsMean
+pub mod Putting
 pub mod Tolerance
+pub mod BusyCalls
+pub mod Breaking
 pub mod Quiet
 pub mod Fates

@@ -1,5 +1,5 @@
 -- The octets that travel, and the signals that they say.
-use Rattle.std.specs.Prelude.{ℕ, ◌≡◌, Bool, true, false, List, [], ◌∷◌, slice_index_or, Option, Some, None, Result, Ok, Err}
+use Rattle.std.specs.Prelude.{ℕ, ◌≡◌, Bool, true, false, List, [], ◌∷◌, drop, slice_index_or, Option, Some, None, Result, Ok, Err}
 use Rattle.raster.specs.Packed.{bits_of, FillsOctets}
 use Rattle.raster.specs.declared.packed.Order.TheVariants.{LsbFirst}
 use Rattle.hdlc.specs.Frames.{IsFrame}
@@ -13,11 +13,14 @@ use Rattle.signals.specs.declared.signal.Side.TheVariants.{Caller, Answerer}
 use Rattle.stations.specs.Inputs.{PlainItem, framed, checked}
 use Rattle.stations.specs.Lending.{has_no_frame}
 use Rattle.stations.specs.declared.lending.Item.{Item}
-use Rattle.stations.specs.declared.lending.Item.TheVariants.{Frame, Training as Check}
-use Rattle.line_sim.specs.Entries.{signal_kind}
+use Rattle.stations.specs.declared.lending.Item.TheVariants.{Frame, Training as CheckOf}
+use Rattle.line_sim.specs.Entries.{kind_of, signal_kind}
 use Rattle.line_sim.specs.declared.call.Call.{Call}
 use Rattle.line_sim.specs.declared.event.Kind.{Kind}
-use Rattle.line_sim.specs.declared.event.Kind.TheVariants.{Training}
+use Rattle.line_sim.specs.declared.event.Form.{Form}
+use Rattle.line_sim.specs.declared.event.Form.TheVariants.{Control, Page, Check}
+use Rattle.line_sim.specs.declared.event.Kind.TheVariants.{Training, Fcd, Rcp}
+use Rattle.line_sim.specs.declared.event.LineItem.{LineItem}
 
 -- octets hold the frame of a content, and 0 bits to an octet
 pub record IsFrameOf (octets content : List ℕ) : Type 0 where
@@ -34,7 +37,7 @@ is_final _ = true
 -- an item is marked as the turn's last frame exactly if it is
 abbrev pub TellsFinal : Item → Type 0
 TellsFinal (Frame signal last) = last ≡ is_final (plain signal)
-TellsFinal (Check count) = Unit {0}
+TellsFinal (CheckOf count) = Unit {0}
 
 -- of items each frame that no other one follows is final, and no other frame is
 abbrev pub AreFinal : List PlainItem → Type 0
@@ -76,6 +79,27 @@ abbrev pub ComeNext : Side → Option (List ℕ) → List PlainItem → Type 0
 ComeNext side None items = items ≡ []
 ComeNext side (Some octets) [] = ⊥
 ComeNext side (Some octets) (item ∷ items) = AreOctetsOf side octets item
+
+-- an item that is lent: it is of such a kind, and its octets are those on the line
+abbrev pub IsLent : Side → LineItem → PlainItem → Type 0
+IsLent side lent item = (kind_of item ≡ Some lent.kind) × AreOctetsOf side lent.octets.now item
+
+-- the first of the items that a station sends is lent, and none where there is none
+abbrev pub IsFirstLent : Side → Option LineItem → List PlainItem → Type 0
+IsFirstLent side None items = items ≡ []
+IsFirstLent side (Some lent) [] = ⊥
+IsFirstLent side (Some lent) (item ∷ items) = IsLent side lent item
+
+-- the item at a place of those that a station sends is lent, and none past the last one
+abbrev pub IsLentAt : Side → ℕ → Option LineItem → List PlainItem → Type 0
+IsLentAt side place lent items = IsFirstLent side lent (drop place items)
+
+-- how an item of a kind is sent: FCD and RCP at the speed of the page, so the training check, and each other frame at 300 bit/s
+abbrev pub form_of : Kind → Form
+form_of Training = Check
+form_of (Fcd number) = Page
+form_of Rcp = Page
+form_of _ = Control
 
 -- the other station, which sends what is under way to one
 abbrev pub sender_to : Side → Side

@@ -4,13 +4,13 @@ ghost use Rattle.line_sim.specs.Entries.{count_fcds, head_kind};
 ghost use Rattle.line_sim.specs.Headline.{CanBeWritten};
 ghost use Rattle.line_sim.specs.Hearing.{AnswererHears, CallerHears, HearsFirst};
 ghost use Rattle.line_sim.specs.Line.{after_first, spoiled};
-ghost use Rattle.line_sim.specs.Octets.{AreFinal, ComeNext, TellsFinal};
+ghost use Rattle.line_sim.specs.Octets.{AreFinal, ComeNext, IsLentAt, TellsFinal};
 ghost use Rattle.stations.specs.Inputs.{PlainItem};
 ghost use Rattle.stations.specs.Laws.{Each};
 ghost use Rattle.stations.specs.Lending.{plain_item};
-ghost use Rattle.std.specs.Prelude.{◌≡◌, ◌+◌, [], ◌∷◌, ◌++◌, cond, ℕ, List, take, min, option_map, IsTrue, ◌↔◌, OnOk, OnErr};
+ghost use Rattle.std.specs.Prelude.{◌≡◌, ◌+◌, [], ◌∷◌, ◌++◌, cond, ℕ, List, length, take, min, option_map, IsTrue, ◌↔◌, OnOk, OnErr};
 
-use crate::event::Kind;
+use crate::event::{Kind, LineItem};
 use crate::item::UnderWay;
 use crate::sender::Sender;
 use hdlc::Deframer;
@@ -94,6 +94,21 @@ impl<S: Sender> Channel<S> {
     {
         let first = self.items.front()?;
         Some(first.kind())
+    }
+
+    /// How many items are under way.
+    pub(crate) fn count(&self) -> usize
+        ensures { result ≡ length self.now }
+    {
+        self.items.len()
+    }
+
+    /// The item at a place; none past the last one.
+    pub(crate) fn item(&self, place: usize) -> Option<LineItem<'_>>
+        ensures { IsLentAt S.sends place result self.now }
+    {
+        let item = self.items.get(place)?;
+        Some(item.lend())
     }
 
     /// The octets of the first item.

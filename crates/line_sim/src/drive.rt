@@ -312,6 +312,13 @@ impl DrivenCall {
         Ok(made)
     }
 
+    /// The call, of which the items under way can be asked for.
+    pub fn live(&self) -> &LiveCall
+        ensures { result.now ≡ self.now.live }
+    {
+        &self.live
+    }
+
     /// The call as it stands: any event can be passed to it, and it says what it leaves.
     pub fn into_live(self) -> LiveCall
         ensures { result ≡ self.live }

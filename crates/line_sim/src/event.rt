@@ -1,5 +1,8 @@
 //! Events, items as a transcript names them, and entries.
 
+ghost use Rattle.line_sim.specs.Octets.{form_of};
+ghost use Rattle.std.specs.Prelude.{◌≡◌};
+
 use stations::Turn;
 
 /// What happens on the line or to one of its stations.
@@ -56,6 +59,40 @@ pub enum Kind {
     Rr,
     /// DCN.
     Dcn,
+}
+
+/// How an item is sent.
+#[derive(Clone, Copy, Debug, PartialEq, Eq)]
+pub enum Form {
+    /// A frame of the control channel, at 300 bit/s: each but FCD and RCP. ITU-T T.30, 5.3.
+    Control,
+    /// A frame of a page, FCD or RCP, at the speed that the DCS before it says. ITU-T T.30, A.4.
+    Page,
+    /// A training check, at that speed too: 1.5 s of 0 bits with no flags. ITU-T T.30, 5.3.6.1.3.
+    Check,
+}
+
+impl Kind {
+    /// How an item of this kind is sent.
+    pub fn form(self) -> Form
+        ensures { result ≡ form_of self }
+    {
+        match self {
+            Kind::Training => Form::Check,
+            Kind::Fcd(_) | Kind::Rcp => Form::Page,
+            _ => Form::Control,
+        }
+    }
+}
+
+/// An item under way, lent.
+#[derive(Clone, Copy, Debug, PartialEq, Eq)]
+pub struct LineItem<'a> {
+    /// What it is, and so how it is sent.
+    pub kind: Kind,
+    /// Its octets as they are on the line, the least significant bit of each first: those of a frame with its flags, or of a
+    /// training check.
+    pub octets: &'a [u8],
 }
 
 /// What the transcript shows of an event.

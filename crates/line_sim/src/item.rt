@@ -16,7 +16,7 @@ ghost use Rattle.stations.specs.Lending.{plain_item};
 ghost use Rattle.stations.specs.CallerFields.{AnswersOrRefuses};
 ghost use Rattle.std.specs.Prelude.{◌≡◌, [], ◌∷◌, List, ℕ, drop, replicate, IfOk, IsTrue, ◌↔◌};
 
-use crate::event::Kind;
+use crate::event::{Kind, LineItem};
 use crate::sender::Sender;
 use hdlc::{Deframer, write_frame};
 use raster::packed::Order;
@@ -176,6 +176,17 @@ impl<S: Sender> UnderWay<S> {
         hdlc::laws::frame_octets_grow();
         signals::laws::reads_what_is_written();
         &self.octets
+    }
+
+    /// It is lent.
+    pub(crate) fn lend(&self) -> LineItem<'_>
+        ensures kind { kind_of self.now ≡ Some result.kind }
+        ensures octets { AreOctetsOf S.sends result.octets.now self.now }
+    {
+        LineItem {
+            kind: self.kind(),
+            octets: self.octets(),
+        }
     }
 
     /// Comes to the caller. Errs where memory is refused: the caller has not heard it.

@@ -1,5 +1,7 @@
 //! What holds over every schedule. Nothing runs.
 
+ghost use Rattle.line_sim.specs.Breaking.{LostDcsBreak, LostDisBreak, SpoiledCheckBreaks};
+ghost use Rattle.line_sim.specs.BusyCalls.{BusyCallsAreSafe, BusyCallsEnd};
 ghost use Rattle.line_sim.specs.Counted.{DcsBetweenGroups, RunsAreCounted};
 ghost use Rattle.line_sim.specs.Driving.{DrivenCallsAreSafe, DrivenCallsEnd};
 ghost use Rattle.line_sim.specs.Tolerance.{AnswerersEndWell, AnyTwoLossesAreBorne, CallersEndWell, DrivenCallsBear, DrivenCallsEndFor};
@@ -74,6 +76,17 @@ pub fn driven_calls_end()
     stations::laws::callers_end();
 }
 
+/// So does a driven call in which the answerer is set busy and ready before any of its steps, within the same number of steps: for each
+/// block as many RNRs as the caller's patience allows take 8 each. It is safe too.
+pub fn busy_calls_end()
+    ensures busy { BusyCallsEnd }
+    ensures safe { BusyCallsAreSafe }
+{
+    headline();
+    stations::laws::speeds_hold();
+    stations::laws::callers_end();
+}
+
 /// Where both stations agree on each page and its code fits a call, the caller of a driven call ends normally or for
 /// one of four reasons, each of which costs a number of bad tries or spoiled checks of one phase; so a call with at
 /// most two bad tries in each phase goes through, and one with any two losses.
@@ -90,6 +103,15 @@ pub fn calls_bear()
     stations::laws::speeds_hold();
     signals::laws::lowered_is_allowed();
 }
+
+/// The fewest losses that break a call before its first page, each of a kind, whatever its document is: three lost DIS, where three are sent
+/// in a wait; a DCS that is lost three times; and the training check of stations with one common speed, spoiled once. So of what
+/// `calls_bear` allows none can be more.
+pub fn calls_break()
+    ensures dis { LostDisBreak }
+    ensures dcs { LostDcsBreak }
+    ensures check { SpoiledCheckBreaks }
+{}
 
 /// What each event may change: a station at the events that it hears of alone, the list of what is under way from it at these
 /// alone, and then what is under way to it is lost; and what each event makes of the first item under way, or of a wait that

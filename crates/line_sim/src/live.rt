@@ -3,8 +3,10 @@
 ghost use Rattle.line_sim.specs.Headline.{IsSafe};
 ghost use Rattle.line_sim.specs.Line.{World as WorldValue};
 ghost use Rattle.line_sim.specs.Live.{HoldsLive, steps_in};
+ghost use Rattle.line_sim.specs.Octets.{IsLentAt, sender_to, under_way_to};
 ghost use Rattle.line_sim.specs.PageMachine.{AtMostTwo};
 ghost use Rattle.line_sim.specs.Polite.{next_steps};
+ghost use Rattle.line_sim.specs.Putting.{Puts};
 ghost use Rattle.line_sim.specs.Standing.{Acts, IsUnheard, NewCall, Shows, fields_state};
 ghost use Rattle.stations.specs.CallerStep.{confirmed};
 ghost use Rattle.stations.specs.Laws.{Each};
@@ -12,12 +14,12 @@ ghost use Rattle.stations.specs.Layers.{IsFullPage};
 ghost use Rattle.std.specs.Prelude.{◌≡◌, IfOk, length, false, true};
 
 use crate::call::Call;
-use crate::event::{Entry, Event};
+use crate::event::{Entry, Event, LineItem};
 use crate::fault::WorldFault;
 use crate::laws::headline;
 use crate::world::has_full_pages;
 use raster::{Document, Page};
-use signals::{Caps, Wish};
+use signals::{Caps, Side, Wish};
 use stations::End;
 use stations::laws::{layers_hold, signals_hold};
 use std::alloc::Global;
@@ -103,11 +105,36 @@ impl LiveCall {
         Next::Nothing
     }
 
+    /// How many items are under way to a station.
+    pub fn count_to(&self, to: Side) -> usize
+        ensures { result ≡ length (under_way_to to self.now) }
+    {
+        match to {
+            Side::Caller => self.call.to_caller.count(),
+            Side::Answerer => self.call.to_answerer.count(),
+        }
+    }
+
+    /// The item at a place of those under way to a station, of which the one at place 0 comes next; none past the last one.
+    /// Takes no memory. An event puts items after those that are there. So what it has put under way to a station are the items
+    /// from the place on that `count_to` answered before it, in order: there are none where it has taken some away, as
+    /// a delivery, a loss, or a transmission of that station does. A new call has put the item at place 0. A training check that an
+    /// event spoils stays at its place, with octets FF.
+    pub fn item_to(&self, to: Side, place: usize) -> Option<LineItem<'_>>
+        ensures { IsLentAt (sender_to to) place result (under_way_to to self.now) }
+    {
+        match to {
+            Side::Caller => self.call.to_caller.item(place),
+            Side::Answerer => self.call.to_answerer.item(place),
+        }
+    }
+
     /// One event, and its entry, which shows whether a growth was refused in it. Both stations are in step before and
     /// after it.
     pub fn event(&mut self, event: Event) -> Entry
         ensures acts { Acts self.old self.new event result }
         ensures whole { IsUnheard event → result.refused ≡ false }
+        ensures puts { Puts self.old self.new event result.refused }
         ensures moves { AtMostTwo (length self.old.caller.document) (fields_state self.old) (fields_state self.new) }
         ensures document { self.new.caller.document ≡ self.old.caller.document }
         ensures before { HoldsLive self.old }
