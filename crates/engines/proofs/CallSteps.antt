@@ -322,7 +322,7 @@ one_followed commands command now new w first mid next before at after told more
 -- ---- a whole call
 
 -- pages of a document are full
-full_pages : (pages : List PagePixels) → All IsPage pages → All (λ (page : PagePixels). 0 < length page.rows) pages → Each IsFullPage pages
+pub full_pages : (pages : List PagePixels) → All IsPage pages → All (λ (page : PagePixels). 0 < length page.rows) pages → Each IsFullPage pages
 full_pages [] valid some = tt
 full_pages (page ∷ pages) valid some = (
   record { valid = valid 0 page (omega arith); some = some 0 page (omega arith) },
@@ -330,7 +330,7 @@ full_pages (page ∷ pages) valid some = (
 )
 
 -- what is safe of a world is safe of what it leaves
-safe_told : (document : Document) (ending : Ending) (w : World) → EndsAs ending w → IsSafeWorld document w →
+pub safe_told : (document : Document) (ending : Ending) (w : World) → EndsAs ending w → IsSafeWorld document w →
     IsSafe document ending.pages.items ending.confirmed ending.caller_end ending.answerer_end
 safe_told document ending w ends safe = rw (ends.pages, ends.confirmed, ends.caller_end, ends.answerer_end) safe
 
@@ -358,7 +358,7 @@ tells_call runs options document commands start end ending next before at after 
     }
 
 -- the first pages of a document have rows
-beginning_rows : (pages document : List PagePixels) → IsBeginning pages document → HaveRows document → HaveRows pages
+pub beginning_rows : (pages document : List PagePixels) → IsBeginning pages document → HaveRows document → HaveRows pages
 beginning_rows pages document begins some =
     subst HaveRows (ap (take (length pages)) (sym begins.1) ∙ take-append_seam pages begins.0)
     (All-take (λ (page : PagePixels). 0 < length page.rows) (length pages) document some)

@@ -16,3 +16,10 @@ mod Capturing
 mod RepairedLines
 mod LineFaults
 mod MissingEol
+mod CapturesMean
+mod ScriptsMean
+mod OptionsMean
+mod RepairsMean
+mod DrivenSteps
+mod DrivenCalls
+mod Rates

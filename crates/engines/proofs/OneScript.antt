@@ -20,7 +20,7 @@ use Rattle.engines.proofs.ScriptWords.{lacks_at, word_solid}
 -- ---- one cut
 
 -- a list is cut at its first c in one way
-one_cut : (c : ℕ) (xs ys rest others : List ℕ) → ((k : ℕ) → k < length xs → slice_index xs k ≢ c)
+pub one_cut : (c : ℕ) (xs ys rest others : List ℕ) → ((k : ℕ) → k < length xs → slice_index xs k ≢ c)
     → ((k : ℕ) → k < length ys → slice_index ys k ≢ c)
     → xs ++ c ∷ rest ≡ ys ++ c ∷ others → (xs ≡ ys) × (rest ≡ others)
 one_cut c [] [] rest others nx ny e = (refl, cc)
@@ -33,7 +33,7 @@ one_cut c (x ∷ xs) (y ∷ ys) rest others nx ny e =
     ((let t : xs ≡ ys = parts.0 in cc), parts.1)
 
 -- what has no c is not cut at one
-no_cut : (c : ℕ) (xs ys rest : List ℕ) → ((k : ℕ) → k < length xs → slice_index xs k ≢ c) → xs ≡ ys ++ c ∷ rest → ⊥
+pub no_cut : (c : ℕ) (xs ys rest : List ℕ) → ((k : ℕ) → k < length xs → slice_index xs k ≢ c) → xs ≡ ys ++ c ∷ rest → ⊥
 no_cut c xs ys rest none e =
     let there : get_or xs (length ys) 0 ≡ c = ap (λ l. get_or l (length ys) 0) e ∙ get_or_at ys c rest 0 (length ys) refl in
     let size : length xs ≡ length ys + suc (length rest) = ap length e ∙ length-append ys (c ∷ rest) in
@@ -62,7 +62,7 @@ event_of_word AnswererT2 = refl
 event_of_word (Busy true) = refl
 event_of_word (Busy false) = refl
 
-one_event : (a b : Event) → word_of a ≡ word_of b → a ≡ b
+pub one_event : (a b : Event) → word_of a ≡ word_of b → a ≡ b
 one_event a b e = sym (event_of_word a) ∙ (ap event_of e ∙ event_of_word b)
 
 no_polite : (event : Event) → bytes_eq (word_of event) (codes "polite") ≡ false
@@ -78,7 +78,7 @@ no_polite AnswererT2 = refl
 no_polite (Busy true) = refl
 no_polite (Busy false) = refl
 
-polite_is_none : (event : Event) → word_of event ≡ codes "polite" → ⊥
+pub polite_is_none : (event : Event) → word_of event ≡ codes "polite" → ⊥
 polite_is_none event e =
     let same : bytes_eq (codes "polite") (codes "polite") ≡ false = subst (λ w. bytes_eq w (codes "polite") ≡ false) e (no_polite event) in
     let truth : bytes_eq (codes "polite") (codes "polite") ≡ true = refl in
@@ -87,7 +87,7 @@ polite_is_none event e =
 one_count : (a b : List ℕ) (m n : ℕ) → a ≡ b → IsCount a m → IsCount b n → m ≡ n
 one_count a b m n e is also = is.value ∙ (ap (λ d. digits_value 10 d) e ∙ sym also.value)
 
-one_command : (line : List ℕ) (a b : Command) → Says line a → Says line b → a ≡ b
+pub one_command : (line : List ℕ) (a b : Command) → Says line a → Says line b → a ≡ b
 one_command line (Events e m) (Events f n) (inl (is, one)) (inl (also, once)) =
     let same = one_event e f (sym is ∙ also) in let times : m ≡ n = one ∙ sym once in cc
 one_command line (Events e m) (Events f n) (inl (is, one)) (inr (digits, also, count)) =

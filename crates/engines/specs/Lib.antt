@@ -3,9 +3,17 @@ pub mod Faults
 pub mod Explanations
 pub mod CodedPages
 pub mod Repairs
+pub mod Decodings
 pub mod Texts
 pub mod Frames
 pub mod Captured
+pub mod PageNumbers
 pub mod Scripts
 pub mod Transcripts
 pub mod Calls
+pub mod CapturesMean
+pub mod ScriptsMean
+pub mod OptionsMean
+pub mod RepairsMean
+pub mod Losses
+pub mod BadLines

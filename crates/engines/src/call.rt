@@ -25,7 +25,7 @@ use std::io::{Read, Write};
 
 /// The answerer of a call: with these modems, it takes pages of each width, of fine lines too, in each
 /// code, with error correction.
-fn answerer_caps(modems: Modems) -> Caps
+pub(crate) fn answerer_caps(modems: Modems) -> Caps
     ensures { result ≡ answerer_caps modems }
 {
     Caps {
@@ -39,7 +39,7 @@ fn answerer_caps(modems: Modems) -> Caps
 }
 
 /// The number of the line after the one with this number. Errs with 8 where it would be 2^64.
-fn after(number: u64) -> Result<u64, ToolFault>
+pub(crate) fn after(number: u64) -> Result<u64, ToolFault>
     ensures next { IfOk result (λ next. next ≡ number + 1) }
     ensures fault { IfErr result IsOutside }
 {

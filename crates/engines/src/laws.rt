@@ -1,7 +1,11 @@
 //! Laws of the definitions. Nothing runs.
 
+ghost use Rattle.engines.specs.CapturesMean.{BlocksEnd, CapturesMean, FramesAreKept, OthersChangeNothing};
 ghost use Rattle.engines.specs.Explanations.{IsOneLine, explained};
+ghost use Rattle.engines.specs.OptionsMean.{LinesAreAsked, OptionsMean};
+ghost use Rattle.engines.specs.RepairsMean.{RowsAreListed, TornIsOneBitOff};
 ghost use Rattle.engines.specs.Scripts.{IsLineFault, IsScript, RefusesScript};
+ghost use Rattle.engines.specs.ScriptsMean.{CountsMake, CountsMean, LinesMean, WordsDo};
 ghost use Rattle.engines.specs.Transcripts.{ArePrintedLines};
 ghost use Rattle.engines.specs.declared.explain.Known.{Known};
 ghost use Rattle.engines.specs.declared.fault.ToolFault.{ToolFault};
@@ -30,4 +34,35 @@ pub fn one_line_fault()
 /// Written-out lines of events and words of ends are printed as they are written here.
 pub fn printed_lines()
     ensures { ArePrintedLines }
+{}
+
+/// What is found in a capture: in whole sequences of signals, with each end of a PPS, resends, frames and blocks that are missing,
+/// and a DCS in the middle; which signals change nothing, as a DCN; which data of an FCD are kept; and what a PPS leaves.
+pub fn captures_mean()
+    ensures sequences { CapturesMean }
+    ensures others { OthersChangeNothing }
+    ensures frames { FramesAreKept }
+    ensures ends { BlocksEnd }
+{}
+
+/// What each word of a script does to a call, how often, and what a line adds to a script before which it stands. Lines
+/// that are refused are counted from 1.
+pub fn scripts_mean()
+    ensures words { WordsDo }
+    ensures numbers { CountsMean }
+    ensures times { CountsMake }
+    ensures lines { LinesMean }
+{}
+
+/// What each option of a call does: the octets of the DIS that it begins with, and what the stations agree on for pages of each
+/// width, fine or not: the code, the frames, the lines and the speed are as the options say.
+pub fn options_mean()
+    ensures stations { OptionsMean }
+    ensures lines { LinesAreAsked }
+{}
+
+/// What is written of repaired rows; and an EOL that ends a line though it is torn has one wrong bit, among its first eleven.
+pub fn repairs_mean()
+    ensures rows { RowsAreListed }
+    ensures torn { TornIsOneBitOff }
 {}

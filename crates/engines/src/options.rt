@@ -1,5 +1,6 @@
-//! What a call is run with.
+//! What a call is run with, and how a page is read.
 use page_code::Coding;
+use run_tables::Order;
 use signals::Modems;
 
 /// What a call is run with.
@@ -11,6 +12,19 @@ pub struct CallOptions {
     pub small: bool,
     /// The modems of both stations.
     pub modems: Modems,
+    /// 7.7 lines a millimetre in place of 3.85.
+    pub fine: bool,
+}
+
+/// How a coded page is read.
+#[derive(Clone, Copy, Debug, PartialEq, Eq)]
+pub struct PageForm {
+    /// The code of the page.
+    pub coding: Coding,
+    /// Which bit of an octet comes first.
+    pub order: Order,
+    /// The page's width in pixels.
+    pub width: u32,
     /// 7.7 lines a millimetre in place of 3.85.
     pub fine: bool,
 }

@@ -6,6 +6,7 @@ ghost use Rattle.raster.specs.Pixels.{IsWidth};
 ghost use Rattle.std.specs.Prelude.{◌≡◌, ◌<◌, ◌⊎◌, ◌∷◌, [], IfErr, IfOk, IfSome, OnOk, length};
 
 use crate::fault::{NO_MEMORY, ToolFault};
+use crate::options::PageForm;
 use page_code::Coding;
 use raster::{Page, read_first_pbm, write_pbm, write_text};
 use run_tables::{CodeFaultKind, Order};
@@ -74,7 +75,7 @@ pub fn show_engine<R: Read, W: Write>(
     Ok(())
 }
 
-/// Reads octets that begin with the code of a page of this width in pixels, 1 to 2,432, and writes the
+/// Reads octets that begin with the code of a page of this form, of a width of 1 to 2,432 pixels, and writes the
 /// page as an image of Netpbm's raw PBM format. Answers how many rows the page has and how many bits
 /// its code has. Errs at the bit where they are refused, and then nothing is written; with 8 where the
 /// reader or the writer fails, and with 9.
@@ -82,17 +83,21 @@ pub fn decode_engine<R: Read, W: Write>(
     alloc: Global,
     reader: &mut R,
     writer: &mut W,
-    coding: Coding,
-    order: Order,
-    width: u32,
-    fine: bool,
+    form: PageForm,
 ) -> Result<(usize, u128), ToolFault>
-    requires { IsWidth width }
+    requires { IsWidth form.width }
     ensures decoded { IfOk result (λ counts. IfSome (R.remaining reader.old)
-        (DecodesPage coding order width fine (W.contents writer.old) (W.contents writer.new) counts.0 counts.1)) }
-    ensures refused { IfErr result (λ fault. IfSome (R.remaining reader.old) (λ octets. RefusesShow coding order width octets fault)) }
+        (DecodesPage form.coding form.order form.width form.fine (W.contents writer.old) (W.contents writer.new) counts.0 counts.1)) }
+    ensures refused { IfErr result (λ fault. IfSome (R.remaining reader.old) (λ octets.
+        RefusesShow form.coding form.order form.width octets fault)) }
     ensures unwritten { IfErr result (λ fault. IsOutside fault ⊎ (writer.new ≡ writer.old)) }
 {
+    let PageForm {
+        coding,
+        order,
+        width,
+        fine,
+    } = form;
     let mut octets = Vec::new(alloc);
     reader.read_to_end(&mut octets)?;
     let (page, bits) = coding.decode(alloc, &octets, order, width, fine)?;
@@ -108,16 +113,19 @@ pub fn salvage_engine<R: Read, W: Write>(
     alloc: Global,
     reader: &mut R,
     writer: &mut W,
-    coding: Coding,
-    order: Order,
-    width: u32,
-    fine: bool,
+    form: PageForm,
 ) -> Result<Salvage, ToolFault>
-    requires { IsWidth width }
+    requires { IsWidth form.width }
     ensures salvaged { IfOk result (λ salvage. IfSome (R.remaining reader.old)
-        (SalvagesPage coding order width fine (W.contents writer.old) (W.contents writer.new) salvage)) }
+        (SalvagesPage form.coding form.order form.width form.fine (W.contents writer.old) (W.contents writer.new) salvage)) }
     ensures fault { IfErr result IsOutside }
 {
+    let PageForm {
+        coding,
+        order,
+        width,
+        fine,
+    } = form;
     let mut octets = Vec::new(alloc);
     reader.read_to_end(&mut octets)?;
     let fault = match coding.decode(alloc, &octets, order, width, fine) {

@@ -6,9 +6,9 @@ ghost use Rattle.std.specs.Io.KnownBytes.{Appends};
 ghost use Rattle.std.specs.Prelude.{IfErr, IfOk, IfSome, OnOk};
 
 use crate::fault::ToolFault;
+use crate::options::PageForm;
 use page_code::{OneDim, RepairedPage, RepairedRow};
 use raster::write_pbm;
-use run_tables::Order;
 use std::alloc::Global;
 use std::io::{Read, Write};
 
@@ -21,7 +21,8 @@ pub struct Repair {
     pub repaired: usize,
 }
 
-/// Reads octets that begin with a page of this width in pixels, 1 to 2,432, in the one-dimensional code, and writes
+/// Reads octets that begin with a page of this form, of a width of 1 to 2,432 pixels, in the one-dimensional code whatever
+/// the form's is, and writes
 /// it as an image of Netpbm's raw PBM format, in which a row that can't be read is the one before it (white for the
 /// first). Then a line for each such row is written to `lines`, and one with their number, if there is one. Errs at
 /// the bit where the page is refused if no row can be read, at a 20,001st row, with 8 where the reader or a writer
@@ -31,19 +32,20 @@ pub fn repair_engine<R: Read, W: Write, L: Write>(
     reader: &mut R,
     writer: &mut W,
     lines: &mut L,
-    order: Order,
-    width: u32,
-    fine: bool,
+    form: PageForm,
 ) -> Result<Repair, ToolFault>
-    requires { IsWidth width }
+    requires { IsWidth form.width }
     ensures repaired { IfOk result (λ repair. IfSome (R.remaining reader.old)
-        (RepairsPage order width fine (W.contents writer.old) (W.contents writer.new)
+        (RepairsPage form.order form.width form.fine (W.contents writer.old) (W.contents writer.new)
         (L.contents lines.old) (L.contents lines.new) repair)) }
-    ensures refused { IfErr result (λ fault. IfSome (R.remaining reader.old) (λ octets. RefusesRepair order width octets fault)) }
+    ensures refused { IfErr result (λ fault. IfSome (R.remaining reader.old) (λ octets.
+        RefusesRepair form.order form.width octets fault)) }
 {
     let mut octets = Vec::new(alloc);
     reader.read_to_end(&mut octets)?;
-    let RepairedPage { page, repaired } = OneDim::repair(alloc, &octets, order, width, fine)?;
+    let RepairedPage { page, repaired } = OneDim::repair(
+        alloc, &octets, form.order, form.width, form.fine,
+    )?;
     let rows = page.rows().len();
     write_pbm(&[page], writer)?;
     write_repaired(&repaired, lines)?;

@@ -6,4 +6,4 @@ use Rattle.engines.proofs.pages.decode_engine.Goals as goal
 
 pub write_pbm-requires : goal.write_pbm-requires
 write_pbm-requires g c =
-    only_one (λ (page : Page). 0 < length page.rows) c.in_ok-page.page (has_row c.args.coding _ _ _ _ c.in_ok-page.ensures.reads.reads)
+    only_one (λ (page : Page). 0 < length page.rows) c.in_ok-page.page (has_row c.args.form.coding _ _ _ _ c.in_ok-page.ensures.reads.reads)

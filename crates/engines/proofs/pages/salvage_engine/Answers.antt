@@ -6,4 +6,4 @@ use Rattle.engines.proofs.pages.salvage_engine.Goals as goal
 
 pub write_pbm-requires : goal.write_pbm-requires
 write_pbm-requires g c =
-    only_one (λ (page : Page). 0 < length page.rows) c.in-Ok.page (has_row c.args.coding _ _ _ _ c.in-Ok.ensures.reads.reads)
+    only_one (λ (page : Page). 0 < length page.rows) c.in-Ok.page (has_row c.args.form.coding _ _ _ _ c.in-Ok.ensures.reads.reads)

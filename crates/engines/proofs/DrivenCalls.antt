@@ -1,0 +1,75 @@
+-- How a call over a bad line ends.
+use Rattle.std.proofs.Common.{◌≡◌, ◌⊎◌, ℕ, Bool, List, Option, Some, None, inl, inr, refl, sym, subst}
+use Rattle.std.specs.Prelude.{IfSome}
+use Rattle.std.specs.Io.KnownBytes.{Appends}
+use Rattle.std.proofs.KnownBytes.{Appends-trans}
+use Rattle.raster.specs.Pages.{PagePixels, IsDocument}
+use Rattle.raster.specs.Pbm.{AreImages}
+use Rattle.stations.specs.CallerFields.{AreCallable}
+use Rattle.stations.specs.Layers.{Document}
+use Rattle.line_sim.specs.Driving.{Driven, DrivenCallsAreSafe, drive}
+use Rattle.line_sim.specs.Entries.{entries}
+use Rattle.line_sim.specs.Fates.{DrivenFields}
+use Rattle.line_sim.specs.Line.{World}
+use Rattle.line_sim.specs.Report.{all_done}
+use Rattle.line_sim.specs.Standing.{Shows}
+use Rattle.line_sim.specs.declared.live.Ending.{Ending}
+use Rattle.engines.specs.BadLines.{DrivesCall, RefusesDriven, TellsAll, TellsDriven, driven_call, patience_of}
+use Rattle.engines.specs.Calls.{EndsAs, HaveRows, answerer_caps, call_world, caller_wish}
+use Rattle.engines.specs.Faults.{IsOutside}
+use Rattle.engines.specs.Losses.{fates_of, generator_of}
+use Rattle.engines.specs.Transcripts.{ending_text, entry_lines}
+use Rattle.engines.specs.declared.fault.ToolFault.{ToolFault}
+use Rattle.engines.specs.declared.fault.ToolFault.TheVariants.{No}
+use Rattle.engines.specs.declared.losses.BadLine.{BadLine}
+use Rattle.engines.specs.declared.options.CallOptions.{CallOptions}
+use Rattle.engines.proofs.CallSteps.{beginning_rows, full_pages, safe_told}
+
+-- the octets of a writer, where it tells them
+abbrev pub Octets : Type 0
+Octets = Option (List ℕ)
+
+-- what the steps of a driven call lead to is safe: they are a run of events
+pub tells_driven : DrivenCallsAreSafe → (options : CallOptions) (line : BadLine) (number : ℕ) (document : Document) (new : DrivenFields)
+    (ending : Ending) (before at after : Octets) → IsDocument document → AreCallable document →
+    TellsAll line (generator_of line number) document (caller_wish options) (answerer_caps options.modems) new before at →
+    ((w : World) → Shows new.live w → EndsAs ending w) → Appends at after (ending_text ending) →
+    TellsDriven options line number document before after ending.pages.items
+tells_driven law options line number document new ending before at after is callable told ends text =
+    let d : Driven = drive told.made (patience_of line) (driven_call options line number document told.made) in
+    let ended : EndsAs ending d.world = ends d.world told.shows.world in
+    record {
+      callable = callable;
+      made = told.made;
+      events = told.events;
+      are = told.are;
+      over = told.over;
+      ending = ending;
+      ends = ended;
+      written = Appends-trans before at after (entry_lines 1 (entries (all_done told.events) (call_world options document)))
+          (ending_text ending) told.written text;
+      answered = refl;
+      safe = safe_told document ending d.world ended
+          (law document (caller_wish options) (answerer_caps options.modems) (patience_of line) (fates_of line number told.made) told.made
+          (full_pages document is.valid is.rows));
+    }
+
+pub driven_rows : (options : CallOptions) (line : BadLine) (number : ℕ) (document : Document) (before after : Octets)
+    (pages : List PagePixels) → TellsDriven options line number document before after pages → HaveRows document → HaveRows pages
+driven_rows options line number document before after pages told some =
+    subst HaveRows (sym told.answered) (beginning_rows told.ending.pages.items document told.safe.beginning some)
+
+pub drives_call : (options : CallOptions) (line : BadLine) (number : ℕ) (images before after : Option (List ℕ)) (document : Document)
+    (pages : List PagePixels) → IfSome images (λ octets. AreImages options.fine octets document) →
+    TellsDriven options line number document before after pages →
+    IfSome images (λ octets. DrivesCall options line number octets before after pages)
+drives_call options line number None before after document pages read told = tt
+drives_call options line number (Some images) before after document pages read told =
+    record { document = document; read = read; told = told }
+
+pub refused_driven : (fine : Bool) (images : Option (List ℕ)) (document : Document) (fault : ToolFault) →
+    IfSome images (λ octets. AreImages fine octets document) → IsOutside fault ⊎ (¬ AreCallable document × (fault ≡ No 26)) →
+    IfSome images (λ octets. RefusesDriven fine octets fault)
+refused_driven fine None document fault read why = tt
+refused_driven fine (Some images) document fault read (inl outside) = inl outside
+refused_driven fine (Some images) document fault read (inr wide) = inr (inr (document, read, wide.0, wide.1))
