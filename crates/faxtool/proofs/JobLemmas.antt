@@ -2,18 +2,21 @@
 use Rattle.std.proofs.Common.{◌≡◌, ◌≤◌, ◌∙◌, ℕ, List, Option, Some, None, Result, Ok, Err, true, ap, subst, sym, codes}
 use Rattle.std.proofs.Common.{slice_index, inl, inr, unwrap_or, arith, refl}
 use Rattle.std.specs.Str.Parse.{ParsesUnsigned, digits_value, without_leading_plus}
-use Rattle.clap.specs.Words.{App, HasKind, IsAmong, ReadsOne, Row, Text, fault_of, is_simple}
+use Rattle.clap.specs.Words.{App, HasKind, IsAmong, ReadsOne, Row, Text, fault_of, first_of, is_simple}
 use Rattle.clap.specs.Words.{is_simple_and_free, kind_of, one_text, rows_of, subcommand_of}
 use Rattle.clap.specs.declared.parser.matches.Found.{Found}
 use Rattle.clap.specs.declared.error.Error.{Error}
 use Rattle.clap.specs.declared.builder.value_parser.ValueParser.{ValueParser}
 use Rattle.clap.proofs.OnLiterals.{clap_on_literals}
 use Rattle.clap.proofs.WalkLemmas.{one_text-rows}
-use Rattle.faxtool.specs.declared.words.Job.TheVariants.{Call, Code, Decode, Frames, Show, Version}
+use Rattle.engines.specs.Losses.{IsRate}
+use Rattle.engines.specs.declared.losses.BadLine.{BadLine}
+use Rattle.std.specs.Prelude.{string_bytes}
+use Rattle.faxtool.specs.declared.words.Job.TheVariants.{Call, Code, Decode, Drive, Frames, Show, Version}
 use Rattle.faxtool.specs.declared.words.Outcome.{Outcome}
 use Rattle.faxtool.specs.declared.words.Outcome.TheVariants.{Done, Fault, Incomplete, Words}
 use Rattle.faxtool.specs.Jobs.{AreOptionsIn, HasNoJob, HasNoOptions, IsFaxtool, IsOutcomeOf, IsRefusalOf, IsWidthIn, ReadsNumber}
-use Rattle.faxtool.specs.Jobs.{faxtool_app}
+use Rattle.faxtool.specs.Jobs.{IsLineIn, IsRateIn, IsSpoilIn, faxtool_app}
 
 -- ---- the width
 
@@ -169,6 +172,8 @@ no_width rows none (Frames most pages input) (others, e, reads, folder, is) =
     show_is_frames (some_name (codes "show") (codes "frames") rows others e)
 no_width rows none (Call script options out input) (others, e, is) =
     show_is_call (some_name (codes "show") (codes "call") rows others e)
+no_width rows none (Drive line options out input) (others, e, is) =
+    show_is_call (some_name (codes "show") (codes "call") rows others e)
 no_width rows none Version (others, e) = show_is_version (some_name (codes "show") (codes "version") rows others e)
 
 -- nor is there one for `decode`
@@ -183,6 +188,8 @@ no_width_to_decode rows none (Decode coding order width fine salvage repair whol
 no_width_to_decode rows none (Frames most pages input) (others, e, reads, folder, is) =
     decode_is_frames (some_name (codes "decode") (codes "frames") rows others e)
 no_width_to_decode rows none (Call script options out input) (others, e, is) =
+    decode_is_call (some_name (codes "decode") (codes "call") rows others e)
+no_width_to_decode rows none (Drive line options out input) (others, e, is) =
     decode_is_call (some_name (codes "decode") (codes "call") rows others e)
 no_width_to_decode rows none Version (others, e) = decode_is_version (some_name (codes "decode") (codes "version") rows others e)
 
@@ -199,4 +206,47 @@ no_options rows none (Frames most pages input) (others, e, reads, folder, is) =
 no_options rows none (Call script options out input) (others, e, is) =
     none options (subst (λ (xs : List Row). AreOptionsIn xs options) (sym (some_rows (codes "call") (codes "call") rows others e))
     is.options_are)
+no_options rows none (Drive line options out input) (others, e, is) =
+    none options (subst (λ (xs : List Row). AreOptionsIn xs options) (sym (some_rows (codes "call") (codes "call") rows others e))
+    is.options_are)
 no_options rows none Version (others, e) = call_is_version (some_name (codes "call") (codes "version") rows others e)
+
+-- ---- a bad line
+
+pub rate_only : (id : Text) (rows : List Row) (text : Text) (result : Option ℕ) → Some text ≡ first_of id rows
+    → ((share : ℕ) → IsRate text share → result ≡ Some share) → (share : ℕ) → IsRateIn id rows share → result ≡ Some share
+rate_only id rows text result given only share (other, is, rate) =
+    only share (subst (λ t. IsRate t share) (sym (same_text text other (given ∙ is))) rate)
+
+pub spoil_only : (rows : List Row) (text : Text) (result : Option ℕ) → Some text ≡ first_of (codes "spoil") rows
+    → ((share : ℕ) → IsRate text share → result ≡ Some share) → (share : ℕ) → IsSpoilIn rows share → result ≡ Some share
+spoil_only rows text result given only share (inl (none, zero_is)) =
+    let no : ◌≡◌ {A = Option Text} (Some text) None = given ∙ none in
+    absurd (cc)
+spoil_only rows text result given only share (inr rate) = rate_only (codes "spoil") rows text result given only share rate
+
+pub none_there : (share : ℕ) → ◌≡◌ {A = Option ℕ} None (Some share) → ⊥
+none_there share e = cc
+
+pub same_number : (a b : ℕ) → ◌≡◌ {A = Option ℕ} (Some a) (Some b) → a ≡ b
+same_number a b e = ap (λ (o : Option ℕ). unwrap_or o a) e
+
+-- without a script and a bad line there is no job for `call`
+pub no_line : (rows : List Row) → None ≡ first_of (codes "script") rows → ((line : BadLine) → IsLineIn rows line → ⊥)
+    → HasNoJob (Some (codes "call", rows))
+no_line rows open_end none (Code coding order input output) (others, e, is) =
+    call_is_code (some_name (codes "call") (codes "code") rows others e)
+no_line rows open_end none (Show coding order width input) (others, e, is) =
+    show_is_call (sym (some_name (codes "call") (codes "show") rows others e))
+no_line rows open_end none (Decode coding order width fine salvage repair whole verbose input output) (others, e, is) =
+    decode_is_call (sym (some_name (codes "call") (codes "decode") rows others e))
+no_line rows open_end none (Frames most pages input) (others, e, reads, folder, is) =
+    call_is_frames (some_name (codes "call") (codes "frames") rows others e)
+no_line rows open_end none (Call script options out input) (others, e, is) =
+    let same : rows ≡ others = some_rows (codes "call") (codes "call") rows others e in
+    let no : ◌≡◌ {A = Option Text} None (Some (string_bytes script)) =
+    open_end ∙ (ap (λ (xs : List Row). first_of (codes "script") xs) same ∙ is.script_is) in
+    cc
+no_line rows open_end none (Drive line options out input) (others, e, is) =
+    none line (subst (λ (xs : List Row). IsLineIn xs line) (sym (some_rows (codes "call") (codes "call") rows others e)) is.line_is)
+no_line rows open_end none Version (others, e) = call_is_version (some_name (codes "call") (codes "version") rows others e)

@@ -1,6 +1,6 @@
 -- The commands of the program, what each job is of the values that clap reads, and why words are refused.
 use Rattle.std.specs.Prelude.{◌≡◌, ◌≢◌, ◌≤◌, ◌<◌, ◌^◌, ◌⊎◌, ℕ, Bool, true, false, List, [], ◌∷◌, Option, Some, None}
-use Rattle.std.specs.Prelude.{codes, map, pos, if◌then◌else◌, option_map, string_bytes, not, ◌&&◌}
+use Rattle.std.specs.Prelude.{codes, map, pos, if◌then◌else◌, is_some, option_map, string_bytes, not, ◌&&◌, ◌||◌, ◌+◌}
 use Rattle.std.specs.Str.{bytes_eq}
 use Rattle.std.specs.Str.Parse.{IsNumeral, digits_value, without_leading_plus}
 use Rattle.clap.specs.Words.{App, IsAmong, Row, Rule, Text, fault_of, first_of, kind_of, new_app}
@@ -18,9 +18,11 @@ use Rattle.raster.specs.declared.packed.Order.TheVariants.{LsbFirst, MsbFirst}
 use Rattle.engines.specs.declared.fault.ToolFault.TheVariants.{No}
 use Rattle.signals.specs.declared.params.Modems.{Modems}
 use Rattle.signals.specs.declared.params.Modems.TheVariants.{Fallback, V27, V29, V27V29, V17}
+use Rattle.engines.specs.Losses.{IsRate}
+use Rattle.engines.specs.declared.losses.BadLine.{BadLine}
 use Rattle.engines.specs.declared.options.CallOptions.{CallOptions}
 use Rattle.faxtool.specs.declared.words.Job.{Job}
-use Rattle.faxtool.specs.declared.words.Job.TheVariants.{Call, Code, Decode, Frames, Show, Version}
+use Rattle.faxtool.specs.declared.words.Job.TheVariants.{Call, Code, Decode, Drive, Frames, Show, Version}
 use Rattle.faxtool.specs.declared.words.Request.{Request}
 use Rattle.faxtool.specs.declared.words.Outcome.{Outcome}
 use Rattle.faxtool.specs.declared.words.Outcome.TheVariants.{Done, Fault, Incomplete, Words}
@@ -121,11 +123,20 @@ with_choices app codings sizes modems = with_rule (with_rule (with_rule app
     (choice_rule (codes "code") codings (codes "mmr"))) (choice_rule (codes "frame") sizes (codes "256")))
     (choice_rule (codes "modems") modems (codes "v17"))
 
--- `call`: the file of the script, which is required, the code, the size of frames, the modems, fine or not, the file of the
+-- an option with a number from a first to a last one
+abbrev pub number_rule : Text → ℕ → ℕ → Rule
+number_rule id first last = record (option_rule id) { parser = Some (vp.Signed (pos first) (pos last)) }
+
+-- the command with the options of a bad line: two rates, the seed of the generator and the number of DIS
+abbrev pub with_line : App → App
+with_line app = with_rule (with_rule (with_rule (with_rule app (option_rule (codes "lose"))) (option_rule (codes "spoil")))
+    (number_rule (codes "seed") 0 4294967295)) (number_rule (codes "calls") 1 1000000)
+
+-- `call`: the file of the script, or the options of a bad line, the code, the size of frames, the modems, fine or not, the file of the
 -- stored pages, and the file of the document
 abbrev pub call_app : ValueParser → ValueParser → ValueParser → App
-call_app codings sizes modems = with_explain (with_rule (with_rule (with_rule (with_choices (with_rule (new_app (codes "call"))
-    (record (file_option_rule (codes "script")) { required = true })) codings sizes modems) (flag_rule (codes "fine")))
+call_app codings sizes modems = with_explain (with_rule (with_rule (with_rule (with_choices (with_line (with_rule (new_app (codes "call"))
+    (file_option_rule (codes "script")))) codings sizes modems) (flag_rule (codes "fine")))
     (file_option_rule (codes "out"))) (file_rule (codes "in")))
 
 -- the program, which wants one of its commands
@@ -256,7 +267,44 @@ HasNoOptions rows = (options : CallOptions) → AreOptionsIn rows options → �
 abbrev pub are_both_standard : Text → Text → Bool
 are_both_standard script input = bytes_eq script (codes "-") && bytes_eq input (codes "-")
 
--- the values of the command `call` are those of the job, which reads standard input once at most
+-- a value is of a bad line
+abbrev pub has_line : List Row → Bool
+has_line rows = is_some (first_of (codes "lose") rows) || (is_some (first_of (codes "spoil") rows) ||
+    (is_some (first_of (codes "seed") rows) || is_some (first_of (codes "calls") rows)))
+
+-- the share is that of the rate that an option's value says
+abbrev pub IsRateIn : Text → List Row → ℕ → Type 0
+IsRateIn id rows share = (text : Text) × (first_of id rows ≡ Some text) × IsRate text share
+
+-- the share of spoiled items, 0 where no rate is given
+abbrev pub IsSpoilIn : List Row → ℕ → Type 0
+IsSpoilIn rows share = ((first_of (codes "spoil") rows ≡ None) × (share ≡ 0)) ⊎ IsRateIn (codes "spoil") rows share
+
+-- how many DIS are sent in one wait: three, where no number is given
+abbrev pub calls_of : Option ℕ → ℕ
+calls_of None = 3
+calls_of (Some calls) = calls
+
+-- the line is the one that the values give: its rates are 1 at most together, and its seed is below 2 ^ 32
+pub record IsLineIn (rows : List Row) (line : BadLine) : Type 0 where
+  pub lose_is : IsRateIn (codes "lose") rows line.lose
+  pub spoil_is : IsSpoilIn rows line.spoil
+  pub most : line.lose + line.spoil ≤ 2 ^ 32
+  pub seed_is : ReadsNumber (codes "seed") rows (Some line.seed)
+  pub small : line.seed < 2 ^ 32
+  pub calls : Option ℕ
+  pub given : ReadsNumber (codes "calls") rows calls
+  pub calls_is : line.calls ≡ calls_of calls
+
+-- the values of the command `call` are those of a call over a bad line, with no script
+pub record IsDriveOf (rows : List Row) (line : BadLine) (options : CallOptions) (out : Option Text) (input : Text) : Type 0 where
+  pub script_is : first_of (codes "script") rows ≡ None
+  pub line_is : IsLineIn rows line
+  pub options_are : AreOptionsIn rows options
+  pub out_is : first_of (codes "out") rows ≡ out
+  pub input_is : first_of (codes "in") rows ≡ Some input
+
+-- the values of the command `call` are those of the job, which has a script and no bad line, and reads standard input once at most
 pub record IsCallOf (rows : List Row) (script : Text) (options : CallOptions) (out : Option Text) (input : Text)
     : Type 0 where
   pub script_is : first_of (codes "script") rows ≡ Some script
@@ -264,6 +312,7 @@ pub record IsCallOf (rows : List Row) (script : Text) (options : CallOptions) (o
   pub out_is : first_of (codes "out") rows ≡ out
   pub input_is : first_of (codes "in") rows ≡ Some input
   pub apart : are_both_standard script input ≡ false
+  pub alone : has_line rows ≡ false
 
 -- the job of a command's name and values
 abbrev pub IsJobOf : Option (Text × List Row) → Job → Type 0
@@ -284,6 +333,9 @@ IsJobOf met (Frames most pages input) = (rows : List Row)
 IsJobOf met (Call script options out input) = (rows : List Row)
     × (met ≡ Some (codes "call", rows))
     × IsCallOf rows (string_bytes script) options (option_map string_bytes out) (string_bytes input)
+IsJobOf met (Drive line options out input) = (rows : List Row)
+    × (met ≡ Some (codes "call", rows))
+    × IsDriveOf rows line options (option_map string_bytes out) (string_bytes input)
 IsJobOf met Version = (rows : List Row) × (met ≡ Some (codes "version", rows))
 
 -- no job is of the command's name and values
@@ -334,4 +386,5 @@ HasWidth (Show coding order width input) = IsWidth width
 HasWidth (Decode coding order width fine salvage repair whole verbose input output) = IsWidth width
 HasWidth (Frames most pages input) = Unit {0}
 HasWidth (Call script options out input) = Unit {0}
+HasWidth (Drive line options out input) = Unit {0}
 HasWidth Version = Unit {0}

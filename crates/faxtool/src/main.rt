@@ -8,6 +8,7 @@ ghost use Rattle.raster.specs.Pixels.{IsWidth};
 ghost use Rattle.std.specs.Prelude.{IfSome};
 
 mod commands;
+mod drives;
 mod ends;
 mod faults;
 mod files;
@@ -19,9 +20,9 @@ mod words;
 
 use clap::Error;
 use engines::{
-    CallOptions, Captured, Expected, Explained, Known, LineFault, NO_MEMORY, ToolFault,
-    call_engine, captured_pages, code_engine, decode_engine, frames_engine, is_shown,
-    line_fault_at, read_script, refused_at, repair_engine, salvage_engine, show_engine,
+    Broken, CallOptions, Captured, Decoded, Expected, Explained, Known, LineFault, NO_MEMORY,
+    PageForm, PageNumbers, ReadTo, ToolFault, call_engine, captured_pages, code_engine,
+    decode_page, frames_engine, is_shown, line_fault_at, read_script, refused_at, show_engine,
 };
 use notes::{Notes, Part};
 use page_code::Coding;
@@ -159,7 +160,7 @@ fn run_request(rt: &HostRuntime, request: &Request) -> Outcome
 /// Whether a job reads images.
 fn takes_image(job: &Job) -> bool {
     match job {
-        Job::Code { .. } | Job::Call { .. } => true,
+        Job::Code { .. } | Job::Call { .. } | Job::Drive { .. } => true,
         _ => false,
     }
 }
@@ -167,7 +168,7 @@ fn takes_image(job: &Job) -> bool {
 /// Whether a job may be long and prints nothing while it reads.
 fn is_long(job: &Job) -> bool {
     match job {
-        Job::Code { .. } | Job::Decode { .. } | Job::Call { .. } => true,
+        Job::Code { .. } | Job::Decode { .. } | Job::Call { .. } | Job::Drive { .. } => true,
         Job::Show { .. } | Job::Frames { .. } | Job::Version => false,
     }
 }
@@ -262,7 +263,7 @@ fn in_memory(fault: ToolFault, notes: &Notes) -> ToolFault {
 fn output_of<'a>(job: &'a Job) -> Option<&'a str> {
     match job {
         Job::Code { output, .. } | Job::Decode { output, .. } => Some(output.as_str()),
-        Job::Call { out, .. } => out.as_deref(),
+        Job::Call { out, .. } | Job::Drive { out, .. } => out.as_deref(),
         Job::Frames { pages, .. } => pages.as_deref(),
         Job::Show { .. } | Job::Version => None,
     }
@@ -297,7 +298,8 @@ fn file_of<'a>(job: &'a Job, part: Part) -> &'a str {
             | Job::Show { input, .. }
             | Job::Decode { input, .. }
             | Job::Frames { input, .. }
-            | Job::Call { input, .. },
+            | Job::Call { input, .. }
+            | Job::Drive { input, .. },
             _,
         ) => input.as_str(),
         (Job::Version, _) => files::STANDARD,
@@ -356,6 +358,12 @@ fn run_job(rt: &HostRuntime, job: &Job, notes: &mut Notes) -> Result<Outcome, To
             out,
             input,
         } => call_file(rt, script, options, out.as_deref(), input, notes)?,
+        Job::Drive {
+            line,
+            options,
+            out,
+            input,
+        } => drives::drive_file(rt, line, options, out.as_deref(), input, notes)?,
         Job::Version => print_version(rt, notes)?,
     }
     Ok(Outcome::Done)
@@ -371,7 +379,7 @@ fn print_version(rt: &HostRuntime, notes: &mut Notes) -> Result<(), ToolFault> {
 }
 
 /// Does a job that decodes a page, in the way that it asks for, and answers whether all is there that it wants; another
-/// job isn't done.
+/// job isn't done. The image's file is opened only once its whole content is made, and where there is a row.
 fn decode_job(rt: &HostRuntime, job: &Job, notes: &mut Notes) -> Result<bool, ToolFault>
     requires { HasWidth job.now }
 {
@@ -382,32 +390,67 @@ fn decode_job(rt: &HostRuntime, job: &Job, notes: &mut Notes) -> Result<bool, To
         fine,
         salvage,
         repair,
-        whole,
-        verbose,
         input,
         output,
+        ..
     } = job
     else {
         return Ok(true);
     };
-    if *repair {
-        repair_file(rt, *order, *width, *fine, *verbose, input, output, notes)?;
-        return Ok(true);
-    }
-    let decoded = if *salvage {
-        salvage_file(rt, *coding, *order, *width, *fine, input, output, notes)
-    } else {
-        decode_file(rt, *coding, *order, *width, *fine, input, output, notes)
+    let form = PageForm {
+        coding: *coding,
+        order: *order,
+        width: *width,
+        fine: *fine,
     };
-    let (rows, bits) = decoded?;
-    if *verbose {
-        ends::show_counts(rt, rows, bits, notes.read)?;
+    read_input(rt, input, notes)?;
+    let broken = Broken::asked(*salvage, *repair);
+    let given = decode_page(rt.alloc(), notes.octets.as_slice(), form, broken);
+    let page = given.map_err(|fault| in_memory(fault, notes))?;
+    if page.rows > 0 {
+        outputs::write(rt, output, page.image.as_slice(), notes)?;
     }
-    if *coding == Coding::OneDim && !ends::has_rtc(notes, *order, bits)? {
-        eprintln!(rt; "the page ends without its RTC after {rows} rows")?;
-        return Ok(!*whole);
+    tell_decoded(rt, job, &page, notes)
+}
+
+/// Tells on standard error what is asked for of a page that was decoded, and answers whether all is there. Errs with the
+/// fault of what can't be read.
+fn tell_decoded(
+    rt: &HostRuntime,
+    job: &Job,
+    page: &Decoded,
+    notes: &Notes,
+) -> Result<bool, ToolFault> {
+    let Job::Decode {
+        coding,
+        order,
+        whole,
+        verbose,
+        ..
+    } = job
+    else {
+        return Ok(true);
+    };
+    match page.read_to {
+        ReadTo::Fault(fault) => Err(fault),
+        ReadTo::Lines(_) => {
+            Write::write_all(&mut rt.stderr(), page.lines.as_slice())?;
+            if *verbose {
+                eprintln!(rt; "rows {}", page.rows)?;
+            }
+            Ok(true)
+        }
+        ReadTo::End(bits) => {
+            if *verbose {
+                ends::show_counts(rt, page.rows, bits, notes.read)?;
+            }
+            if *coding == Coding::OneDim && !ends::has_rtc(notes, *order, bits)? {
+                eprintln!(rt; "the page ends without its RTC after {} rows", page.rows)?;
+                return Ok(!*whole);
+            }
+            Ok(true)
+        }
     }
-    Ok(true)
 }
 
 /// All octets of a file or of standard input. Of a file that begins as no image does, where an image is wanted, those are all.
@@ -469,106 +512,6 @@ fn show_file(
     printed
 }
 
-/// Decodes the page in a file into an image's file, and answers its rows and the bits of its code. The
-/// output's file is opened only once its whole content is made.
-fn decode_file(
-    rt: &HostRuntime,
-    coding: Coding,
-    order: Order,
-    width: u32,
-    fine: bool,
-    input: &str,
-    output: &str,
-    notes: &mut Notes,
-) -> Result<(usize, u128), ToolFault>
-    requires { IsWidth width }
-{
-    read_input(rt, input, notes)?;
-    let mut reader = notes.octets.as_slice();
-    let mut octets = Vec::new(rt.alloc());
-    let decoded = decode_engine(
-        rt.alloc(),
-        &mut reader,
-        &mut octets,
-        coding,
-        order,
-        width,
-        fine,
-    );
-    let counts = decoded.map_err(|fault| in_memory(fault, notes))?;
-    outputs::write(rt, output, octets.as_slice(), notes)?;
-    Ok(counts)
-}
-
-/// Decodes the page in a file as far as it can be read, and answers its rows and the bits of its code, or the
-/// fault of the rest. The image's file is opened only once its whole content is made, and where there is a row.
-fn salvage_file(
-    rt: &HostRuntime,
-    coding: Coding,
-    order: Order,
-    width: u32,
-    fine: bool,
-    input: &str,
-    output: &str,
-    notes: &mut Notes,
-) -> Result<(usize, u128), ToolFault>
-    requires { IsWidth width }
-{
-    read_input(rt, input, notes)?;
-    let mut reader = notes.octets.as_slice();
-    let mut octets = Vec::new(rt.alloc());
-    let salvaged = salvage_engine(
-        rt.alloc(),
-        &mut reader,
-        &mut octets,
-        coding,
-        order,
-        width,
-        fine,
-    );
-    let salvage = salvaged.map_err(|fault| in_memory(fault, notes))?;
-    if salvage.rows > 0 {
-        outputs::write(rt, output, octets.as_slice(), notes)?;
-    }
-    Ok((salvage.rows, salvage.end?))
-}
-
-/// Decodes the page in a file, with each row that can't be read given as the one before it, and then lists these
-/// rows on standard error. The image's file is opened only once its whole content is made.
-fn repair_file(
-    rt: &HostRuntime,
-    order: Order,
-    width: u32,
-    fine: bool,
-    verbose: bool,
-    input: &str,
-    output: &str,
-    notes: &mut Notes,
-) -> Result<(), ToolFault>
-    requires { IsWidth width }
-{
-    read_input(rt, input, notes)?;
-    let mut reader = notes.octets.as_slice();
-    let mut octets = Vec::new(rt.alloc());
-    let mut lines = Vec::new(rt.alloc());
-    let repaired = repair_engine(
-        rt.alloc(),
-        &mut reader,
-        &mut octets,
-        &mut lines,
-        order,
-        width,
-        fine,
-    );
-    let repair = repaired.map_err(|fault| in_memory(fault, notes))?;
-    outputs::write(rt, output, octets.as_slice(), notes)?;
-    Write::write_all(&mut rt.stderr(), lines.as_slice())?;
-    if verbose {
-        eprintln!(rt; "rows {}", repair.rows)?;
-    }
-    Ok(())
-}
-
 /// Lists the frames in a file, with at most `most` octets of a content.
 fn list_file(
     rt: &HostRuntime,
@@ -610,8 +553,7 @@ fn frames_file(
 /// nothing is.
 fn write_found(rt: &HostRuntime, folder: &str, notes: &mut Notes) -> Result<bool, ToolFault> {
     let mut bits = notes.octets.as_slice();
-    let mut last: u64 = 0;
-    let mut number: u64 = 0;
+    let mut numbers = PageNumbers::new();
     let mut is_whole = true;
     let all_found = captured_pages(rt.alloc(), &mut bits)?;
     if all_found.is_empty() {
@@ -620,16 +562,15 @@ fn write_found(rt: &HostRuntime, folder: &str, notes: &mut Notes) -> Result<bool
     }
     for found in all_found {
         if let Captured::Page(page) = found {
-            last = last.saturating_add(1);
-            number = write_captured(rt, folder, last.max(number.saturating_add(1)), page, notes)?;
-            if number != last {
-                println!(rt; "page {last}: page-{number}.pbm")?;
+            let from = numbers.found();
+            let number = write_captured(rt, folder, from, page, notes)?;
+            if numbers.written(number) {
+                println!(rt; "page {}: page-{number}.pbm", numbers.page)?;
             }
         } else {
             is_whole = false;
-            let page = broken_page(&found);
+            let page = numbers.missing(&found);
             name_missing(rt, &found, page)?;
-            last = last.max(page);
         }
     }
     Ok(is_whole)
@@ -650,17 +591,6 @@ fn write_captured(
     let mut octets = Vec::new(rt.alloc());
     write_pbm(&[page], &mut octets).map_err(|_fault| NO_MEMORY)?;
     outputs::write_page(rt, folder, number, octets.as_slice(), notes)
-}
-
-/// The number of a page of which something is missing, from 1 as those of the files, and 0 where it isn't known.
-fn broken_page(found: &Captured) -> u64 {
-    match found {
-        Captured::Unread { mark, .. }
-        | Captured::Lacks { mark, .. }
-        | Captured::Skipped(mark)
-        | Captured::NoDcs(mark) => u64::from(mark.page).saturating_add(1),
-        Captured::Page(_) | Captured::Unended => 0,
-    }
 }
 
 /// Names on standard error what is missing of the page of a number. Blocks have the numbers of their PPS, frames those of

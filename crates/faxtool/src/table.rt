@@ -186,8 +186,33 @@ const FRAMES_ARGUMENTS: &[Argument<'static>] = &[
 const CALL_ARGUMENTS: &[Argument<'static>] = &[
     Argument {
         id: "script",
-        required: true,
         help: "The file of the script: what happens on the line",
+        ..FILE_OPTION
+    },
+    Argument {
+        id: "lose",
+        shown: &["RATE"],
+        help: "Runs the call with no script: each item is lost at this rate, as 5% or 1/20",
+        ..FILE_OPTION
+    },
+    Argument {
+        id: "spoil",
+        shown: &["RATE"],
+        help: "At this rate a training check is spoiled too, and another item lost (with --lose)",
+        ..FILE_OPTION
+    },
+    Argument {
+        id: "seed",
+        shown: &["N"],
+        parser: Some(ValueParser::Signed(0, 4_294_967_295)),
+        help: "The seed of the generator that draws the losses (with --lose, and needed there)",
+        ..FILE_OPTION
+    },
+    Argument {
+        id: "calls",
+        shown: &["K"],
+        parser: Some(ValueParser::Signed(1, 1_000_000)),
+        help: "How many DIS are sent in one wait, 3 if not said (with --lose)",
         ..FILE_OPTION
     },
     Argument {
@@ -254,7 +279,7 @@ static COMMANDS: [Entry<'static>; 6] = [
     },
     Entry {
         name: "call",
-        about: "Runs a call by a script, and prints its transcript",
+        about: "Runs a call by a script or over a bad line, and prints its transcript",
         arguments: CALL_ARGUMENTS,
     },
     Entry {

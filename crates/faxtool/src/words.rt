@@ -1,20 +1,24 @@
 //! The words that the program is called with.
-ghost use Rattle.std.specs.Prelude.{◌≡◌, ◌≢◌, IfOk, MatchOption, MatchResult, Some, codes, false, true};
+ghost use Rattle.std.specs.Prelude.{◌≡◌, ◌≢◌, IfOk, IfSome, MatchOption, MatchResult, Some, codes, false, true};
 ghost use Rattle.std.specs.Prelude.{ℕ, map, option_map, string_bytes};
 ghost use Rattle.clap.specs.Words.{first_of, found_of, kind_of, rows_of, subcommand_rows_of};
 ghost use Rattle.clap.specs.declared.error.kind.ErrorKind.TheVariants.{OutOfMemory};
 ghost use Rattle.faxtool.specs.Jobs.{AreOptionsIn, HasNoJob, HasNoOptions, IsJobOf, IsOutcomeOf, IsRefusalOf, IsWidthIn, ReadsAs};
 ghost use Rattle.faxtool.specs.Jobs.{ReadsNumber, are_both_standard, coding_named, explains, go_together, is_named, modems_named};
-ghost use Rattle.faxtool.specs.Jobs.{order_named, status_of};
+ghost use Rattle.faxtool.specs.Jobs.{IsLineIn, IsRateIn, IsSpoilIn, calls_of, has_line, order_named, status_of};
+ghost use Rattle.engines.specs.declared.losses.BadLine.{BadLine as LineValue};
 
 use crate::commands::faxtool_command;
 use clap::error::ErrorKind;
 use clap::{ArgMatches, Command, Error};
-use engines::{CallOptions, NO_MEMORY, ToolFault};
+use engines::{BadLine, CallOptions, NO_MEMORY, ToolFault, read_rate};
 use page_code::Coding;
 use run_tables::Order;
 use signals::Modems;
 use std::alloc::{AllocError, Global};
+
+/// How many words the generator of a bad line has.
+const ALL_WORDS: u64 = 4_294_967_296;
 
 /// What the program is asked to do.
 #[derive(Debug, PartialEq, Eq, Drop)]
@@ -77,6 +81,17 @@ pub enum Job {
     Call {
         /// The name of the script's file.
         script: String,
+        /// What the call is run with.
+        options: CallOptions,
+        /// The name of the file that the stored pages go to, where one is given.
+        out: Option<String>,
+        /// The name of the document's file.
+        input: String,
+    },
+    /// Runs a call over a bad line, and prints its transcript.
+    Drive {
+        /// How bad the line is.
+        line: BadLine,
         /// What the call is run with.
         options: CallOptions,
         /// The name of the file that the stored pages go to, where one is given.
@@ -316,13 +331,21 @@ fn call_job(alloc: Global, matches: &ArgMatches<'_>) -> Result<Option<Job>, Allo
     let Some(options) = options_in(matches) else {
         return Ok(None);
     };
-    let Some(script) = text_in(matches, "script") else {
-        return Ok(None);
-    };
     let Some(input) = text_in(matches, "in") else {
         return Ok(None);
     };
-    if are_both_standard(script, input) {
+    let Some(script) = text_in(matches, "script") else {
+        let Some(line) = line_in(matches) else {
+            return Ok(None);
+        };
+        return Ok(Some(Job::Drive {
+            line,
+            options,
+            out: copy_of(alloc, text_in(matches, "out"))?,
+            input: String::from_str(alloc, input)?,
+        }));
+    };
+    if are_both_standard(script, input) || has_line(matches) {
         return Ok(None);
     }
     Ok(Some(Job::Call {
@@ -331,6 +354,73 @@ fn call_job(alloc: Global, matches: &ArgMatches<'_>) -> Result<Option<Job>, Allo
         out: copy_of(alloc, text_in(matches, "out"))?,
         input: String::from_str(alloc, input)?,
     }))
+}
+
+// Whether a value is of a bad line.
+fn has_line(matches: &ArgMatches<'_>) -> bool
+    ensures { result ≡ has_line (rows_of (found_of matches.now)) }
+{
+    text_in(matches, "lose").is_some()
+        || text_in(matches, "spoil").is_some()
+        || text_in(matches, "seed").is_some()
+        || text_in(matches, "calls").is_some()
+}
+
+// The bad line, where its rates and its seed are there and say one.
+fn line_in(matches: &ArgMatches<'_>) -> Option<BadLine>
+    ensures { let rows = rows_of (found_of matches.now) in
+        MatchOption result ((line : LineValue) → IsLineIn rows line → ⊥) (IsLineIn rows) }
+{
+    let Some(lose) = rate_in(matches, "lose") else {
+        return None;
+    };
+    let Some(spoil) = spoil_in(matches) else {
+        return None;
+    };
+    let Some(seed) = number_in(matches, "seed") else {
+        return None;
+    };
+    if lose > ALL_WORDS || spoil > ALL_WORDS - lose {
+        return None;
+    }
+    Some(BadLine {
+        lose,
+        spoil,
+        seed: u64::from(seed),
+        calls: calls_of(number_in(matches, "calls")),
+    })
+}
+
+// How many DIS are sent in one wait.
+fn calls_of(given: Option<u32>) -> u64
+    ensures { result ≡ calls_of given }
+{
+    match given {
+        Some(calls) => u64::from(calls),
+        None => 3,
+    }
+}
+
+// The rate that is an option's value.
+fn rate_in(matches: &ArgMatches<'_>, id: &str) -> Option<u64>
+    ensures is { IfSome result (IsRateIn id.now (rows_of (found_of matches.now))) }
+    ensures only { (share : ℕ) → IsRateIn id.now (rows_of (found_of matches.now)) share → result ≡ Some share }
+{
+    match text_in(matches, id) {
+        Some(text) => read_rate(text),
+        None => None,
+    }
+}
+
+// The rate of spoiled items, 0 where none is given.
+fn spoil_in(matches: &ArgMatches<'_>) -> Option<u64>
+    ensures is { IfSome result (IsSpoilIn (rows_of (found_of matches.now))) }
+    ensures only { (share : ℕ) → IsSpoilIn (rows_of (found_of matches.now)) share → result ≡ Some share }
+{
+    match text_in(matches, "spoil") {
+        Some(text) => read_rate(text),
+        None => Some(0),
+    }
 }
 
 // Whether a script and an image are both standard input.
@@ -447,11 +537,34 @@ fn number_in(matches: &ArgMatches<'_>, id: &str) -> Option<u32>
 // What is wrong with words whose options don't go together, which a parse doesn't refuse by itself.
 fn unfit_text(matches: &ArgMatches<'_>) -> &'static str {
     match matches.subcommand() {
-        Some((name, _inner)) if name == "call" => {
-            "--script and <IN> can't both be standard input"
-        }
+        Some((name, inner)) if name == "call" => unfit_call(inner),
         _ => "--repair is for --code mh, and can't be used with --salvage",
     }
+}
+
+// The same of the words of a call.
+fn unfit_call(matches: &ArgMatches<'_>) -> &'static str {
+    let has_script = text_in(matches, "script").is_some();
+    let has_lose = text_in(matches, "lose").is_some();
+    if has_script && has_lose {
+        return "--script and --lose can't be used together";
+    }
+    if has_script && has_line(matches) {
+        return "--spoil, --seed and --calls are for a call with --lose";
+    }
+    if has_script {
+        return "--script and <IN> can't both be standard input";
+    }
+    if !has_lose {
+        return "--script or --lose is missing";
+    }
+    if rate_in(matches, "lose").is_none() || spoil_in(matches).is_none() {
+        return "a rate is a percentage, as 5%, or a fraction, as 1/20, and 1 at most";
+    }
+    if number_in(matches, "seed").is_none() {
+        return "--lose needs --seed";
+    }
+    "--lose and --spoil are more than 100% together"
 }
 
 // The error for words whose options don't go together, or that miss a value.
