@@ -10,6 +10,8 @@ mod caller;
 #[cfg(test)]
 mod frames;
 #[cfg(test)]
+mod losses;
+#[cfg(test)]
 mod pages;
 #[cfg(test)]
 mod seams;

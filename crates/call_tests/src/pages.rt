@@ -2,7 +2,7 @@
 
 use crate::streams::{Narrow, OneByOne};
 use engines::{
-    FAILED, Repair, ToolFault, code_engine, decode_engine, repair_engine, salvage_engine,
+    FAILED, PageForm, Repair, ToolFault, code_engine, decode_engine, repair_engine, salvage_engine,
     show_engine,
 };
 use page_code::Coding;
@@ -109,19 +109,19 @@ fn a_code_is_decoded_to_its_image(rt: HostRuntime) -> Result<(), Fail> {
         taken: Vec::with_capacity(alloc, 100)?,
         room: 100,
     };
-    let told = decode_engine(
-        alloc,
-        &mut coded,
-        &mut image,
-        Coding::OneDim,
-        Order::MsbFirst,
-        8,
-        false,
-    )?;
+    let told = decode_engine(alloc, &mut coded, &mut image, FORM)?;
     assert_eq!(rt; told, (1, 94));
     assert_eq!(rt; image.taken.as_slice(), IMAGE.as_slice());
     Ok(())
 }
+
+// A page of 8 pixels a row.
+const FORM: PageForm = PageForm {
+    coding: Coding::OneDim,
+    order: Order::MsbFirst,
+    width: 8,
+    fine: false,
+};
 
 // Two whole rows, and then a code word of no row: they are written, and the bit of the fault is answered.
 #[test]
@@ -136,10 +136,10 @@ fn whole_rows_are_salvaged(rt: HostRuntime) -> Result<(), Fail> {
         alloc,
         &mut reader,
         &mut image,
-        Coding::T6,
-        Order::MsbFirst,
-        8,
-        false,
+        PageForm {
+            coding: Coding::T6,
+            ..FORM
+        },
     )?;
     assert_eq!(rt; image.as_slice(), b"P4\n8 2\n00".as_slice());
     assert_eq!(rt; salvage.rows, 2);
@@ -159,15 +159,7 @@ fn rows_are_repaired(rt: HostRuntime) -> Result<(), Fail> {
     };
     let mut image = Vec::new(alloc);
     let mut lines = Vec::new(alloc);
-    let repair = repair_engine(
-        alloc,
-        &mut reader,
-        &mut image,
-        &mut lines,
-        Order::MsbFirst,
-        8,
-        false,
-    )?;
+    let repair = repair_engine(alloc, &mut reader, &mut image, &mut lines, FORM)?;
     assert_eq!(rt; image.as_slice(), b"P4\n8 2\n00".as_slice());
     assert_eq!(rt;
         lines.as_slice(),
@@ -197,15 +189,7 @@ fn a_failing_list_is_fault_8(rt: HostRuntime) {
             taken: Vec::new(alloc),
             room,
         };
-        let done = repair_engine(
-            alloc,
-            &mut reader,
-            &mut image,
-            &mut lines,
-            Order::MsbFirst,
-            8,
-            false,
-        );
+        let done = repair_engine(alloc, &mut reader, &mut image, &mut lines, FORM);
         assert_eq!(rt; done, Err(FAILED), "{room} octets");
     }
 }

@@ -1,7 +1,7 @@
 //! What a run and the octets on the line show beyond the contracts. Worked calls of a world are scripts of the program, in .ci/calls.
 
 use hdlc::Deframer;
-use line_sim::{DrivenCall, Event, Fate, World, run};
+use line_sim::{DrivenCall, Event, Fate, Form, Kind, LiveCall, World, run};
 use page_code::Coding;
 use raster::{Document, Page, Row};
 use signals::{Caps, Modems, PageWidth, Side, Wish};
@@ -68,6 +68,85 @@ fn frames_as_each_station_sends_them(rt: HostRuntime) -> Result<(), Fail> {
     ] {
         let world = after(alloc, deliveries)?;
         assert!(rt; comes(alloc, &world, to, head)?, "after {deliveries}");
+    }
+    Ok(())
+}
+
+/// The kinds of the items that an event puts under way to a station, in order.
+fn put_by(alloc: Global, live: &mut LiveCall, event: Event, to: Side) -> Result<Vec<Kind>, Fail> {
+    let before = live.count_to(to);
+    let _entry = live.event(event);
+    let mut kinds = Vec::new(alloc);
+    for place in before..live.count_to(to) {
+        let Some(item) = live.item_to(to, place) else {
+            return Ok(kinds);
+        };
+        kinds.push(item.kind)?;
+    }
+    Ok(kinds)
+}
+
+#[test]
+fn what_each_event_puts_under_way(rt: HostRuntime) -> Result<(), Fail> {
+    let alloc = rt.alloc();
+    let mut live = LiveCall::new(alloc, white_page(alloc)?, WISH, CAPS)?;
+    assert_eq!(rt; live.count_to(Side::Caller), 1);
+    let Some(first) = live.item_to(Side::Caller, 0) else {
+        assert!(rt; false);
+        return Ok(());
+    };
+    assert_eq!(rt; first.kind, Kind::Dis);
+    assert_eq!(rt; first.kind.form(), Form::Control);
+    assert!(rt; live.item_to(Side::Caller, 1).is_none());
+    let burst = [Kind::Fcd(0), Kind::Rcp, Kind::Rcp, Kind::Rcp, Kind::Pps];
+    for (event, kinds) in [
+        (
+            Event::DeliverToCaller,
+            [Kind::Dcs, Kind::Training].as_slice(),
+        ),
+        (Event::DeliverToAnswerer, &[]),
+        (Event::DeliverToAnswerer, &[Kind::Cfr]),
+        (Event::DeliverToCaller, &burst),
+        (Event::DeliverToAnswerer, &[]),
+        (Event::LoseToAnswerer, &[]),
+        (Event::DeliverToAnswerer, &[]),
+        (Event::DeliverToAnswerer, &[]),
+        (Event::DeliverToAnswerer, &[Kind::Mcf]),
+        (Event::LoseToCaller, &[]),
+        (Event::CallerTimeout, &[Kind::Pps]),
+        (Event::DeliverToAnswerer, &[Kind::Mcf]),
+        (Event::DeliverToCaller, &[Kind::Dcn]),
+        (Event::DeliverToAnswerer, &[]),
+    ] {
+        let to = match event {
+            Event::DeliverToAnswerer | Event::LoseToCaller => Side::Caller,
+            _ => Side::Answerer,
+        };
+        let put = put_by(alloc, &mut live, event, to)?;
+        assert_eq!(rt; put.as_slice(), kinds, "{event:?}");
+    }
+    Ok(())
+}
+
+// 1.5 s at 14,400 bit/s are 2,700 octets.
+#[test]
+fn a_training_check_under_way(rt: HostRuntime) -> Result<(), Fail> {
+    let alloc = rt.alloc();
+    let mut live = LiveCall::new(alloc, white_page(alloc)?, WISH, CAPS)?;
+    let _dis = live.event(Event::DeliverToCaller);
+    for (event, place, octet) in [
+        (Event::LoseToCaller, 1, 0x00),
+        (Event::LoseToAnswerer, 0, 0x00),
+        (Event::Spoil, 0, 0xFF),
+    ] {
+        let _entry = live.event(event);
+        let Some(check) = live.item_to(Side::Answerer, place) else {
+            assert!(rt; false, "{event:?}");
+            return Ok(());
+        };
+        assert_eq!(rt; check.kind.form(), Form::Check);
+        assert_eq!(rt; check.octets.len(), 2700);
+        assert!(rt; check.octets.iter().all(|found| *found == octet));
     }
     Ok(())
 }
