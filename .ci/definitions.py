@@ -14,6 +14,7 @@ After each table are two lists: the other definitions that those of all public c
 them, and the definitions that none of these stands on, which serve the proofs alone. Each list has exactly the names that it says.
 .ci/public_clauses.txt has each public clause by crate, item and name, or by its first words where it has no name: a clause that is
 added or deleted shows there. A public clause that names no definition, or has a part that is `Unit`, says nothing, and is refused.
+The table of docs/TIMERS.md has exactly the waits of each state that the definitions of `crates/stations/specs/Waits.antt` have.
 Prints what is missing and ends with status 1, or prints one line of counts. It needs Python's standard library alone."""
 
 import collections
@@ -40,6 +41,9 @@ SIGN_EDGE = r"[^\s(){}\[\],;]"
 ALSO = "Also to be believed, since those of the table and of the tables of other crates stand on them; each is explained where it is defined."
 BESIDE = "Beside the code: no public clause and nothing to be believed stands on these."
 LISTS = re.compile(rf"^(?:{re.escape(ALSO)}|{re.escape(BESIDE)})", re.M)
+TIMERS = TOP / "docs" / "TIMERS.md"
+WAITS = TOP / "crates" / "stations" / "specs" / "Waits.antt"
+WAIT_ROW = re.compile(r"^(caller|answerer)(?:_longer)?_wait (\w+) = (?:Some )?(T\d)$", re.M)
 SECTION = re.compile(r"^## Definitions\n(.*?)(?=^## |\Z)", re.M | re.S)
 
 
@@ -266,6 +270,19 @@ def clause_faults(clauses):
     yield from (f"{KEPT_CLAUSES.relative_to(TOP)} hasn't the public clause: {clause}" for clause in sorted((now - kept).elements()))
 
 
+def timer_faults():
+    """The waits of a state that the table of timers and the definitions don't both have."""
+    defined = {(station.capitalize(), state, wait) for station, state, wait in WAIT_ROW.findall(WAITS.read_text())}
+    states = {state for _, state, _ in defined}
+    told = set()
+    for cells in (line.split("|") for line in TIMERS.read_text().splitlines() if re.match(r"\| (Caller|Answerer),", line)):
+        named = [state for state in re.findall(r"`(\w+)`", cells[1]) if state in states]
+        told.update((re.match(WORD, cells[1].strip())[0], state, cells[2].strip()) for state in named)
+    for station, state, wait in sorted(defined ^ told):
+        has, hasnt = (WAITS, TIMERS) if (station, state, wait) in defined else (TIMERS, WAITS)
+        yield f"{has.relative_to(TOP)} has {wait} in {station}'s {state}, and {hasnt.relative_to(TOP)} hasn't"
+
+
 def main(words):
     if words not in ([], ["--lists"], ["--clauses"]):
         print(__doc__)
@@ -300,6 +317,7 @@ def main(words):
         elif listed != document.text:
             faults.append(f"{document.name}: the lists after the table aren't those of the crates; .ci/definitions.py --lists writes them")
     faults.extend(clause_faults(clauses))
+    faults.extend(timer_faults())
     faults.extend(f"a public clause says nothing: {clause}" for clause in empty)
     for fault in faults:
         print(f"definitions: {fault}")

@@ -1,42 +1,81 @@
 #!/usr/bin/env python3
-"""How many calls over a bad line end normally, by the rate at which items are lost.
+"""How many calls over a bad line end normally, by the rate at which items are lost, and by the options of the call.
 
     bench/calls_by_loss.py [--calls N] [--svg FILE]
 
-Drives N calls (200 if not said) of one page by fuzz/reference_drive.py for each rate and each size of page, and prints a table: of
-100 calls those whose caller ended normally. With --svg it writes the same as a picture. Frames have 256 octets, both stations have six
-speeds, and three DIS are sent in a wait. It needs Python's standard library alone."""
+Runs `faxtool call --lose` N times (200 if not said), with the seeds from 0, for each number of two tables, and prints them: of 100 calls those
+whose caller ended normally. The program is crates/faxtool/out/faxtool, or the one that FAXTOOL names. With --svg it writes the first table
+as a picture too. It needs Python's standard library alone."""
 
+import os
+import random
+import subprocess
 import sys
-from fractions import Fraction
+import tempfile
+from concurrent.futures import ThreadPoolExecutor
 from pathlib import Path
 
-sys.path.insert(0, str(Path(__file__).resolve().parent / "fuzz"))
-from reference_drive import Pcg32, fates, transcript  # noqa: E402
-
+PROGRAM = os.environ.get("FAXTOOL", str(Path(__file__).resolve().parent.parent / "crates" / "faxtool" / "out" / "faxtool"))
 RATES = [1, 2, 5, 10, 15, 20, 30]
-# Frames of the page's only block, and its octets.
-SIZES = [(8, 2048), (40, 10240), (118, 30208), (235, 60160)]
+# Frames of 256 octets in the page's only block.
+FRAMES = [8, 40, 118, 235]
 COLORS = ["#1b6ca8", "#2a9d5c", "#d1801f", "#a8321b"]
-SEED = 32
+# The lines and the options of the second table, for a page of 118 frames.
+LINES = [["--lose", "10%"], ["--lose", "15%"], ["--lose", "5%", "--spoil", "10%"]]
+OPTIONS = ["", "--frame 64", "--code mh", "--modems v27v29", "--modems v29", "--modems fallback", "--calls 6"]
 
 
-def share(octets, percent, calls):
+def image(rows):
+    """An image of rows, each with some 30 runs that are drawn from a fixed seed."""
+    rand = random.Random(32)
+    octets = b"P4\n1728 %d\n" % rows
+    for _ in range(rows):
+        row = bytearray(216)
+        for place in rand.sample(range(216), 15):
+            row[place] = rand.choice([0xFF, 0xF0, 0x3C])
+        octets += bytes(row)
+    return octets
+
+
+def frames_of(folder, rows):
+    """The frames that a page of so many rows has."""
+    path = os.path.join(folder, "page.pbm")
+    Path(path).write_bytes(image(rows))
+    subprocess.run([PROGRAM, "code", "--code", "mmr", path, path + ".mmr"], check=True)
+    return -(-os.path.getsize(path + ".mmr") // 256)
+
+
+def page_of(folder, frames):
+    """The file of a page of so many frames."""
+    least, most = 1, 20000
+    while least < most:
+        middle = (least + most) // 2
+        least, most = (middle + 1, most) if frames_of(folder, middle) < frames else (least, middle)
+    if frames_of(folder, least) != frames:
+        sys.exit(f"no page has {frames} frames")
+    path = os.path.join(folder, f"{frames}.pbm")
+    Path(path).write_bytes(image(least))
+    return path
+
+
+def ends_normally(words):
+    printed = subprocess.run([PROGRAM, "call", *words], check=True, capture_output=True, text=True).stdout
+    return "\ncaller normal confirmed 1\n" in printed
+
+
+def share(page, line, options, calls):
     """Of 100 calls those that end normally."""
-    normal = 0
-    for number in range(calls):
-        drawn = fates(Pcg32(SEED, number), Fraction(percent, 100), Fraction(0))
-        lines = transcript([(1728, octets)], 256, 6, drawn)
-        normal += "caller normal confirmed 1" in lines
-    return round(100 * normal / calls)
+    words = [[*line, "--seed", str(seed), *options.split(), page] for seed in range(calls)]
+    with ThreadPoolExecutor(2) as pool:
+        return round(100 * sum(pool.map(ends_normally, words)) / calls)
 
 
-def table(shares):
-    """The lines of the table."""
-    yield "| Frames in the block | " + " | ".join(f"{rate} %" for rate in RATES) + " |"
-    yield "|---|" + "---|" * len(RATES)
-    for (frames, _), row in zip(SIZES, shares):
-        yield f"| {frames} | " + " | ".join(str(normal) for normal in row) + " |"
+def table(heads, names, shares):
+    """The lines of a table."""
+    yield "| " + " | ".join(heads) + " |"
+    yield "|---|" + "---|" * (len(heads) - 1)
+    for name, row in zip(names, shares):
+        yield f"| {name} | " + " | ".join(str(normal) for normal in row) + " |"
 
 
 def picture(shares):
@@ -52,7 +91,7 @@ def picture(shares):
         yield f'<text x="{across(rate)}" y="238" text-anchor="middle">{rate}</text>'
     yield '<text x="270" y="260" text-anchor="middle">items lost, of 100</text>'
     yield '<text x="8" y="12">calls that end normally, of 100</text>'
-    for place, ((frames, _), row) in enumerate(zip(SIZES, shares)):
+    for place, (frames, row) in enumerate(zip(FRAMES, shares)):
         points = " ".join(f"{across(rate)},{down(normal)}" for rate, normal in zip(RATES, row))
         yield f'<polyline points="{points}" fill="none" stroke="{COLORS[place]}" stroke-width="2"/>'
         yield f'<text x="490" y="{60 + 20 * place}" fill="{COLORS[place]}">{frames} frames</text>'
@@ -68,8 +107,13 @@ def main():
     if words:
         print(__doc__, file=sys.stderr)
         return 2
-    shares = [[share(octets, rate, int(options["--calls"])) for rate in RATES] for _, octets in SIZES]
-    print("\n".join(table(shares)))
+    calls = int(options["--calls"])
+    with tempfile.TemporaryDirectory() as folder:
+        pages = {frames: page_of(folder, frames) for frames in FRAMES}
+        shares = [[share(pages[frames], ["--lose", f"{rate}%"], "", calls) for rate in RATES] for frames in FRAMES]
+        print("\n".join(table(["Frames in the block", *(f"{rate} %" for rate in RATES)], FRAMES, shares)), flush=True)
+        others = [[share(pages[118], line, option, calls) for line in LINES] for option in OPTIONS]
+        print("\n" + "\n".join(table(["Options", *(" ".join(line) for line in LINES)], [option or "none" for option in OPTIONS], others)))
     if options["--svg"]:
         Path(options["--svg"]).write_text("\n".join(picture(shares)) + "\n")
     return 0

@@ -1,13 +1,14 @@
 # The second reading of the tables, in bench/fuzz.
 
-# 300 random scripts and 300 random pages of fixed seeds: what the program prints and decodes is what the reference says.
+# 300 random scripts, 100 random calls over a bad line and 300 random pages of fixed seeds: what the program prints and decodes is what the
+# reference says.
 try_reference() {
-    for reading in reference_call reference_pages; do
+    for reading in reference_call reference_drive reference_pages; do
         python3 -B "$top/bench/fuzz/$reading.py" --dry > "$work/output" || fails "$reading.py doesn't read its worked cases: $(cat "$work/output")"
     done
     mkdir -p "$work/reference"
     timeout 600 python3 -B "$data/try_reference.py" "$program" "$work/reference" || fails "the reference says something else"
-    count=$((count + 600))
+    count=$((count + 700))
 }
 
 # try_streams FAXTOOL: the rows by octets; 300 random streams of a fixed seed and the octets of 300 calls: what the programs of

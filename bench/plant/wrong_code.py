@@ -11,7 +11,7 @@ proof, and `.ci/data/try_rows.py` is run, or the tests of a crate: they have to 
     file: PATH            the file
     old: TEXT             what stands in it exactly once
     new: TEXT             what takes its place
-    run: rows             or a crate of tests
+    run: rows             or a crate of tests and the full name of one
     says: TEXT            what the output of the failing run has
 
 Without a WORD the right code is run first, and has to pass. Prints a line for each. Ends with status 1 where one isn't refused."""
@@ -50,9 +50,9 @@ def output_of(*words):
 
 
 def tried(folder, what):
-    """Whether the rows or a crate's tests pass, and what they say; a program that isn't built ends all."""
+    """Whether the rows or a crate's test pass, and what they say; a program that isn't built ends all."""
     build, programs = folder / "bench/build_unproved.sh", []
-    crates = ["stream_tool", "faxtool"] if what == "rows" else [what]
+    crates = ["stream_tool", "faxtool"] if what == "rows" else what.split()[:1]
     for crate in crates:
         programs.append(folder / f"{crate}.program")
         built, said = output_of(build, folder / "crates" / crate, programs[-1], *([] if what == "rows" else ["--test"]))
@@ -61,7 +61,7 @@ def tried(folder, what):
     if what == "rows":
         (folder / "work").mkdir(exist_ok=True)
         return output_of("python3", "-B", folder / ".ci/data/try_rows.py", *programs, folder / "work")
-    return output_of(*programs)
+    return output_of(*programs, *what.split()[1:])
 
 
 def refused(body):
