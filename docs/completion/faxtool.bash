@@ -8,7 +8,7 @@ _faxtool_options() {
         show) echo --code --width --order --explain --help ;;
         decode) echo --code --width --order --fine --salvage --repair --whole --verbose --explain --help ;;
         frames) echo --data --pages --explain --help ;;
-        call) echo --script --code --frame --modems --fine --out --explain --help ;;
+        call) echo --script --lose --spoil --seed --calls --code --frame --modems --fine --out --explain --help ;;
         *) echo --help ;;
     esac
 }
@@ -22,6 +22,10 @@ _faxtool_values() {
         --modems) echo v17 v27v29 v29 v27 fallback ;;
         --width) echo 1728 2048 2432 ;;
         --data) echo 8 ;;
+        --lose) echo 1% 5% 10% ;;
+        --spoil) echo 1% 5% ;;
+        --seed) echo 1 ;;
+        --calls) echo 3 ;;
     esac
 }
 
