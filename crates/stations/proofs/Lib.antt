@@ -29,3 +29,4 @@ pub mod CutsEnd
 pub mod Room
 pub mod BusyBefore
 pub mod LimitedPlain
+pub mod FrontOctets

@@ -10,6 +10,7 @@ pub mod Lending
 pub mod Runs
 pub mod Limits
 pub mod OpenPage
+pub mod BadPages
 pub mod Lasting
 pub mod Sizes
 pub mod EndsMean

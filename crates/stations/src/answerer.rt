@@ -1,7 +1,7 @@
 //! The answering station: ITU-T T.30, phases B to E and Annex A.
 
 ghost use Rattle.partial_page.specs.Store.{no_frames, joined_frames, IsMissingMap};
-ghost use Rattle.std.specs.Prelude.{◌≡◌, ◌≢◌, ◌+◌, ◌++◌, ℕ, true, Some, None, Ok, IsOk, IsSome, IsTrue, ◌↔◌, ◌⊎◌, false};
+ghost use Rattle.std.specs.Prelude.{◌≡◌, ◌≢◌, ◌+◌, ◌++◌, ℕ, true, Some, None, Ok, IfOk, IsOk, IsSome, IsTrue, ◌↔◌, ◌⊎◌, false};
 ghost use Rattle.std.specs.Prelude.{[], is_some};
 ghost use Rattle.stations.specs.AnswererStep.{Answerer as AnswererTuple, new_answerer, same_mark, is_repeated, last_counted, all_there};
 ghost use Rattle.stations.specs.AnswererStep.{ppr_map, confirms, first_dcs, later_dcs, keeps_frame, judges_training, answers_pps};
@@ -15,7 +15,9 @@ ghost use Rattle.stations.specs.CallerStep.{no_params};
 ghost use Rattle.stations.specs.Inputs.{answerer_input};
 ghost use Rattle.stations.specs.Limits.{IsLimited};
 ghost use Rattle.stations.specs.AnswererKeeping.{AnswererKeeps};
+ghost use Rattle.stations.specs.BadPages.{IsBadPage};
 
+use crate::bad_page::BadPage;
 use crate::caller::no_params;
 use crate::input::AnswererIn;
 use crate::laws::{answerers_keep, open_is_limited};
@@ -154,6 +156,17 @@ impl Answerer {
         ensures { result ≡ self.now.ending }
     {
         self.end
+    }
+
+    /// The page over which the call ended with `BadPage`: its octets, the open frames among them, how it was sent and why it can't be
+    /// read. None unless the call ended so. Errs where memory is refused; nothing changes.
+    pub fn bad_page(&self) -> Result<Option<BadPage>, AllocError>
+        ensures { IfOk result (λ page. IsBadPage self.now page) }
+    {
+        match self.end {
+            Some(End::BadPage) => Ok(Some(self.open_page.refused(&self.store)?)),
+            _ => Ok(None),
+        }
     }
 
     /// What the answerer waits for.

@@ -2,11 +2,13 @@
 
 ghost use Rattle.page_code.specs.PageReaders.{GoesOnTo, IsLike};
 ghost use Rattle.partial_page.specs.Store.{joined_frames};
-ghost use Rattle.std.specs.Prelude.{◌≡◌, ◌+◌, ◌++◌, ◌↔◌, ℕ, List, [], true, IfOk, IsTrue};
+ghost use Rattle.std.specs.Prelude.{◌≡◌, ◌+◌, ◌++◌, ◌↔◌, ℕ, List, [], true, IfOk, IsTrue, OnOk};
 ghost use Rattle.stations.specs.AnswererStep.{all_there};
+ghost use Rattle.stations.specs.BadPages.{IsRefused, front_octets, refused_octets};
 ghost use Rattle.stations.specs.Layers.{page_read};
 ghost use Rattle.stations.specs.OpenPage.{AreReadAlike, IsReaderOf, TakesOctets};
 
+use crate::bad_page::BadPage;
 use page_code::PageReader;
 use partial_page::{BlockStore, MAX_PAGE_OCTETS};
 use raster::Page;
@@ -123,6 +125,31 @@ impl OpenPage {
         self.octets.truncate(start);
         read
     }
+
+    /// The page as it is refused: its octets with the frames of a block from 0 on, up to the first that isn't there. Errs where
+    /// memory is refused.
+    pub(crate) fn refused(&self, store: &BlockStore) -> Result<BadPage, AllocError>
+        ensures { IfOk result (λ page. IsRefused self.now.params (refused_octets self.now.octets store.now.frames) page) }
+    {
+        let mut octets = Vec::new(self.alloc);
+        octets.extend_from_slice(&self.octets)?;
+        append_front(store, &mut octets)?;
+        BadPage::new(self.alloc, self.params, octets)
+    }
+}
+
+/// Appends the frames from 0 on, up to the first that isn't there. Errs where memory is refused.
+fn append_front(store: &BlockStore, octets: &mut Vec<u8>) -> Result<(), AllocError>
+    ensures { OnOk result (octets.new.items ≡ octets.old.items ++ front_octets store.now.frames) }
+{
+    let _ready = store.ready(); // for the proof: what every store keeps to
+    for number in 0u16..256 {
+        let Some(kept) = store.frame(number as u8) else {
+            return Ok(());
+        };
+        octets.extend_from_slice(kept)?;
+    }
+    Ok(())
 }
 
 /// A reader of pages that are sent by these parameters. Takes no memory.

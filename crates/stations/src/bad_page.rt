@@ -1,0 +1,76 @@
+//! The page over which an answerer's call ended.
+
+ghost use Rattle.std.specs.Prelude.{◌≡◌, IfOk};
+ghost use Rattle.stations.specs.BadPages.{IsRefused};
+
+use page_code::Coding;
+use raster::packed::Order;
+use run_tables::{CodeFault, CodeFaultKind};
+use signals::Params;
+use std::alloc::{AllocError, Global};
+use std::marker::Model;
+
+/// A page that an answerer couldn't read: with its octets a program can have the rows before the refused bit (`Coding::salvage`).
+#[derive(Debug, Drop)]
+pub struct BadPage {
+    params: Params,
+    octets: Vec<u8>,
+    fault: Option<CodeFault>,
+}
+
+impl Model for BadPage {
+    ghost use Rattle.stations.specs.BadPages.{PageOctets};
+
+    ghost Value = { PageOctets };
+
+    ghost view = { λ p. record { params = p.params; octets = p.octets.items; fault = p.fault } };
+}
+
+impl BadPage {
+    /// The page of octets that were sent by these parameters. Errs where memory is refused.
+    pub(crate) fn new(alloc: Global, params: Params, octets: Vec<u8>) -> Result<BadPage, AllocError>
+        ensures { IfOk result (λ page. IsRefused params octets.items page) }
+    {
+        let width = params.width.pixels();
+        let read = params
+            .coding
+            .decode(alloc, &octets, Order::LsbFirst, width, params.fine);
+        let fault = match read {
+            Ok(_) => None,
+            Err(fault) => {
+                if fault.kind == CodeFaultKind::NoMemory {
+                    return Err(AllocError);
+                }
+                Some(fault)
+            }
+        };
+        Ok(BadPage {
+            params,
+            octets,
+            fault,
+        })
+    }
+
+    /// The octets of the page's code, the least significant bit of each first: those of its accepted blocks, and then those of
+    /// the block over which the call ended.
+    pub fn octets(&self) -> &[u8]
+        ensures { result.now ≡ self.now.octets }
+    {
+        &self.octets
+    }
+
+    /// How the page was sent: its code, width and lines.
+    pub fn params(&self) -> Params
+        ensures { result ≡ self.now.params }
+    {
+        self.params
+    }
+
+    /// The bit at which decoding the octets refuses them, and why; none where they begin with a page, and are more than a call
+    /// carries for one.
+    pub fn fault(&self) -> Option<CodeFault>
+        ensures { result ≡ self.now.fault }
+    {
+        self.fault
+    }
+}
