@@ -30,3 +30,4 @@ pub mod Room
 pub mod BusyBefore
 pub mod LimitedPlain
 pub mod FrontOctets
+pub mod BlocksDue

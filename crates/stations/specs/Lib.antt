@@ -20,6 +20,7 @@ pub mod Keeping
 pub mod AnswererKeeping
 pub mod TurnsShow
 pub mod Waits
+pub mod HowFar
 pub mod Bursts
 pub mod GivenBursts
 pub mod Listening

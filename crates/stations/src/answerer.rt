@@ -2,7 +2,7 @@
 
 ghost use Rattle.partial_page.specs.Store.{no_frames, joined_frames, IsMissingMap};
 ghost use Rattle.std.specs.Prelude.{◌≡◌, ◌≢◌, ◌+◌, ◌++◌, ℕ, true, Some, None, Ok, IfOk, IsOk, IsSome, IsTrue, ◌↔◌, ◌⊎◌, false};
-ghost use Rattle.std.specs.Prelude.{[], is_some};
+ghost use Rattle.std.specs.Prelude.{[], is_some, length};
 ghost use Rattle.stations.specs.AnswererStep.{Answerer as AnswererTuple, new_answerer, same_mark, is_repeated, last_counted, all_there};
 ghost use Rattle.stations.specs.AnswererStep.{ppr_map, confirms, first_dcs, later_dcs, keeps_frame, judges_training, answers_pps};
 ghost use Rattle.stations.specs.AnswererStep.{takes_block, Steps, StepsOrRefuses, AnswererTakesNoMemory, answers_rr, answers_repeated};
@@ -16,6 +16,9 @@ ghost use Rattle.stations.specs.Inputs.{answerer_input};
 ghost use Rattle.stations.specs.Limits.{IsLimited};
 ghost use Rattle.stations.specs.AnswererKeeping.{AnswererKeeps};
 ghost use Rattle.stations.specs.BadPages.{IsBadPage};
+ghost use Rattle.stations.specs.HowFar.{open_count};
+ghost use Rattle.std.specs.Option.{option_map};
+ghost use Rattle.stations.specs.declared.mark.Accepted.{Accepted as AcceptedBlock};
 
 use crate::bad_page::BadPage;
 use crate::caller::no_params;
@@ -188,6 +191,30 @@ impl Answerer {
         ensures { self.new ≡ record self.old { busy = busy } }
     {
         self.busy = busy;
+    }
+
+    /// The mark of the last accepted block.
+    pub(crate) fn last_mark(&self) -> Option<Mark>
+        ensures { result ≡ option_map (λ (accepted : AcceptedBlock). accepted.mark) self.now.accepted }
+    {
+        match self.accepted {
+            Some(accepted) => Some(accepted.mark),
+            None => None,
+        }
+    }
+
+    /// How many octets the open page has.
+    pub(crate) fn open_octets(&self) -> u64
+        ensures { result ≡ length self.now.octets }
+    {
+        self.open_page.octet_count()
+    }
+
+    /// How many frames are open.
+    pub(crate) fn open_frames(&self) -> u16
+        ensures { result ≡ open_count self.now.frames }
+    {
+        count_frames(&self.store)
     }
 
     /// Whether a block was accepted.
@@ -559,6 +586,20 @@ impl Answerer {
         };
         self.confirm()
     }
+}
+
+/// How many frames a store has.
+fn count_frames(store: &BlockStore) -> u16
+    ensures { result ≡ open_count store.now.frames }
+{
+    let _ready = store.ready(); // for the proof: what every store keeps to
+    let mut count = 0;
+    for number in 0u16..256 {
+        if store.frame(number as u8).is_some() {
+            count += 1;
+        }
+    }
+    count
 }
 
 /// Whether two marks are the same.

@@ -3,7 +3,7 @@
 ghost use Rattle.partial_page.specs.Frames.{cut};
 ghost use Rattle.raster.specs.Packed.{FillsOctets};
 ghost use Rattle.raster.specs.declared.packed.Order.TheVariants.{LsbFirst};
-ghost use Rattle.std.specs.Prelude.{◌≡◌, ◌<◌, ◌+◌, cond, nat_lt, List, Bool, drop, length, slice_get, Some, None, Ok, IfOk, IsOk, IsSome};
+ghost use Rattle.std.specs.Prelude.{◌≡◌, ◌<◌, ◌+◌, cond, nat_lt, List, Bool, drop, length, slice_get, Some, None, Ok, IfOk, IsOk, IsSome, IfSome};
 ghost use Rattle.std.specs.Prelude.{IsTrue, ◌↔◌, ◌⊎◌, ◌≢◌};
 ghost use Rattle.stations.specs.CallerStep.{Caller as CallerTuple, no_params, all_frames, caller_gives_up, tries_again, answers_dis};
 ghost use Rattle.stations.specs.CallerStep.{answers_ftt, answers_ppr, answers_rnr, answers_mcf, goes_on, caller_step, caller_table};
@@ -187,6 +187,27 @@ impl Caller {
         ensures { IsTrue result ↔ IsSome self.now.ending }
     {
         self.end.is_some()
+    }
+
+    /// How many pages the document has.
+    pub(crate) fn page_count(&self) -> u64
+        ensures { result ≡ length self.now.document }
+    {
+        self.document.pages().len() as u64
+    }
+
+    /// How often the last command was sent.
+    pub(crate) fn tries(&self) -> u8
+        ensures { result ≡ self.now.try }
+    {
+        self.tries
+    }
+
+    /// How often frames of the present block were sent again.
+    pub(crate) fn resends(&self) -> u8
+        ensures { result ≡ self.now.pprs }
+    {
+        self.pprs
     }
 
     /// Why the call ended, if it has.
@@ -569,8 +590,9 @@ impl Caller {
     }
 
     /// The blocks of the page that is being sent.
-    fn sending(&self) -> Option<&Blocks>
-        ensures { GivesPresent self.now result }
+    pub(crate) fn sending(&self) -> Option<&Blocks>
+        ensures present { GivesPresent self.now result }
+        ensures coded { IfSome result (λ blocks. self.now.encoded ≡ Some blocks.now) }
     {
         if self.end.is_some() {
             return None;
@@ -605,7 +627,7 @@ impl Caller {
     }
 
     /// The place of the present block in its page, from 0.
-    fn place(&self) -> usize
+    pub(crate) fn place(&self) -> usize
         ensures { result ≡ self.now.block }
     {
         self.block

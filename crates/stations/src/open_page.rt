@@ -2,7 +2,7 @@
 
 ghost use Rattle.page_code.specs.PageReaders.{GoesOnTo, IsLike};
 ghost use Rattle.partial_page.specs.Store.{joined_frames};
-ghost use Rattle.std.specs.Prelude.{◌≡◌, ◌+◌, ◌++◌, ◌↔◌, ℕ, List, [], true, IfOk, IsTrue, OnOk};
+ghost use Rattle.std.specs.Prelude.{◌≡◌, ◌+◌, ◌++◌, ◌↔◌, ℕ, List, [], true, IfOk, IsTrue, OnOk, length};
 ghost use Rattle.stations.specs.AnswererStep.{all_there};
 ghost use Rattle.stations.specs.BadPages.{IsRefused, front_octets, refused_octets};
 ghost use Rattle.stations.specs.Layers.{page_read};
@@ -65,6 +65,13 @@ impl OpenPage {
         ensures { result ≡ self.now.params }
     {
         self.params
+    }
+
+    /// How many octets the page has.
+    pub(crate) fn octet_count(&self) -> u64
+        ensures { result ≡ length self.now.octets }
+    {
+        self.octets.len() as u64
     }
 
     /// The page is sent by these parameters from now on; where they change how it is read, it is read anew. Takes no
