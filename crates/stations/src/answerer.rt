@@ -20,7 +20,7 @@ ghost use Rattle.stations.specs.HowFar.{open_count};
 ghost use Rattle.std.specs.Option.{option_map};
 ghost use Rattle.stations.specs.declared.mark.Accepted.{Accepted as AcceptedBlock};
 
-use crate::bad_page::BadPage;
+use crate::bad_page::RefusedPage;
 use crate::caller::no_params;
 use crate::input::AnswererIn;
 use crate::laws::{answerers_keep, open_is_limited};
@@ -163,7 +163,7 @@ impl Answerer {
 
     /// The page over which the call ended with `BadPage`: its octets, the open frames among them, how it was sent and why it can't be
     /// read. None unless the call ended so. Errs where memory is refused; nothing changes.
-    pub fn bad_page(&self) -> Result<Option<BadPage>, AllocError>
+    pub fn bad_page(&self) -> Result<Option<RefusedPage>, AllocError>
         ensures { IfOk result (λ page. IsBadPage self.now page) }
     {
         match self.end {

@@ -12,13 +12,13 @@ use std::marker::Model;
 
 /// A page that an answerer couldn't read: with its octets a program can have the rows before the refused bit (`Coding::salvage`).
 #[derive(Debug, Drop)]
-pub struct BadPage {
+pub struct RefusedPage {
     params: Params,
     octets: Vec<u8>,
     fault: Option<CodeFault>,
 }
 
-impl Model for BadPage {
+impl Model for RefusedPage {
     ghost use Rattle.stations.specs.BadPages.{PageOctets};
 
     ghost Value = { PageOctets };
@@ -26,9 +26,9 @@ impl Model for BadPage {
     ghost view = { λ p. record { params = p.params; octets = p.octets.items; fault = p.fault } };
 }
 
-impl BadPage {
+impl RefusedPage {
     /// The page of octets that were sent by these parameters. Errs where memory is refused.
-    pub(crate) fn new(alloc: Global, params: Params, octets: Vec<u8>) -> Result<BadPage, AllocError>
+    pub(crate) fn new(alloc: Global, params: Params, octets: Vec<u8>) -> Result<RefusedPage, AllocError>
         ensures { IfOk result (λ page. IsRefused params octets.items page) }
     {
         let width = params.width.pixels();
@@ -44,7 +44,7 @@ impl BadPage {
                 Some(fault)
             }
         };
-        Ok(BadPage {
+        Ok(RefusedPage {
             params,
             octets,
             fault,

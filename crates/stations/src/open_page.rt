@@ -8,7 +8,7 @@ ghost use Rattle.stations.specs.BadPages.{IsRefused, front_octets, refused_octet
 ghost use Rattle.stations.specs.Layers.{page_read};
 ghost use Rattle.stations.specs.OpenPage.{AreReadAlike, IsReaderOf, TakesOctets};
 
-use crate::bad_page::BadPage;
+use crate::bad_page::RefusedPage;
 use page_code::PageReader;
 use partial_page::{BlockStore, MAX_PAGE_OCTETS};
 use raster::Page;
@@ -135,13 +135,13 @@ impl OpenPage {
 
     /// The page as it is refused: its octets with the frames of a block from 0 on, up to the first that isn't there. Errs where
     /// memory is refused.
-    pub(crate) fn refused(&self, store: &BlockStore) -> Result<BadPage, AllocError>
+    pub(crate) fn refused(&self, store: &BlockStore) -> Result<RefusedPage, AllocError>
         ensures { IfOk result (λ page. IsRefused self.now.params (refused_octets self.now.octets store.now.frames) page) }
     {
         let mut octets = Vec::new(self.alloc);
         octets.extend_from_slice(&self.octets)?;
         append_front(store, &mut octets)?;
-        BadPage::new(self.alloc, self.params, octets)
+        RefusedPage::new(self.alloc, self.params, octets)
     }
 }
 
