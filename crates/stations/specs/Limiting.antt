@@ -5,7 +5,9 @@ use Rattle.raster.specs.Pages.{PagePixels}
 use Rattle.signals.specs.Signals.{fcd, pps}
 use Rattle.stations.specs.AnswererStep.{Answerer, AnswererAnswer, answerer_silent, answerer_step, is_repeated, Steps}
 use Rattle.stations.specs.Inputs.{AnswererInput, listens, is_busy}
+use Rattle.stations.specs.Stopping.{StaysSilent}
 use Rattle.stations.specs.declared.limiting.Limits.{Limits}
+use Rattle.stations.specs.declared.stopping.Cut.{Cut}
 use Rattle.stations.specs.declared.turn.End.{End}
 use Rattle.stations.specs.declared.turn.Turn.{Turn}
 use Rattle.stations.specs.declared.turn.Turn.TheVariants.{Mcf, Rnr}
@@ -71,11 +73,12 @@ limited_step limits s input =
 abbrev pub IsWithin : Limits → List PagePixels → Type 0
 IsWithin limits pages = (pages ≡ []) ⊎ ((front : List PagePixels) × (page : PagePixels) × (pages ≡ front ++ page ∷ []) × (is_full limits front ≡ false))
 
--- an answerer with limits, and whether it is busy, as it was told
+-- an answerer with limits, whether it is busy, as it was told, and what cut its call off, if anything did
 pub record LimitedFields : Type 0 where
   pub station : Answerer
   pub limits : Limits
   pub told : Bool
+  pub cut : Option Cut
 
 -- whether it is busy, as an input tells
 abbrev pub told_by : Bool → AnswererInput → Bool
@@ -86,8 +89,13 @@ told_by told input = told
 abbrev pub LimitedSteps : {E : Type 0} → LimitedFields → AnswererInput → LimitedFields → Result Turn E → Type 0
 LimitedSteps old input new (Ok turn) =
     Steps old.station new.station turn (limited_step old.limits old.station input) × (new.limits ≡ old.limits) ×
-    (new.told ≡ told_by old.told input)
+    (new.told ≡ told_by old.told input) × (new.cut ≡ old.cut)
 LimitedSteps old input new (Err refused) = new ≡ old
+
+-- the same; after the call was cut off it is silent
+abbrev pub LimitedStepsUnlessCut : {E : Type 0} → LimitedFields → AnswererInput → LimitedFields → Result Turn E → Option Cut → Type 0
+LimitedStepsUnlessCut old input new result None = LimitedSteps old input new result
+LimitedStepsUnlessCut old input new result (Some why) = StaysSilent old new result
 
 -- the station after its pages are taken: it is as busy as it was told, if it runs
 abbrev pub freed : Option End → Bool → Answerer → Answerer

@@ -28,7 +28,11 @@ impl Model for RefusedPage {
 
 impl RefusedPage {
     /// The page of octets that were sent by these parameters. Errs where memory is refused.
-    pub(crate) fn new(alloc: Global, params: Params, octets: Vec<u8>) -> Result<RefusedPage, AllocError>
+    pub(crate) fn new(
+        alloc: Global,
+        params: Params,
+        octets: Vec<u8>,
+    ) -> Result<RefusedPage, AllocError>
         ensures { IfOk result (λ page. IsRefused params octets.items page) }
     {
         let width = params.width.pixels();

@@ -1,16 +1,19 @@
 //! An answerer that stores no more pages than it is given room for.
 
-ghost use Rattle.std.specs.Prelude.{◌≡◌, ◌<◌, ◌≤◌, ◌↔◌, ◌&&◌, true, false, [], IsTrue};
+ghost use Rattle.std.specs.Prelude.{◌≡◌, ◌<◌, ◌≤◌, ◌↔◌, ◌&&◌, true, false, [], None, IsTrue};
 ghost use Rattle.stations.specs.AnswererStep.{new_answerer};
 ghost use Rattle.stations.specs.CallerStep.{no_params};
 ghost use Rattle.stations.specs.Inputs.{answerer_input};
 ghost use Rattle.stations.specs.Limiting.{is_full, is_kept_out, busy_while, told_by, not_ready, page_octets, octets_of_pages};
-ghost use Rattle.stations.specs.Limiting.{freed, IsWithin, LimitedSteps};
+ghost use Rattle.stations.specs.Limiting.{freed, IsWithin, LimitedSteps, LimitedStepsUnlessCut};
+ghost use Rattle.stations.specs.Stopping.{call_end, cut_by, stop_turn};
+ghost use Rattle.stations.specs.declared.stopping.Cut.TheVariants.{Stop, Loss};
 
 use crate::answerer::Answerer;
 use crate::input::AnswererIn;
 use crate::laws::stored_is_read;
 use crate::mark::Mark;
+use crate::stopping::{CallEnd, Cut, call_end};
 use crate::turn::Turn;
 use raster::Page;
 use signals::{Caps, Signal};
@@ -28,12 +31,13 @@ pub struct Limits {
 }
 
 /// An answerer that is busy while what it stores has reached a limit: it answers RNR, keeps no FCD, and is silent at the PPS of another
-/// block. Its pages are to be taken after each RNR.
+/// block. Its pages are to be taken after each RNR. Its call can be stopped, or lost with its line, as that of a `StoppableAnswerer`.
 #[derive(Debug, Drop)]
 pub struct LimitedAnswerer {
     station: Answerer,
     limits: Limits,
     told: bool,
+    cut: Option<Cut>,
 }
 
 impl Model for LimitedAnswerer {
@@ -41,7 +45,7 @@ impl Model for LimitedAnswerer {
 
     ghost Value = { LimitedFields };
 
-    ghost view = { λ a. record { station = a.station; limits = a.limits; told = a.told } };
+    ghost view = { λ a. record { station = a.station; limits = a.limits; told = a.told; cut = a.cut } };
 
     ghost invariant = { λ a. IsWithin a.limits a.station.pages };
 }
@@ -53,7 +57,7 @@ impl LimitedAnswerer {
         requires ecm { caps.ecm ≡ true }
         requires pages { 0 < limits.pages }
         requires octets { 0 < limits.octets }
-        ensures station { result.0 ≡ record { station = new_answerer caps no_params; limits = limits; told = false } }
+        ensures station { result.0 ≡ record { station = new_answerer caps no_params; limits = limits; told = false; cut = None } }
         ensures turn { result.1 ≡ Turn.Dis }
     {
         let (station, turn) = Answerer::new(alloc, caps);
@@ -61,12 +65,25 @@ impl LimitedAnswerer {
             station,
             limits,
             told: false,
+            cut: None,
         };
         (limited, turn)
     }
 
-    /// Answers an input; an ended call answers silently. Errs where memory is refused, which changes nothing.
+    /// Answers an input; an ended call answers silently, and so does one that was cut off. Errs where memory is refused, which
+    /// changes nothing.
     pub fn step(&mut self, input: AnswererIn<'_>) -> Result<Turn, AllocError>
+        ensures steps { LimitedStepsUnlessCut self.old (answerer_input input.entry) self.new result self.old.cut }
+        ensures within { IsWithin self.new.limits self.new.station.pages }
+    {
+        match self.cut {
+            Some(_) => Ok(Turn::Silent),
+            None => self.advance(input),
+        }
+    }
+
+    /// Answers an input of a call that wasn't cut off.
+    fn advance(&mut self, input: AnswererIn<'_>) -> Result<Turn, AllocError>
         ensures steps { LimitedSteps self.old (answerer_input input.entry) self.new result }
         ensures within { IsWithin self.new.limits self.new.station.pages }
     {
@@ -99,7 +116,36 @@ impl LimitedAnswerer {
         pages
     }
 
-    /// The answerer itself: its items, waits, pages and end.
+    /// Stops the call: DCN. A call that has ended stays as it ended, and nothing is sent.
+    pub fn stop(&mut self) -> Turn
+        ensures next { self.new ≡ record self.old { cut = cut_by self.old.station.ending self.old.cut Stop } }
+        ensures turn { result ≡ stop_turn self.old.station.ending self.old.cut }
+    {
+        if self.cut.is_some() || self.station.end().is_some() {
+            return Turn::Silent;
+        }
+        self.cut = Some(Cut::Stop);
+        Turn::Dcn
+    }
+
+    /// The line is gone: nothing more is sent. A call that has ended stays as it ended.
+    pub fn lost(&mut self)
+        ensures { self.new ≡ record self.old { cut = cut_by self.old.station.ending self.old.cut Loss } }
+    {
+        if self.cut.is_some() || self.station.end().is_some() {
+            return;
+        }
+        self.cut = Some(Cut::Loss);
+    }
+
+    /// Why the call ended, if it has.
+    pub fn end(&self) -> Option<CallEnd>
+        ensures { result ≡ call_end self.now.station.ending self.now.cut }
+    {
+        call_end(self.station.end(), self.cut)
+    }
+
+    /// The answerer itself: its items, waits and pages.
     pub fn station(&self) -> &Answerer
         ensures { result.now ≡ self.now.station }
     {

@@ -186,7 +186,7 @@ impl StoppableAnswerer {
 }
 
 /// Why a call ended, if it has: as its station did, or cut off before that.
-fn call_end(end: Option<End>, cut: Option<Cut>) -> Option<CallEnd>
+pub(crate) fn call_end(end: Option<End>, cut: Option<Cut>) -> Option<CallEnd>
     ensures { result ≡ call_end end cut }
 {
     match (end, cut) {

@@ -3,7 +3,7 @@ use Rattle.stations.specs.AnswererStep.{Answerer}
 use Rattle.stations.specs.Inputs.{answerer_input}
 use Rattle.stations.specs.Limiting.{IsWithin, is_full}
 use Rattle.stations.proofs.Room.{stays_within_heard}
-use Rattle.stations.proofs.limiting.LimitedAnswerer.step.Goals as goal
+use Rattle.stations.proofs.limiting.LimitedAnswerer.advance.Goals as goal
 
 pub invariant_of-self-then-not-becomes_full : goal.invariant_of-self-then-not-becomes_full
 invariant_of-self-then-not-becomes_full c =
