@@ -11,7 +11,7 @@ use Rattle.run_tables.specs.Texts.{begins}
 use Rattle.run_tables.proofs.NumberLemmas.{begins_unfilled, front_first, front_moved}
 use Rattle.page_code.specs.declared.t6.front.Front.{Front}
 use Rattle.page_code.specs.declared.t6.mode.ModeCode.TheVariants.{Horizontal, Vertical}
-use Rattle.page_code.specs.declared.t6.mode.Shift.TheVariants.{V0}
+use Rattle.page_code.specs.declared.t6.mode.Shift.TheVariants.{V0, VL1, VR1}
 use Rattle.page_code.specs.TwoDimensions.Changes.{AreHeld}
 use Rattle.page_code.specs.TwoDimensions.Fronts.{PageSoFar, PageState, mode_ended, mode_word}
 use Rattle.page_code.specs.TwoDimensions.Fronts.PageState.{inside}
@@ -29,6 +29,21 @@ unfolding number_text
 v0_seen word x one first long =
     let seen : first_bits 1 x ≡ number_text 1 1 = sym (front_first 1 63 7 x word refl (omega arith) first) ∙ ap (number_text 1) one in
     begins_unfilled (true ∷ []) x 1 (omega arith) (omega arith) (rw seen refl)
+
+-- the codes of VR1 and VL1
+pub vr1_seen : (word : ℕ) (x : List Bool) → word / 2 ^ 61 ≡ 3 → AreFirst 7 x word → 7 ≤ length x
+    → begins (mode_word (Vertical VR1)) x ≡ true
+unfolding number_text
+vr1_seen word x three first long =
+    let seen : first_bits 3 x ≡ number_text 3 3 = sym (front_first 3 61 7 x word refl (omega arith) first) ∙ ap (number_text 3) three in
+    begins_unfilled (false ∷ true ∷ true ∷ []) x 3 (omega arith) (omega arith) (rw seen refl)
+
+pub vl1_seen : (word : ℕ) (x : List Bool) → word / 2 ^ 61 ≡ 2 → AreFirst 7 x word → 7 ≤ length x
+    → begins (mode_word (Vertical VL1)) x ≡ true
+unfolding number_text
+vl1_seen word x two first long =
+    let seen : first_bits 3 x ≡ number_text 3 2 = sym (front_first 3 61 7 x word refl (omega arith) first) ∙ ap (number_text 3) two in
+    begins_unfilled (false ∷ true ∷ false ∷ []) x 3 (omega arith) (omega arith) (rw seen refl)
 
 -- the flag of horizontal mode
 pub horizontal_seen : (word : ℕ) (x : List Bool) → word / 2 ^ 61 ≡ 1 → AreFirst 7 x word → 7 ≤ length x

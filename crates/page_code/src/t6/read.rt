@@ -19,7 +19,7 @@ ghost use Rattle.std.specs.Prelude.{◌≡◌, ◌≤◌, ◌<◌, ◌+◌, [], 
 
 use crate::coding::Coding;
 use crate::page::{Progress, push_row, row_of};
-use crate::t6::front::{Front, to_a1, under_b1, under_b2};
+use crate::t6::front::{Front, left_of_b1, right_of_b1, to_a1, under_b1, under_b2};
 use crate::t6::lines::Lines;
 use crate::t6::mode::{EOFB, EOFB_NUMBER, ModeCode, Shift};
 use crate::t6::mode_table::mode_of;
@@ -182,6 +182,14 @@ fn quick_step(
 {
     if word >> 63 == 1 {
         return Some((under_b1(held, list, width, front), 1));
+    }
+    if word >> 61 == 0b011 {
+        let next = right_of_b1(held, list, width, front)?;
+        return Some((next, 3));
+    }
+    if word >> 61 == 0b010 {
+        let next = left_of_b1(held, list, width, front)?;
+        return Some((next, 3));
     }
     let (mode, count) = mode_of((word >> 57) as u32);
     match mode? {

@@ -1,0 +1,37 @@
+use Rattle.std.proofs.Common.{arith, ◌+◌, ◌-◌}
+use Rattle.std.specs.Prelude.{slice_index_or}
+use Rattle.page_code.specs.declared.t6.mode.Shift.TheVariants.{VL1}
+use Rattle.page_code.proofs.TwoDimensions.FrontSteps.{b1_most, room, vertical_fits, vertical_front}
+use Rattle.page_code.proofs.t6.front.left_of_b1.Goals as goal
+
+pub index_mut-requires : goal.index_mut-requires
+index_mut-requires c = omega (
+  arith,
+  room c.args.held.now c.args.list.now.items c.args.width c.args.front c.requires.fits c.requires.short c.b1_at-at.result
+      c.b1_at-at.ensures.found c.b1_at-at.ensures.even,
+)
+
+pub returns-clause-fits : goal.returns-clause-fits
+returns-clause-fits c =
+    let found = c.b1_at-at.ensures.found in
+    let b1 = slice_index_or c.args.held.now c.b1_at-at.result 0 in
+    vertical_fits c.args.held.now c.args.list.now.items c.args.width c.args.front c.requires.fits c.requires.short c.b1_at-at.result found
+    c.b1_at-at.ensures.even (b1 - 1) c.index_after.result (omega (arith, c.if-b1-front.false))
+    (omega (
+      arith,
+      b1_most c.args.held.now c.args.list.now.items c.args.width c.args.front c.requires.fits c.requires.short c.b1_at-at.result found
+          c.b1_at-at.ensures.even,
+    ))
+    c.index_after.ensures.index c.index_after.ensures.sought c.index_after.ensures.odd
+
+pub returns-clause-leads : goal.returns-clause-leads
+returns-clause-leads c =
+    let found = c.b1_at-at.ensures.found in
+    let b1 = slice_index_or c.args.held.now c.b1_at-at.result 0 in
+    vertical_front c.args.held.now c.args.list.now.items c.args.width c.args.front c.requires.fits c.requires.short c.b1_at-at.result found
+    c.b1_at-at.ensures.even VL1 (b1 - 1) (omega (arith, c.if-b1-front.false)) (omega (arith, c.if-b1-front.false))
+    (omega (
+      arith,
+      b1_most c.args.held.now c.args.list.now.items c.args.width c.args.front c.requires.fits c.requires.short c.b1_at-at.result found
+          c.b1_at-at.ensures.even,
+    ))
