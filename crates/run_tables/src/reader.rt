@@ -382,6 +382,23 @@ impl<'a> BitReader<'a> {
         Some((first, second))
     }
 
+    /// As `quick_two_runs`, after bits that are passed over, at most 7: a flag that was seen. The runs and these bits come from one word.
+    #[inline(always)]
+    pub fn quick_two_runs_after(&mut self, flag: u32, color: Color, room: u32) -> Option<(u32, u32)>
+        requires { flag ≤ 7 }
+        ensures some { IfSome result (λ runs. (past : CodeFaultKind)
+            → ReadsTwoRuns color room past (record self.old { place = self.old.place + flag }) self.new runs.0 runs.1) }
+        ensures most { IfSome result (λ runs. runs.0 + runs.1 ≤ room) }
+        ensures none { IfNone result (self.new ≡ self.old) }
+    {
+        let mut window = Window::at(self.look_ahead())?;
+        window.pass(flag);
+        let first = window.run(color, room)?;
+        let second = window.run(color.other(), room - first)?;
+        *self = window.into_reader();
+        Some((first, second))
+    }
+
     /// `read_run_within` code by code.
     #[cold]
     pub(crate) fn read_run_by_codes(

@@ -24,6 +24,7 @@ impl<'a> Window<'a> {
     pub(crate) fn at(reader: BitReader<'a>) -> Option<Self>
         ensures window { IfSome result (λ window. IsWindow window.reader window.used window.word) }
         ensures place { IfSome result (λ window. passed window.reader window.used ≡ reader.entry) }
+        ensures begun { IfSome result (λ window. window.used ≡ 0) }
     {
         let enough = reader.has_57();
         if !enough {
@@ -74,7 +75,7 @@ impl<'a> Window<'a> {
 
     /// Goes on by `count` bits.
     #[inline(always)]
-    fn pass(&mut self, count: u32)
+    pub(crate) fn pass(&mut self, count: u32)
         requires window { IsWindow self.old.reader self.old.used self.old.word }
         requires held { self.old.used + count ≤ 57 }
         ensures window { IsWindow self.new.reader self.new.used self.new.word }

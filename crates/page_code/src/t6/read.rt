@@ -265,10 +265,9 @@ fn quick_horizontal(reader: &mut BitReader, lines: &mut Lines) -> bool
     ensures same { lines.new.reference ≡ lines.old.reference }
 {
     let mut ahead = reader.look_ahead();
-    ahead.skip(3);
     let a0 = lines.a0();
     let room = lines.width() - a0.place;
-    let Some((a0a1, a1a2)) = ahead.quick_two_runs(a0.color, room) else {
+    let Some((a0a1, a1a2)) = ahead.quick_two_runs_after(3, a0.color, room) else {
         return false;
     };
     if a0a1 + a1a2 == 0 {
