@@ -191,6 +191,9 @@ fn quick_step(
         let next = left_of_b1(held, list, width, front)?;
         return Some((next, 3));
     }
+    if word >> 61 == 0b001 {
+        return None;
+    }
     let (mode, count) = mode_of((word >> 57) as u32);
     match mode? {
         ModeCode::Pass => Some((under_b2(held, list, width, front), count as u32)),
