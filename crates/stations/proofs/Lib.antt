@@ -29,5 +29,6 @@ pub mod CutsEnd
 pub mod Room
 pub mod BusyBefore
 pub mod LimitedPlain
+pub mod LimitedServing
 pub mod FrontOctets
 pub mod BlocksDue

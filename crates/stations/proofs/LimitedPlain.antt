@@ -12,7 +12,7 @@ use Rattle.stations.specs.declared.turn.AnswererState.TheVariants.{PhaseB, WaitT
 use Rattle.stations.specs.declared.turn.Turn.TheVariants.{Silent}
 use Rattle.stations.proofs.BusyBefore.{busy_before}
 
-told_in : (s : Answerer) (busy : Bool) (state : AnswererState) →
+pub told_in : (s : Answerer) (busy : Bool) (state : AnswererState) →
     answerer_table state (is_busy busy) s ≡ record { next = record s { busy = busy }; turn = Silent }
 told_in s busy PhaseB = refl
 told_in s busy WaitTraining = refl

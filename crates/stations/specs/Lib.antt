@@ -28,3 +28,4 @@ pub mod Taken
 pub mod Stopping
 pub mod Limiting
 pub mod LimitedRuns
+pub mod LimitedServing

@@ -7,6 +7,7 @@ ghost use Rattle.stations.specs.TurnsMean.{AnswerersAlwaysAnswer, AnswerersHearN
 ghost use Rattle.stations.specs.TurnsMean.{CallersHearNothingElse, CallersTurnsMean};
 ghost use Rattle.stations.specs.Bursts.{CutByCarrier, TurnsCut};
 ghost use Rattle.stations.specs.LimitedRuns.{LimitedIsPlain};
+ghost use Rattle.stations.specs.LimitedServing.{LimitedServes};
 ghost use Rattle.stations.specs.Limiting.{BusyBefore};
 ghost use Rattle.stations.specs.Listening.{AnswerersHear};
 ghost use Rattle.stations.specs.Stopping.{CutsEnd};
@@ -207,3 +208,12 @@ pub fn busy_before()
 pub fn limited_is_plain()
     ensures { LimitedIsPlain }
 {}
+
+/// Whatever happens to an answerer with limits, inputs with its pages taken in between, it is where an answerer without limits is after
+/// the inputs that the limits let through, with the same pages taken; and at most one page is above a limit.
+pub fn limited_serves()
+    ensures { LimitedServes }
+{
+    stored_is_read();
+    answerers_keep();
+}
