@@ -11,6 +11,16 @@ try_reference() {
     count=$((count + 700))
 }
 
+# try_flood STREAM FAXTOOL: a page of 20,000 rows in 7.5 kilooctets of code, sent forty times to an answerer that has room for two pages. Each
+# is stored, taken after an RNR and confirmed, in memory for three of its bitmaps of 6 megaoctets and little more.
+try_flood() {
+    python3 -c "import sys; sys.stdout.buffer.write(b'P4\n2432 20000\n' + (b'@' + bytes(303)) * 20000)" > "$work/bar.pbm"
+    "$2" code --code mmr --order lsb "$work/bar.pbm" "$work/bar.code" || fails "the page of a bar isn't coded"
+    (ulimit -v 30000; exec "$1" "$work/bar.code" flood) > "$work/output" 2> "$work/error" || fails "${1##*/}: a flood of pages: $(cat "$work/error")"
+    [ "$(sort "$work/output" | uniq -c | awk '{ print $1, $2, $3, $5 }' | tr '\n' ';')" = "40 Mcf  ;20 Rnr  ;40 page 2432 20000;" ] ||
+        fails "${1##*/}: a flood of pages is answered otherwise: $(sort "$work/output" | uniq -c | head -5)"
+}
+
 # try_streams FAXTOOL: the rows by octets; 300 random streams of a fixed seed and the octets of 300 calls: what the programs of
 # crates/stream_tool answer, store and send is what the reference says. The codes of the calls' pages are FAXTOOL's.
 try_streams() {
@@ -26,6 +36,7 @@ try_streams() {
         timeout 600 python3 -B "$data/try_rows.py" "$stream" "$1" "$work/reference" || fails "${stream##*/}: a worked row has other octets"
         timeout 600 python3 -B "$data/try_streams.py" "$stream" "$work/reference" || fails "${stream##*/}: the reference answers something else"
         timeout 600 python3 -B "$data/try_octets.py" "$stream" "$1" "$work/reference" || fails "${stream##*/}: the reference sends other octets"
+        try_flood "$stream" "$1"
         echo "end to end: ${stream##*/} passed 300 streams and 300 calls"
     done
 }

@@ -1,8 +1,9 @@
 //! For the gate: what the stations do about a file of octets, its first word. With that word alone, what an answerer makes of a file of
 //! feeds, whoever sends them: its turns, a line each, the pages that it stored, each with a number of its octets, and its end; with a
 //! second word `few`, the same of an answerer that has few capabilities. With `call`, the octets on the line of the call that the file
-//! says; with `caller`, what a caller does about what it hears. A feed is an octet of `O` (octets of the line), `C` (a training check),
-//! `1` or `2` (the end of a wait), `B` or `R` (busy, ready), the number of octets in two, the high one first, and these octets.
+//! says; with `caller`, what a caller does about what it hears; with `flood`, what an answerer that has room for two pages does about the
+//! page of this code, sent forty times. A feed is an octet of `O` (octets of the line), `C` (a training check), `1` or `2` (the end of a
+//! wait), `B` or `R` (busy, ready), the number of octets in two, the high one first, and these octets.
 
 #![tactic(auto)]
 
@@ -10,9 +11,11 @@ ghost use Rattle.std.specs.Prelude.{◌≡◌, true};
 
 mod call;
 mod caller;
+mod flood;
 
 use crate::call::show_call;
 use crate::caller::show_caller;
+use crate::flood::show_flood;
 use line_sim::{Answered, Feed, answer_stream};
 use raster::Page;
 use signals::{Caps, Modems, PageWidth};
@@ -97,19 +100,24 @@ fn digest(page: &Page) -> u32 {
     number
 }
 
+/// Prints a page: its pixels a row, whether its lines are fine, its rows and a number of its octets.
+fn show_page(rt: &HostRuntime, page: &Page) -> io::Result<()> {
+    println!(rt;
+        "page {} {} {} {}",
+        page.width(),
+        page.fine(),
+        page.rows().len(),
+        digest(page)
+    )
+}
+
 /// Prints the turns, the pages and the end.
 fn show_answered(rt: &HostRuntime, answered: &Answered) -> io::Result<()> {
     for turn in &answered.turns {
         println!(rt; "{turn:?}")?;
     }
     for page in &answered.pages {
-        println!(rt;
-            "page {} {} {} {}",
-            page.width(),
-            page.fine(),
-            page.rows().len(),
-            digest(page)
-        )?;
+        show_page(rt, page)?;
     }
     println!(rt; "end {:?}", answered.ending)
 }
@@ -136,6 +144,7 @@ fn main(rt: HostRuntime) -> io::Result<()> {
         Some(word) => match word.as_str() {
             "call" => show_call(&rt, &octets),
             "caller" => show_caller(&rt, &octets),
+            "flood" => show_flood(&rt, &octets),
             _ => show_stream(&rt, FEW_CAPS, &octets),
         },
     }
