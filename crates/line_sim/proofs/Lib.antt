@@ -59,3 +59,4 @@ pub mod Breaking
 pub mod Quiet
 pub mod Fates
 pub mod Putting
+pub mod Redialling

@@ -22,3 +22,4 @@ pub mod BusyCalls
 pub mod Breaking
 pub mod Quiet
 pub mod Fates
+pub mod Redialling

@@ -9,6 +9,7 @@ ghost use Rattle.line_sim.specs.EventsMean.{EventsMake, EventsRefuse, EventsTouc
 ghost use Rattle.line_sim.specs.Polite.{GroupsAreAgreed, PoliteCalls, PoliteEvents};
 ghost use Rattle.line_sim.specs.Headline.{EventsMove, LineHolds, LinesCanBeWritten, RunsAreSafe, RunsMove, StationsInStep};
 ghost use Rattle.line_sim.specs.Headline.{WholeBlocksAccepted};
+ghost use Rattle.line_sim.specs.Redialling.{CallsAreRedialled};
 ghost use Rattle.line_sim.specs.Streams.{CutsChangeNothing, StoredIsSaid};
 
 /// What holds over every schedule of losses, spoiled training checks, time-outs, waits and refused
@@ -39,6 +40,17 @@ pub fn polite_calls()
     ensures groups { GroupsAreAgreed }
     ensures calls { PoliteCalls }
 {
+    stations::laws::layers_hold();
+    stations::laws::signals_hold();
+}
+
+/// Of several calls, each over any line, to whoever answers, and each further one of the pages that the call before it has not
+/// confirmed: the pages stored in all of them, in order, are the first of the document; at most one of them comes again for each
+/// call that failed, since a page that was stored may not have been confirmed; and after a normal end none is missing.
+pub fn redialled()
+    ensures { CallsAreRedialled }
+{
+    headline();
     stations::laws::layers_hold();
     stations::laws::signals_hold();
 }
