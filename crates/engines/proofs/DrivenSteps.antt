@@ -14,7 +14,7 @@ use Rattle.stations.specs.Inputs.{PlainItem}
 use Rattle.stations.specs.Layers.{Document}
 use Rattle.stations.specs.declared.turn.End.{End}
 use Rattle.line_sim.specs.Driving.{Driven, Patience, caller_waits, comes_back, dis_is_due, drive, drives, first_fate, is_over}
-use Rattle.line_sim.specs.Driving.{is_rnr_item, later_fates, new_driven, somebody_waits}
+use Rattle.line_sim.specs.Driving.{is_rnr_item, later_fates, new_driven, somebody_waits, step_events}
 use Rattle.line_sim.specs.Entries.{entries}
 use Rattle.line_sim.specs.Fates.{DrivenFields, MakesStep, ShowsDriven, Steps, entries_of, is_fate_due, next_of, plain_fate}
 use Rattle.line_sim.specs.Line.{Done, run}
@@ -138,6 +138,13 @@ waits_alike p [] [] d none = at d.world.caller.ending d.world.answerer.ending
     at (Some why) None = (refl, refl)
     at (Some why) (Some other) = (refl, refl)
 
+-- nor for the events
+events_alike : (p : Patience) (items others : List PlainItem) (d : Driven) → is_fate_due items others ≡ false →
+    step_events p items others (with_none d) ≡ step_events p items others d
+events_alike p (item ∷ items) others d none = absurd (cc)
+events_alike p [] (item ∷ others) d none = absurd (cc)
+events_alike p [] [] d none = refl
+
 steps_alike : (p : Patience) (old new : DrivenFields) (d : Driven) (step : Option Step) →
     is_fate_due d.world.to_answerer d.world.to_caller ≡ false → Steps p old new (with_none d) step → Steps p old new d step
 steps_alike p old new d None none steps = steps
@@ -147,6 +154,7 @@ steps_alike p old new d (Some step) none steps =
       goes_on = steps.goes_on;
       before = steps.before;
       event = steps.event;
+      events = steps.events ∙ events_alike p d.world.to_answerer d.world.to_caller d none;
       leads = steps.leads ∙ same.0;
       outcome = steps.outcome;
       shows = steps.shows;

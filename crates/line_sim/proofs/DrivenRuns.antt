@@ -9,8 +9,10 @@ use Rattle.line_sim.specs.declared.event.Event.{Event}
 use Rattle.line_sim.specs.declared.event.Event.TheVariants.{DeliverToAnswerer, DeliverToCaller, LoseToAnswerer, LoseToCaller, Spoil}
 use Rattle.line_sim.specs.declared.event.Event.TheVariants.{CallerTimeout, CallerT5, AnswererT1, AnswererT2}
 use Rattle.line_sim.specs.Headline.{IsSafeWorld, RunsAreSafe}
+use Rattle.line_sim.specs.Report.{all_done}
 use Rattle.line_sim.specs.Driving.{Patience, Driven, Fate, first_fate, meets_answerer, meets_caller, is_rnr_item, dis_is_due, caller_waits}
 use Rattle.line_sim.specs.Driving.{somebody_waits, comes_back, drives, is_over, drive, new_driven, DrivenCallsAreSafe}
+use Rattle.line_sim.specs.Driving.{DrivenStepsAreEvents, events_there, events_back, events_waiting, step_events}
 use Rattle.line_sim.specs.Driving.Fate.{comes, lost, spoiled}
 
 -- events that are all made lead from a world to another one
@@ -87,3 +89,40 @@ pub driven_calls_are_safe : RunsAreSafe → DrivenCallsAreSafe
 driven_calls_are_safe law document wish caps p fates most full =
     let led = drive_leads most p (new_driven document wish caps fates) in
     subst (IsSafeWorld document) led.leads (law document wish caps led.steps full)
+
+-- the events of a step lead to the next one's world
+there_lead : (fate : Fate) (item : PlainItem) (w : World) → run (all_done (events_there fate item)) w ≡ meets_answerer fate item w
+there_lead comes item w = refl
+there_lead lost item w = refl
+there_lead spoiled (framed signal) w = refl
+there_lead spoiled (checked octets) w = refl
+
+back_lead : (fate : Fate) (w : World) → run (all_done (events_back fate)) w ≡ meets_caller fate w
+back_lead comes w = refl
+back_lead lost w = refl
+back_lead spoiled w = refl
+
+come_lead : (many : Bool) (item : PlainItem) (d : Driven) →
+    run (all_done (cond many (LoseToCaller ∷ CallerT5 ∷ []) (events_back (first_fate d.fates)))) d.world ≡ (comes_back many item d).world
+come_lead true item d = refl
+come_lead false item d = back_lead (first_fate d.fates) d.world
+
+wait_leads : (due : Bool) (d : Driven) → run (all_done (cond due AnswererT2 CallerTimeout ∷ [])) d.world ≡ (caller_waits due d).world
+wait_leads true d = refl
+wait_leads false d = refl
+
+waits_lead : (p : Patience) (one other : Option End) (d : Driven) →
+    run (all_done (events_waiting one other (dis_is_due d.world.caller.state d.world.answerer.state other (nat_lt d.dis p.calls)))) d.world ≡
+    (somebody_waits p one other d).world
+waits_lead p None other d = wait_leads (dis_is_due d.world.caller.state d.world.answerer.state other (nat_lt d.dis p.calls)) d
+waits_lead p (Some why) None d = refl
+waits_lead p (Some why) (Some other) d = refl
+
+pub events_lead : (p : Patience) (items others : List PlainItem) (d : Driven) →
+    run (all_done (step_events p items others d)) d.world ≡ (drives p items others d).world
+events_lead p (item ∷ items) others d = there_lead (first_fate d.fates) item d.world
+events_lead p [] (item ∷ others) d = come_lead (is_rnr_item item && not (nat_lt d.rnrs p.busy)) item d
+events_lead p [] [] d = waits_lead p d.world.caller.ending d.world.answerer.ending d
+
+pub driven_steps_are_events : DrivenStepsAreEvents
+driven_steps_are_events p d = events_lead p d.world.to_answerer d.world.to_caller d

@@ -11,8 +11,8 @@ use Rattle.stations.specs.declared.turn.CallerState.{CallerState}
 use Rattle.stations.specs.declared.turn.CallerState.TheVariants.{WaitDis, WaitCfr, WaitBlock, WaitReady}
 use Rattle.stations.specs.declared.turn.End.{End}
 use Rattle.line_sim.specs.Driving.{Driven, Fate, Patience, caller_waits, comes_back, dis_is_due, dis_kept, drive}
-use Rattle.line_sim.specs.Driving.{drives, first_fate, is_over}
-use Rattle.line_sim.specs.Driving.{is_over_at, is_rnr_item, later_fates, meets_answerer, meets_caller, somebody_waits, steps_made}
+use Rattle.line_sim.specs.Driving.{drives, events_back, events_there, events_waiting, first_fate, is_over}
+use Rattle.line_sim.specs.Driving.{is_over_at, is_rnr_item, later_fates, somebody_waits, step_events, steps_made}
 use Rattle.line_sim.specs.Driving.Fate.{comes, lost, spoiled}
 use Rattle.line_sim.specs.Entries.{and_entries, entry_of, head_kind, is_refused, signal_kind}
 use Rattle.line_sim.specs.Fates.{Broken, ComesNext, DrivenFields, Follows, MakesStep, MayAct, ShowsDriven, SpoilsIf, act_to_answerer}
@@ -28,8 +28,9 @@ use Rattle.line_sim.specs.declared.drive.Fate.TheVariants.{Comes, Lost, Spoiled}
 use Rattle.line_sim.specs.declared.drive.Step.{Step}
 use Rattle.line_sim.specs.declared.event.Entry.{Entry}
 use Rattle.line_sim.specs.declared.event.Event.{Event}
-use Rattle.line_sim.specs.declared.event.Event.TheVariants.{Spoil}
+use Rattle.line_sim.specs.declared.event.Event.TheVariants.{CallerT5, LoseToCaller, Spoil}
 use Rattle.line_sim.specs.declared.event.Kind.TheVariants.{Training}
+use Rattle.line_sim.proofs.DrivenRuns.{events_lead}
 use Rattle.line_sim.proofs.Items.{no_check}
 use Rattle.line_sim.proofs.Quiet.{or_false}
 use Rattle.line_sim.proofs.Reaching.{entry_refused}
@@ -39,26 +40,26 @@ came :
     (p : Patience) (item : PlainItem) (items others : List PlainItem) (d : Driven) → first_fate d.fates ≡ comes →
     Follows p (item ∷ items) others d (act_to_answerer Comes false)
 came p item items others d is =
-    record { goes_on = refl; leads = ap (λ f. meets_answerer f item d.world) (sym is); dis = refl }
+    record { goes_on = refl; events = ap (λ f. events_there f item) (sym is); dis = refl }
 
 lost_there :
     (p : Patience) (item : PlainItem) (items others : List PlainItem) (d : Driven) → first_fate d.fates ≡ lost →
     Follows p (item ∷ items) others d (act_to_answerer Lost false)
 lost_there p item items others d is =
-    record { goes_on = refl; leads = ap (λ f. meets_answerer f item d.world) (sym is); dis = refl }
+    record { goes_on = refl; events = ap (λ f. events_there f item) (sym is); dis = refl }
 
 check_spoiled :
     (p : Patience) (octets : List ℕ) (items others : List PlainItem) (d : Driven) → first_fate d.fates ≡ spoiled →
     Follows p (checked octets ∷ items) others d (act_to_answerer Spoiled true)
 check_spoiled p octets items others d is =
-    record { goes_on = refl; leads = ap (λ f. meets_answerer f (checked octets) d.world) (sym is); dis = refl }
+    record { goes_on = refl; events = ap (λ f. events_there f (checked octets)) (sym is); dis = refl }
 
 frame_spoiled :
     (p : Patience) (item : PlainItem) (items others : List PlainItem) (d : Driven) → (head_kind (item ∷ items) ≢ Some Training) →
     first_fate d.fates ≡ spoiled → Follows p (item ∷ items) others d (act_to_answerer Spoiled false)
 frame_spoiled p (checked octets) items others d differs is = absurd (differs refl)
 frame_spoiled p (framed signal) items others d differs is =
-    record { goes_on = refl; leads = ap (λ f. meets_answerer f (framed signal) d.world) (sym is); dis = refl }
+    record { goes_on = refl; events = ap (λ f. events_there f (framed signal)) (sym is); dis = refl }
 
 no_check_framed : (signal : PlainSignal) → signal_kind signal ≢ Some Training
 no_check_framed signal e = no_check signal Training e refl
@@ -80,13 +81,21 @@ back : (p : Patience) (b : Bool) (item : PlainItem) (d : Driven) → is_rnr_item
     comes_back (is_rnr_item item && b) item d ≡ comes_back false item d
 back p b item d none = ap (λ r. comes_back (r && b) item d) none
 
+back_events : (b : Bool) (item : PlainItem) (events others : List Event) → is_rnr_item item ≡ false →
+    cond (is_rnr_item item && b) events others ≡ others
+back_events b item events others none = ap (λ r. cond (r && b) events others) none
+
 back_follows :
     (p : Patience) (item : PlainItem) (items : List PlainItem) (d : Driven) (act : Act) → is_rnr_item item ≡ false →
-    run (all_done (before_act act.spoils ++ act.event ∷ [])) d.world ≡ (comes_back false item d).world →
+    before_act act.spoils ++ act.event ∷ [] ≡ events_back (first_fate d.fates) →
     (comes_back false item d).dis ≡ dis_kept d.world.caller.state (dis_with act.event d.dis) → Follows p [] (item ∷ items) d act
-back_follows p item items d act none leads dis =
-    let is = back p (not (nat_lt d.rnrs p.busy)) item d none in
-    record { goes_on = refl; leads = leads ∙ ap (λ (n : Driven). n.world) (sym is); dis = ap (λ (n : Driven). n.dis) is ∙ dis }
+back_follows p item items d act none events dis =
+    record {
+      goes_on = refl;
+      events = events ∙
+          sym (back_events (not (nat_lt d.rnrs p.busy)) item (LoseToCaller ∷ CallerT5 ∷ []) (events_back (first_fate d.fates)) none);
+      dis = ap (λ (n : Driven). n.dis) (back p (not (nat_lt d.rnrs p.busy)) item d none) ∙ dis;
+    }
 
 pub meets_back :
     (p : Patience) (items others : List PlainItem) (d : Driven) (fate : CallFate) → items ≡ [] → others ≢ [] → has_rnr others ≡ false →
@@ -95,13 +104,13 @@ meets_back p (item ∷ items) others d fate none some quiet is = absurd (cc)
 meets_back p [] [] d fate none some quiet is = absurd (some refl)
 meets_back p [] (item ∷ others) d Comes none some quiet is =
     back_follows p item others d (act_to_caller Comes) (or_false (is_rnr_item item) (has_rnr others) quiet).0
-    (ap (λ f. meets_caller f d.world) (sym is)) refl
+    (ap events_back (sym is)) refl
 meets_back p [] (item ∷ others) d Lost none some quiet is =
     back_follows p item others d (act_to_caller Lost) (or_false (is_rnr_item item) (has_rnr others) quiet).0
-    (ap (λ f. meets_caller f d.world) (sym is)) refl
+    (ap events_back (sym is)) refl
 meets_back p [] (item ∷ others) d Spoiled none some quiet is =
     back_follows p item others d (act_to_caller Spoiled) (or_false (is_rnr_item item) (has_rnr others) quiet).0
-    (ap (λ f. meets_caller f d.world) (sym is)) refl
+    (ap events_back (sym is)) refl
 
 -- nothing is under way, and a wait is over, or the call is
 waits_follow : (p : Patience) (one other : Option End) (due : Bool) (d : Driven) → d.world.caller.ending ≡ one →
@@ -117,20 +126,39 @@ waits_follow p None other due d one_is other_is due_is = at due due_is
     on : is_over_at [] [] d.world.caller.ending d.world.answerer.ending ≡ false
     on = ap (λ e. is_over_at [] [] e d.world.answerer.ending) one_is
 
+    few : Bool
+    few = nat_lt d.dis p.calls
+
+    made : step_events p [] [] d ≡ events_waiting None other (dis_is_due d.world.caller.state d.world.answerer.state other few)
+    made =
+        ap (λ e. events_waiting e d.world.answerer.ending
+        (dis_is_due d.world.caller.state d.world.answerer.state d.world.answerer.ending few)) one_is ∙
+        ap (λ e. events_waiting None e (dis_is_due d.world.caller.state d.world.answerer.state e few)) other_is
+
     at : (b : Bool) → dis_is_due d.world.caller.state d.world.answerer.state other (nat_lt d.dis p.calls) ≡ b →
         ComesNext p [] [] d (act_waiting None other b)
     at true is =
         let next : drives p [] [] d ≡ caller_waits true d = goes ∙ ap (λ b. caller_waits b d) is in
-        record { goes_on = on; leads = ap (λ (n : Driven). n.world) (sym next); dis = ap (λ (n : Driven). n.dis) next }
+        record {
+          goes_on = on;
+          events = sym (made ∙ ap (events_waiting None other) is);
+          dis = ap (λ (n : Driven). n.dis) next;
+        }
     at false is =
         let next : drives p [] [] d ≡ caller_waits false d = goes ∙ ap (λ b. caller_waits b d) is in
-        record { goes_on = on; leads = ap (λ (n : Driven). n.world) (sym next); dis = ap (λ (n : Driven). n.dis) next }
+        record {
+          goes_on = on;
+          events = sym (made ∙ ap (events_waiting None other) is);
+          dis = ap (λ (n : Driven). n.dis) next;
+        }
 waits_follow p (Some why) None due d one_is other_is due_is =
     let next : drives p [] [] d ≡ somebody_waits p (Some why) None d =
     ap (λ e. somebody_waits p e d.world.answerer.ending d) one_is ∙ ap (λ e. somebody_waits p (Some why) e d) other_is in
     record {
       goes_on = ap (λ e. is_over_at [] [] e d.world.answerer.ending) one_is ∙ ap (λ e. is_over_at [] [] (Some why) e) other_is;
-      leads = ap (λ (n : Driven). n.world) (sym next);
+      events = sym (ap (λ e. events_waiting e d.world.answerer.ending
+          (dis_is_due d.world.caller.state d.world.answerer.state d.world.answerer.ending (nat_lt d.dis p.calls))) one_is ∙
+          ap (λ e. events_waiting (Some why) e (dis_is_due d.world.caller.state d.world.answerer.state e (nat_lt d.dis p.calls))) other_is);
       dis = ap (λ (n : Driven). n.dis) next;
     }
 waits_follow p (Some why) (Some other) due d one_is other_is due_is =
@@ -240,6 +268,12 @@ dis_shown p old event waits dis d shows waiting dis_is next =
     next ∙ (dis_counted d.world.caller.state waits (dis_with event d.dis) waiting ∙
     (ap (λ n. cond waits (dis_with event n) 0) shows.dis ∙ sym dis_is))
 
+-- so its events lead to the next step's world
+follows_leads : (p : Patience) (d : Driven) (act : Act) → Follows p d.world.to_answerer d.world.to_caller d act →
+    run (all_done (before_act act.spoils ++ act.event ∷ [])) d.world ≡ (next_of p d).world
+follows_leads p d act follows =
+    ap (λ events. run (all_done events) d.world) follows.events ∙ events_lead p d.world.to_answerer d.world.to_caller d
+
 -- an act was made
 pub act_made :
     (spoils : Bool) (p : Patience) (old : DrivenFields) (middle new : Call) (event : Event) (spoiled : Option Entry) (entry : Entry)
@@ -252,13 +286,15 @@ act_made true p old middle new event None entry waits dis d shows follows spoils
 act_made false p old middle new event (Some first) entry waits dis d shows follows spoils acts waiting dis_is = absurd spoils
 act_made false p old middle new event None entry waits dis d shows follows spoils acts waiting dis_is =
     let w : World = d.world in
+    let leads = follows_leads p d (record { spoils = false; event = event }) follows in
     let stands : Shows middle w = subst (λ v. Shows v w) (sym spoils) shows.world in
     let did = acts.1 w stands in
     record {
       goes_on = follows.goes_on;
       before = [];
       event = event;
-      leads = follows.leads;
+      events = follows.events;
+      leads = leads;
       outcome = acts.0;
       shows = did.0;
       noted = ap (λ e. and_entries e []) (sym did.1);
@@ -266,7 +302,7 @@ act_made false p old middle new event None entry waits dis d shows follows spoil
         was_done middle new event entry w acts stands unmarked,
         record {
           world =
-              subst (Shows new) follows.leads
+              subst (Shows new) leads
               (subst (λ o. Shows new (happens w event o)) (was_done middle new event entry w acts stands unmarked) did.0);
           dis = dis_shown p old event waits dis d shows waiting dis_is follows.dis;
           calls = shows.calls;
@@ -276,6 +312,7 @@ act_made false p old middle new event None entry waits dis d shows follows spoil
     }
 act_made true p old middle new event (Some first) entry waits dis d shows follows spoils acts waiting dis_is =
     let w : World = d.world in
+    let leads = follows_leads p d (record { spoils = true; event = event }) follows in
     let done : spoils.0.0 ≡ Done = was_done old.live middle Spoil first w spoils.0 shows.world spoils.1 in
     let spoil = spoils.0.1 w shows.world in
     let after : World = happens w Spoil Done in
@@ -286,7 +323,8 @@ act_made true p old middle new event (Some first) entry waits dis d shows follow
       goes_on = follows.goes_on;
       before = Spoil ∷ [];
       event = event;
-      leads = follows.leads;
+      events = follows.events;
+      leads = leads;
       outcome = acts.0;
       shows = did.0;
       noted =
@@ -296,7 +334,7 @@ act_made true p old middle new event (Some first) entry waits dis d shows follow
         was_done middle new event entry after acts stands unmarked,
         record {
           world =
-              subst (Shows new) follows.leads
+              subst (Shows new) leads
               (subst (λ o. Shows new (happens after event o)) (was_done middle new event entry after acts stands unmarked) did.0);
           dis = dis_shown p old event waits dis d shows waiting dis_is follows.dis;
           calls = shows.calls;
@@ -481,6 +519,7 @@ along_broken p now new fates d made at most step along few makes marked =
       goes_on = makes.goes_on;
       before = makes.before;
       event = makes.event;
+      events = makes.events;
       leads = makes.leads;
       outcome = makes.outcome;
       refused = makes.marked marked;

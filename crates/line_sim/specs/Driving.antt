@@ -15,8 +15,10 @@ use Rattle.stations.specs.declared.turn.CallerState.TheVariants.{WaitDis, WaitCf
 use Rattle.stations.specs.declared.turn.AnswererState.{AnswererState}
 use Rattle.stations.specs.declared.turn.AnswererState.TheVariants.{PhaseB}
 use Rattle.stations.specs.declared.turn.End.{End}
-use Rattle.line_sim.specs.Line.{World, happens, new_world}
+use Rattle.line_sim.specs.Line.{World, happens, new_world, run}
 use Rattle.line_sim.specs.Line.Outcome.{Done}
+use Rattle.line_sim.specs.Report.{all_done}
+use Rattle.line_sim.specs.declared.event.Event.{Event}
 use Rattle.line_sim.specs.declared.event.Event.TheVariants.{DeliverToAnswerer, DeliverToCaller, LoseToAnswerer, LoseToCaller, Spoil}
 use Rattle.line_sim.specs.declared.event.Event.TheVariants.{CallerTimeout, CallerT5, AnswererT1, AnswererT2}
 
@@ -122,6 +124,34 @@ drives p (item ∷ items) others d =
 drives p [] (item ∷ items) d = comes_back (is_rnr_item item && not (nat_lt d.rnrs p.busy)) item d
 drives p [] [] d = somebody_waits p d.world.caller.ending d.world.answerer.ending d
 
+-- what one step of a driven call is, as events: those of what is first under way to the answerer
+abbrev pub events_there : Fate → PlainItem → List Event
+events_there comes item = DeliverToAnswerer ∷ []
+events_there lost item = LoseToAnswerer ∷ []
+events_there spoiled (framed signal) = LoseToAnswerer ∷ []
+events_there spoiled (checked octets) = Spoil ∷ DeliverToAnswerer ∷ []
+
+-- those of what is first under way to the caller, where it isn't an RNR too many
+abbrev pub events_back : Fate → List Event
+events_back comes = DeliverToCaller ∷ []
+events_back lost = LoseToCaller ∷ []
+events_back spoiled = LoseToCaller ∷ []
+
+-- those of a wait that is over, if anybody waits; the answerer's T2 may be due
+abbrev pub events_waiting : Option End → Option End → Bool → List Event
+events_waiting None ending due = cond due AnswererT2 CallerTimeout ∷ []
+events_waiting (Some why) None due = AnswererT1 ∷ []
+events_waiting (Some why) (Some other) due = []
+
+-- and those of the step
+abbrev pub step_events : Patience → List PlainItem → List PlainItem → Driven → List Event
+step_events p (item ∷ items) others d = events_there (first_fate d.fates) item
+step_events p [] (item ∷ items) d =
+    cond (is_rnr_item item && not (nat_lt d.rnrs p.busy)) (LoseToCaller ∷ CallerT5 ∷ []) (events_back (first_fate d.fates))
+step_events p [] [] d =
+    events_waiting d.world.caller.ending d.world.answerer.ending
+    (dis_is_due d.world.caller.state d.world.answerer.state d.world.answerer.ending (nat_lt d.dis p.calls))
+
 -- nothing is under way, and both have ended
 abbrev pub is_over_at : List PlainItem → List PlainItem → Option End → Option End → Bool
 is_over_at [] [] (Some why) (Some other) = true
@@ -180,3 +210,10 @@ abbrev pub DrivenCallsAreSafe : Type 0
 DrivenCallsAreSafe =
     (document : Document) (wish : Wish) (caps : Caps) (p : Patience) (fates : List Fate) (most : ℕ) → Each IsFullPage document →
     IsSafeWorld document (drive most p (new_driven document wish caps fates)).world
+
+-- each step of a driven call is a run of its events, all of each done
+abbrev pub DrivenStepsAreEvents : Type 0
+DrivenStepsAreEvents =
+    (p : Patience) (d : Driven) →
+    run (all_done (step_events p d.world.to_answerer d.world.to_caller d)) d.world ≡
+    (drives p d.world.to_answerer d.world.to_caller d).world

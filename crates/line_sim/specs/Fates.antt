@@ -8,7 +8,7 @@ use Rattle.stations.specs.Inputs.{PlainItem}
 use Rattle.stations.specs.Layers.{Document}
 use Rattle.stations.specs.declared.turn.End.{End}
 use Rattle.line_sim.specs.Driving.{Driven, Ends, Fate, Patience, dis_kept, drive, drives, is_over, is_over_at, most_steps, new_driven}
-use Rattle.line_sim.specs.Driving.{steps_made}
+use Rattle.line_sim.specs.Driving.{step_events, steps_made}
 use Rattle.line_sim.specs.Driving.Fate.{comes, lost, spoiled}
 use Rattle.line_sim.specs.Entries.{entries}
 use Rattle.line_sim.specs.Line.{World, Outcome, Done, run}
@@ -51,6 +51,10 @@ pub record ShowsDriven (v : DrivenFields) (p : Patience) (d : Driven) : Type 0 w
 abbrev pub next_of : Patience → Driven → Driven
 next_of p d = drives p d.world.to_answerer d.world.to_caller d
 
+-- and its events
+abbrev pub events_of : Patience → Driven → List Event
+events_of p d = step_events p d.world.to_answerer d.world.to_caller d
+
 -- something is under way, so a fate is due
 abbrev pub is_fate_due : List PlainItem → List PlainItem → Bool
 is_fate_due [] [] = false
@@ -66,10 +70,10 @@ abbrev pub dis_with : Event → ℕ → ℕ
 dis_with AnswererT2 dis = suc dis
 dis_with _ dis = dis
 
--- an act is what comes next: its events lead to the next step's world
+-- an act is what comes next: its events are those of the next step
 pub record Follows (p : Patience) (items others : List PlainItem) (d : Driven) (act : Act) : Type 0 where
   pub goes_on : is_over_at items others d.world.caller.ending d.world.answerer.ending ≡ false
-  pub leads : run (all_done (before_act act.spoils ++ act.event ∷ [])) d.world ≡ (drives p items others d).world
+  pub events : before_act act.spoils ++ act.event ∷ [] ≡ step_events p items others d
   pub dis : (drives p items others d).dis ≡ dis_kept d.world.caller.state (dis_with act.event d.dis)
 
 -- what comes next, or the call is over
@@ -120,12 +124,13 @@ and_entry (Some first) entry = first ∷ entry ∷ []
 abbrev pub entries_of : Step → List Entry
 entries_of step = and_entry step.spoiled step.entry
 
--- a step of a driven call was made: its events lead to the next step's world where all is done of each, and in the last one alone a growth
--- may have been refused. The entries are the step's, and where none is marked the fields show the next step
+-- a step of a driven call was made: it is its events, which lead to the next step's world where all is done of each, and in the last one
+-- alone a growth may have been refused. The entries are theirs, and where none is marked the fields show the next step
 pub record MakesStep (p : Patience) (new : DrivenFields) (d : Driven) (step : Step) : Type 0 where
   pub goes_on : is_over d ≡ false
   pub before : List Event
   pub event : Event
+  pub events : before ++ event ∷ [] ≡ events_of p d
   pub leads : run (all_done (before ++ event ∷ [])) d.world ≡ (next_of p d).world
   pub outcome : Outcome
   pub shows : Shows new.live (run (all_done before ++ (event, outcome) ∷ []) d.world)
@@ -145,6 +150,7 @@ pub record Broken (p : Patience) (new : DrivenFields) (d : Driven) (most : ℕ) 
   pub goes_on : is_over (drive made p d) ≡ false
   pub before : List Event
   pub event : Event
+  pub events : before ++ event ∷ [] ≡ events_of p (drive made p d)
   pub leads : run (all_done (before ++ event ∷ [])) (drive made p d).world ≡ (next_of p (drive made p d)).world
   pub outcome : Outcome
   pub refused : outcome ≢ Done

@@ -3,7 +3,7 @@
 ghost use Rattle.line_sim.specs.Breaking.{LostDcsBreak, LostDisBreak, SpoiledCheckBreaks};
 ghost use Rattle.line_sim.specs.BusyCalls.{BusyCallsAreSafe, BusyCallsEnd};
 ghost use Rattle.line_sim.specs.Counted.{DcsBetweenGroups, RunsAreCounted};
-ghost use Rattle.line_sim.specs.Driving.{DrivenCallsAreSafe, DrivenCallsEnd};
+ghost use Rattle.line_sim.specs.Driving.{DrivenCallsAreSafe, DrivenCallsEnd, DrivenStepsAreEvents};
 ghost use Rattle.line_sim.specs.Tolerance.{AnswerersEndWell, AnyTwoLossesAreBorne, CallersEndWell, DrivenCallsBear, DrivenCallsEndFor};
 ghost use Rattle.line_sim.specs.EventsMean.{EventsMake, EventsRefuse, EventsTouch};
 ghost use Rattle.line_sim.specs.Polite.{GroupsAreAgreed, PoliteCalls, PoliteEvents};
@@ -78,10 +78,12 @@ pub fn foreign_peers()
     stations::laws::stored_is_read();
 }
 
-/// A driven call ends, whatever the fates, within a number of steps that its document bounds; and what it has come to is safe.
+/// A driven call ends, whatever the fates, within a number of steps that its document bounds; and what it has come to is safe. Each of
+/// its steps is a run of one or two events, by its fate.
 pub fn driven_calls_end()
     ensures driven { DrivenCallsEnd }
     ensures safe { DrivenCallsAreSafe }
+    ensures steps { DrivenStepsAreEvents }
 {
     headline();
     stations::laws::speeds_hold();
