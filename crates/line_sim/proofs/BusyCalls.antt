@@ -10,14 +10,15 @@ use Rattle.stations.specs.Sizes.{AreShort, BlocksAreFew, IsPlaced, StepsArePlace
 use Rattle.stations.specs.declared.turn.AnswererState.{AnswererState}
 use Rattle.stations.specs.declared.turn.AnswererState.TheVariants.{PhaseB, WaitTraining, Message}
 use Rattle.stations.specs.declared.turn.End.{End}
-use Rattle.line_sim.specs.BusyCalls.{BusyCallsAreSafe, BusyCallsEnd, drive_set, drives_set, first_setting, later_settings, sets, steps_set}
+use Rattle.line_sim.specs.BusyCalls.{BusyCallsAreSafe, BusyCallsEnd, BusyStepsAreEvents, drive_set, drives_set, first_setting}
+use Rattle.line_sim.specs.BusyCalls.{later_settings, sets, steps_set}
 use Rattle.line_sim.specs.Driving.{Driven, Patience, is_over, most_steps, new_driven, paid}
 use Rattle.line_sim.specs.Headline.{IsSafeWorld, RunsAreSafe}
 use Rattle.line_sim.specs.Line.{World, answerer_sends, happens}
 use Rattle.line_sim.specs.Line.Outcome.{Done}
 use Rattle.line_sim.specs.declared.event.Event.TheVariants.{Busy}
 use Rattle.line_sim.proofs.Driven.{Drove, paid_few}
-use Rattle.line_sim.proofs.DrivenRuns.{LeadsTo, both, once, stays_there, step_leads}
+use Rattle.line_sim.proofs.DrivenRuns.{LeadsTo, both, driven_steps_are_events, once, stays_there, step_leads}
 use Rattle.line_sim.proofs.Driving.{potential, step_drives}
 
 -- what a setting leaves of a world: all but whether the answerer is busy
@@ -160,3 +161,8 @@ pub busy_calls_are_safe : RunsAreSafe → BusyCallsAreSafe
 busy_calls_are_safe law document wish caps p fates settings most full =
     let led = drive_leads most p settings (new_driven document wish caps fates) in
     subst (IsSafeWorld document) led.leads (law document wish caps led.steps full)
+
+-- a setting's event, and then the step's
+pub busy_steps_are_events : BusyStepsAreEvents
+busy_steps_are_events p None d = driven_steps_are_events p d
+busy_steps_are_events p (Some busy) d = driven_steps_are_events p (sets (Some busy) d)

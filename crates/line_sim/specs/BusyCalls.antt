@@ -1,13 +1,15 @@
 -- Driven calls in which the answerer is set busy and ready.
-use Rattle.std.specs.Prelude.{ℕ, zero, suc, ◌≤◌, Bool, cond, List, [], ◌∷◌, Option, Some, None}
+use Rattle.std.specs.Prelude.{◌≡◌, ℕ, zero, suc, ◌≤◌, Bool, cond, List, [], ◌∷◌, ◌++◌, Option, Some, None}
 use Rattle.signals.specs.declared.params.Caps.{Caps}
 use Rattle.signals.specs.declared.params.Wish.{Wish}
 use Rattle.stations.specs.Laws.{Each}
 use Rattle.stations.specs.Layers.{Document, IsFullPage}
-use Rattle.line_sim.specs.Driving.{Driven, Ends, Fate, Patience, drives, is_over, new_driven}
+use Rattle.line_sim.specs.Driving.{Driven, Ends, Fate, Patience, drives, is_over, new_driven, step_events}
 use Rattle.line_sim.specs.Headline.{IsSafeWorld}
-use Rattle.line_sim.specs.Line.{happens}
+use Rattle.line_sim.specs.Line.{happens, run}
 use Rattle.line_sim.specs.Line.Outcome.{Done}
+use Rattle.line_sim.specs.Report.{all_done}
+use Rattle.line_sim.specs.declared.event.Event.{Event}
 use Rattle.line_sim.specs.declared.event.Event.TheVariants.{Busy}
 
 -- before a step the answerer is set busy or ready, or it is left as it is
@@ -28,6 +30,16 @@ later_settings (setting ∷ settings) = settings
 -- one step of a driven call, before which the answerer is set
 abbrev pub drives_set : Patience → Option Bool → Driven → Driven
 drives_set p setting d = let set = sets setting d in drives p set.world.to_answerer set.world.to_caller set
+
+-- the event of a setting, if there is one
+abbrev pub setting_events : Option Bool → List Event
+setting_events None = []
+setting_events (Some busy) = Busy busy ∷ []
+
+-- the events of a step before which the answerer is set: the setting's, and then the step's own
+abbrev pub set_events : Patience → Option Bool → Driven → List Event
+set_events p setting d =
+    let set = sets setting d in setting_events setting ++ step_events p set.world.to_answerer set.world.to_caller set
 
 -- a number of steps, before each of which the answerer is set, or fewer where the call is over
 abbrev pub drive_set : ℕ → Patience → List (Option Bool) → Driven → Driven
@@ -53,3 +65,9 @@ abbrev pub BusyCallsAreSafe : Type 0
 BusyCallsAreSafe =
     (document : Document) (wish : Wish) (caps : Caps) (p : Patience) (fates : List Fate) (settings : List (Option Bool)) (most : ℕ) →
     Each IsFullPage document → IsSafeWorld document (drive_set most p settings (new_driven document wish caps fates)).world
+
+-- each such step is a run of its events, all of each done
+abbrev pub BusyStepsAreEvents : Type 0
+BusyStepsAreEvents =
+    (p : Patience) (setting : Option Bool) (d : Driven) →
+    run (all_done (set_events p setting d)) d.world ≡ (drives_set p setting d).world

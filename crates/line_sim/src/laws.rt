@@ -1,7 +1,7 @@
 //! What holds over every schedule. Nothing runs.
 
 ghost use Rattle.line_sim.specs.Breaking.{LostDcsBreak, LostDisBreak, SpoiledCheckBreaks};
-ghost use Rattle.line_sim.specs.BusyCalls.{BusyCallsAreSafe, BusyCallsEnd};
+ghost use Rattle.line_sim.specs.BusyCalls.{BusyCallsAreSafe, BusyCallsEnd, BusyStepsAreEvents};
 ghost use Rattle.line_sim.specs.Counted.{DcsBetweenGroups, RunsAreCounted};
 ghost use Rattle.line_sim.specs.Driving.{DrivenCallsAreSafe, DrivenCallsEnd, DrivenStepsAreEvents};
 ghost use Rattle.line_sim.specs.Tolerance.{AnswerersEndWell, AnyTwoLossesAreBorne, CallersEndWell, DrivenCallsBear, DrivenCallsEndFor};
@@ -91,10 +91,12 @@ pub fn driven_calls_end()
 }
 
 /// So does a driven call in which the answerer is set busy and ready before any of its steps, within the same number of steps: for each
-/// block as many RNRs as the caller's patience allows take 8 each. It is safe too.
+/// block as many RNRs as the caller's patience allows take 8 each. It is safe too, and each of its steps is a run of the setting's
+/// event and the step's own.
 pub fn busy_calls_end()
     ensures busy { BusyCallsEnd }
     ensures safe { BusyCallsAreSafe }
+    ensures steps { BusyStepsAreEvents }
 {
     headline();
     stations::laws::speeds_hold();
