@@ -1,8 +1,10 @@
 """Compares `faxtool` with the second reading of the tables in bench/fuzz: try_reference.py PROGRAM FOLDER
 
 300 random scripts of a fixed seed are run by `call`, half of which follow the call, and what they print has to be what
-bench/fuzz/reference_call.py says, line for line; so is it of 100 random calls over a bad line and bench/fuzz/reference_drive.py; and 300 random pages of a fixed seed, whose codes bench/fuzz/reference_pages.py writes
-with any modes that may come, whole, with a bit flipped or cut short: `decode` has to give its rows, or refuse it, as the reader there
+bench/fuzz/reference_call.py says, line for line; so is it of 100 random calls over a
+bad line and bench/fuzz/reference_drive.py, and of 20 runs of many such calls and
+bench/fuzz/reference_times.py; and 300 random pages of a fixed seed, whose codes
+bench/fuzz/reference_pages.py writes with any modes that may come, whole, with a bit flipped or cut short: `decode` has to give its rows, or refuse it, as the reader there
 does. Ends with status 1 at the first that differs."""
 
 import os
@@ -17,10 +19,12 @@ sys.argv = sys.argv[:1]
 sys.path.insert(0, os.path.join(os.path.dirname(os.path.abspath(__file__)), "..", "..", "bench", "fuzz"))
 import fuzz_calls
 import fuzz_drive
+import fuzz_times
 from reference_pages import EOFB, code_of, random_rows, read_page
 
 CALLS = PAGES = 300
 DRIVES = 100
+RUNS = 20
 
 
 def image_of(rows, width):
@@ -77,6 +81,10 @@ except fuzz_calls.Failed as why:
     sys.exit(f"call over a bad line: {why}: {folder}")
 if len(driven) < 3:
     sys.exit(f"the calls over a bad line lead to few ends: {driven}")
+try:
+    fuzz_times.try_times(random.Random(34), RUNS, folder)
+except fuzz_calls.Failed as why:
+    sys.exit(f"many calls over a bad line: {why}: {folder}")
 rand = random.Random(34)
 read = sum(try_page(rand, number) for number in range(PAGES))
 if not 50 < read < PAGES - 20:

@@ -66,11 +66,15 @@ CASES
 --lose 5%|--lose needs --seed
 --lose 60% --spoil 41% --seed 1|--lose and --spoil are more than 100% together
 --lose 5% --script missing --seed 1|--script and --lose can't be used together
---spoil 5% --script missing|--spoil, --seed and --calls are for a call with --lose
---seed 5 --script missing|--spoil, --seed and --calls are for a call with --lose
---calls 5 --script missing|--spoil, --seed and --calls are for a call with --lose
+--spoil 5% --script missing|--spoil, --seed, --calls and --times are for a call with --lose
+--seed 5 --script missing|--spoil, --seed, --calls and --times are for a call with --lose
+--calls 5 --script missing|--spoil, --seed, --calls and --times are for a call with --lose
+--times 5 --script missing|--spoil, --seed, --calls and --times are for a call with --lose
+--times 5|--script or --lose is missing
+--lose 5% --seed 1 --times 5 --out pages|--times keeps no pages, and can't be used with --out
 CASES
-    for words in "--seed 4294967296" "--seed -1" "--seed x" "--seed 1 --calls 0" "--seed 1 --calls 1000001" "--seed 1 --seed 2"; do
+    for words in "--seed 4294967296" "--seed -1" "--seed x" "--seed 1 --calls 0" "--seed 1 --calls 1000001" "--seed 1 --seed 2" \
+        "--seed 1 --times 0" "--seed 1 --times -1" "--seed 1 --times x" "--seed 1 --times 4294967296" "--seed 1 --times 2 --times 3"; do
         refuses call --lose 5% $words "$input"
     done
     refuses call --lose 5% --lose 5% --seed 1 "$input"
@@ -107,11 +111,31 @@ try_drives() {
     faults "fault 8" call --lose 5% --seed 1 "$work/missing"
     faults "fault 7" call --lose 5% --seed 1 "$(: > "$work/nothing"; echo "$work/nothing")"
     faults "fault 26" call --lose 5% --seed 1 "$(octets "50 34 0A 38 20 31 0A 30")"
+    try_many
     "$program" call --lose 20% --seed 7 - < "$input" > "$work/output" || fails "call --lose of standard input ended with status $?"
     worked_drive > "$work/wanted"
     is_same "$work/output" "$work/wanted" "a call over a bad line of standard input"
     count=$((count + 1))
     try_drive_outputs
+}
+
+# Many calls: the first is the worked one; the table; faults before and after the first line.
+try_many() {
+    drives --lose 20% --seed 7 --times 1
+    printf '%s\n' "call 0 caller normal confirmed 1 answerer normal pages 1 deliveries 10 lost 2 spoiled 0 again 0" "calls 1" \
+        "caller normal 1" "at-most-two-bad 1 normal 1" "deliveries 10" "again 0" > "$work/wanted"
+    is_same "$work/output" "$work/wanted" "one call of many"
+    drives --lose 100% --seed 1 --times 3 --calls 1
+    tail -n 5 "$work/output" > "$work/table"
+    printf '%s\n' "calls 3" "caller no-answer 3" "at-most-two-bad 3 normal 0" "deliveries 0" "again 0" > "$work/wanted"
+    is_same "$work/table" "$work/wanted" "the table of calls that lose all"
+    faults "fault 8" call --lose 5% --seed 1 --times 2 "$work/missing"
+    faults "fault 26" call --lose 5% --seed 1 --times 2 "$(octets "50 34 0A 38 20 31 0A 30")"
+    [ -c /dev/full ] || return 0
+    status=0
+    "$program" call --lose 20% --seed 7 --times 3 "$input" > /dev/full 2> "$work/error" || status=$?
+    [ "$status $(cat "$work/error")" = "1 fault 8" ] || fails "call --times to a full device ended with status $status"
+    count=$((count + 1))
 }
 
 # A closed or full output: fault 8, and no file of --out.

@@ -1,14 +1,14 @@
 # The second reading of the tables, in bench/fuzz.
 
-# 300 random scripts, 100 random calls over a bad line and 300 random pages of fixed seeds: what the program prints and decodes is what the
+# 300 random scripts, 100 random calls over a bad line, 20 runs of many such calls and 300 random pages of fixed seeds: what the program prints and decodes is what the
 # reference says.
 try_reference() {
-    for reading in reference_call reference_drive reference_pages; do
+    for reading in reference_call reference_drive reference_times reference_pages; do
         python3 -B "$top/bench/fuzz/$reading.py" --dry > "$work/output" || fails "$reading.py doesn't read its worked cases: $(cat "$work/output")"
     done
     mkdir -p "$work/reference"
     timeout 600 python3 -B "$data/try_reference.py" "$program" "$work/reference" || fails "the reference says something else"
-    count=$((count + 700))
+    count=$((count + 720))
 }
 
 # try_flood STREAM FAXTOOL: a page of 20,000 rows in 7.5 kilooctets of code, sent forty times to an answerer that has room for two pages. Each

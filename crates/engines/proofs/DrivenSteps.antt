@@ -44,7 +44,7 @@ over_stays zero p d over = refl
 over_stays (suc n) p d over = ap (λ b. cond b d (drive n p (next_of p d))) over
 
 -- one step more
-drive_more : (n : ℕ) (p : Patience) (d : Driven) → is_over (drive n p d) ≡ false → drive (suc n) p d ≡ next_of p (drive n p d)
+pub drive_more : (n : ℕ) (p : Patience) (d : Driven) → is_over (drive n p d) ≡ false → drive (suc n) p d ≡ next_of p (drive n p d)
 drive_more zero p d on = ap (λ b. cond b d (next_of p d)) on
 drive_more (suc n) p d on = at (λ e. drive_more n p (next_of p d) e) (is_over d) refl
   where
@@ -214,7 +214,7 @@ none_made line d count now generator at shows drawn = record {
   written = Appends-nil at;
 }
 
-done_both : (xs ys : List Event) → all_done (xs ++ ys) ≡ all_done xs ++ all_done ys
+pub done_both : (xs ys : List Event) → all_done (xs ++ ys) ≡ all_done xs ++ all_done ys
 done_both [] ys = refl
 done_both (x ∷ xs) ys = ap (λ l. (x, Done) ∷ l) (done_both xs ys)
 
@@ -224,7 +224,7 @@ MayStep line now new generator next step =
     (p : Patience) (d : Driven) (count : ℕ) → ShowsDriven now p d → d.fates ≡ fates_from line (suc count) generator →
     Draws p now new d line count next step
 
-one_less : (count left : ℕ) → suc count ≤ left → left ≡ suc (left - 1)
+pub one_less : (count left : ℕ) → suc count ≤ left → left ≡ suc (left - 1)
 one_less count left some = omega arith
 
 pub one_made : (line : BadLine) (d : Driven) (made count : ℕ) (now new : DrivenFields) (generator later : Lcg) (number next : ℕ)
@@ -294,7 +294,7 @@ goes_on line first document wish caps made now new generator later number next b
     may whole lines more)
 
 -- where no step may be made the call is over, whatever its fates
-over_now : (line : BadLine) (d : Driven) (now new : DrivenFields) (generator later : Lcg) → ShowsDriven now (patience_of line) d →
+pub over_now : (line : BadLine) (d : Driven) (now new : DrivenFields) (generator later : Lcg) → ShowsDriven now (patience_of line) d →
     MayStep line now new generator later None → (is_over d ≡ true) × (new ≡ now)
 over_now line d now new generator later shows may =
     let other : Driven = record { world = d.world; dis = d.dis; rnrs = d.rnrs; fates = fates_from line 1 generator } in

@@ -23,3 +23,5 @@ mod RepairsMean
 mod DrivenSteps
 mod DrivenCalls
 mod Rates
+mod CountedSteps
+mod ManyCalls

@@ -17,3 +17,4 @@ pub mod OptionsMean
 pub mod RepairsMean
 pub mod Losses
 pub mod BadLines
+pub mod ManyCalls

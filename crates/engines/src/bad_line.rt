@@ -29,7 +29,11 @@ use std::alloc::Global;
 use std::io::{Read, Write};
 
 /// Makes the next step of a call, by a fate of the generator where one is due.
-fn next_step(call: &mut DrivenCall, line: &BadLine, generator: &mut Lcg64Xsh32) -> Option<Step>
+pub(crate) fn next_step(
+    call: &mut DrivenCall,
+    line: &BadLine,
+    generator: &mut Lcg64Xsh32,
+) -> Option<Step>
     ensures { (p : Patience) (d : Driven) (count : ℕ) → ShowsDriven call.old p d →
         d.fates ≡ fates_from line.now (suc count) generator.old → Draws p call.old call.new d line.now count generator.new result }
 {

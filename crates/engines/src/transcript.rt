@@ -32,7 +32,7 @@ fn event_word(event: Event) -> &'static str
 }
 
 /// The word of why a call ended for a station, or that it goes on: `normal`, `no-reply`, .., `running`.
-fn end_word(ending: Option<End>) -> &'static str
+pub(crate) fn end_word(ending: Option<End>) -> &'static str
     ensures { result.now ≡ end_text ending }
 {
     match ending {

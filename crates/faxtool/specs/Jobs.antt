@@ -127,10 +127,10 @@ with_choices app codings sizes modems = with_rule (with_rule (with_rule app
 abbrev pub number_rule : Text → ℕ → ℕ → Rule
 number_rule id first last = record (option_rule id) { parser = Some (vp.Signed (pos first) (pos last)) }
 
--- the command with the options of a bad line: two rates, the seed of the generator and the number of DIS
+-- the command with the options of a bad line: two rates, the seed of the generator, and the numbers of DIS and of calls
 abbrev pub with_line : App → App
-with_line app = with_rule (with_rule (with_rule (with_rule app (option_rule (codes "lose"))) (option_rule (codes "spoil")))
-    (number_rule (codes "seed") 0 4294967295)) (number_rule (codes "calls") 1 1000000)
+with_line app = with_rule (with_rule (with_rule (with_rule (with_rule app (option_rule (codes "lose"))) (option_rule (codes "spoil")))
+    (number_rule (codes "seed") 0 4294967295)) (number_rule (codes "calls") 1 1000000)) (number_rule (codes "times") 1 4294967295)
 
 -- `call`: the file of the script, or the options of a bad line, the code, the size of frames, the modems, fine or not, the file of the
 -- stored pages, and the file of the document
@@ -270,7 +270,7 @@ are_both_standard script input = bytes_eq script (codes "-") && bytes_eq input (
 -- a value is of a bad line
 abbrev pub has_line : List Row → Bool
 has_line rows = is_some (first_of (codes "lose") rows) || (is_some (first_of (codes "spoil") rows) ||
-    (is_some (first_of (codes "seed") rows) || is_some (first_of (codes "calls") rows)))
+    (is_some (first_of (codes "seed") rows) || (is_some (first_of (codes "calls") rows) || is_some (first_of (codes "times") rows))))
 
 -- the share is that of the rate that an option's value says
 abbrev pub IsRateIn : Text → List Row → ℕ → Type 0
@@ -296,10 +296,24 @@ pub record IsLineIn (rows : List Row) (line : BadLine) : Type 0 where
   pub given : ReadsNumber (codes "calls") rows calls
   pub calls_is : line.calls ≡ calls_of calls
 
--- the values of the command `call` are those of a call over a bad line, with no script
-pub record IsDriveOf (rows : List Row) (line : BadLine) (options : CallOptions) (out : Option Text) (input : Text) : Type 0 where
+-- the number is that of the calls that are asked for, whose pages are not kept
+pub record AreManyIn (rows : List Row) (times : ℕ) : Type 0 where
+  pub given : ReadsNumber (codes "times") rows (Some times)
+  pub least : 1 ≤ times
+  pub small : times < 2 ^ 32
+  pub unkept : first_of (codes "out") rows ≡ None
+
+-- how many calls are asked for, where that is said
+abbrev pub IsTimesIn : List Row → Option ℕ → Type 0
+IsTimesIn rows None = first_of (codes "times") rows ≡ None
+IsTimesIn rows (Some times) = AreManyIn rows times
+
+-- the values of the command `call` are those of a call over a bad line, or of many, with no script
+pub record IsDriveOf (rows : List Row) (line : BadLine) (times : Option ℕ) (options : CallOptions) (out : Option Text) (input : Text)
+    : Type 0 where
   pub script_is : first_of (codes "script") rows ≡ None
   pub line_is : IsLineIn rows line
+  pub times_is : IsTimesIn rows times
   pub options_are : AreOptionsIn rows options
   pub out_is : first_of (codes "out") rows ≡ out
   pub input_is : first_of (codes "in") rows ≡ Some input
@@ -333,9 +347,9 @@ IsJobOf met (Frames most pages input) = (rows : List Row)
 IsJobOf met (Call script options out input) = (rows : List Row)
     × (met ≡ Some (codes "call", rows))
     × IsCallOf rows (string_bytes script) options (option_map string_bytes out) (string_bytes input)
-IsJobOf met (Drive line options out input) = (rows : List Row)
+IsJobOf met (Drive line times options out input) = (rows : List Row)
     × (met ≡ Some (codes "call", rows))
-    × IsDriveOf rows line options (option_map string_bytes out) (string_bytes input)
+    × IsDriveOf rows line times options (option_map string_bytes out) (string_bytes input)
 IsJobOf met Version = (rows : List Row) × (met ≡ Some (codes "version", rows))
 
 -- no job is of the command's name and values
@@ -386,5 +400,5 @@ HasWidth (Show coding order width input) = IsWidth width
 HasWidth (Decode coding order width fine salvage repair whole verbose input output) = IsWidth width
 HasWidth (Frames most pages input) = Unit {0}
 HasWidth (Call script options out input) = Unit {0}
-HasWidth (Drive line options out input) = Unit {0}
+HasWidth (Drive line times options out input) = Unit {0}
 HasWidth Version = Unit {0}

@@ -2,7 +2,7 @@
 
 use crate::notes::Notes;
 use crate::{files, read_input, write_pages};
-use engines::{BadLine, CallOptions, ToolFault, drive_engine};
+use engines::{BadLine, CallOptions, ToolFault, drive_engine, drive_many};
 
 /// Runs the first call over a bad line, and prints what has become of it. The file of the stored pages is opened last, and only
 /// where there are any.
@@ -25,4 +25,29 @@ pub(crate) fn drive_file(
         Some(name) if !pages.is_empty() => write_pages(rt, name, &pages, notes),
         _ => Ok(()),
     }
+}
+
+/// Runs many calls over a bad line, and prints the line of each as it is over, and then the table.
+pub(crate) fn drive_times(
+    rt: &HostRuntime,
+    line: &BadLine,
+    times: u32,
+    options: &CallOptions,
+    input: &str,
+    notes: &mut Notes,
+) -> Result<(), ToolFault> {
+    read_input(rt, input, notes)?;
+    let mut writer = files::print(rt)?;
+    let times = u64::from(times);
+    let driven = drive_many(
+        rt.alloc(),
+        notes.octets.as_slice(),
+        &mut writer,
+        options,
+        line,
+        times,
+    );
+    let printed = files::end_print(writer, driven.is_ok(), notes);
+    driven?;
+    printed
 }

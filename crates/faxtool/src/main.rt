@@ -360,10 +360,18 @@ fn run_job(rt: &HostRuntime, job: &Job, notes: &mut Notes) -> Result<Outcome, To
         } => call_file(rt, script, options, out.as_deref(), input, notes)?,
         Job::Drive {
             line,
+            times: None,
             options,
             out,
             input,
         } => drives::drive_file(rt, line, options, out.as_deref(), input, notes)?,
+        Job::Drive {
+            line,
+            times: Some(times),
+            options,
+            input,
+            ..
+        } => drives::drive_times(rt, line, *times, options, input, notes)?,
         Job::Version => print_version(rt, notes)?,
     }
     Ok(Outcome::Done)

@@ -216,6 +216,13 @@ const CALL_ARGUMENTS: &[Argument<'static>] = &[
         ..FILE_OPTION
     },
     Argument {
+        id: "times",
+        shown: &["M"],
+        parser: Some(ValueParser::Signed(1, 4_294_967_295)),
+        help: "Runs M calls, of the numbers from 0, and prints a line for each and a table (with --lose)",
+        ..FILE_OPTION
+    },
+    Argument {
         id: "code",
         defaults: &["mmr"],
         parser: CODINGS,

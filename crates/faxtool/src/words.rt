@@ -1,11 +1,11 @@
 //! The words that the program is called with.
 ghost use Rattle.std.specs.Prelude.{◌≡◌, ◌≢◌, IfOk, IfSome, MatchOption, MatchResult, Some, codes, false, true};
-ghost use Rattle.std.specs.Prelude.{ℕ, map, option_map, string_bytes};
+ghost use Rattle.std.specs.Prelude.{ℕ, Option, map, option_map, string_bytes};
 ghost use Rattle.clap.specs.Words.{first_of, found_of, kind_of, rows_of, subcommand_rows_of};
 ghost use Rattle.clap.specs.declared.error.kind.ErrorKind.TheVariants.{OutOfMemory};
 ghost use Rattle.faxtool.specs.Jobs.{AreOptionsIn, HasNoJob, HasNoOptions, IsJobOf, IsOutcomeOf, IsRefusalOf, IsWidthIn, ReadsAs};
 ghost use Rattle.faxtool.specs.Jobs.{ReadsNumber, are_both_standard, coding_named, explains, go_together, is_named, modems_named};
-ghost use Rattle.faxtool.specs.Jobs.{IsLineIn, IsRateIn, IsSpoilIn, calls_of, has_line, order_named, status_of};
+ghost use Rattle.faxtool.specs.Jobs.{IsLineIn, IsRateIn, IsSpoilIn, IsTimesIn, calls_of, has_line, order_named, status_of};
 ghost use Rattle.engines.specs.declared.losses.BadLine.{BadLine as LineValue};
 
 use crate::commands::faxtool_command;
@@ -88,10 +88,12 @@ pub enum Job {
         /// The name of the document's file.
         input: String,
     },
-    /// Runs a call over a bad line, and prints its transcript.
+    /// Runs a call over a bad line and prints its transcript; or many, and prints a line for each and a table.
     Drive {
         /// How bad the line is.
         line: BadLine,
+        /// How many calls are run, where that is said.
+        times: Option<u32>,
         /// What the call is run with.
         options: CallOptions,
         /// The name of the file that the stored pages go to, where one is given.
@@ -338,8 +340,12 @@ fn call_job(alloc: Global, matches: &ArgMatches<'_>) -> Result<Option<Job>, Allo
         let Some(line) = line_in(matches) else {
             return Ok(None);
         };
+        let Some(times) = times_in(matches) else {
+            return Ok(None);
+        };
         return Ok(Some(Job::Drive {
             line,
+            times,
             options,
             out: copy_of(alloc, text_in(matches, "out"))?,
             input: String::from_str(alloc, input)?,
@@ -364,6 +370,7 @@ fn has_line(matches: &ArgMatches<'_>) -> bool
         || text_in(matches, "spoil").is_some()
         || text_in(matches, "seed").is_some()
         || text_in(matches, "calls").is_some()
+        || text_in(matches, "times").is_some()
 }
 
 // The bad line, where its rates and its seed are there and say one.
@@ -389,6 +396,23 @@ fn line_in(matches: &ArgMatches<'_>) -> Option<BadLine>
         seed: u64::from(seed),
         calls: calls_of(number_in(matches, "calls")),
     })
+}
+
+// How many calls are asked for, where that is said; their pages are not kept.
+fn times_in(matches: &ArgMatches<'_>) -> Option<Option<u32>>
+    ensures { let rows = rows_of (found_of matches.now) in
+        MatchOption result ((times : Option ℕ) → IsTimesIn rows times → ⊥) (IsTimesIn rows) }
+{
+    if text_in(matches, "times").is_none() {
+        return Some(None);
+    }
+    if text_in(matches, "out").is_some() {
+        return None;
+    }
+    match number_in(matches, "times") {
+        Some(times) if 1 <= times => Some(Some(times)),
+        _ => None,
+    }
 }
 
 // How many DIS are sent in one wait.
@@ -550,7 +574,7 @@ fn unfit_call(matches: &ArgMatches<'_>) -> &'static str {
         return "--script and --lose can't be used together";
     }
     if has_script && has_line(matches) {
-        return "--spoil, --seed and --calls are for a call with --lose";
+        return "--spoil, --seed, --calls and --times are for a call with --lose";
     }
     if has_script {
         return "--script and <IN> can't both be standard input";
@@ -563,6 +587,9 @@ fn unfit_call(matches: &ArgMatches<'_>) -> &'static str {
     }
     if number_in(matches, "seed").is_none() {
         return "--lose needs --seed";
+    }
+    if text_in(matches, "times").is_some() && text_in(matches, "out").is_some() {
+        return "--times keeps no pages, and can't be used with --out";
     }
     "--lose and --spoil are more than 100% together"
 }
