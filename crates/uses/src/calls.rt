@@ -1,4 +1,4 @@
-//! A caller's step, a call of two stations over one line, and an answerer over octets.
+//! A caller's step, a terminal, a call of two stations over one line, and an answerer over octets.
 
 ghost use Rattle.line_sim.specs.Report.{Keeps};
 ghost use Rattle.std.specs.Prelude.{IfOk};
@@ -9,6 +9,7 @@ use raster::Document;
 use signals::{Caps, Modems, PageWidth, Signal, Wish};
 use stations::{Caller, CallerIn, Item};
 use std::alloc::{AllocError, Global};
+use terminals::{AnswererTerminal, SentBurst};
 
 /// What the answerers of these programs can do: everything that this library has.
 const CAPS: Caps = Caps {
@@ -39,6 +40,16 @@ pub fn hears(caller: &mut Caller, signal: Signal<'_>) -> Result<(u64, u32), Allo
         }
     }
     Ok((frames, check))
+}
+
+/// An answerer's terminal hears octets of the line: what it then has to send on its next carrier, if anything. Octets and frames for
+/// which memory is refused are lost, as on a line.
+pub fn hears_octets(
+    terminal: &mut AnswererTerminal,
+    octets: &[u8],
+) -> Result<Option<SentBurst>, AllocError> {
+    let _heard = terminal.hear(octets);
+    terminal.next_burst()
 }
 
 /// A call that sends a document over a line whose first DIS is lost; the caller then hears nothing until its wait is over.

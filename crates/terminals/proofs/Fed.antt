@@ -1,0 +1,49 @@
+-- Octets that a deframer was fed, and what is heard of them.
+use Rattle.std.proofs.Common.{◌≡◌, ℕ, Bool, List, [], ◌++◌, length, sym, subst}
+use Rattle.std.proofs.lemmas.List.{drop_all}
+use Rattle.std.proofs.Math.Nat.{le_refl}
+use Rattle.raster.specs.Packed.{bits_of}
+use Rattle.raster.specs.declared.packed.Order.TheVariants.{LsbFirst}
+use Rattle.raster.proofs.OctetBits.{bits_of-append}
+use Rattle.hdlc.specs.DeframerState.{DeframerState, IsAfter}
+use Rattle.terminals.specs.Hearing.{contents, new_contents, heard, heard_of, HasHeard}
+use Rattle.terminals.specs.Runs.{TakesAll, TakesSome}
+use Rattle.terminals.specs.Speaking.{Speaking, StepOf}
+
+-- a deframer was fed a piece
+abbrev pub Feeds : DeframerState → List ℕ → DeframerState → Type 0
+Feeds framing piece fed =
+    (bits : List Bool) (handed : ℕ) → IsAfter framing bits handed → IsAfter fed (bits ++ bits_of LsbFirst piece) handed
+
+octets_taken : (before piece : List ℕ) (framing fed : DeframerState) → HasHeard framing before → Feeds framing piece fed →
+    HasHeard (record fed { queue = [] }) (before ++ piece) × (fed.queue ≡ new_contents before piece)
+unfolding contents new_contents
+octets_taken before piece framing fed has feeds =
+    let is_after : IsAfter fed (bits_of LsbFirst (before ++ piece)) (length (contents before)) =
+    subst (λ b. IsAfter fed b (length (contents before))) (sym (bits_of-append before piece))
+    (feeds (bits_of LsbFirst before) (length (contents before)) has) in
+    let every = contents (before ++ piece) in (
+      record {
+        kept = is_after.kept;
+        counted = is_after.counted;
+        within = le_refl (length every);
+        queued = sym (drop_all (length every) every (le_refl (length every)));
+      },
+      is_after.queued,
+    )
+
+pub hears_all :
+    {S : Type 0} (steps : StepOf S) (piece : List ℕ) (framing fed after : DeframerState) (old new : Speaking S) →
+    Feeds framing piece fed → after ≡ record fed { queue = [] } → TakesAll steps old (heard fed.queue) new → (before : List ℕ) →
+    HasHeard framing before → HasHeard after (before ++ piece) × TakesAll steps old (heard_of before piece) new
+hears_all steps piece framing fed after old new feeds is takes before has =
+    let h = octets_taken before piece framing fed has feeds in
+    (subst (λ f. HasHeard f (before ++ piece)) (sym is) h.0, subst (λ q. TakesAll steps old (heard q) new) h.1 takes)
+
+pub hears_some :
+    {S : Type 0} (steps : StepOf S) (piece : List ℕ) (framing fed after : DeframerState) (old new : Speaking S) →
+    Feeds framing piece fed → after ≡ record fed { queue = [] } → TakesSome steps old (heard fed.queue) new → (before : List ℕ) →
+    HasHeard framing before → HasHeard after (before ++ piece) × TakesSome steps old (heard_of before piece) new
+hears_some steps piece framing fed after old new feeds is takes before has =
+    let h = octets_taken before piece framing fed has feeds in
+    (subst (λ f. HasHeard f (before ++ piece)) (sym is) h.0, subst (λ q. TakesSome steps old (heard q) new) h.1 takes)

@@ -1,0 +1,4 @@
+pub mod Cutting
+pub mod Fed
+pub mod Taking
+pub mod Sent

@@ -1,0 +1,6 @@
+pub mod Hearing
+pub mod Runs
+pub mod Sending
+pub mod Speaking
+pub mod Stations
+pub mod Timing

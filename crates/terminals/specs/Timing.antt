@@ -1,0 +1,39 @@
+-- The durations of T.30, and the flags that last as long.
+use Rattle.std.specs.Prelude.{ℕ}
+use Rattle.signals.specs.declared.params.Speed.{Speed}
+use Rattle.signals.specs.declared.params.Speed.TheVariants.{V27At2400, V27At4800, V29At7200, V29At9600, V17At7200, V17At9600, V17At12000}
+use Rattle.signals.specs.declared.params.Speed.TheVariants.{V17At14400}
+use Rattle.stations.specs.declared.carrier.Carrier.{Carrier}
+use Rattle.stations.specs.declared.carrier.Carrier.TheVariants.{V21, Training, Page}
+use Rattle.stations.specs.declared.waiting.Wait.{Wait}
+use Rattle.stations.specs.declared.waiting.Wait.TheVariants.{T1, T2, T4, T5}
+
+-- how long a wait runs, in milliseconds
+abbrev pub wait_millis : Wait → ℕ
+wait_millis T1 = 35000
+wait_millis T2 = 6000
+wait_millis T4 = 3000
+wait_millis T5 = 60000
+
+-- the flags of 200 ms, which have eight bits each, at a speed in bits a second
+abbrev pub page_flags : Speed → ℕ
+page_flags V27At2400 = 60
+page_flags V27At4800 = 120
+page_flags V29At7200 = 180
+page_flags V29At9600 = 240
+page_flags V17At7200 = 180
+page_flags V17At9600 = 240
+page_flags V17At12000 = 300
+page_flags V17At14400 = 360
+
+-- the flags before the frames of a burst: those of 1 s at 300 bit/s, of 200 ms at the speed of a page, and none before a training check
+abbrev pub flags_before : Carrier → ℕ
+flags_before V21 = 37
+flags_before (Page speed) = page_flags speed
+flags_before (Training speed) = 0
+
+-- the flags after them
+abbrev pub flags_after : Carrier → ℕ
+flags_after V21 = 2
+flags_after (Page speed) = 2
+flags_after (Training speed) = 0

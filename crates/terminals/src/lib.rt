@@ -1,0 +1,21 @@
+//! Stations over the bits of a line: octets that are heard in any pieces, and bursts that go out as octets with their flags.
+#![tactic(auto)]
+
+mod fault;
+mod input;
+pub mod laws;
+mod sending;
+mod speaking;
+mod station;
+mod terminal;
+mod timing;
+
+pub use crate::fault::HearFault;
+pub use crate::input::Input;
+pub use crate::sending::SentBurst;
+pub use crate::station::Station;
+pub use crate::terminal::{AnswererTerminal, CallerTerminal, Terminal};
+pub use crate::timing::{
+    BETWEEN_CARRIERS_MILLIS, T1_MILLIS, T2_MILLIS, T4_MILLIS, T5_MILLIS, flags_after, flags_before,
+    wait_millis,
+};

@@ -1,0 +1,112 @@
+//! A station with the turn that it has to say.
+
+ghost use Rattle.std.specs.Prelude.{◌≡◌, [], OnOk, OnErr, true, false};
+ghost use Rattle.signals.specs.Reading.{read_content};
+ghost use Rattle.terminals.specs.Hearing.{heard, heard_if, plain_input};
+ghost use Rattle.terminals.specs.Runs.{TakesAll, TakesSome};
+ghost use Rattle.terminals.specs.Sending.{Sends};
+ghost use Rattle.terminals.specs.Speaking.{Takes, is_silent, spoken};
+
+use crate::input::Input;
+use crate::sending::{SentBurst, pass, send};
+use crate::station::Station;
+use hdlc::Deframer;
+use stations::Turn;
+use std::alloc::{AllocError, Global};
+use std::marker::Model;
+
+/// A station, the turn that is kept for sending, and how many of the turn's bursts were taken.
+#[derive(Debug, Drop)]
+pub(crate) struct Speaker<S: Station> {
+    pub(crate) station: S,
+    turn: Turn,
+    taken: u8,
+}
+
+impl<S: Station> Model for Speaker<S> {
+    ghost use Rattle.terminals.specs.Speaking.{Speaking};
+
+    ghost Value = { Speaking S };
+
+    ghost view = { λ s. record { station = s.station; turn = s.turn; taken = s.taken } };
+}
+
+/// Whether a turn is silence.
+fn is_silent(turn: &Turn) -> bool
+    ensures { result ≡ is_silent turn.now }
+{
+    matches!(turn, Turn::Silent)
+}
+
+impl<S: Station> Speaker<S> {
+    /// A station with a turn of which nothing was taken.
+    pub(crate) fn new(station: S, turn: Turn) -> Speaker<S>
+        ensures { result ≡ record { station = station; turn = turn; taken = 0 } }
+    {
+        Speaker {
+            station,
+            turn,
+            taken: 0,
+        }
+    }
+
+    /// The station has an input. Errs where memory is refused, which changes nothing.
+    pub(crate) fn hear(&mut self, input: Input<'_>) -> Result<(), AllocError>
+        ensures ok { OnOk result (Takes S S.steps self.old (plain_input input.entry) self.new) }
+        ensures err { OnErr result (self.new ≡ self.old) }
+    {
+        let turn = self.station.take(input)?;
+        if is_silent(&turn) {
+            return Ok(());
+        }
+        self.turn = turn;
+        self.taken = 0;
+        Ok(())
+    }
+
+    /// The next burst of the turn that is kept, as it is sent; none where all were taken. Errs where memory is refused, which changes
+    /// nothing.
+    pub(crate) fn next_burst(&mut self, alloc: Global) -> Result<Option<SentBurst>, AllocError>
+        ensures { Sends S.sends S.lends self.old self.new result }
+    {
+        let mut bursts = self.station.lend(&self.turn);
+        let Some(next) = self.taken.checked_add(1) else {
+            return Ok(None);
+        };
+        pass(&mut bursts, self.taken);
+        let Some(burst) = bursts.take_next() else {
+            return Ok(None);
+        };
+        let sent = send(alloc, self.station.side(), burst)?;
+        self.taken = next;
+        Ok(Some(sent))
+    }
+
+    /// The station hears what a content says; a content that says no signal is left out. Answers whether memory was granted:
+    /// where it was refused nothing has changed.
+    fn hear_content(&mut self, content: &[u8]) -> bool
+        ensures heard { result ≡ true → TakesAll S.steps self.old (heard_if (read_content content.now)) self.new }
+        ensures lost { result ≡ false → self.new ≡ self.old }
+    {
+        let Ok(signal) = signals::read(content) else {
+            return true;
+        };
+        match self.hear(Input::Heard(signal)) {
+            Ok(()) => true,
+            Err(_) => false,
+        }
+    }
+}
+
+/// The station hears what each content that waits says. Answers whether it has heard all; else memory was refused, and some are lost.
+pub(crate) fn hear_waiting<S: Station>(deframer: &mut Deframer, speaker: &mut Speaker<S>) -> bool
+    ensures all { result ≡ true → TakesAll S.steps speaker.old (heard deframer.old.queue) speaker.new }
+    ensures some { TakesSome S.steps speaker.old (heard deframer.old.queue) speaker.new }
+    ensures taken { deframer.new ≡ record deframer.old { queue = [] } }
+{
+    let mut all = true;
+    while let Some(content) = deframer.next() {
+        all &= speaker.hear_content(content);
+    }
+    all
+}
