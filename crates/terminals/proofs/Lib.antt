@@ -1,3 +1,4 @@
+pub mod After
 pub mod Cutting
 pub mod Fed
 pub mod Taking
