@@ -21,8 +21,8 @@ spoken_station old station turn =
     either (is_silent turn) (record { station = station; turn = old.turn; taken = old.taken })
     (record { station = station; turn = turn; taken = 0 }) station refl refl
 
-taken_station : {S : Type 0} (steps : StepOf S) (old : Speaking S) (input : PlainInput) (new : Speaking S) (h : Takes S steps old input new) →
-    new.station ≡ h.station
+taken_station : {S : Type 0} (steps : StepOf S) (old : Speaking S) (input : PlainInput) (new : Speaking S)
+    (h : Takes S steps old input new) → new.station ≡ h.station
 taken_station steps old input new h = ap (λ s. s.station) h.is ∙ spoken_station old h.station h.turn
 
 after_taken : (s : Answerer) (taken : Option AnswererInput) (inputs : List AnswererInput) →

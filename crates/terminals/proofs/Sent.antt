@@ -1,5 +1,6 @@
 -- Flags, items and bursts as the bits that are sent.
-use Rattle.std.proofs.Common.{◌≡◌, ◌↔◌, ℕ, zero, suc, ◌+◌, ◌*◌, Bool, false, List, [], ◌∷◌, ◌++◌, Option, Some, None, drop, length, replicate, refl, ap}
+use Rattle.std.proofs.Common.{◌≡◌, ◌↔◌, ℕ, zero, suc, ◌+◌, ◌*◌, Bool, false, List, [], ◌∷◌, ◌++◌, Option, Some, None, drop, length}
+use Rattle.std.proofs.Common.{replicate, refl, ap}
 use Rattle.std.proofs.Common.{sym, ◌∙◌, subst, arith, append_assoc}
 use Rattle.std.specs.Prelude.{IsTrue}
 use Rattle.std.proofs.lemmas.List.{append-nil, replicate-append-replicate}
@@ -106,7 +107,8 @@ passed_one [] (suc n) = sym (drop_none (suc n + 1))
 passed_one (x ∷ all) zero = refl
 passed_one (x ∷ all) (suc n) = let e : suc n + 1 ≡ suc (n + 1) = omega arith in passed_one all n ∙ ap (λ k. drop k (x ∷ all)) (sym e)
 
-pub passed : (all old new : List PlainBurst) (n : ℕ) (given : Option Burst) → old ≡ drop n all → GivesBurst old given new → new ≡ drop (n + 1) all
+pub passed : (all old new : List PlainBurst) (n : ℕ) (given : Option Burst) → old ≡ drop n all → GivesBurst old given new →
+    new ≡ drop (n + 1) all
 passed all old new n None is h =
     let e : drop 1 old ≡ drop (n + 1) all = ap (λ l. drop 1 l) is ∙ passed_one all n in
     h.1 ∙ (ap (λ l. drop 1 l) (sym h.0) ∙ e)

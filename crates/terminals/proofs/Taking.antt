@@ -36,7 +36,8 @@ pub some_append : {S : Type 0} (steps : StepOf S) (xs ys : List PlainInput) (a b
 some_append steps [] ys a b c e t = subst (λ s. TakesSome steps s ys c) e t
 some_append steps (x ∷ xs) ys a b c h t = (h.0, h.1, some_append steps xs ys h.0 b c h.2 t)
 
-pub all_are_some : {S : Type 0} (steps : StepOf S) (xs : List PlainInput) (a b : Speaking S) → TakesAll steps a xs b → TakesSome steps a xs b
+pub all_are_some : {S : Type 0} (steps : StepOf S) (xs : List PlainInput) (a b : Speaking S) → TakesAll steps a xs b →
+    TakesSome steps a xs b
 all_are_some steps [] a b h = h
 all_are_some steps (x ∷ xs) a b h = (h.0, inl h.1, all_are_some steps xs h.0 b h.2)
 
@@ -94,7 +95,8 @@ next_left steps start framing old now next all heard_it content first h l left =
       let so = both_true all heard_it both in
       left.each so.0 new (all_of_queue steps framing.queue content now next new first (h so.1) t);
   some = λ new t.
-      left.some new (some_of_queue steps framing.queue content now next new first (some_one steps (read_content content) heard_it now next h l) t);
+      let one = some_one steps (read_content content) heard_it now next h l in
+      left.some new (some_of_queue steps framing.queue content now next new first one t);
   rest = rw left.rest refl;
 }
 

@@ -1,5 +1,6 @@
 -- A burst as it goes out on its carrier: frames and flags, or the zeros of a training check.
-use Rattle.std.specs.Prelude.{ℕ, zero, suc, ◌≡◌, ◌⊎◌, ◌↔◌, ◌+◌, ◌*◌, ◌<◌, Bool, false, List, [], ◌∷◌, ◌++◌, length, drop, replicate, Option, Some}
+use Rattle.std.specs.Prelude.{ℕ, zero, suc, ◌≡◌, ◌⊎◌, ◌↔◌, ◌+◌, ◌*◌, ◌<◌, Bool, false, List, [], ◌∷◌, ◌++◌, length, drop, replicate, Option}
+use Rattle.std.specs.Prelude.{Some}
 use Rattle.std.specs.Prelude.{None, Result, Ok, Err, IsTrue}
 use Rattle.raster.specs.Packed.{FillsOctets}
 use Rattle.raster.specs.declared.packed.Order.TheVariants.{LsbFirst}

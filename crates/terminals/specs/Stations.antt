@@ -4,7 +4,8 @@ use Rattle.stations.specs.AnswererStep.{Answerer, AnswererAnswer, answerer_step,
 use Rattle.stations.specs.Bursts.{PlainBurst, bursts_of}
 use Rattle.stations.specs.CallerFields.{CallerFields, Represents}
 use Rattle.stations.specs.CallerStep.{Caller, CallerAnswer, caller_step, caller_silent, caller_items}
-use Rattle.stations.specs.Inputs.{CallerInput, hears, timeout, t5, caller_input, AnswererInput, listens, trains, t2, t1, is_busy, answerer_input}
+use Rattle.stations.specs.Inputs.{CallerInput, hears, timeout, t5, caller_input, answerer_input}
+use Rattle.stations.specs.Inputs.{AnswererInput, listens, trains, t2, t1, is_busy}
 use Rattle.stations.specs.declared.input.AnswererIn.{AnswererIn}
 use Rattle.stations.specs.declared.input.CallerIn.{CallerIn}
 use Rattle.stations.specs.Waits.{caller_wait, unless_over}

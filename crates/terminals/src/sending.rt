@@ -42,7 +42,8 @@ pub(crate) fn pass(bursts: &mut Bursts<'_>, count: u8)
 
 /// A burst as it is sent from a side. Errs where memory is refused.
 pub(crate) fn send(alloc: Global, side: Side, burst: Burst<'_>) -> Result<SentBurst, AllocError>
-    ensures { IfOk result (λ sent. (later : List PlainBurst) → burst.entry.items.after ≡ items_of later → (IsTrue burst.entry.last ↔ (later ≡ [])) →
+    ensures { IfOk result (λ sent. (later : List PlainBurst) →
+        burst.entry.items.after ≡ items_of later → (IsTrue burst.entry.last ↔ (later ≡ [])) →
         IsSent side (plain_burst burst.entry) later sent) }
 {
     let mut writer = BitWriter::new(alloc, Order::LsbFirst);
@@ -117,7 +118,8 @@ fn write_item(writer: &mut BitWriter, side: Side, item: Item<'_>) -> Result<(), 
 
 /// Writes the items of a burst. An `Err` may leave some of them.
 fn write_items(writer: &mut BitWriter, side: Side, items: BurstItems<'_>) -> Result<(), AllocError>
-    ensures { OnOk result ((bits : List Bool) × AreBits side items.entry.burst items.entry.after bits × Appends bits writer.old writer.new) }
+    ensures { OnOk result ((bits : List Bool) ×
+        AreBits side items.entry.burst items.entry.after bits × Appends bits writer.old writer.new) }
 {
     let mut left = items;
     while let Some(item) = left.take_next() {
