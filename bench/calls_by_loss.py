@@ -3,7 +3,7 @@
 
     bench/calls_by_loss.py [--calls N] [--svg FILE]
 
-Runs `faxtool call --lose` N times (200 if not said), with the seeds from 0, for each number of two tables, and prints them: of 100 calls those
+Runs `faxtool call --lose --times N` (1000 if not said) with the seed 0 for each number of two tables, and prints them: of 100 calls those
 whose caller ended normally. The program is crates/faxtool/out/faxtool, or the one that FAXTOOL names. With --svg it writes the first table
 as a picture too. It needs Python's standard library alone."""
 
@@ -58,16 +58,22 @@ def page_of(folder, frames):
     return path
 
 
-def ends_normally(words):
-    printed = subprocess.run([PROGRAM, "call", *words], check=True, capture_output=True, text=True).stdout
-    return "\ncaller normal confirmed 1\n" in printed
-
-
 def share(page, line, options, calls):
     """Of 100 calls those that end normally."""
-    words = [[*line, "--seed", str(seed), *options.split(), page] for seed in range(calls)]
+    words = [*line, "--seed", "0", "--times", str(calls), *options.split(), page]
+    printed = subprocess.run([PROGRAM, "call", *words], check=True, capture_output=True, text=True).stdout.split("\n")
+    normal = [int(row.split()[2]) for row in printed if row.startswith("caller normal ")]
+    return round(100 * sum(normal) / calls)
+
+
+def all_shares(numbers):
+    """The share of each, two at a time."""
     with ThreadPoolExecutor(2) as pool:
-        return round(100 * sum(pool.map(ends_normally, words)) / calls)
+        return list(pool.map(lambda number: share(*number), numbers))
+
+
+def in_rows(numbers, width):
+    return [numbers[place : place + width] for place in range(0, len(numbers), width)]
 
 
 def table(heads, names, shares):
@@ -100,7 +106,7 @@ def picture(shares):
 
 def main():
     words = sys.argv[1:]
-    options = {"--calls": "200", "--svg": None}
+    options = {"--calls": "1000", "--svg": None}
     while len(words) > 1 and words[0] in options:
         options[words[0]] = words[1]
         del words[:2]
@@ -110,9 +116,10 @@ def main():
     calls = int(options["--calls"])
     with tempfile.TemporaryDirectory() as folder:
         pages = {frames: page_of(folder, frames) for frames in FRAMES}
-        shares = [[share(pages[frames], ["--lose", f"{rate}%"], "", calls) for rate in RATES] for frames in FRAMES]
+        numbers = [(pages[frames], ["--lose", f"{rate}%"], "", calls) for frames in FRAMES for rate in RATES]
+        shares = in_rows(all_shares(numbers), len(RATES))
         print("\n".join(table(["Frames in the block", *(f"{rate} %" for rate in RATES)], FRAMES, shares)), flush=True)
-        others = [[share(pages[118], line, option, calls) for line in LINES] for option in OPTIONS]
+        others = in_rows(all_shares([(pages[118], line, option, calls) for option in OPTIONS for line in LINES]), len(LINES))
         print("\n" + "\n".join(table(["Options", *(" ".join(line) for line in LINES)], [option or "none" for option in OPTIONS], others)))
     if options["--svg"]:
         Path(options["--svg"]).write_text("\n".join(picture(shares)) + "\n")
