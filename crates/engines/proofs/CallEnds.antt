@@ -8,12 +8,13 @@ use Rattle.stations.specs.Layers.{Document}
 use Rattle.engines.specs.Calls.{RefusesCall, RunsCall, TellsCall}
 use Rattle.engines.specs.Faults.{IsOutside}
 use Rattle.engines.specs.Scripts.{IsScript}
+use Rattle.engines.specs.SentBits.{Written}
 use Rattle.engines.specs.declared.fault.ToolFault.{ToolFault}
 use Rattle.engines.specs.declared.fault.ToolFault.TheVariants.{No}
 use Rattle.engines.specs.declared.options.CallOptions.{CallOptions}
 use Rattle.engines.specs.declared.script.Command.{Command}
 
-pub runs_call : (options : CallOptions) (script images before after : Option (List ℕ)) (commands : List Command) (document : Document)
+pub runs_call : (options : CallOptions) (script images : Option (List ℕ)) (before after : Written) (commands : List Command) (document : Document)
     (pages : List PagePixels) → IfSome script (λ said. IsScript said commands) →
     IfSome images (λ octets. AreImages options.fine octets document) → TellsCall options document commands before after pages →
     IfSome script (λ said. IfSome images (λ octets. RunsCall options said octets before after pages))

@@ -16,6 +16,7 @@ use Rattle.line_sim.specs.Headline.{IsSafe, IsSafeWorld, RunsAreSafe}
 use Rattle.line_sim.specs.Line.{World, Outcome, Done, Nothing, InputLost, Cut, run}
 use Rattle.line_sim.specs.PageMachine.{IsBeginning}
 use Rattle.line_sim.specs.Polite.{and_on, next_steps, polite_steps}
+use Rattle.line_sim.specs.Putting.{Puts}
 use Rattle.line_sim.specs.Standing.{Acts, Shows}
 use Rattle.line_sim.specs.declared.call.Call.{Call}
 use Rattle.line_sim.specs.declared.event.Entry.{Entry}
@@ -29,18 +30,23 @@ use Rattle.engines.specs.Transcripts.{ending_text, entry_line, entry_lines}
 use Rattle.engines.specs.declared.options.CallOptions.{CallOptions}
 use Rattle.engines.specs.declared.script.Command.{Command}
 use Rattle.engines.specs.declared.script.Command.TheVariants.{Events, Polite}
+use Rattle.engines.specs.SentBits.{WritesAfter, WritesLines, Written}
+use Rattle.engines.specs.declared.counts.Counts.{Counts}
 use Rattle.engines.proofs.EntryLines.{lines_both}
-
--- the octets of a writer, where it tells them
-abbrev pub Octets : Type 0
-Octets = Option (List ℕ)
+use Rattle.engines.proofs.SentItems.{AreCounted, call_sent, event_sent, no_counts, none_sent, sent_on}
 
 -- ---- steps and then others
 
-pub none_told : (v : Call) (w : World) (first : ℕ) (at : Octets) → Shows v w → TellsSteps [] w v first first at at
-none_told v w first at shows = record { shows = shows; each = refl; written = Appends-nil at; number = omega arith }
+pub none_told : (v : Call) (w : World) (first : ℕ) (at : Written) → Shows v w → TellsSteps [] w v first first at at
+none_told v w first at shows = record {
+  shows = shows;
+  each = refl;
+  written = Appends-nil at.lines;
+  number = omega arith;
+  sent = λ to. none_sent to w at;
+}
 
-pub told_on : (now new : Call) (w : World) (xs ys : Steps) (first mid next : ℕ) (before at after : Octets) →
+pub told_on : (now new : Call) (w : World) (xs ys : Steps) (first mid next : ℕ) (before at after : Written) →
     TellsSteps xs w now first mid before at → TellsSteps ys (run xs w) new mid next at after →
     TellsSteps (xs ++ ys) w new first next before after
 told_on now new w xs ys first mid next before at after one more =
@@ -53,10 +59,11 @@ told_on now new w xs ys first mid next before at after one more =
       shows = subst (Shows new) (sym (run_both xs ys w)) more.shows;
       each = ap length all ∙ (length-append some others ∙ (ap (λ n. n + length others) one.each ∙
           (ap (λ n. length xs + n) more.each ∙ sym steps)));
-      written = subst (Appends before after) (sym (ap (entry_lines first) all ∙ (lines_both first some others ∙
+      written = subst (Appends before.lines after.lines) (sym (ap (entry_lines first) all ∙ (lines_both first some others ∙
           ap (λ n. entry_lines first some ++ entry_lines n others) (sym place))))
-          (Appends-trans before at after _ _ one.written more.written);
+          (Appends-trans before.lines at.lines after.lines _ _ one.written more.written);
       number = (let a = one.number in let b = more.number in omega (arith, a, b, steps));
+      sent = λ to. sent_on to xs ys w before at after (one.sent to) (more.sent to);
     }
 
 -- ---- an event with its line
@@ -68,10 +75,11 @@ refused_is w event Nothing entry e = absurd (cc)
 refused_is w event InputLost entry e = cc
 refused_is w event (Cut made) entry e = cc
 
-pub event_told : (old new : Call) (event : Event) (entry : Entry) (w : World) (first next : ℕ) (before after : Octets) →
-    Acts old new event entry → Shows old w → Appends before after (entry_line first entry) → next ≡ first + 1 →
+pub event_told : (old new : Call) (event : Event) (entry : Entry) (w : World) (first next : ℕ) (counts : Counts)
+    (before at after : Written) → Acts old new event entry → Puts old new event entry.refused → Shows old w → AreCounted counts old →
+    WritesLines before at (entry_line first entry) → WritesAfter counts new at after → next ≡ first + 1 →
     TellsEvent event w new first next before after entry.refused
-event_told old new event entry w first next before after acts shows line more =
+event_told old new event entry w first next counts before at after acts puts shows counted line wrote more =
     let did = acts.1 w shows in
     let noted : entries ((event, acts.0) ∷ []) w ≡ entry ∷ [] = ap (λ o. and_entries o []) did.1 in (
       acts.0,
@@ -79,14 +87,17 @@ event_told old new event entry w first next before after acts shows line more =
       record {
         shows = did.0;
         each = ap length noted;
-        written = subst (Appends before after) (sym (ap (entry_lines first) noted ∙ append-nil (entry_line first entry))) line;
+        written = subst (Appends before.lines after.lines) (sym (ap (entry_lines first) noted ∙ append-nil (entry_line first entry)))
+            (subst (λ o. Appends before.lines o (entry_line first entry)) (sym wrote.lines) line.lines);
         number = more;
+        sent = λ to. event_sent to old new event acts.0 entry.refused w counts before at after (entry_line first entry) puts
+            (refused_is w event acts.0 entry did.1) shows counted line wrote;
       },
     )
 
 -- ---- an event again and again
 
-pub none_repeated : (event : Event) (v : Call) (w : World) (first : ℕ) (at : Octets) → Shows v w →
+pub none_repeated : (event : Event) (v : Call) (w : World) (first : ℕ) (at : Written) → Shows v w →
     TellsCommand (Events event 0) w v first first at at
 none_repeated event v w first at shows = ([], refl, none_told v w first at shows)
 
@@ -99,7 +110,7 @@ replicate_more event zero = refl
 replicate_more event (suc count) = ap (λ l. event ∷ l) (replicate_more event count)
 
 -- one time more, whatever became of it
-pub repeated : (event : Event) (count : ℕ) (now new : Call) (w : World) (first mid next : ℕ) (before at after : Octets) (refused : Bool) →
+pub repeated : (event : Event) (count : ℕ) (now new : Call) (w : World) (first mid next : ℕ) (before at after : Written) (refused : Bool) →
     TellsCommand (Events event count) w now first mid before at →
     ((u : World) → Shows now u → TellsEvent event u new mid next at after refused) →
     TellsCommand (Events event (count + 1)) w new first next before after
@@ -129,7 +140,7 @@ some_there [] x e = absurd (cc)
 some_there (y ∷ ys) x e = absurd (cc)
 
 -- an event that comes last, after others that were whole
-last_next : (coming before : Steps) (event : Event) (w : World) (now new : Call) (first mid next : ℕ) (at here after : Octets)
+last_next : (coming before : Steps) (event : Event) (w : World) (now new : Call) (first mid next : ℕ) (at here after : Written)
     (refused : Bool) →
     coming ≡ before ++ (event, Done) ∷ [] → TellsSteps before w now first mid at here →
     TellsEvent event (run before w) new mid next here after refused →
@@ -156,14 +167,14 @@ last_next coming before event w now new first mid next at here after true is tol
 )
 
 -- what is under way first
-pub item_next : (old new : Call) (event : Event) (w : World) (first next : ℕ) (before after : Octets) (refused : Bool) → Shows old w →
+pub item_next : (old new : Call) (event : Event) (w : World) (first next : ℕ) (before after : Written) (refused : Bool) → Shows old w →
     next_steps w w.to_answerer w.to_caller ≡ (event, Done) ∷ [] → TellsEvent event w new first next before after refused →
     TellsNext w new first next before after (not refused)
 item_next old new event w first next before after refused shows coming told =
     last_next _ [] event w old new first first next before before after refused coming (none_told old w first before shows) told
 
 -- another group, whose T2 is refused
-pub group_stops : (new : Call) (w : World) (first next : ℕ) (before after : Octets) (refused : Bool) → refused ≡ true →
+pub group_stops : (new : Call) (w : World) (first next : ℕ) (before after : Written) (refused : Bool) → refused ≡ true →
     next_steps w w.to_answerer w.to_caller ≡ (AnswererT2, Done) ∷ (DeliverToCaller, Done) ∷ [] →
     TellsEvent AnswererT2 w new first next before after refused → TellsNext w new first next before after false
 group_stops new w first next before after refused is coming told = (
@@ -181,7 +192,7 @@ group_stops new w first next before after refused is coming told = (
 )
 
 -- another group
-pub group_next : (now new : Call) (w : World) (first mid next : ℕ) (before at after : Octets) (group_refused refused : Bool) →
+pub group_next : (now new : Call) (w : World) (first mid next : ℕ) (before at after : Written) (group_refused refused : Bool) →
     group_refused ≡ false → next_steps w w.to_answerer w.to_caller ≡ (AnswererT2, Done) ∷ (DeliverToCaller, Done) ∷ [] →
     TellsEvent AnswererT2 w now first mid before at group_refused →
     ((u : World) → Shows now u → TellsEvent DeliverToCaller u new mid next at after refused) →
@@ -192,19 +203,19 @@ group_next now new w first mid next before at after group_refused refused is com
     last_next _ ((AnswererT2, Done) ∷ []) DeliverToCaller w now new first mid next before at after refused coming one
     (more (run ((AnswererT2, Done) ∷ []) w) one.shows)
 
-pub nothing_next : (v : Call) (w : World) (first : ℕ) (at : Octets) → Shows v w → next_steps w w.to_answerer w.to_caller ≡ [] →
+pub nothing_next : (v : Call) (w : World) (first : ℕ) (at : Written) → Shows v w → next_steps w w.to_answerer w.to_caller ≡ [] →
     TellsNext w v first first at at false
 nothing_next v w first at shows coming = ([], inl (coming, refl), none_told v w first at shows)
 
 -- ---- a polite run
 
 -- deliveries of a polite run, so many of them, which were told, and after which the rest of it comes
-pub record Along (delivered : ℕ) (w : World) (now : Call) (first next : ℕ) (before at : Octets) : Type 0 where
+pub record Along (delivered : ℕ) (w : World) (now : Call) (first next : ℕ) (before at : Written) : Type 0 where
   pub steps : Steps
   pub rest : (more : ℕ) → polite_steps (delivered + more) w ≡ steps ++ polite_steps more (run steps w)
   pub told : TellsSteps steps w now first next before at
 
-pub at_start : (v : Call) (w : World) (first : ℕ) (at : Octets) → Shows v w → Along 0 w v first first at at
+pub at_start : (v : Call) (w : World) (first : ℕ) (at : Written) → Shows v w → Along 0 w v first first at at
 at_start v w first at shows = record {
   steps = [];
   rest = λ more. (let e : 0 + more ≡ more = omega arith in ap (λ n. polite_steps n w) e);
@@ -215,7 +226,7 @@ some_on : (steps : Steps) (rest : World → Steps) (w : World) → steps ≢ [] 
 some_on [] rest w some = absurd (some refl)
 some_on (step ∷ steps) rest w some = refl
 
-pub one_along : (delivered : ℕ) (w : World) (now new : Call) (first mid next : ℕ) (before at after : Octets) (whole : Bool) →
+pub one_along : (delivered : ℕ) (w : World) (now new : Call) (first mid next : ℕ) (before at after : Written) (whole : Bool) →
     whole ≡ true → Along delivered w now first mid before at →
     ((u : World) → Shows now u → TellsNext u new mid next at after whole) → Along (delivered + 1) w new first next before after
 one_along delivered w now new first mid next before at after whole is along more =
@@ -235,7 +246,7 @@ one_along delivered w now new first mid next before at after whole is along more
       told = told_on now new w xs ys first mid next before at after along.told one.2;
     }
 
-pub all_along : (delivered most : ℕ) (w : World) (now : Call) (first next : ℕ) (before at : Octets) → delivered ≡ most →
+pub all_along : (delivered most : ℕ) (w : World) (now : Call) (first next : ℕ) (before at : Written) → delivered ≡ most →
     Along delivered w now first next before at → TellsCommand (Polite most) w now first next before at
 all_along delivered most w now first next before at all along =
     let e : delivered + 0 ≡ most = omega (arith, all) in
@@ -271,7 +282,7 @@ end_of all xs coming ys rest u whole (inr stop) =
     })
 
 -- no delivery comes after these, or not all of one
-pub ends_along : (delivered most : ℕ) (w : World) (now new : Call) (first mid next : ℕ) (before at after : Octets) (whole : Bool) →
+pub ends_along : (delivered most : ℕ) (w : World) (now new : Call) (first mid next : ℕ) (before at after : Written) (whole : Bool) →
     delivered < most → whole ≡ false → Along delivered w now first mid before at →
     ((u : World) → Shows now u → TellsNext u new mid next at after whole) → TellsCommand (Polite most) w new first next before after
 ends_along delivered most w now new first mid next before at after whole within is along more =
@@ -289,7 +300,7 @@ ends_along delivered most w now new first mid next before at after whole within 
 
 -- ---- commands
 
-pub none_followed : (v : Call) (w : World) (first : ℕ) (at : Octets) → Shows v w → TellsCommands [] w v first first at at
+pub none_followed : (v : Call) (w : World) (first : ℕ) (at : Written) → Shows v w → TellsCommands [] w v first first at at
 none_followed v w first at shows = ([], refl, none_told v w first at shows)
 
 make_more : (commands : List Command) (command : Command) (w : World) (xs ys : Steps) → MakeAll commands w xs →
@@ -309,7 +320,7 @@ make_more (first ∷ commands) command w xs ys (front, rest, are, makes_front, m
 
 -- one command more
 pub one_followed : (commands : List Command) (command : Command) (now new : Call) (w : World) (first mid next : ℕ)
-    (before at after : Octets) → TellsCommands commands w now first mid before at →
+    (before at after : Written) → TellsCommands commands w now first mid before at →
     ((u : World) → Shows now u → TellsCommand command u new mid next at after) →
     TellsCommands (commands ++ command ∷ []) w new first next before after
 one_followed commands command now new w first mid next before at after told more =
@@ -336,10 +347,11 @@ safe_told document ending w ends safe = rw (ends.pages, ends.confirmed, ends.cal
 
 -- the steps that commands make of a new world, told, and then what they leave
 pub tells_call : RunsAreSafe → (options : CallOptions) (document : Document) (commands : List Command) (start end : Call) (ending : Ending)
-    (next : ℕ) (before at after : Octets) → IsDocument document → AreCallable document → Shows start (call_world options document) →
-    ((w : World) → Shows start w → TellsCommands commands w end 1 next before at) → ((w : World) → Shows end w → EndsAs ending w) →
-    Appends at after (ending_text ending) → TellsCall options document commands before after ending.pages.items
-tells_call runs options document commands start end ending next before at after is callable shows follows ends line =
+    (next : ℕ) (before begun at after : Written) → IsDocument document → AreCallable document → Shows start (call_world options document) →
+    WritesAfter no_counts start before begun →
+    ((w : World) → Shows start w → TellsCommands commands w end 1 next begun at) → ((w : World) → Shows end w → EndsAs ending w) →
+    WritesLines at after (ending_text ending) → TellsCall options document commands before after ending.pages.items
+tells_call runs options document commands start end ending next before begun at after is callable shows begins follows ends line =
     let f = follows (call_world options document) shows in
     let steps : Steps = f.0 in
     let w : World = run steps (call_world options document) in
@@ -350,8 +362,12 @@ tells_call runs options document commands start end ending next before at after 
       each = f.2.each;
       ending = ending;
       ends = ends w f.2.shows;
-      written = Appends-trans before at after (entry_lines 1 (entries steps (call_world options document))) (ending_text ending)
-          f.2.written line;
+      written = Appends-trans before.lines at.lines after.lines (entry_lines 1 (entries steps (call_world options document)))
+          (ending_text ending)
+          (subst (λ o. Appends o at.lines (entry_lines 1 (entries steps (call_world options document)))) begins.lines f.2.written)
+          line.lines;
+      sent = λ to. call_sent to steps (call_world options document) start before begun at after (ending_text ending) shows begins
+          (f.2.sent to) line;
       answered = refl;
       safe = safe_told document ending w (ends w f.2.shows)
           (runs document (caller_wish options) (answerer_caps options.modems) steps (full_pages document is.valid is.rows));
@@ -364,7 +380,7 @@ beginning_rows pages document begins some =
     (All-take (λ (page : PagePixels). 0 < length page.rows) (length pages) document some)
 
 -- so have the pages that a call answers
-pub told_rows : (options : CallOptions) (document : Document) (commands : List Command) (before after : Octets) (pages : List PagePixels) →
+pub told_rows : (options : CallOptions) (document : Document) (commands : List Command) (before after : Written) (pages : List PagePixels) →
     TellsCall options document commands before after pages → HaveRows document → HaveRows pages
 told_rows options document commands before after pages told some =
     subst HaveRows (sym told.answered) (beginning_rows told.ending.pages.items document told.safe.beginning some)

@@ -1,11 +1,12 @@
 -- How a call over a bad line ends.
-use Rattle.std.proofs.Common.{◌≡◌, ◌⊎◌, ℕ, Bool, List, Option, Some, None, inl, inr, refl, sym, subst}
+use Rattle.std.proofs.Common.{◌≡◌, ◌⊎◌, ℕ, Bool, List, Option, Some, None, inl, inr, refl, sym, subst, ◌++◌}
 use Rattle.std.specs.Prelude.{IfSome}
 use Rattle.std.specs.Io.KnownBytes.{Appends}
 use Rattle.std.proofs.KnownBytes.{Appends-trans}
 use Rattle.raster.specs.Pages.{PagePixels, IsDocument}
 use Rattle.raster.specs.Pbm.{AreImages}
 use Rattle.stations.specs.CallerFields.{AreCallable}
+use Rattle.stations.specs.Inputs.{PlainItem}
 use Rattle.stations.specs.Layers.{Document}
 use Rattle.line_sim.specs.Driving.{Driven, DrivenCallsAreSafe, drive}
 use Rattle.line_sim.specs.Entries.{entries}
@@ -13,29 +14,29 @@ use Rattle.line_sim.specs.Fates.{DrivenFields}
 use Rattle.line_sim.specs.Line.{World}
 use Rattle.line_sim.specs.Report.{all_done}
 use Rattle.line_sim.specs.Standing.{Shows}
+use Rattle.line_sim.specs.declared.call.Call.{Call}
 use Rattle.line_sim.specs.declared.live.Ending.{Ending}
 use Rattle.engines.specs.BadLines.{DrivesCall, RefusesDriven, TellsAll, TellsDriven, driven_call, patience_of}
 use Rattle.engines.specs.Calls.{EndsAs, HaveRows, answerer_caps, call_world, caller_wish}
 use Rattle.engines.specs.Faults.{IsOutside}
 use Rattle.engines.specs.Losses.{fates_of, generator_of}
+use Rattle.engines.specs.SentBits.{WritesAfter, WritesLines, Written, on_way_to, put_by_steps}
 use Rattle.engines.specs.Transcripts.{ending_text, entry_lines}
 use Rattle.engines.specs.declared.fault.ToolFault.{ToolFault}
 use Rattle.engines.specs.declared.fault.ToolFault.TheVariants.{No}
 use Rattle.engines.specs.declared.losses.BadLine.{BadLine}
 use Rattle.engines.specs.declared.options.CallOptions.{CallOptions}
 use Rattle.engines.proofs.CallSteps.{beginning_rows, full_pages, safe_told}
-
--- the octets of a writer, where it tells them
-abbrev pub Octets : Type 0
-Octets = Option (List ℕ)
+use Rattle.engines.proofs.SentItems.{before_lines, no_counts, start_sent, writes_on}
 
 -- what the steps of a driven call lead to is safe: they are a run of events
 pub tells_driven : DrivenCallsAreSafe → (options : CallOptions) (line : BadLine) (number : ℕ) (document : Document) (new : DrivenFields)
-    (ending : Ending) (before at after : Octets) → IsDocument document → AreCallable document →
-    TellsAll line (generator_of line number) document (caller_wish options) (answerer_caps options.modems) new before at →
-    ((w : World) → Shows new.live w → EndsAs ending w) → Appends at after (ending_text ending) →
+    (start : Call) (ending : Ending) (before begun at after : Written) → IsDocument document → AreCallable document →
+    Shows start (call_world options document) → WritesAfter no_counts start before begun →
+    TellsAll line (generator_of line number) document (caller_wish options) (answerer_caps options.modems) new begun at →
+    ((w : World) → Shows new.live w → EndsAs ending w) → WritesLines at after (ending_text ending) →
     TellsDriven options line number document before after ending.pages.items
-tells_driven law options line number document new ending before at after is callable told ends text =
+tells_driven law options line number document new start ending before begun at after is callable shows begins told ends text =
     let d : Driven = drive told.made (patience_of line) (driven_call options line number document told.made) in
     let ended : EndsAs ending d.world = ends d.world told.shows.world in
     record {
@@ -46,20 +47,28 @@ tells_driven law options line number document new ending before at after is call
       over = told.over;
       ending = ending;
       ends = ended;
-      written = Appends-trans before at after (entry_lines 1 (entries (all_done told.events) (call_world options document)))
-          (ending_text ending) told.written text;
+      written = Appends-trans before.lines at.lines after.lines
+          (entry_lines 1 (entries (all_done told.events) (call_world options document))) (ending_text ending)
+          (subst (λ o. Appends o at.lines (entry_lines 1 (entries (all_done told.events) (call_world options document)))) begins.lines
+          told.written) text.lines;
+      sent = λ to.
+          let items : List PlainItem =
+          put_by_steps to told.made (patience_of line) (driven_call options line number document told.made) in
+          before_lines to (on_way_to to (call_world options document) ++ items) before at after (ending_text ending)
+          (writes_on to (on_way_to to (call_world options document)) items before begun at
+          (start_sent to start (call_world options document) before begun shows begins) (told.sent to)) text;
       answered = refl;
       safe = safe_told document ending d.world ended
           (law document (caller_wish options) (answerer_caps options.modems) (patience_of line) (fates_of line number told.made) told.made
           (full_pages document is.valid is.rows));
     }
 
-pub driven_rows : (options : CallOptions) (line : BadLine) (number : ℕ) (document : Document) (before after : Octets)
+pub driven_rows : (options : CallOptions) (line : BadLine) (number : ℕ) (document : Document) (before after : Written)
     (pages : List PagePixels) → TellsDriven options line number document before after pages → HaveRows document → HaveRows pages
 driven_rows options line number document before after pages told some =
     subst HaveRows (sym told.answered) (beginning_rows told.ending.pages.items document told.safe.beginning some)
 
-pub drives_call : (options : CallOptions) (line : BadLine) (number : ℕ) (images before after : Option (List ℕ)) (document : Document)
+pub drives_call : (options : CallOptions) (line : BadLine) (number : ℕ) (images : Option (List ℕ)) (before after : Written) (document : Document)
     (pages : List PagePixels) → IfSome images (λ octets. AreImages options.fine octets document) →
     TellsDriven options line number document before after pages →
     IfSome images (λ octets. DrivesCall options line number octets before after pages)

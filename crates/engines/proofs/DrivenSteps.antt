@@ -10,6 +10,7 @@ use Rattle.rand_pcg.specs.Pcg.{pcg32}
 use Rattle.rand_core.specs.Steps.{first_words}
 use Rattle.signals.specs.declared.params.Caps.{Caps}
 use Rattle.signals.specs.declared.params.Wish.{Wish}
+use Rattle.signals.specs.declared.signal.Side.{Side}
 use Rattle.stations.specs.Inputs.{PlainItem}
 use Rattle.stations.specs.Layers.{Document}
 use Rattle.stations.specs.declared.turn.End.{End}
@@ -31,11 +32,9 @@ use Rattle.engines.specs.BadLines.{AreOfSteps, Draws, IsAtStart, TellsAll, patie
 use Rattle.engines.specs.Losses.{fate_of, fates_from}
 use Rattle.engines.specs.Transcripts.{entry_lines}
 use Rattle.engines.specs.declared.losses.BadLine.{BadLine}
+use Rattle.engines.specs.SentBits.{WritesItems, Written, put_by_steps}
 use Rattle.engines.proofs.EntryLines.{lines_both}
-
--- the octets of a writer, where it tells them
-abbrev pub Octets : Type 0
-Octets = Option (List ℕ)
+use Rattle.engines.proofs.SentItems.{StepWrites, step_lines, steps_sent, writes_none}
 
 -- ---- driven calls
 
@@ -188,7 +187,7 @@ first_drawn d line count generator fate is drawn = ap first_fate drawn ∙ sym i
 -- ---- some steps
 
 -- some steps of a call were made, with fates that a generator draws, of which at least so many are left, and their lines were written
-pub record Reached (line : BadLine) (d : Driven) (made count : ℕ) (now : DrivenFields) (generator : Lcg) (number : ℕ) (before at : Octets)
+pub record Reached (line : BadLine) (d : Driven) (made count : ℕ) (now : DrivenFields) (generator : Lcg) (number : ℕ) (before at : Written)
     : Type 0 where
   pub left : ℕ
   pub enough : count ≤ left
@@ -198,9 +197,10 @@ pub record Reached (line : BadLine) (d : Driven) (made count : ℕ) (now : Drive
   pub are : AreOfSteps made (patience_of line) d events
   pub leads : run (all_done events) d.world ≡ (drive made (patience_of line) d).world
   pub each : number ≡ 1 + length (entries (all_done events) d.world)
-  pub written : Appends before at (entry_lines 1 (entries (all_done events) d.world))
+  pub written : Appends before.lines at.lines (entry_lines 1 (entries (all_done events) d.world))
+  pub sent : (to : Side) → WritesItems to (put_by_steps to made (patience_of line) d) before at
 
-pub none_made : (line : BadLine) (d : Driven) (count : ℕ) (now : DrivenFields) (generator : Lcg) (at : Octets) →
+pub none_made : (line : BadLine) (d : Driven) (count : ℕ) (now : DrivenFields) (generator : Lcg) (at : Written) →
     ShowsDriven now (patience_of line) d → d.fates ≡ fates_from line count generator → Reached line d 0 count now generator 1 at at
 none_made line d count now generator at shows drawn = record {
   left = count;
@@ -211,7 +211,8 @@ none_made line d count now generator at shows drawn = record {
   are = refl;
   leads = refl;
   each = refl;
-  written = Appends-nil at;
+  written = Appends-nil at.lines;
+  sent = λ to. writes_none to at;
 }
 
 pub done_both : (xs ys : List Event) → all_done (xs ++ ys) ≡ all_done xs ++ all_done ys
@@ -228,11 +229,11 @@ pub one_less : (count left : ℕ) → suc count ≤ left → left ≡ suc (left 
 one_less count left some = omega arith
 
 pub one_made : (line : BadLine) (d : Driven) (made count : ℕ) (now new : DrivenFields) (generator later : Lcg) (number next : ℕ)
-    (before at after : Octets) (step : Step) → Reached line d made (suc count) now generator number before at →
+    (before at after : Written) (step : Step) → Reached line d made (suc count) now generator number before at →
     MayStep line now new generator later (Some step) → step.entry.refused ≡ false →
-    Appends at after (entry_lines number (entries_of step)) → next ≡ number + length (entries_of step) →
+    StepWrites now.live new.live at after (entry_lines number (entries_of step)) → next ≡ number + length (entries_of step) →
     Reached line d (suc made) count new later next before after
-one_made line d made count now new generator later number next before at after step r may whole lines more =
+one_made line d made count now new generator later number next before at after step r may whole wrote more =
     let p : Patience = patience_of line in
     let e : Driven = drive made p d in
     let size : r.left ≡ suc (r.left - 1) = one_less count r.left r.enough in
@@ -261,29 +262,32 @@ one_made line d made count now new generator later number next before at after s
       leads = ap (λ l. run l d.world) all ∙ (run_both (all_done r.events) (all_done last) d.world ∙
           (ap (λ w. run (all_done last) w) r.leads ∙ (makes.leads ∙ ap (λ (n : Driven). n.world) (sym is))));
       each = (let a = r.each in let b = ap length both in omega (arith, a, b, sizes, more));
-      written = subst (Appends before after) (sym (ap (entry_lines 1) both ∙ (lines_both 1 old (entries_of step) ∙
+      written = subst (Appends before.lines after.lines) (sym (ap (entry_lines 1) both ∙ (lines_both 1 old (entries_of step) ∙
           ap (λ n. entry_lines 1 old ++ entry_lines n (entries_of step)) (sym r.each))))
-          (Appends-trans before at after (entry_lines 1 old) (entry_lines number (entries_of step)) r.written lines);
+          (Appends-trans before.lines at.lines after.lines (entry_lines 1 old) (entry_lines number (entries_of step)) r.written
+          (step_lines now.live new.live at after (entry_lines number (entries_of step)) wrote));
+      sent = λ to. steps_sent to p made d e now.live new.live before at after (entry_lines number (entries_of step)) refl
+          (drive_more 0 p e makes.goes_on) r.shows.world done.1.world wrote (r.sent to);
     }
 
 -- the steps that were made of a call from its start
-abbrev pub FromStart : BadLine → Lcg → Document → Wish → Caps → ℕ → DrivenFields → Lcg → ℕ → Octets → Octets → Type 0
+abbrev pub FromStart : BadLine → Lcg → Document → Wish → Caps → ℕ → DrivenFields → Lcg → ℕ → Written → Written → Type 0
 FromStart line first document wish caps made now generator number before at =
     (count : ℕ) → Reached line (new_driven document wish caps (fates_from line (made + count) first)) made count now generator number before at
 
-pub at_start : (line : BadLine) (first : Lcg) (document : Document) (wish : Wish) (caps : Caps) (now : DrivenFields) (at : Octets) →
+pub at_start : (line : BadLine) (first : Lcg) (document : Document) (wish : Wish) (caps : Caps) (now : DrivenFields) (at : Written) →
     IsAtStart now line document wish caps → FromStart line first document wish caps 0 now first 1 at at
 at_start line first document wish caps now at starts count =
     none_made line (new_driven document wish caps (fates_from line (0 + count) first)) count now first at
     (starts (fates_from line (0 + count) first)) (let e : 0 + count ≡ count = omega arith in ap (λ n. fates_from line n first) e)
 
 pub goes_on : (line : BadLine) (first : Lcg) (document : Document) (wish : Wish) (caps : Caps) (made : ℕ) (now new : DrivenFields)
-    (generator later : Lcg) (number next : ℕ) (before at after : Octets) (step : Step) →
+    (generator later : Lcg) (number next : ℕ) (before at after : Written) (step : Step) →
     FromStart line first document wish caps made now generator number before at →
     MayStep line now new generator later (Some step) → step.entry.refused ≡ false →
-    Appends at after (entry_lines number (entries_of step)) → next ≡ number + length (entries_of step) →
+    StepWrites now.live new.live at after (entry_lines number (entries_of step)) → next ≡ number + length (entries_of step) →
     FromStart line first document wish caps (made + 1) new later next before after
-goes_on line first document wish caps made now new generator later number next before at after step from may whole lines more count =
+goes_on line first document wish caps made now new generator later number next before at after step from may whole wrote more count =
     let e : made + suc count ≡ made + 1 + count = omega arith in
     let n : suc made ≡ made + 1 = omega arith in
     subst (λ k. Reached line (new_driven document wish caps (fates_from line (made + 1 + count) first)) k count new later next before after) n
@@ -291,7 +295,7 @@ goes_on line first document wish caps made now new generator later number next b
     before at after step
     (subst (λ k. Reached line (new_driven document wish caps (fates_from line k first)) made (suc count) now generator number before at) e
     (from (suc count)))
-    may whole lines more)
+    may whole wrote more)
 
 -- where no step may be made the call is over, whatever its fates
 pub over_now : (line : BadLine) (d : Driven) (now new : DrivenFields) (generator later : Lcg) → ShowsDriven now (patience_of line) d →
@@ -302,7 +306,7 @@ over_now line d now new generator later shows may =
 
 -- the call is over after them
 pub is_told : (line : BadLine) (first : Lcg) (document : Document) (wish : Wish) (caps : Caps) (made : ℕ) (now new : DrivenFields)
-    (generator later : Lcg) (number : ℕ) (before at : Octets) →
+    (generator later : Lcg) (number : ℕ) (before at : Written) →
     FromStart line first document wish caps made now generator number before at →
     MayStep line now new generator later None → TellsAll line first document wish caps new before at
 is_told line first document wish caps made now new generator later number before at from may =
@@ -318,4 +322,5 @@ is_told line first document wish caps made now new generator later number before
       over = over.0;
       shows = subst (λ v. ShowsDriven v (patience_of line) d) (sym over.1) r.shows;
       written = r.written;
+      sent = r.sent;
     }

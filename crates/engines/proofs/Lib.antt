@@ -5,6 +5,7 @@ mod HexText
 mod ScriptLines
 mod ScriptWords
 mod OneScript
+mod SentItems
 mod CallEnds
 mod CallSteps
 mod EntryLines

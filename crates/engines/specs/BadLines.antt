@@ -8,6 +8,7 @@ use Rattle.raster.specs.declared.fault.RasterFault.{RasterFault}
 use Rattle.rand_pcg.specs.Lcg.{Lcg}
 use Rattle.signals.specs.declared.params.Caps.{Caps}
 use Rattle.signals.specs.declared.params.Wish.{Wish}
+use Rattle.signals.specs.declared.signal.Side.{Side}
 use Rattle.stations.specs.CallerFields.{AreCallable}
 use Rattle.stations.specs.Layers.{Document}
 use Rattle.line_sim.specs.Driving.{Driven, Fate, Patience, drive, is_over, new_driven}
@@ -22,6 +23,7 @@ use Rattle.line_sim.specs.declared.live.Ending.{Ending}
 use Rattle.engines.specs.Calls.{EndsAs, answerer_caps, call_world, caller_wish}
 use Rattle.engines.specs.Faults.{IsOutside}
 use Rattle.engines.specs.Losses.{fates_from, fates_of}
+use Rattle.engines.specs.SentBits.{WritesItems, Written, on_way_to, put_by_steps}
 use Rattle.engines.specs.Transcripts.{call_text, entry_lines}
 use Rattle.engines.specs.declared.fault.ToolFault.{ToolFault}
 use Rattle.engines.specs.declared.fault.ToolFault.TheVariants.{No}
@@ -61,22 +63,25 @@ pub record Draws (p : Patience) (old new : DrivenFields) (d : Driven) (line : Ba
 -- The call at the start of a document was driven until it was over, by the fates that a generator draws, and the line of each event was
 -- written, numbered from 1.
 pub record TellsAll (line : BadLine) (generator : Lcg) (document : Document) (wish : Wish) (caps : Caps) (new : DrivenFields)
-    (before after : Option (List ℕ)) : Type 0 where
+    (before after : Written) : Type 0 where
   pub made : ℕ
   pub events : List Event
   pub are : AreOfSteps made (patience_of line) (new_driven document wish caps (fates_from line made generator)) events
   pub over : is_over (drive made (patience_of line) (new_driven document wish caps (fates_from line made generator))) ≡ true
   pub shows : ShowsDriven new (patience_of line) (drive made (patience_of line) (new_driven document wish caps (fates_from line made generator)))
-  pub written : Appends before after (entry_lines 1 (entries (all_done events) (new_world document wish caps)))
+  pub written : Appends before.lines after.lines (entry_lines 1 (entries (all_done events) (new_world document wish caps)))
+  pub sent : (to : Side) →
+      WritesItems to (put_by_steps to made (patience_of line) (new_driven document wish caps (fates_from line made generator))) before after
 
 -- the fields are those at the start of a driven call, whatever its fates
 abbrev pub IsAtStart : DrivenFields → BadLine → Document → Wish → Caps → Type 0
 IsAtStart v line document wish caps = (fates : List Fate) → ShowsDriven v (patience_of line) (new_driven document wish caps fates)
 
 -- A call of a document over a bad line: a new call makes steps, as its fates have it, until it is over; a step needs one fate at most. What is
--- written is the line of each event, and then how the call ended. The pages stored there are answered: they are a beginning of the
+-- written is the line of each event, and then how the call ended; and the octets of what was put under way to each station, first of the
+-- DIS with which a call begins. The pages stored there are answered: they are a beginning of the
 -- document, each confirmed page is stored once, and a normal end means that all are stored.
-pub record TellsDriven (options : CallOptions) (line : BadLine) (number : ℕ) (document : Document) (before after : Option (List ℕ))
+pub record TellsDriven (options : CallOptions) (line : BadLine) (number : ℕ) (document : Document) (before after : Written)
     (pages : List PagePixels) : Type 0 where
   pub callable : AreCallable document
   pub made : ℕ
@@ -85,12 +90,15 @@ pub record TellsDriven (options : CallOptions) (line : BadLine) (number : ℕ) (
   pub over : is_over (drive made (patience_of line) (driven_call options line number document made)) ≡ true
   pub ending : Ending
   pub ends : EndsAs ending (drive made (patience_of line) (driven_call options line number document made)).world
-  pub written : Appends before after (call_text (entries (all_done events) (call_world options document)) ending)
+  pub written : Appends before.lines after.lines (call_text (entries (all_done events) (call_world options document)) ending)
+  pub sent : (to : Side) →
+      WritesItems to (on_way_to to (call_world options document) ++
+      put_by_steps to made (patience_of line) (driven_call options line number document made)) before after
   pub answered : pages ≡ ending.pages.items
   pub safe : IsSafe document ending.pages.items ending.confirmed ending.caller_end ending.answerer_end
 
 -- the images are a document's, the lines of its call over a bad line were written, and its pages answered
-pub record DrivesCall (options : CallOptions) (line : BadLine) (number : ℕ) (images : List ℕ) (before after : Option (List ℕ))
+pub record DrivesCall (options : CallOptions) (line : BadLine) (number : ℕ) (images : List ℕ) (before after : Written)
     (pages : List PagePixels) : Type 0 where
   pub document : Document
   pub read : AreImages options.fine images document

@@ -1,5 +1,5 @@
 -- What the command that runs a call does with a script and images.
-use Rattle.std.specs.Prelude.{◌≡◌, ◌≢◌, ◌<◌, ◌+◌, ◌⊎◌, ℕ, Bool, true, false, List, [], ◌∷◌, ◌++◌, length, map, replicate, All, Option, Err}
+use Rattle.std.specs.Prelude.{◌≡◌, ◌≢◌, ◌<◌, ◌+◌, ◌⊎◌, ℕ, Bool, true, false, List, [], ◌∷◌, ◌++◌, length, map, replicate, All, Err}
 use Rattle.std.specs.Io.KnownBytes.{Appends}
 use Rattle.raster.specs.Faults.{number_of}
 use Rattle.raster.specs.Pages.{PagePixels}
@@ -9,6 +9,7 @@ use Rattle.signals.specs.declared.params.Caps.{Caps}
 use Rattle.signals.specs.declared.params.Modems.{Modems}
 use Rattle.signals.specs.declared.params.PageWidth.TheVariants.{W2432}
 use Rattle.signals.specs.declared.params.Wish.{Wish}
+use Rattle.signals.specs.declared.signal.Side.{Side}
 use Rattle.stations.specs.CallerFields.{AreCallable}
 use Rattle.stations.specs.CallerStep.{confirmed}
 use Rattle.stations.specs.Layers.{Document}
@@ -22,6 +23,7 @@ use Rattle.line_sim.specs.declared.event.Event.{Event}
 use Rattle.line_sim.specs.declared.live.Ending.{Ending}
 use Rattle.engines.specs.Faults.{IsOutside}
 use Rattle.engines.specs.Scripts.{IsFirstBadLine, IsScript}
+use Rattle.engines.specs.SentBits.{WritesCall, WritesSent, Written}
 use Rattle.engines.specs.Transcripts.{call_text, entry_lines}
 use Rattle.engines.specs.declared.fault.ToolFault.{ToolFault}
 use Rattle.engines.specs.declared.fault.ToolFault.TheVariants.{No, AtLine}
@@ -68,15 +70,16 @@ MakeAll (command ∷ commands) w steps =
     (first : Steps) × (rest : Steps) × (steps ≡ first ++ rest) × Makes command w first × MakeAll commands (run first w) rest
 
 -- A call that showed a world was given steps: it shows the world that they lead to; each step has its entry, and the lines of the entries
--- were written, the first with a number, after which the next one comes.
-pub record TellsSteps (steps : Steps) (w : World) (new : Call) (first next : ℕ) (before after : Option (List ℕ)) : Type 0 where
+-- were written, the first with a number, after which the next one comes. So were the octets of what the steps send to each station.
+pub record TellsSteps (steps : Steps) (w : World) (new : Call) (first next : ℕ) (before after : Written) : Type 0 where
   pub shows : Shows new (run steps w)
   pub each : length (entries steps w) ≡ length steps
-  pub written : Appends before after (entry_lines first (entries steps w))
+  pub written : Appends before.lines after.lines (entry_lines first (entries steps w))
   pub number : next ≡ first + length steps
+  pub sent : (to : Side) → WritesSent to steps w before after
 
 -- the same of an event with some outcome, and whether a growth was refused in it
-abbrev pub TellsEvent : Event → World → Call → ℕ → ℕ → Option (List ℕ) → Option (List ℕ) → Bool → Type 0
+abbrev pub TellsEvent : Event → World → Call → ℕ → ℕ → Written → Written → Bool → Type 0
 TellsEvent event w new first next before after refused =
     (outcome : Outcome) × (is_refused outcome ≡ refused) × TellsSteps ((event, outcome) ∷ []) w new first next before after
 
@@ -86,17 +89,17 @@ MakesNext coming steps true = (coming ≢ []) × (steps ≡ coming)
 MakesNext coming steps false = ((coming ≡ []) × (steps ≡ [])) ⊎ StopsPolite coming steps
 
 -- the same of a call that showed a world, with their lines
-abbrev pub TellsNext : World → Call → ℕ → ℕ → Option (List ℕ) → Option (List ℕ) → Bool → Type 0
+abbrev pub TellsNext : World → Call → ℕ → ℕ → Written → Written → Bool → Type 0
 TellsNext w new first next before after whole =
     (steps : Steps) × MakesNext (next_steps w w.to_answerer w.to_caller) steps whole × TellsSteps steps w new first next before after
 
 -- the same of the steps of a command
-abbrev pub TellsCommand : Command → World → Call → ℕ → ℕ → Option (List ℕ) → Option (List ℕ) → Type 0
+abbrev pub TellsCommand : Command → World → Call → ℕ → ℕ → Written → Written → Type 0
 TellsCommand command w new first next before after =
     (steps : Steps) × Makes command w steps × TellsSteps steps w new first next before after
 
 -- the same of commands
-abbrev pub TellsCommands : List Command → World → Call → ℕ → ℕ → Option (List ℕ) → Option (List ℕ) → Type 0
+abbrev pub TellsCommands : List Command → World → Call → ℕ → ℕ → Written → Written → Type 0
 TellsCommands commands w new first next before after =
     (steps : Steps) × MakeAll commands w steps × TellsSteps steps w new first next before after
 
@@ -108,9 +111,10 @@ pub record EndsAs (ending : Ending) (w : World) : Type 0 where
   pub answerer_end : ending.answerer_end ≡ w.answerer.ending
 
 -- A call of a document: a new world is given the commands, one after the other. Each event has its entry, and what is written is the line
--- of each and then how the call ended, in the world that they lead to. The pages stored there are answered: they are a beginning of the
--- document, each confirmed page is stored once, and a normal end means that all are stored.
-pub record TellsCall (options : CallOptions) (document : Document) (commands : List Command) (before after : Option (List ℕ))
+-- of each and then how the call ended, in the world that they lead to; and the octets of what was sent to each station, first of the DIS
+-- with which a call begins. The pages stored there are answered: they are a beginning of the document, each confirmed page is stored once,
+-- and a normal end means that all are stored.
+pub record TellsCall (options : CallOptions) (document : Document) (commands : List Command) (before after : Written)
     (pages : List PagePixels) : Type 0 where
   pub callable : AreCallable document
   pub steps : Steps
@@ -118,7 +122,8 @@ pub record TellsCall (options : CallOptions) (document : Document) (commands : L
   pub each : length (entries steps (call_world options document)) ≡ length steps
   pub ending : Ending
   pub ends : EndsAs ending (run steps (call_world options document))
-  pub written : Appends before after (call_text (entries steps (call_world options document)) ending)
+  pub written : Appends before.lines after.lines (call_text (entries steps (call_world options document)) ending)
+  pub sent : (to : Side) → WritesCall to steps (call_world options document) before after
   pub answered : pages ≡ ending.pages.items
   pub safe : IsSafe document ending.pages.items ending.confirmed ending.caller_end ending.answerer_end
 
@@ -127,8 +132,7 @@ abbrev pub HaveRows : List PagePixels → Type 0
 HaveRows pages = All (λ page. 0 < length page.rows) pages
 
 -- the script says commands, the images are a document's, the lines of its call by the commands were written, and its pages answered
-pub record RunsCall (options : CallOptions) (script images : List ℕ) (before after : Option (List ℕ)) (pages : List PagePixels)
-    : Type 0 where
+pub record RunsCall (options : CallOptions) (script images : List ℕ) (before after : Written) (pages : List PagePixels) : Type 0 where
   pub commands : List Command
   pub said : IsScript script commands
   pub document : Document

@@ -10,6 +10,7 @@ pub mod Captured
 pub mod PageNumbers
 pub mod Scripts
 pub mod Transcripts
+pub mod SentBits
 pub mod Calls
 pub mod CapturesMean
 pub mod ScriptsMean

@@ -1,5 +1,5 @@
 -- What the options of a call reach, said by what its stations agree on and by the octets of the DIS.
-use Rattle.std.specs.Prelude.{ℕ, ◌≡◌, Bool, true, List, [], ◌∷◌, Option, Result, Ok, Err}
+use Rattle.std.specs.Prelude.{ℕ, ◌≡◌, Bool, true, List, [], ◌∷◌, Result, Ok, Err}
 use Rattle.std.specs.List.{AllByRecursion}
 use Rattle.raster.specs.Pages.{PagePixels}
 use Rattle.signals.specs.Agreement.{agreed}
@@ -16,6 +16,7 @@ use Rattle.stations.specs.Inputs.{framed}
 use Rattle.stations.specs.Layers.{Document}
 use Rattle.line_sim.specs.Line.{World}
 use Rattle.engines.specs.Calls.{RunsCall, call_world}
+use Rattle.engines.specs.SentBits.{Written}
 use Rattle.engines.specs.declared.options.CallOptions.{CallOptions}
 
 -- the bits a second of the first training check between two stations with these modems
@@ -64,5 +65,5 @@ OptionsMean = (options : CallOptions) (document : Document) → StartsSo options
 
 -- each page of the document of a call has the lines that the options say
 abbrev pub LinesAreAsked : Type 0
-LinesAreAsked = (options : CallOptions) (script images : List ℕ) (before after : Option (List ℕ)) (pages : List PagePixels)
+LinesAreAsked = (options : CallOptions) (script images : List ℕ) (before after : Written) (pages : List PagePixels)
     → (run : RunsCall options script images before after pages) → AllByRecursion (λ page. page.fine ≡ options.fine) run.document

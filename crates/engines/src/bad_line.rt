@@ -4,6 +4,7 @@ ghost use Rattle.engines.specs.BadLines.{Draws, DrivesCall, IsAtStart, RefusesDr
 ghost use Rattle.engines.specs.Calls.{HaveRows};
 ghost use Rattle.engines.specs.Faults.{IsOutside};
 ghost use Rattle.engines.specs.Losses.{fates_from};
+ghost use Rattle.engines.specs.SentBits.{WritesLines};
 ghost use Rattle.engines.specs.Transcripts.{entry_line, entry_lines};
 ghost use Rattle.engines.specs.declared.fault.ToolFault.TheVariants.{No};
 ghost use Rattle.line_sim.specs.Driving.{Driven, Patience};
@@ -12,21 +13,22 @@ ghost use Rattle.signals.specs.declared.params.Caps.{Caps as CapsValue};
 ghost use Rattle.signals.specs.declared.params.Wish.{Wish as WishValue};
 ghost use Rattle.stations.specs.Layers.{Document as DocumentValue};
 ghost use Rattle.stations.specs.CallerFields.{AreCallable};
-ghost use Rattle.std.specs.Io.KnownBytes.{Appends};
 ghost use Rattle.std.specs.Prelude.{◌≡◌, ◌+◌, ◌⊎◌, ℕ, suc, length, IfErr, IfOk, IfSome, OnOk};
 
 use crate::call::{after, answerer_caps};
+use crate::call_writer::CallWriter;
+use crate::counts::Counts;
 use crate::fault::{FAILED, NO_MEMORY, ToolFault};
 use crate::losses::{BadLine, draw, generator_of};
 use crate::options::CallOptions;
-use crate::transcript::{write_ending, write_entry};
+use crate::sent::write_sent;
 use line_sim::laws::driven_calls_end;
 use line_sim::{DrivenCall, Entry, Fate, Step};
 use rand_pcg::Lcg64Xsh32;
 use raster::{Document, Page, read_pbm};
 use signals::Wish;
 use std::alloc::Global;
-use std::io::{Read, Write};
+use std::io::Read;
 
 /// Makes the next step of a call, by a fate of the generator where one is due.
 pub(crate) fn next_step(
@@ -46,19 +48,23 @@ pub(crate) fn next_step(
 
 /// Writes the line of an entry with a number, after which the next one comes. Errs with 8 where the writer fails or no number is
 /// left, and with 9.
-fn tell_entry<W: Write>(entry: &Entry, number: &mut u64, writer: &mut W) -> Result<(), ToolFault>
-    ensures line { OnOk result (Appends (W.contents writer.old) (W.contents writer.new) (entry_line number.old entry.now)) }
+fn tell_entry<T: CallWriter>(
+    entry: &Entry,
+    number: &mut u64,
+    writer: &mut T,
+) -> Result<(), ToolFault>
+    ensures line { OnOk result (WritesLines (T.written writer.old) (T.written writer.new) (entry_line number.old entry.now)) }
     ensures next { OnOk result (number.new ≡ number.old + 1) }
     ensures fault { IfErr result IsOutside }
 {
-    write_entry(*number, entry, writer)?;
+    writer.entry(*number, entry)?;
     *number = after(*number)?;
     Ok(())
 }
 
 /// Writes the lines of a step, one or two.
-fn tell_step<W: Write>(step: &Step, number: &mut u64, writer: &mut W) -> Result<(), ToolFault>
-    ensures lines { OnOk result (Appends (W.contents writer.old) (W.contents writer.new) (entry_lines number.old (entries_of step.now))) }
+fn tell_step<T: CallWriter>(step: &Step, number: &mut u64, writer: &mut T) -> Result<(), ToolFault>
+    ensures lines { OnOk result (WritesLines (T.written writer.old) (T.written writer.new) (entry_lines number.old (entries_of step.now))) }
     ensures next { OnOk result (number.new ≡ number.old + length (entries_of step.now)) }
     ensures fault { IfErr result IsOutside }
 {
@@ -69,25 +75,27 @@ fn tell_step<W: Write>(step: &Step, number: &mut u64, writer: &mut W) -> Result<
     tell_entry(&step.entry, number, writer)
 }
 
-/// Makes the steps of a call until it is over, with fates of the generator, and writes the lines of each as it is made. Errs with 9 after
-/// the lines of a step in which a growth was refused.
-fn follow_fates<W: Write>(
+/// Makes the steps of a call until it is over, with fates of the generator, and writes the lines of each as it is made, and what
+/// it has put under way. Errs with 9 after the lines of a step in which a growth was refused.
+fn follow_fates<T: CallWriter>(
     call: &mut DrivenCall,
     line: &BadLine,
     generator: &mut Lcg64Xsh32,
-    writer: &mut W,
+    writer: &mut T,
 ) -> Result<(), ToolFault>
     ensures told { OnOk result ((document : DocumentValue) (wish : WishValue) (caps : CapsValue) →
         IsAtStart call.old line.now document wish caps →
-        TellsAll line.now generator.old document wish caps call.new (W.contents writer.old) (W.contents writer.new)) }
+        TellsAll line.now generator.old document wish caps call.new (T.written writer.old) (T.written writer.new)) }
     ensures fault { IfErr result IsOutside }
 {
     let mut number: u64 = 1;
     for _made in 0..u64::MAX {
+        let counts = Counts::of(call.live());
         let Some(step) = next_step(call, line, generator) else {
             return Ok(());
         };
         tell_step(&step, &mut number, writer)?;
+        write_sent(call.live(), counts, writer)?;
         if step.entry.refused {
             return Err(NO_MEMORY);
         }
@@ -97,16 +105,16 @@ fn follow_fates<W: Write>(
 
 /// Runs the call of a number, of a document, over a bad line, writes the line of each event as it happens, and then how the call
 /// ended, and answers the pages stored.
-fn tell_driven<W: Write>(
+fn tell_driven<T: CallWriter>(
     alloc: Global,
     document: Document,
     options: &CallOptions,
     line: &BadLine,
     number: u64,
-    writer: &mut W,
+    writer: &mut T,
 ) -> Result<Vec<Page>, ToolFault>
     ensures told { IfOk result (λ pages.
-        TellsDriven options.now line.now number document (W.contents writer.old) (W.contents writer.new) pages.items) }
+        TellsDriven options.now line.now number document (T.written writer.old) (T.written writer.new) pages.items) }
     ensures rows { IfOk result (λ pages. HaveRows pages.items) }
     ensures refused { IfErr result (λ fault. IsOutside fault ⊎ (¬ AreCallable document × (fault ≡ No 26))) }
     ensures unwritten { IfErr result (λ fault. IsOutside fault ⊎ (writer.new ≡ writer.old)) }
@@ -125,10 +133,11 @@ fn tell_driven<W: Write>(
         answerer_caps(options.modems),
         line.calls,
     )?;
+    write_sent(call.live(), Counts::none(), writer)?;
     let mut generator = generator_of(line, number);
     follow_fates(&mut call, line, &mut generator, writer)?;
     let ending = call.into_live().into_ending();
-    write_ending(&ending, writer)?;
+    writer.ending(&ending)?;
     Ok(ending.pages)
 }
 
@@ -136,19 +145,20 @@ fn tell_driven<W: Write>(
 /// can take it, until it is over. Each item under way comes, is lost or is spoiled, as the next word of the generator says,
 /// PCG-XSH-RR of 64 bits of state and 32 bits a word, which begins with the seed and has the number as its stream. Writes the line of each
 /// event as it happens, of which it keeps none, and then what has become of the call, and answers the pages that the answerer has stored.
+/// A `WithBits` gets the octets of what each station sends too, also of what is lost, the answerer's DIS first.
 /// Errs with the first fault of the images; with 26 where the width of a page is none that a call can have; with 8 where the reader or
 /// the writer fails or there are 2^64 events; and with 9, after its line, where a growth was refused in an event. With any fault but
 /// 8 and 9 nothing is written.
-pub fn drive_engine<R: Read, W: Write>(
+pub fn drive_engine<R: Read, T: CallWriter>(
     alloc: Global,
     input: &mut R,
-    writer: &mut W,
+    writer: &mut T,
     options: &CallOptions,
     line: &BadLine,
     number: u64,
 ) -> Result<Vec<Page>, ToolFault>
     ensures called { IfOk result (λ pages. IfSome (R.remaining input.old) (λ images.
-        DrivesCall options.now line.now number images (W.contents writer.old) (W.contents writer.new) pages.items)) }
+        DrivesCall options.now line.now number images (T.written writer.old) (T.written writer.new) pages.items)) }
     ensures refused { IfErr result (λ fault. IfSome (R.remaining input.old) (λ images. RefusesDriven options.now.fine images fault)) }
     ensures rows { IfOk result (λ pages. HaveRows pages.items) }
     ensures unwritten { IfErr result (λ fault. IsOutside fault ⊎ (writer.new ≡ writer.old)) }

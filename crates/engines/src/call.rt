@@ -12,16 +12,18 @@ ghost use Rattle.raster.specs.Pages.{IsDocument};
 ghost use Rattle.stations.specs.CallerFields.{AreCallable};
 ghost use Rattle.std.specs.Prelude.{◌≡◌, ◌+◌, ◌⊎◌, IfErr, IfOk, IfSome, OnOk};
 
+use crate::call_writer::CallWriter;
+use crate::counts::Counts;
 use crate::fault::{FAILED, ToolFault};
 use crate::options::CallOptions;
 use crate::script::{Command, read_script};
-use crate::transcript::{write_ending, write_entry};
+use crate::sent::write_sent;
 use line_sim::laws::headline;
 use line_sim::{Event, LiveCall, Next};
 use raster::{Document, Page, read_pbm};
 use signals::{Caps, Modems, PageWidth, Wish};
 use std::alloc::Global;
-use std::io::{Read, Write};
+use std::io::Read;
 
 /// The answerer of a call: with these modems, it takes pages of each width, of fine lines too, in each
 /// code, with error correction.
@@ -47,34 +49,36 @@ pub(crate) fn after(number: u64) -> Result<u64, ToolFault>
 }
 
 /// A call is given an event, and the line of its entry is written with a number, after which the next one
-/// comes. Answers whether a growth was refused in the event. Errs with 8 where the writer fails or no number is
-/// left, and with 9.
-fn tell<W: Write>(
+/// comes, and what it has put under way. Answers whether a growth was refused in the event. Errs with 8 where
+/// the writer fails or no number is left, and with 9.
+fn tell<T: CallWriter>(
     live: &mut LiveCall,
     event: Event,
     number: &mut u64,
-    writer: &mut W,
+    writer: &mut T,
 ) -> Result<bool, ToolFault>
     ensures told { IfOk result (λ refused. (w : WorldValue) → Shows live.old w →
-        TellsEvent event w live.new number.old number.new (W.contents writer.old) (W.contents writer.new) refused) }
+        TellsEvent event w live.new number.old number.new (T.written writer.old) (T.written writer.new) refused) }
     ensures fault { IfErr result IsOutside }
 {
+    let counts = Counts::of(live);
     let entry = live.event(event);
-    write_entry(*number, &entry, writer)?;
+    writer.entry(*number, &entry)?;
+    write_sent(live, counts, writer)?;
     *number = after(*number)?;
     Ok(entry.refused)
 }
 
 /// A call is given an event `count` times, whatever becomes of each, with the line of each.
-fn repeat<W: Write>(
+fn repeat<T: CallWriter>(
     live: &mut LiveCall,
     event: Event,
     count: u64,
     number: &mut u64,
-    writer: &mut W,
+    writer: &mut T,
 ) -> Result<(), ToolFault>
     ensures told { OnOk result ((w : WorldValue) → Shows live.old w →
-        TellsCommand (Events event count) w live.new number.old number.new (W.contents writer.old) (W.contents writer.new)) }
+        TellsCommand (Events event count) w live.new number.old number.new (T.written writer.old) (T.written writer.new)) }
     ensures fault { IfErr result IsOutside }
 {
     for _time in 0..count {
@@ -85,13 +89,13 @@ fn repeat<W: Write>(
 
 /// The next delivery comes, if there is one; between groups the answerer sends its DIS again, which comes.
 /// Answers whether there was one and no growth was refused in it; a refused event is the last one.
-fn deliver_next<W: Write>(
+fn deliver_next<T: CallWriter>(
     live: &mut LiveCall,
     number: &mut u64,
-    writer: &mut W,
+    writer: &mut T,
 ) -> Result<bool, ToolFault>
     ensures told { IfOk result (λ whole. (w : WorldValue) → Shows live.old w →
-        TellsNext w live.new number.old number.new (W.contents writer.old) (W.contents writer.new) whole) }
+        TellsNext w live.new number.old number.new (T.written writer.old) (T.written writer.new) whole) }
     ensures fault { IfErr result IsOutside }
 {
     match live.next_delivery() {
@@ -112,14 +116,14 @@ fn deliver_next<W: Write>(
 }
 
 /// A call is given deliveries, `most` at most, up to the first that is refused, with the line of each event.
-fn politely<W: Write>(
+fn politely<T: CallWriter>(
     live: &mut LiveCall,
     most: u64,
     number: &mut u64,
-    writer: &mut W,
+    writer: &mut T,
 ) -> Result<(), ToolFault>
     ensures told { OnOk result ((w : WorldValue) → Shows live.old w →
-        TellsCommand (Polite most) w live.new number.old number.new (W.contents writer.old) (W.contents writer.new)) }
+        TellsCommand (Polite most) w live.new number.old number.new (T.written writer.old) (T.written writer.new)) }
     ensures fault { IfErr result IsOutside }
 {
     for _delivery in 0..most {
@@ -132,14 +136,14 @@ fn politely<W: Write>(
 }
 
 /// A call is given a command, with the line of each event.
-fn follow<W: Write>(
+fn follow<T: CallWriter>(
     live: &mut LiveCall,
     command: Command,
     number: &mut u64,
-    writer: &mut W,
+    writer: &mut T,
 ) -> Result<(), ToolFault>
     ensures told { OnOk result ((w : WorldValue) → Shows live.old w →
-        TellsCommand command w live.new number.old number.new (W.contents writer.old) (W.contents writer.new)) }
+        TellsCommand command w live.new number.old number.new (T.written writer.old) (T.written writer.new)) }
     ensures fault { IfErr result IsOutside }
 {
     match command {
@@ -149,14 +153,14 @@ fn follow<W: Write>(
 }
 
 /// A call is given commands, one after the other, with the line of each event.
-fn follow_all<W: Write>(
+fn follow_all<T: CallWriter>(
     live: &mut LiveCall,
     commands: &[Command],
     number: &mut u64,
-    writer: &mut W,
+    writer: &mut T,
 ) -> Result<(), ToolFault>
     ensures told { OnOk result ((w : WorldValue) → Shows live.old w →
-        TellsCommands commands.now w live.new number.old number.new (W.contents writer.old) (W.contents writer.new)) }
+        TellsCommands commands.now w live.new number.old number.new (T.written writer.old) (T.written writer.new)) }
     ensures fault { IfErr result IsOutside }
 {
     for command in commands {
@@ -168,15 +172,15 @@ fn follow_all<W: Write>(
 /// Runs a call of a document by commands, writes the line of each event as it happens, and then how the call
 /// ended, and answers the pages stored. Errs with 26 where the width of a page is none that a call can have,
 /// with 8 where the writer fails, and with 9; with 26 nothing is written.
-fn tell_call<W: Write>(
+fn tell_call<T: CallWriter>(
     alloc: Global,
     document: Document,
     commands: &[Command],
     options: &CallOptions,
-    writer: &mut W,
+    writer: &mut T,
 ) -> Result<Vec<Page>, ToolFault>
     ensures told { IfOk result (λ pages.
-        TellsCall options.now document commands.now (W.contents writer.old) (W.contents writer.new) pages.items) }
+        TellsCall options.now document commands.now (T.written writer.old) (T.written writer.new) pages.items) }
     ensures rows { IfOk result (λ pages. HaveRows pages.items) }
     ensures refused { IfErr result (λ fault. IsOutside fault ⊎ (¬ AreCallable document × (fault ≡ No 26))) }
     ensures unwritten { IfErr result (λ fault. IsOutside fault ⊎ (writer.new ≡ writer.old)) }
@@ -189,10 +193,11 @@ fn tell_call<W: Write>(
         small: options.small,
     };
     let mut live = LiveCall::new(alloc, document, wish, answerer_caps(options.modems))?;
+    write_sent(&live, Counts::none(), writer)?;
     let mut number = 1;
     follow_all(&mut live, commands, &mut number, writer)?;
     let ending = live.into_ending();
-    write_ending(&ending, writer)?;
+    writer.ending(&ending)?;
     Ok(ending.pages)
 }
 
@@ -210,20 +215,20 @@ fn read_commands<S: Read>(alloc: Global, script: &mut S) -> Result<Vec<Command>,
 /// Reads a script and then a document's images, and runs the call that the script says between a caller
 /// that has the document and an answerer that can take it. Writes the line of each event as it happens, of
 /// which it keeps none, and then what has become of the call, and answers the pages that the answerer has
-/// stored. Errs with 30 at the line of the script that is refused, before it reads images; with the first
-/// fault of the images; with 26 where the width of a page is none that a call can have; with 8 where a reader
+/// stored. A `WithBits` gets the octets of what each station sends too, the answerer's DIS first. Errs with 30
+/// at the line of the script that is refused, before it reads images; with the first fault of the images; with 26 where the width of a page is none that a call can have; with 8 where a reader
 /// or the writer fails or there are 2^64 events; and with 9. With any fault but these two nothing is written;
 /// where the writer fails, the call ends after the lines that it took. A growth that is refused while the call
 /// runs is no fault: its line shows it.
-pub fn call_engine<S: Read, R: Read, W: Write>(
+pub fn call_engine<S: Read, R: Read, T: CallWriter>(
     alloc: Global,
     script: &mut S,
     input: &mut R,
-    writer: &mut W,
+    writer: &mut T,
     options: &CallOptions,
 ) -> Result<Vec<Page>, ToolFault>
     ensures called { IfOk result (λ pages. IfSome (S.remaining script.old) (λ said. IfSome (R.remaining input.old) (λ images.
-        RunsCall options.now said images (W.contents writer.old) (W.contents writer.new) pages.items))) }
+        RunsCall options.now said images (T.written writer.old) (T.written writer.new) pages.items))) }
     ensures refused { IfErr result (λ fault. IfSome (S.remaining script.old) (λ said. IfSome (R.remaining input.old) (λ images.
         RefusesCall options.now.fine said images fault))) }
     ensures rows { IfOk result (λ pages. HaveRows pages.items) }

@@ -3,7 +3,9 @@
 
 mod bad_line;
 mod call;
+mod call_writer;
 mod captured;
+mod counts;
 mod decoding;
 mod explain;
 mod fault;
@@ -18,12 +20,14 @@ mod pages;
 mod refused;
 mod repair;
 mod script;
+mod sent;
 mod tallies;
 mod texts;
 mod transcript;
 
 pub use crate::bad_line::drive_engine;
 pub use crate::call::call_engine;
+pub use crate::call_writer::{CallWriter, WithBits};
 pub use crate::captured::{Captured, captured_pages};
 pub use crate::decoding::{Broken, Decoded, ReadTo, decode_page};
 pub use crate::explain::{Explained, Known, is_shown};

@@ -9,5 +9,5 @@ use Rattle.engines.proofs.bad_line.follow_fates.Given as goal
 abbrev pub invariant-loop-made : goal.invariant-loop-made
 invariant-loop-made g l =
     (document : Document) (wish : Wish) (caps : Caps) → IsAtStart l.fn.call l.line document wish caps →
-    FromStart l.line l.fn.generator document wish caps l._made l.call l.generator l.number (g.W.Write.contents l.fn.writer)
-    (g.W.Write.contents l.writer)
+    FromStart l.line l.fn.generator document wish caps l._made l.call l.generator l.number (g.T.CallWriter.written l.fn.writer)
+    (g.T.CallWriter.written l.writer)

@@ -16,7 +16,7 @@ returns-in_err-pages-clause-refused g c =
 pub returns-clause-called : goal.returns-clause-called
 returns-clause-called g c =
     runs_call c.args.options.now (g.S.Read.remaining c.args.script.now) (g.R.Read.remaining c.args.input.now)
-    (g.W.Write.contents c.args.writer.now) (g.W.Write.contents c.tell_call.new.writer) c.in_ok-commands.commands.items
+    (g.T.CallWriter.written c.args.writer.now) (g.T.CallWriter.written c.tell_call.new.writer) c.in_ok-commands.commands.items
     c.in_ok-document.document c.in_ok-pages.pages.items c.in_ok-commands.ensures.said c.in_ok-document.ensures.found
-    (subst (λ l. TellsCall c.args.options.now c.in_ok-document.document l (g.W.Write.contents c.args.writer.now)
-    (g.W.Write.contents c.tell_call.new.writer) c.in_ok-pages.pages.items) c.deref.ensures.value c.in_ok-pages.ensures.told)
+    (subst (λ l. TellsCall c.args.options.now c.in_ok-document.document l (g.T.CallWriter.written c.args.writer.now)
+    (g.T.CallWriter.written c.tell_call.new.writer) c.in_ok-pages.pages.items) c.deref.ensures.value c.in_ok-pages.ensures.told)

@@ -7,5 +7,5 @@ use Rattle.engines.proofs.call.follow_all.Given as goal
 
 abbrev pub invariant-loop-command : goal.invariant-loop-command
 invariant-loop-command g l = (w : World) → Shows l.fn.live w →
-    TellsCommands (take l.command-index l.commands) w l.live l.fn.number l.number (g.W.Write.contents l.fn.writer)
-    (g.W.Write.contents l.writer)
+    TellsCommands (take l.command-index l.commands) w l.live l.fn.number l.number (g.T.CallWriter.written l.fn.writer)
+    (g.T.CallWriter.written l.writer)

@@ -7,4 +7,4 @@ use Rattle.engines.proofs.call.politely.Given as goal
 
 abbrev pub invariant-loop-delivery : goal.invariant-loop-delivery
 invariant-loop-delivery g l = (l._delivery ≤ l.most) × ((w : World) → Shows l.fn.live w →
-    Along l._delivery w l.live l.fn.number l.number (g.W.Write.contents l.fn.writer) (g.W.Write.contents l.writer))
+    Along l._delivery w l.live l.fn.number l.number (g.T.CallWriter.written l.fn.writer) (g.T.CallWriter.written l.writer))

@@ -8,4 +8,4 @@ use Rattle.engines.proofs.call.repeat.Given as goal
 
 abbrev pub invariant-loop-time : goal.invariant-loop-time
 invariant-loop-time g l = (l._time ≤ l.count) × ((w : World) → Shows l.fn.live w →
-    TellsCommand (Events l.event l._time) w l.live l.fn.number l.number (g.W.Write.contents l.fn.writer) (g.W.Write.contents l.writer))
+    TellsCommand (Events l.event l._time) w l.live l.fn.number l.number (g.T.CallWriter.written l.fn.writer) (g.T.CallWriter.written l.writer))

@@ -3,27 +3,31 @@ use Rattle.std.proofs.Common.{subst}
 use Rattle.line_sim.specs.Line.{new_world}
 use Rattle.line_sim.specs.Standing.{Shows}
 use Rattle.engines.specs.Calls.{caller_wish}
+use Rattle.engines.specs.SentBits.{WritesAfter}
 use Rattle.engines.proofs.CallSteps.{tells_call, told_rows}
 use Rattle.engines.proofs.call.tell_call.Goals as goal
 
 pub returns-clause-told : goal.returns-clause-told
 returns-clause-told g c =
     tells_call c.headline.ensures.safe c.args.options.now c.args.document c.args.commands.now c.in_ok-live.live c.follow_all.new.live
-    c.into_ending-ending.result c.follow_all.new.number (g.W.Write.contents c.args.writer.now)
-    (g.W.Write.contents c.follow_all.new.writer) (g.W.Write.contents c.write_ending.new.writer) c.pages-pages.ensures.document
+    c.into_ending-ending.result c.follow_all.new.number (g.T.CallWriter.written c.args.writer.now)
+    (g.T.CallWriter.written c.write_sent.new.writer) (g.T.CallWriter.written c.follow_all.new.writer)
+    (g.T.CallWriter.written c.ending.new.self) c.pages-pages.ensures.document
     c.in_ok-live.ensures.new.0
     (subst (λ caps. Shows c.in_ok-live.live (new_world c.args.document (caller_wish c.args.options.now) caps))
-    c.answerer_caps.ensures c.in_ok-live.ensures.new.1) c.in_ok-follow_all.ensures.told
+    c.answerer_caps.ensures c.in_ok-live.ensures.new.1)
+    (subst (λ n. WritesAfter n c.in_ok-live.live (g.T.CallWriter.written c.args.writer.now)
+    (g.T.CallWriter.written c.write_sent.new.writer)) c.none.ensures c.in_ok-write_sent.ensures.sent) c.in_ok-follow_all.ensures.told
     (λ w shows. record {
       pages = c.into_ending-ending.ensures.pages w shows;
       confirmed = c.into_ending-ending.ensures.confirmed w shows;
       caller_end = c.into_ending-ending.ensures.caller w shows;
       answerer_end = c.into_ending-ending.ensures.answerer w shows;
     })
-    c.in_ok-write_ending.ensures.text
+    c.in_ok-ending.ensures.lines
 
 pub returns-clause-rows : goal.returns-clause-rows
 returns-clause-rows g c =
-    told_rows c.args.options.now c.args.document c.args.commands.now (g.W.Write.contents c.args.writer.now)
-    (g.W.Write.contents c.write_ending.new.writer) c.into_ending-ending.result.pages.items (returns-clause-told g c)
+    told_rows c.args.options.now c.args.document c.args.commands.now (g.T.CallWriter.written c.args.writer.now)
+    (g.T.CallWriter.written c.ending.new.self) c.into_ending-ending.result.pages.items (returns-clause-told g c)
     c.pages-pages.ensures.document.rows
