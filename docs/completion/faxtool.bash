@@ -8,7 +8,7 @@ _faxtool_options() {
         show) echo --code --width --order --explain --help ;;
         decode) echo --code --width --order --fine --salvage --repair --whole --verbose --explain --help ;;
         frames) echo --data --pages --explain --help ;;
-        call) echo --script --lose --spoil --seed --calls --times --code --frame --modems --fine --out --explain --help ;;
+        call) echo --script --lose --spoil --seed --calls --times --code --frame --modems --fine --out --bits --explain --help ;;
         *) echo --help ;;
     esac
 }

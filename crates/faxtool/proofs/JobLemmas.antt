@@ -170,9 +170,9 @@ no_width rows none (Decode coding order width fine salvage repair whole verbose 
     show_is_decode (some_name (codes "show") (codes "decode") rows others e)
 no_width rows none (Frames most pages input) (others, e, reads, folder, is) =
     show_is_frames (some_name (codes "show") (codes "frames") rows others e)
-no_width rows none (Call script options out input) (others, e, is) =
+no_width rows none (Call script options out bits input) (others, e, is) =
     show_is_call (some_name (codes "show") (codes "call") rows others e)
-no_width rows none (Drive line times options out input) (others, e, is) =
+no_width rows none (Drive line times options out bits input) (others, e, is) =
     show_is_call (some_name (codes "show") (codes "call") rows others e)
 no_width rows none Version (others, e) = show_is_version (some_name (codes "show") (codes "version") rows others e)
 
@@ -187,9 +187,9 @@ no_width_to_decode rows none (Decode coding order width fine salvage repair whol
     is.shown.width_is)
 no_width_to_decode rows none (Frames most pages input) (others, e, reads, folder, is) =
     decode_is_frames (some_name (codes "decode") (codes "frames") rows others e)
-no_width_to_decode rows none (Call script options out input) (others, e, is) =
+no_width_to_decode rows none (Call script options out bits input) (others, e, is) =
     decode_is_call (some_name (codes "decode") (codes "call") rows others e)
-no_width_to_decode rows none (Drive line times options out input) (others, e, is) =
+no_width_to_decode rows none (Drive line times options out bits input) (others, e, is) =
     decode_is_call (some_name (codes "decode") (codes "call") rows others e)
 no_width_to_decode rows none Version (others, e) = decode_is_version (some_name (codes "decode") (codes "version") rows others e)
 
@@ -203,10 +203,10 @@ no_options rows none (Decode coding order width fine salvage repair whole verbos
     decode_is_call (sym (some_name (codes "call") (codes "decode") rows others e))
 no_options rows none (Frames most pages input) (others, e, reads, folder, is) =
     call_is_frames (some_name (codes "call") (codes "frames") rows others e)
-no_options rows none (Call script options out input) (others, e, is) =
+no_options rows none (Call script options out bits input) (others, e, is) =
     none options (subst (λ (xs : List Row). AreOptionsIn xs options) (sym (some_rows (codes "call") (codes "call") rows others e))
     is.options_are)
-no_options rows none (Drive line times options out input) (others, e, is) =
+no_options rows none (Drive line times options out bits input) (others, e, is) =
     none options (subst (λ (xs : List Row). AreOptionsIn xs options) (sym (some_rows (codes "call") (codes "call") rows others e))
     is.options_are)
 no_options rows none Version (others, e) = call_is_version (some_name (codes "call") (codes "version") rows others e)
@@ -242,12 +242,12 @@ no_line rows open_end none (Decode coding order width fine salvage repair whole 
     decode_is_call (sym (some_name (codes "call") (codes "decode") rows others e))
 no_line rows open_end none (Frames most pages input) (others, e, reads, folder, is) =
     call_is_frames (some_name (codes "call") (codes "frames") rows others e)
-no_line rows open_end none (Call script options out input) (others, e, is) =
+no_line rows open_end none (Call script options out bits input) (others, e, is) =
     let same : rows ≡ others = some_rows (codes "call") (codes "call") rows others e in
     let no : ◌≡◌ {A = Option Text} None (Some (string_bytes script)) =
     open_end ∙ (ap (λ (xs : List Row). first_of (codes "script") xs) same ∙ is.script_is) in
     cc
-no_line rows open_end none (Drive line times options out input) (others, e, is) =
+no_line rows open_end none (Drive line times options out bits input) (others, e, is) =
     none line (subst (λ (xs : List Row). IsLineIn xs line) (sym (some_rows (codes "call") (codes "call") rows others e)) is.line_is)
 no_line rows open_end none Version (others, e) = call_is_version (some_name (codes "call") (codes "version") rows others e)
 
@@ -262,24 +262,11 @@ no_times rows open_end none (Decode coding order width fine salvage repair whole
     decode_is_call (sym (some_name (codes "call") (codes "decode") rows others e))
 no_times rows open_end none (Frames most pages input) (others, e, reads, folder, is) =
     call_is_frames (some_name (codes "call") (codes "frames") rows others e)
-no_times rows open_end none (Call script options out input) (others, e, is) =
+no_times rows open_end none (Call script options out bits input) (others, e, is) =
     let same : rows ≡ others = some_rows (codes "call") (codes "call") rows others e in
     let no : ◌≡◌ {A = Option Text} None (Some (string_bytes script)) =
     open_end ∙ (ap (λ (xs : List Row). first_of (codes "script") xs) same ∙ is.script_is) in
     cc
-no_times rows open_end none (Drive line times options out input) (others, e, is) =
+no_times rows open_end none (Drive line times options out bits input) (others, e, is) =
     none times (subst (λ (xs : List Row). IsTimesIn xs times) (sym (some_rows (codes "call") (codes "call") rows others e)) is.times_is)
 no_times rows open_end none Version (others, e) = call_is_version (some_name (codes "call") (codes "version") rows others e)
-
--- ---- a number of calls
-
--- the option is there, so it isn't a single call
-not_once : (rows : List Row) (text : Text) → Some text ≡ first_of (codes "times") rows → first_of (codes "times") rows ≡ None → ⊥
-not_once rows text there none = let no : ◌≡◌ {A = Option Text} (Some text) None = there ∙ none in cc
-
--- pages are wanted
-pub times_keeps : (rows : List Row) (text out : Text) → Some text ≡ first_of (codes "times") rows → Some out ≡ first_of (codes "out") rows →
-    (times : Option ℕ) → IsTimesIn rows times → ⊥
-times_keeps rows text out there wanted None is = not_once rows text there is
-times_keeps rows text out there wanted (Some times) is =
-    let no : ◌≡◌ {A = Option Text} (Some out) None = wanted ∙ is.unkept in cc

@@ -1,7 +1,8 @@
 //! Calls over a bad line.
 
+use crate::bits::CallFiles;
 use crate::notes::Notes;
-use crate::{files, read_input, write_pages};
+use crate::{bits, files, read_input, write_pages};
 use engines::{BadLine, CallOptions, ToolFault, drive_engine, drive_many};
 
 /// Runs the first call over a bad line, and prints what has become of it. The file of the stored pages is opened last, and only
@@ -10,18 +11,17 @@ pub(crate) fn drive_file(
     rt: &HostRuntime,
     line: &BadLine,
     options: &CallOptions,
-    out: Option<&str>,
-    input: &str,
+    files: CallFiles<'_>,
     notes: &mut Notes,
 ) -> Result<(), ToolFault> {
-    read_input(rt, input, notes)?;
+    read_input(rt, files.input, notes)?;
+    let mut writer = bits::open(rt, files.bits, notes)?;
     let mut images = notes.octets.as_slice();
-    let mut writer = files::print(rt)?;
     let driven = drive_engine(rt.alloc(), &mut images, &mut writer, options, line, 0);
-    let printed = files::end_print(writer, driven.is_ok(), notes);
+    let ended = bits::close(rt, writer, driven.is_ok(), notes);
     let pages = driven?;
-    printed?;
-    match out {
+    ended?;
+    match files.out {
         Some(name) if !pages.is_empty() => write_pages(rt, name, &pages, notes),
         _ => Ok(()),
     }

@@ -7,6 +7,7 @@ ghost use Rattle.faxtool.specs.Jobs.{HasWidth};
 ghost use Rattle.raster.specs.Pixels.{IsWidth};
 ghost use Rattle.std.specs.Prelude.{IfSome};
 
+mod bits;
 mod commands;
 mod drives;
 mod ends;
@@ -18,6 +19,7 @@ mod progress;
 mod table;
 mod words;
 
+use bits::CallFiles;
 use clap::Error;
 use engines::{
     Broken, CallOptions, Captured, Decoded, Expected, Explained, Known, LineFault, NO_MEMORY,
@@ -269,13 +271,28 @@ fn output_of<'a>(job: &'a Job) -> Option<&'a str> {
     }
 }
 
+/// Errs with 8 where the folder of a call's bits isn't there.
+fn check_bits(rt: &HostRuntime, job: &Job, notes: &mut Notes) -> Result<(), ToolFault> {
+    match job {
+        Job::Call {
+            bits: Some(name),
+            ..
+        }
+        | Job::Drive {
+            bits: Some(name),
+            ..
+        } => { outputs::check_folder(rt, name.as_str(), Part::Bits, notes) }
+        _ => Ok(()),
+    }
+}
+
 /// Errs with 8 where a job's output can't be written: octets on a terminal, or pages into a folder that isn't there.
 fn check_output(rt: &HostRuntime, job: &Job, notes: &mut Notes) -> Result<(), ToolFault> {
     let Some(name) = output_of(job) else {
         return Ok(());
     };
     match job {
-        Job::Frames { .. } => outputs::check_folder(rt, name, notes),
+        Job::Frames { .. } => outputs::check_folder(rt, name, Part::Output, notes),
         _ => outputs::check_terminal(rt, name, notes),
     }
 }
@@ -293,6 +310,17 @@ fn file_of<'a>(job: &'a Job, part: Part) -> &'a str {
     let named = match (job, part) {
         (_, Part::Printed) => files::STANDARD,
         (Job::Call { script, .. }, Part::Script) => script.as_str(),
+        (
+            Job::Call {
+                bits: Some(bits),
+                ..
+            }
+            | Job::Drive {
+                bits: Some(bits),
+                ..
+            },
+            Part::Bits,
+        ) => bits.as_str(),
         (
             Job::Code { input, .. }
             | Job::Show { input, .. }
@@ -320,6 +348,7 @@ fn run_job(rt: &HostRuntime, job: &Job, notes: &mut Notes) -> Result<Outcome, To
     requires { HasWidth job.now }
 {
     check_output(rt, job, notes)?;
+    check_bits(rt, job, notes)?;
     match job {
         Job::Code {
             coding,
@@ -356,15 +385,17 @@ fn run_job(rt: &HostRuntime, job: &Job, notes: &mut Notes) -> Result<Outcome, To
             script,
             options,
             out,
+            bits,
             input,
-        } => call_file(rt, script, options, out.as_deref(), input, notes)?,
+        } => call_file(rt, script, options, CallFiles::of(out, bits, input), notes)?,
         Job::Drive {
             line,
             times: None,
             options,
             out,
+            bits,
             input,
-        } => drives::drive_file(rt, line, options, out.as_deref(), input, notes)?,
+        } => drives::drive_file(rt, line, options, CallFiles::of(out, bits, input), notes)?,
         Job::Drive {
             line,
             times: Some(times),
@@ -634,22 +665,21 @@ fn call_file(
     rt: &HostRuntime,
     script: &str,
     options: &CallOptions,
-    out: Option<&str>,
-    input: &str,
+    files: CallFiles<'_>,
     notes: &mut Notes,
 ) -> Result<(), ToolFault> {
     notes.script = read_file(rt, script, Part::Script, notes)?;
     // a script that is refused is so before anything waits for images
     let _commands = read_script(rt.alloc(), notes.script.as_slice())?;
-    read_input(rt, input, notes)?;
+    read_input(rt, files.input, notes)?;
+    let mut writer = bits::open(rt, files.bits, notes)?;
     let mut script = notes.script.as_slice();
     let mut images = notes.octets.as_slice();
-    let mut writer = files::print(rt)?;
     let called = call_engine(rt.alloc(), &mut script, &mut images, &mut writer, options);
-    let printed = files::end_print(writer, called.is_ok(), notes);
+    let ended = bits::close(rt, writer, called.is_ok(), notes);
     let pages = called?;
-    printed?;
-    match out {
+    ended?;
+    match files.out {
         Some(name) if !pages.is_empty() => write_pages(rt, name, &pages, notes),
         _ => Ok(()),
     }

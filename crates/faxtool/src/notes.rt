@@ -14,6 +14,8 @@ pub enum Part {
     Script,
     /// What the file OUT or that of `--out` gets.
     Output,
+    /// The folder of `--bits`, and its files.
+    Bits,
     /// What is printed.
     Printed,
 }

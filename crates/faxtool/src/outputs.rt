@@ -45,8 +45,13 @@ pub fn check_terminal(rt: &HostRuntime, name: &str, notes: &mut Notes) -> Result
     Ok(())
 }
 
-/// Errs with 8 where a name isn't that of a folder, which is noted.
-pub fn check_folder(rt: &HostRuntime, name: &str, notes: &mut Notes) -> Result<(), ToolFault>
+/// Errs with 8 where a name isn't that of a folder, which is noted of the part of the job.
+pub fn check_folder(
+    rt: &HostRuntime,
+    name: &str,
+    part: Part,
+    notes: &mut Notes,
+) -> Result<(), ToolFault>
     ensures { IfErr result IsOutside }
 {
     let checked = match fs::metadata(rt, name) {
@@ -54,7 +59,10 @@ pub fn check_folder(rt: &HostRuntime, name: &str, notes: &mut Notes) -> Result<(
         Ok(_) => Err(io::Error::from(ErrorKind::NotADirectory)),
         Err(error) => Err(error),
     };
-    noted(checked, notes)
+    if let Err(error) = &checked {
+        notes.blame(part, error.kind());
+    }
+    Ok(checked?)
 }
 
 /// Writes these octets as the whole content of a file, or on standard output. A regular file is written beside its
@@ -193,6 +201,69 @@ fn make(rt: &HostRuntime, name: &str, private: bool) -> io::Result<File> {
         options.mode(0o600);
     }
     options.open(rt, name)
+}
+
+/// A file that is written while a job goes on: beside its place where that is free or a regular file's, or at it.
+#[derive(Drop)]
+pub struct Growing {
+    name: String,
+    beside: Option<String>,
+}
+
+/// Makes the file that grows for a place. What is there stays until the file is ended. Errs with 8 where it can't be made, which is
+/// noted, and with 9.
+pub fn grow(rt: &HostRuntime, name: String, notes: &mut Notes) -> Result<(File, Growing), ToolFault>
+    ensures { IfErr result IsOutside }
+{
+    let grown = begin(rt, name);
+    if let Err(error) = &grown {
+        notes.blame(Part::Bits, error.kind());
+    }
+    Ok(grown?)
+}
+
+fn begin(rt: &HostRuntime, name: String) -> io::Result<(File, Growing)> {
+    check_writable(rt, name.as_str())?;
+    let permissions = match place_of(rt, name.as_str())? {
+        Place::Free => None,
+        Place::Regular(permissions) => Some(permissions),
+        Place::Other => {
+            let file = File::create(rt, name.as_str())?;
+            return Ok((file, Growing { name, beside: None }));
+        }
+    };
+    let made = make_beside(rt, name.as_str(), permissions.is_some())?;
+    if let Some(permissions) = permissions {
+        if let Err(error) = made.file.set_permissions(permissions) {
+            let _removed = fs::remove_file(rt, made.name.as_str());
+            return Err(error);
+        }
+    }
+    let beside = Some(made.name);
+    Ok((made.file, Growing { name, beside }))
+}
+
+impl Growing {
+    /// Ends the file: it is put into its place where it is whole, and else removed. Errs with 8 where it can't be, which is noted.
+    pub fn end(self, rt: &HostRuntime, is_whole: bool, notes: &mut Notes) -> Result<(), ToolFault>
+        ensures { IfErr result IsOutside }
+    {
+        let Some(beside) = self.beside else {
+            return Ok(());
+        };
+        let ended = if is_whole {
+            fs::rename(rt, beside.as_str(), self.name.as_str())
+        } else {
+            Ok(())
+        };
+        if !is_whole || ended.is_err() {
+            let _removed = fs::remove_file(rt, beside.as_str());
+        }
+        if let Err(error) = &ended {
+            notes.blame(Part::Bits, error.kind());
+        }
+        Ok(ended?)
+    }
 }
 
 fn put_page(rt: &HostRuntime, folder: &str, first: u64, octets: &[u8]) -> io::Result<u64> {

@@ -254,6 +254,12 @@ const CALL_ARGUMENTS: &[Argument<'static>] = &[
         ..FILE_OPTION
     },
     Argument {
+        id: "bits",
+        shown: &["DIR"],
+        help: "The folder that what is sent on the line is written to, as to-answerer.bits and to-caller.bits",
+        ..FILE_OPTION
+    },
+    Argument {
         id: "in",
         shown: &["IN"],
         help: "The file of the document, a PBM; - is standard input",

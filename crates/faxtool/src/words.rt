@@ -85,6 +85,8 @@ pub enum Job {
         options: CallOptions,
         /// The name of the file that the stored pages go to, where one is given.
         out: Option<String>,
+        /// The name of the folder that the octets on the line go to, where one is given.
+        bits: Option<String>,
         /// The name of the document's file.
         input: String,
     },
@@ -98,6 +100,8 @@ pub enum Job {
         options: CallOptions,
         /// The name of the file that the stored pages go to, where one is given.
         out: Option<String>,
+        /// The name of the folder that the octets on the line go to, where one is given.
+        bits: Option<String>,
         /// The name of the document's file.
         input: String,
     },
@@ -348,6 +352,7 @@ fn call_job(alloc: Global, matches: &ArgMatches<'_>) -> Result<Option<Job>, Allo
             times,
             options,
             out: copy_of(alloc, text_in(matches, "out"))?,
+            bits: copy_of(alloc, text_in(matches, "bits"))?,
             input: String::from_str(alloc, input)?,
         }));
     };
@@ -358,6 +363,7 @@ fn call_job(alloc: Global, matches: &ArgMatches<'_>) -> Result<Option<Job>, Allo
         script: String::from_str(alloc, script)?,
         options,
         out: copy_of(alloc, text_in(matches, "out"))?,
+        bits: copy_of(alloc, text_in(matches, "bits"))?,
         input: String::from_str(alloc, input)?,
     }))
 }
@@ -398,7 +404,7 @@ fn line_in(matches: &ArgMatches<'_>) -> Option<BadLine>
     })
 }
 
-// How many calls are asked for, where that is said; their pages are not kept.
+// How many calls are asked for, where that is said; their pages and octets are not kept.
 fn times_in(matches: &ArgMatches<'_>) -> Option<Option<u32>>
     ensures { let rows = rows_of (found_of matches.now) in
         MatchOption result ((times : Option ℕ) → IsTimesIn rows times → ⊥) (IsTimesIn rows) }
@@ -407,6 +413,9 @@ fn times_in(matches: &ArgMatches<'_>) -> Option<Option<u32>>
         return Some(None);
     }
     if text_in(matches, "out").is_some() {
+        return None;
+    }
+    if text_in(matches, "bits").is_some() {
         return None;
     }
     match number_in(matches, "times") {
@@ -590,6 +599,9 @@ fn unfit_call(matches: &ArgMatches<'_>) -> &'static str {
     }
     if text_in(matches, "times").is_some() && text_in(matches, "out").is_some() {
         return "--times keeps no pages, and can't be used with --out";
+    }
+    if text_in(matches, "times").is_some() && text_in(matches, "bits").is_some() {
+        return "--times keeps no octets, and can't be used with --bits";
     }
     "--lose and --spoil are more than 100% together"
 }

@@ -1,0 +1,195 @@
+//! The files of the octets on the line of a call.
+
+ghost use Rattle.engines.specs.Faults.{IsOutside};
+ghost use Rattle.std.specs.Prelude.{IfErr};
+
+use crate::files::{self, Printed};
+use crate::notes::{Notes, Part};
+use crate::outputs::{self, Growing};
+use engines::{ToolFault, WithBits};
+use std::fs::File;
+use std::io;
+use std::io::{BufWriter, ErrorKind, Write};
+
+/// How many octets of a file are written at once.
+const WRITTEN_AT_ONCE: usize = 65536;
+
+/// The files of a call.
+#[derive(Clone, Copy)]
+pub(crate) struct CallFiles<'a> {
+    /// The name of the document's file.
+    pub(crate) input: &'a str,
+    /// The name of the file that the stored pages go to, where one is given.
+    pub(crate) out: Option<&'a str>,
+    /// The name of the folder that the octets on the line go to, where one is given.
+    pub(crate) bits: Option<&'a str>,
+}
+
+impl<'a> CallFiles<'a> {
+    /// The files of these names.
+    pub(crate) fn of(
+        out: &'a Option<String>,
+        bits: &'a Option<String>,
+        input: &'a str,
+    ) -> CallFiles<'a> {
+        CallFiles {
+            input,
+            out: out.as_deref(),
+            bits: bits.as_deref(),
+        }
+    }
+}
+
+/// A file, with why it can't be written.
+#[derive(Drop)]
+struct Noting {
+    file: File,
+    failed: Option<ErrorKind>,
+}
+
+impl Write for Noting {
+    fn write(&mut self, octets: &[u8]) -> io::Result<usize> {
+        let written = self.file.write(octets);
+        self.failed = written.as_ref().err().map(|error| error.kind());
+        written
+    }
+
+    fn flush(&mut self) -> io::Result<()> {
+        self.file.flush()
+    }
+}
+
+/// The file of one direction as it grows, with a buffer before it.
+#[derive(Drop)]
+struct OpenFile {
+    writer: BufWriter<Noting>,
+    growing: Growing,
+}
+
+/// The file of one direction, or nowhere.
+#[derive(Drop)]
+pub(crate) struct Direction(Option<OpenFile>);
+
+impl Write for Direction {
+    fn write(&mut self, octets: &[u8]) -> io::Result<usize> {
+        match &mut self.0 {
+            Some(open) => open.writer.write(octets),
+            None => Ok(octets.len()),
+        }
+    }
+
+    fn flush(&mut self) -> io::Result<()> {
+        match &mut self.0 {
+            Some(open) => open.writer.flush(),
+            None => Ok(()),
+        }
+    }
+}
+
+/// What a call is written to: standard output, and the files of both directions where they are asked for.
+pub(crate) type CallOutput<'a> = WithBits<BufWriter<Printed<'a>>, Direction>;
+
+/// Opens the file of one direction. Errs with 8 where it can't be made, which is noted, and with 9.
+fn open_file(
+    rt: &HostRuntime,
+    folder: Option<&str>,
+    name: &str,
+    notes: &mut Notes,
+) -> Result<Direction, ToolFault>
+    ensures { IfErr result IsOutside }
+{
+    let Some(folder) = folder else {
+        return Ok(Direction(None));
+    };
+    let name = format!(in rt.alloc(); "{folder}/{name}")?;
+    let (file, growing) = outputs::grow(rt, name, notes)?;
+    let noting = Noting { file, failed: None };
+    let writer = BufWriter::with_capacity(rt.alloc(), WRITTEN_AT_ONCE, noting)?;
+    Ok(Direction(Some(OpenFile { writer, growing })))
+}
+
+/// Errs with 8 where standard output is closed, which is noted: a file would be opened in its place then.
+fn check_printed(rt: &HostRuntime, notes: &mut Notes) -> Result<(), ToolFault>
+    ensures { IfErr result IsOutside }
+{
+    let printed = io::writer(rt).write(&[]);
+    if let Err(error) = &printed {
+        notes.blame(Part::Printed, error.kind());
+    }
+    let _written = printed?;
+    Ok(())
+}
+
+/// Opens what a call is written to. Errs with 8 where a file can't be made or standard output is closed, which is noted, and with 9.
+pub(crate) fn open<'a>(
+    rt: &'a HostRuntime,
+    folder: Option<&str>,
+    notes: &mut Notes,
+) -> Result<CallOutput<'a>, ToolFault>
+    ensures { IfErr result IsOutside }
+{
+    if folder.is_some() {
+        check_printed(rt, notes)?;
+    }
+    let lines = files::print(rt)?;
+    let to_answerer = open_file(rt, folder, "to-answerer.bits", notes)?;
+    let to_caller = match open_file(rt, folder, "to-caller.bits", notes) {
+        Ok(to_caller) => to_caller,
+        Err(fault) => {
+            to_answerer.end(rt, false, notes)?;
+            return Err(fault);
+        }
+    };
+    Ok(WithBits {
+        lines,
+        to_answerer,
+        to_caller,
+    })
+}
+
+impl Direction {
+    /// Ends a file, which gets its place where all was done, and is removed else. Errs with 8 where it can't be written, which is
+    /// noted.
+    fn end(self, rt: &HostRuntime, done: bool, notes: &mut Notes) -> Result<(), ToolFault>
+        ensures { IfErr result IsOutside }
+    {
+        let Some(open) = self.0 else {
+            return Ok(());
+        };
+        let OpenFile {
+            mut writer,
+            growing,
+        } = open;
+        let flushed = if done { writer.flush() } else { Ok(()) };
+        if let Some(kind) = writer.get_ref().failed {
+            notes.blame(Part::Bits, kind);
+        }
+        let is_whole = done && flushed.is_ok();
+        let ended = growing.end(rt, is_whole, notes);
+        flushed?;
+        ended
+    }
+}
+
+/// Ends what a call is written to: what is printed, and then the files, which get their places where all was done and printed. Errs
+/// with 8 where one can't be written, which is noted, and with 9.
+pub(crate) fn close(
+    rt: &HostRuntime,
+    output: CallOutput<'_>,
+    done: bool,
+    notes: &mut Notes,
+) -> Result<(), ToolFault>
+    ensures { IfErr result IsOutside }
+{
+    let WithBits {
+        lines,
+        to_answerer,
+        to_caller,
+    } = output;
+    let printed = files::end_print(lines, done, notes);
+    let one = to_answerer.end(rt, done && printed.is_ok(), notes);
+    let other = to_caller.end(rt, done && printed.is_ok() && one.is_ok(), notes);
+    printed?;
+    one?;
+    other
+}
