@@ -32,14 +32,6 @@ def guided_words(rand, pages, size, speeds):
     return [word for word, _, count in lines for _ in range(int(count or "1"))]
 
 
-def codes_of(images, code):
-    """Each page's width and the octets of its code."""
-    for image in images:
-        [(width, _size)] = fuzz_calls.pages_of(folder, [image], ["--code", code])
-        with open(os.path.join(folder, "code"), "rb") as file:
-            yield width, file.read()
-
-
 def whole_call(rand, pages, size, speeds):
     """The events of a call in which nothing goes wrong, up to its end."""
     line, words = fuzz_calls.Line(pages, size, speeds), []
@@ -54,7 +46,7 @@ def try_call(rand, is_whole):
     modems, is_mh, size, is_fine = rand.randrange(len(MODEMS)), rand.random() < 0.5, rand.choice([64, 256]), rand.random() < 0.5
     if is_whole:
         images, is_mh, size = [COMBS] + images, True, 64
-    pages, name = list(codes_of(images, "mh" if is_mh else "mmr")), list(MODEMS)[modems]
+    pages, name = fuzz_calls.pages_of(folder, images, ["--code", "mh" if is_mh else "mmr"]), list(MODEMS)[modems]
     lengths = [(width, len(code)) for width, code in pages]
     make = whole_call if is_whole else guided_words
     words = make(rand, lengths, size, len(MODEMS[name][1]))

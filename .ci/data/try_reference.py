@@ -1,11 +1,11 @@
 """Compares `faxtool` with the second reading of the tables in bench/fuzz: try_reference.py PROGRAM FOLDER
 
 300 random scripts of a fixed seed are run by `call`, half of which follow the call, and what they print has to be what
-bench/fuzz/reference_call.py says, line for line; so is it of 100 random calls over a
-bad line and bench/fuzz/reference_drive.py, and of 20 runs of many such calls and
-bench/fuzz/reference_times.py; and 300 random pages of a fixed seed, whose codes
-bench/fuzz/reference_pages.py writes with any modes that may come, whole, with a bit flipped or cut short: `decode` has to give its rows, or refuse it, as the reader there
-does. Ends with status 1 at the first that differs."""
+bench/fuzz/reference_call.py says, line for line; so is it of 100 random calls over a bad line and bench/fuzz/reference_drive.py, and of 20
+runs of many such calls and bench/fuzz/reference_times.py. The files of `--bits` have to be the octets of bench/fuzz/call_octets.py, in both
+directions. Then 300 random pages of a fixed seed, whose codes bench/fuzz/reference_pages.py writes with any modes that may come, whole, with
+a bit flipped or cut short: `decode` has to give its rows, or refuse it, as the reader there does. Ends with status 1 at the first that
+differs."""
 
 import os
 import random

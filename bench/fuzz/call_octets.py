@@ -1,6 +1,7 @@
 """What is on the line of a call, in octets: a plain reading of the tables of T.30 over bench/fuzz/reference_call.py, for
-.ci/data/try_octets.py."""
+.ci/data/try_octets.py, fuzz_calls.py and fuzz_drive.py."""
 
+import functools
 import sys
 
 sys.dont_write_bytecode = True
@@ -31,9 +32,21 @@ class Sent(tuple):
         return made
 
 
+@functools.lru_cache(maxsize=1000)
+def frame_of(content):
+    return line_of([content])
+
+
 def framed(item, control, fields=b""):
     """The item in a frame, which is the last of what is sent unless it is an FCD or an RCP."""
-    return Sent(item, line_of([bytes([0xFF, 0x03 if item[0] in ("FCD", "RCP") else 0x13, control]) + fields]))
+    return Sent(item, frame_of(bytes([0xFF, 0x03 if item[0] in ("FCD", "RCP") else 0x13, control]) + fields))
+
+
+def noted(station, items):
+    """The items, whose octets the station has sent now."""
+    for item in items:
+        station.line += item.octets
+    return items
 
 
 class OctetCaller(Caller):
@@ -42,9 +55,10 @@ class OctetCaller(Caller):
     def __init__(self, pages, size, options):
         self.codes, (self.modems, self.fine, self.is_t6) = [code for _, code in pages], options
         super().__init__([(width, len(code)) for width, code in pages], size, len(MODEMS[self.modems][1]))
+        self.line = bytearray()
 
     def items(self, turn):
-        return [self.sent(item) for item in super().items(turn)]
+        return noted(self, [self.sent(item) for item in super().items(turn)])
 
     def speed_bits(self):
         return MODEMS[self.modems][1][self.speed]
@@ -67,9 +81,12 @@ class OctetCaller(Caller):
 class OctetAnswerer(Answerer):
     def __init__(self, modems):
         super().__init__()
-        self.modems = modems
+        self.modems, self.line = modems, bytearray()
 
     def items(self, turn):
+        return noted(self, self.sent(turn))
+
+    def sent(self, turn):
         """A DIS says 7.7 lines a millimetre, each width, error correction and T.6."""
         if turn[0] == "DIS":
             return [framed(turn, 0x80, octets_of(f"0000000001{MODEMS[self.modems][0]}100101111100100010"))]
@@ -79,7 +96,7 @@ class OctetAnswerer(Answerer):
 
 
 class OctetLine(Line):
-    """A line whose items have their octets."""
+    """A line whose items have their octets. Each station has in `line` the octets of all that it has sent."""
 
     def __init__(self, pages, size, options):
         super().__init__([(width, len(code)) for width, code in pages], size, len(MODEMS[options[0]][1]))

@@ -7,6 +7,7 @@
 A document has 1 to 4 pages of 1 to 4 rows, and seldom of more blocks than one, 1,728, 2,048 or 2,432 pixels wide; a script 1 to 300
 lines, half of them at random, half following the call so that it comes far. After each run:
 - each line that it printed is that of bench/fuzz/reference_call.py, a plain reading of the tables apart from the program;
+- the files of --bits have the octets that bench/fuzz/call_octets.py says, in each direction;
 - the transcript has the form of its entries, numbered from 1, as many as the script asks for, and ends with both stations;
 - the file of --out has the first pages of the document, octet for octet, as many as `pages` says, and isn't made for none;
 - `confirmed` is `pages` or one less; a station that ended normally leaves all pages stored, and all confirmed for a caller;
@@ -25,7 +26,8 @@ import time
 from collections import Counter
 
 sys.dont_write_bytecode = True
-from reference_call import Line, transcript
+from call_octets import OctetLine
+from reference_call import Line, play
 
 TOP = os.path.dirname(os.path.dirname(os.path.dirname(os.path.abspath(__file__))))
 PROGRAM = os.environ.get("FAXTOOL", os.path.join(TOP, "crates", "faxtool", "out", "faxtool"))
@@ -185,7 +187,7 @@ def value_of(options, name, otherwise):
 
 
 def pages_of(folder, images, options):
-    """Each page's width and number of octets of code, as `faxtool code` writes it."""
+    """Each page's width and the octets of its code, as `faxtool code` writes it."""
     pages = []
     for image in images:
         one, code = os.path.join(folder, "one.pbm"), os.path.join(folder, "code")
@@ -193,8 +195,25 @@ def pages_of(folder, images, options):
             file.write(image)
         words = [PROGRAM, "code", "--code", value_of(options, "--code", "mmr"), "--order", "lsb", one, code]
         subprocess.run(words, check=True, timeout=120)
-        pages.append((int(image.split()[1]), os.path.getsize(code)))
+        with open(code, "rb") as file:
+            pages.append((int(image.split()[1]), file.read()))
     return pages
+
+
+def line_of_call(pages, options):
+    """The line of a call of pages with these options."""
+    size, modems = int(value_of(options, "--frame", "256")), value_of(options, "--modems", "v17")
+    return OctetLine(pages, size, (modems, "--fine" in options, value_of(options, "--code", "mmr") == "mmr"))
+
+
+def compare_bits(folder, line):
+    """Raises Failed where the files of a call's bits aren't what the stations of the reference have sent."""
+    for name, station in (("to-answerer.bits", line.caller), ("to-caller.bits", line.answerer)):
+        with open(os.path.join(folder, name), "rb") as file:
+            sent = file.read()
+        same = len(os.path.commonprefix([sent, bytes(station.line)]))
+        what = f"{name} has {len(sent)} octets, the reference {len(station.line)}, and the first {same} are the same"
+        need(sent == station.line, what)
 
 
 def compare(output, wanted):
@@ -209,7 +228,8 @@ def run_once(folder, options):
     out = os.path.join(folder, "pages.pbm")
     if os.path.exists(out):
         os.remove(out)
-    words = [PROGRAM, "call", "--script", os.path.join(folder, "script"), *options, "--out", out, os.path.join(folder, "in.pbm")]
+    files = ["--bits", folder, "--out", out, os.path.join(folder, "in.pbm")]
+    words = [PROGRAM, "call", "--script", os.path.join(folder, "script"), *options, *files]
     ran = subprocess.run(words, capture_output=True, timeout=120)
     left = None
     if os.path.exists(out):
@@ -223,7 +243,8 @@ def try_call(rand, folder):
     images = [random_image(rand) for _ in range(rand.randint(1, 4))]
     options, bad = random_options(rand), None
     frame, speeds = int(value_of(options, "--frame", "256")), SPEEDS[value_of(options, "--modems", "v17")]
-    pages = pages_of(folder, images, options)
+    codes = pages_of(folder, images, options)
+    pages = [(width, len(code)) for width, code in codes]
     script, least, most = random_script(rand)
     if rand.random() < 0.5:
         script, least = guided_script(rand, pages, frame, speeds)
@@ -238,7 +259,9 @@ def try_call(rand, folder):
         need(ran == (1, "", f"fault 30 at line {bad}\n", None), f"not fault 30 at line {bad}: {ran[0]} {ran[2]}")
         return 0, "fault 30"
     check(images, least, most, *ran)
-    compare(ran[1], transcript(script, pages, frame, speeds))
+    line = line_of_call(codes, options)
+    compare(ran[1], play(line, script))
+    compare_bits(folder, line)
     need(run_once(folder, options) == ran, "the same script printed or left something else")
     lines = ran[1].split("\n")
     return len(lines) - 3, CALLER.fullmatch(lines[-3])[1]

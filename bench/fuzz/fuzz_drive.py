@@ -5,7 +5,7 @@
 
 The program is crates/faxtool/out/faxtool, or the one that FAXTOOL names. A document has 1 to 4 of 24 random pages; the rates, the seed, the
 number of DIS and the options of the call are random too. Each line that is printed has to be the one that reference_drive.py gives, and the
-pages stored have to be the first of the document. Prints how many calls ended how, and ends with status 1 at the first that differs."""
+pages stored have to be the first of the document; and the files of --bits the octets of call_octets.py. Prints how many calls ended how, and ends with status 1 at the first that differs."""
 
 import os
 import random
@@ -18,8 +18,9 @@ from pathlib import Path
 
 sys.dont_write_bytecode = True
 sys.path.insert(0, str(Path(__file__).resolve().parent))
-from fuzz_calls import CALLER, PROGRAM, SPEEDS, Failed, check, compare, need, pages_of, random_image, random_options, value_of  # noqa: E402
-from reference_drive import Pcg32, fates, rate_of, transcript  # noqa: E402
+from fuzz_calls import CALLER, PROGRAM, Failed, check, compare, compare_bits, line_of_call, pages_of  # noqa: E402
+from fuzz_calls import random_image, random_options, value_of  # noqa: E402
+from reference_drive import Pcg32, drive, fates, rate_of  # noqa: E402
 
 RATES = ["0%", "1%", "2%", "05%", "10%", "20%", "30%", "40%", "100%", "1/20", "3/1000", "1/3", "000000001/7", "999999999/999999999"]
 SPOILS = ["0%", "5%", "10%", "1/3", "1/1000000"]
@@ -31,13 +32,13 @@ class Pages:
 
     def __init__(self, rand, folder):
         self.images = [random_image(rand) for _ in range(IMAGES)]
-        self.folder, self.sizes = folder, {}
+        self.folder, self.codes = folder, {}
 
     def coded(self, number, options):
         code = value_of(options, "--code", "mmr")
-        if (number, code) not in self.sizes:
-            self.sizes[number, code] = pages_of(self.folder, [self.images[number]], ["--code", code])[0]
-        return self.sizes[number, code]
+        if (number, code) not in self.codes:
+            self.codes[number, code] = pages_of(self.folder, [self.images[number]], ["--code", code])[0]
+        return self.codes[number, code]
 
 
 def random_rates(rand):
@@ -61,15 +62,17 @@ def try_drive(rand, pages, folder):
         file.write(b"".join(pages.images[number] for number in chosen))
     if os.path.exists(out):
         os.remove(out)
-    words = [PROGRAM, "call", *line, *options, "--out", out, document]
+    words = [PROGRAM, "call", *line, *options, "--bits", folder, "--out", out, document]
     ran = subprocess.run(words, capture_output=True, timeout=120)
     left = Path(out).read_bytes() if os.path.exists(out) else None
     printed = ran.stdout.decode("ascii", "replace")
     try:
         check([pages.images[number] for number in chosen], 1, 10**9, ran.returncode, printed, ran.stderr.decode("utf-8", "replace"), left)
         drawn = fates(Pcg32(seed, 0), rate_of(lose), rate_of(spoil or "0%"))
-        speeds, frame = SPEEDS[value_of(options, "--modems", "v17")], int(value_of(options, "--frame", "256"))
-        compare(printed, transcript([pages.coded(number, options) for number in chosen], frame, speeds, drawn, calls or 3))
+        line_read = line_of_call([pages.coded(number, options) for number in chosen], options)
+        drive(line_read, drawn, calls or 3, 0)
+        compare(printed, line_read.entries + line_read.ends())
+        compare_bits(folder, line_read)
     except Failed as why:
         raise Failed(f"{why}: {' '.join(words[1:])}") from why
     return CALLER.fullmatch(printed.split("\n")[-3])[1]

@@ -274,9 +274,8 @@ class Line:
         ]
 
 
-def transcript(script, pages, size, speeds):
-    """The lines that a script prints. Pages are pairs of a width and the number of octets of the code."""
-    line = Line(pages, size, speeds)
+def play(line, script):
+    """The lines that a script prints of a call on a line."""
     for text in script.split("\n"):
         word, _, count = text.partition(" ")
         if word == "polite":
@@ -285,6 +284,11 @@ def transcript(script, pages, size, speeds):
             for _ in range(int(count or "1")):
                 line.event(word)
     return line.entries + line.ends()
+
+
+def transcript(script, pages, size, speeds):
+    """The lines that a script prints. Pages are pairs of a width and the number of octets of the code."""
+    return play(Line(pages, size, speeds), script)
 
 
 ONE, TWO = [(1728, 4)], [(1728, 4), (2048, 4)]
