@@ -72,6 +72,7 @@ CASES
 --times 5 --script missing|--spoil, --seed, --calls and --times are for a call with --lose
 --times 5|--script or --lose is missing
 --lose 5% --seed 1 --times 5 --out pages|--times keeps no pages, and can't be used with --out
+--lose 5% --seed 1 --times 5 --bits sent|--times keeps no octets, and can't be used with --bits
 CASES
     for words in "--seed 4294967296" "--seed -1" "--seed x" "--seed 1 --calls 0" "--seed 1 --calls 1000001" "--seed 1 --seed 2" \
         "--seed 1 --times 0" "--seed 1 --times -1" "--seed 1 --times x" "--seed 1 --times 4294967296" "--seed 1 --times 2 --times 3"; do
