@@ -248,11 +248,12 @@ impl Growing {
     pub fn end(self, rt: &HostRuntime, is_whole: bool, notes: &mut Notes) -> Result<(), ToolFault>
         ensures { IfErr result IsOutside }
     {
-        let Some(beside) = self.beside else {
+        let Growing { name, beside } = self;
+        let Some(beside) = beside else {
             return Ok(());
         };
         let ended = if is_whole {
-            fs::rename(rt, beside.as_str(), self.name.as_str())
+            fs::rename(rt, beside.as_str(), name.as_str())
         } else {
             Ok(())
         };
