@@ -4,8 +4,9 @@
     bench/fuzz/fuzz_drive.py CALLS [SEED]
 
 The program is crates/faxtool/out/faxtool, or the one that FAXTOOL names. A document has 1 to 4 of 24 random pages; the rates, the seed, the
-number of DIS and the options of the call are random too. Each line that is printed has to be the one that reference_drive.py gives, and the
-pages stored have to be the first of the document; and the files of --bits the octets of call_octets.py. Prints how many calls ended how, and ends with status 1 at the first that differs."""
+number of DIS and the options of the call are random too. Each line that is printed has to be the one that reference_drive.py gives, the
+pages stored have to be the first of the document, and the files of --bits the octets of call_octets.py. Prints how many calls ended how, and
+ends with status 1 at the first that differs."""
 
 import os
 import random

@@ -44,7 +44,7 @@ def try_run(rand, pages, folder):
     words = [*line, "--times", str(count), *options, document]
     try:
         speeds, frame = SPEEDS[value_of(options, "--modems", "v17")], int(value_of(options, "--frame", "256"))
-        coded = [pages.coded(number, options) for number in chosen]
+        coded = [(width, len(code)) for width, code in (pages.coded(number, options) for number in chosen)]
         printed = printed_by(words)
         compare(printed, list(times(coded, frame, speeds, lambda number: fates(Pcg32(seed, number), rate_of(lose), rate_of(spoil or "0%")),
                                     count, calls or 3)))
