@@ -16,8 +16,6 @@ mod pages;
 #[cfg(test)]
 mod seams;
 #[cfg(test)]
-mod serving;
-#[cfg(test)]
 mod stream;
 #[cfg(test)]
 mod streams;

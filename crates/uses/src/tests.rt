@@ -2,31 +2,20 @@
 
 ghost use Rattle.std.specs.Prelude.{};
 
-use crate::calls::{answer, hears, hears_octets, send};
+use crate::calls::{answer, hears, send};
 use crate::frames::{asks_again, confirmation, list_frames, lose_a_frame};
 use crate::pages::{code_image, code_rows, copy_images, decode_rows, read_in_two, recode};
 use hdlc::write_frame;
 use page_code::Coding;
 use raster::{Document, Page, Row, read_pbm};
 use run_tables::{BitWriter, Order};
-use signals::{Caps, Modems, PageWidth, Wish, read};
-use stations::{Answerer, Caller, Carrier, End};
+use signals::{Modems, Wish, read};
+use stations::{Caller, End};
 use std::alloc::Global;
 use std::test::Fail;
-use terminals::Terminal;
 
 /// The frame of an MCF of the answerer.
 const MCF: [u8; 8] = [0x7E, 0xDF, 0x47, 0x30, 0x8A, 0xC6, 0xFB, 0x01];
-
-/// What the answerer can do.
-const CAPS: Caps = Caps {
-    receiver: true,
-    modems: Modems::V17,
-    fine: true,
-    widest: PageWidth::W2432,
-    t6: true,
-    ecm: true,
-};
 
 /// A PBM image of one white row of 1,728 pixels: 10 octets of header and 216 octets 00.
 fn white_image() -> [u8; 226] {
@@ -176,15 +165,5 @@ fn an_answerer_stores_a_page(rt: HostRuntime) -> Result<(), Fail> {
     let answered = answer(alloc, &dcs.into_octets(), &[0; 2700], &page.into_octets())?;
     assert_eq!(rt; answered.pages.len(), 1);
     assert_eq!(rt; answered.ending, None);
-    Ok(())
-}
-
-#[test]
-fn a_terminal_says_its_dis(rt: HostRuntime) -> Result<(), Fail> {
-    let (answerer, first) = Answerer::new(rt.alloc(), CAPS);
-    let mut terminal = Terminal::new(rt.alloc(), answerer, first);
-    let said = hears_octets(&mut terminal, &[0x7E, 0x7E])?;
-    let carrier = said.map(|burst| burst.carrier);
-    assert_eq!(rt; carrier, Some(Carrier::V21));
     Ok(())
 }
