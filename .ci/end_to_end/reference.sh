@@ -36,7 +36,7 @@ try_streams() {
         timeout 600 python3 -B "$data/try_rows.py" "$stream" "$1" "$work/reference" || fails "${stream##*/}: a worked row has other octets"
         timeout 600 python3 -B "$data/try_streams.py" "$stream" "$work/reference" || fails "${stream##*/}: the reference answers something else"
         timeout 600 python3 -B "$data/try_octets.py" "$stream" "$1" "$work/reference" || fails "${stream##*/}: the reference sends other octets"
-        try_flood "$stream" "$1"
+        [ "$stream" != "$built" ] || try_flood "$stream" "$1"
         echo "end to end: ${stream##*/} passed 300 streams and 300 calls"
     done
 }
