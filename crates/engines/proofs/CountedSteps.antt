@@ -37,7 +37,7 @@ counts_both xs ys = same_counts _ _ _ _ _ _ _ _ (total_both _ xs ys) (total_both
 
 -- ---- steps
 
--- some steps of a call were made, with fates that a generator draws, of which at least so many are left, and their entries are these
+-- some steps of a call were made, with fates that a generator draws, of which at least this number is left, and their entries are these
 pub record Went (bad : BadLine) (d : Driven) (made count : ℕ) (now : DrivenFields) (generator : Lcg) (noted : List Entry) : Type 0 where
   pub left : ℕ
   pub enough : count ≤ left

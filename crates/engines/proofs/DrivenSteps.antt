@@ -186,7 +186,7 @@ first_drawn d line count generator fate is drawn = ap first_fate drawn ∙ sym i
 
 -- ---- some steps
 
--- some steps of a call were made, with fates that a generator draws, of which at least so many are left, and their lines were written
+-- some steps of a call were made, with fates that a generator draws, of which at least this number is left, and their lines were written
 pub record Reached (line : BadLine) (d : Driven) (made count : ℕ) (now : DrivenFields) (generator : Lcg) (number : ℕ) (before at : Written)
     : Type 0 where
   pub left : ℕ

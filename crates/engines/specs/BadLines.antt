@@ -34,7 +34,7 @@ use Rattle.engines.specs.declared.options.CallOptions.{CallOptions}
 abbrev pub patience_of : BadLine → Patience
 patience_of line = record { calls = line.calls; busy = 0 }
 
--- a call of a document over a bad line, with the first fates that the generator draws for its number, so many of them
+-- a call of a document over a bad line, with this number of the first fates that the generator draws for it
 abbrev pub driven_call : CallOptions → BadLine → ℕ → Document → ℕ → Driven
 driven_call options line number document count =
     new_driven document (caller_wish options) (answerer_caps options.modems) (fates_of line number count)
@@ -44,7 +44,7 @@ pub record AreOfStep (p : Patience) (d : Driven) (events : List Event) : Type 0 
   pub goes_on : is_over d ≡ false
   pub leads : run (all_done events) d.world ≡ (next_of p d).world
 
--- the events of the first steps of a driven call, so many steps
+-- the events of this number of first steps of a driven call
 abbrev pub AreOfSteps : ℕ → Patience → Driven → List Event → Type 0
 AreOfSteps zero p d events = events ≡ []
 AreOfSteps (suc made) p d events =
@@ -52,7 +52,7 @@ AreOfSteps (suc made) p d events =
     (events ≡ firsts ++ last)
 
 -- A step of a driven call was made, or the call is over; of the fates that a generator draws it has taken the first one, where one was due,
--- and at least so many are left.
+-- and at least this number is left.
 pub record Draws (p : Patience) (old new : DrivenFields) (d : Driven) (line : BadLine) (count : ℕ) (generator : Lcg) (step : Option Step)
     : Type 0 where
   pub steps : Steps p old new d step

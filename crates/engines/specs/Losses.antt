@@ -53,7 +53,7 @@ fate_of line word = if nat_lt word line.lose then lost else if nat_lt word (line
 abbrev pub generator_of : BadLine → ℕ → Lcg
 generator_of line number = started 64 multiplier_64 line.seed (increment_of 64 number)
 
--- the fates that the next words give, so many of them
+-- the fates that this number of next words give
 abbrev pub fates_from : BadLine → ℕ → Lcg → List Fate
 fates_from line count generator = map (fate_of line) (first_words pcg32 count generator)
 

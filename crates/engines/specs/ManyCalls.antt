@@ -183,10 +183,11 @@ end_row calls why = row_of why (ended_at (place_of (Some why)) calls)
 abbrev pub is_mild : CallCounts → Bool
 is_mild counts = nat_lt (counts.lost + counts.spoiled) 3
 
--- a call is so, and of such calls it ended normally for the caller
+-- 1 for such a call
 abbrev pub mild_in : OneCall → ℕ
 mild_in call = one_if (is_mild call.counts)
 
+-- 1 for such a call that ended normally for the caller
 abbrev pub borne_in : OneCall → ℕ
 borne_in call = cond (nat_eq (place_of call.caller_end) 0) (mild_in call) 0
 

@@ -102,7 +102,7 @@ WritesCall to steps w before after =
 abbrev pub put_by_step : Side → Patience → Driven → List PlainItem
 put_by_step to p d = drop (length (on_way_to to d.world)) (on_way_to to (drive 1 p d).world)
 
--- what the first steps of a driven call have put under way to a station, so many steps
+-- what this number of first steps of a driven call has put under way to a station
 abbrev pub put_by_steps : Side → ℕ → Patience → Driven → List PlainItem
 put_by_steps to zero p d = []
 put_by_steps to (suc made) p d = put_by_steps to made p d ++ put_by_step to p (drive made p d)

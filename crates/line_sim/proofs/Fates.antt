@@ -443,7 +443,7 @@ later_dropped zero (fate ∷ fates) = refl
 later_dropped (suc at) [] = refl
 later_dropped (suc at) (fate ∷ fates) = later_dropped at fates
 
--- a driven call on its way: so many steps were made, and the fates from a place on are left
+-- a driven call on its way: this number of steps was made, and the fates from a place on are left
 pub record Along (p : Patience) (now : DrivenFields) (fates : List Fate) (d : Driven) (made at : ℕ) : Type 0 where
   pub shows : ShowsDriven now p (drive made p d)
   pub counted : steps_made made p d ≡ made

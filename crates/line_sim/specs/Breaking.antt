@@ -28,10 +28,11 @@ LostDcsBreak =
     (page : PagePixels) (pages : Document) (wish : Wish) (caps : Caps) (params : Params) → agreed_for caps wish (Some page) ≡ Some params →
     EndsFor (page ∷ pages) wish caps (comes ∷ lost ∷ comes ∷ lost ∷ comes ∷ lost ∷ []) 10 NoReply
 
--- stations with one common speed, 2,400 bit/s
+-- a caller that has one speed, 2,400 bit/s
 abbrev pub slow_wish : Wish
 slow_wish = record { modems = Fallback; coding = T6; small = false }
 
+-- an answerer that has the same speed alone
 abbrev pub slow_caps : Caps
 slow_caps = record { receiver = true; modems = Fallback; fine = true; widest = W2432; t6 = true; ecm = true }
 

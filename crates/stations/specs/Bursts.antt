@@ -69,12 +69,13 @@ abbrev pub items_of : List PlainBurst → List PlainItem
 items_of [] = []
 items_of (burst ∷ bursts) = burst.items ++ items_of bursts
 
--- the items on one carrier that items begin with, and those after them
+-- the items on one carrier that items begin with
 unfoldable pub front_by : Speed → Carrier → List PlainItem → List PlainItem
 front_by speed carrier [] = []
 front_by speed carrier (item ∷ items) =
     cond (same_kind (carrier_of speed item) carrier) (item ∷ front_by speed carrier items) []
 
+-- the items after these
 unfoldable pub rest_by : Speed → Carrier → List PlainItem → List PlainItem
 rest_by speed carrier [] = []
 rest_by speed carrier (item ∷ items) =

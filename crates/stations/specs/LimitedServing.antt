@@ -40,5 +40,6 @@ pub record LimitedServed (limits : Limits) (told : Bool) (happens : List Served)
   pub pages : limited_taken limits told happens s ≡ taken_pages (let_through limits told happens s) s
   pub within : IsWithin limits s.pages → IsWithin limits (limited_served limits told happens s).pages
 
+-- so it is of every answerer with limits, whatever happens to it
 abbrev pub LimitedServes : Type 0
 LimitedServes = (limits : Limits) (told : Bool) (happens : List Served) (s : Answerer) → LimitedServed limits told happens s

@@ -12,11 +12,12 @@ use Rattle.stations.specs.declared.turn.End.{End}
 use Rattle.stations.specs.declared.turn.Turn.{Turn}
 use Rattle.stations.specs.declared.turn.Turn.TheVariants.{Silent, Dcn}
 
--- a caller, and an answerer, with what cut its call off
+-- a caller with what cut its call off
 pub record StoppableCallerFields : Type 0 where
   pub station : CallerFields
   pub cut : Option Cut
 
+-- an answerer with what cut its call off
 pub record StoppableAnswererFields : Type 0 where
   pub station : Answerer
   pub cut : Option Cut
@@ -44,13 +45,14 @@ stop_turn None None = Dcn
 abbrev pub StaysSilent : {V E : Type 0} → V → V → Result Turn E → Type 0
 StaysSilent old new result = (new ≡ old) × (result ≡ Ok Silent)
 
--- a step is the station's; after a call was cut off it is silent
+-- a caller's step is the station's; after the call was cut off it is silent
 abbrev pub CallerStepsUnlessCut :
     {E : Type 0} → StoppableCallerFields → CallerInput → StoppableCallerFields → Result Turn E → Option Cut → Type 0
 CallerStepsUnlessCut old input new result None =
     AnswersOrRefuses old.station new.station result (λ t. caller_step t input) × (new.cut ≡ None)
 CallerStepsUnlessCut old input new result (Some why) = StaysSilent old new result
 
+-- and so is an answerer's
 abbrev pub AnswererStepsUnlessCut :
     {E : Type 0} → StoppableAnswererFields → AnswererInput → StoppableAnswererFields → Result Turn E → Option Cut → Type 0
 AnswererStepsUnlessCut old input new result None =

@@ -27,12 +27,13 @@ caller_longer_wait WaitCfr = None
 caller_longer_wait WaitBlock = None
 caller_longer_wait WaitReady = Some T5
 
--- the same of an answerer
+-- the wait that runs in each state of an answerer
 abbrev pub answerer_wait : AnswererState → Wait
 answerer_wait PhaseB = T2
 answerer_wait WaitTraining = T2
 answerer_wait Message = T1
 
+-- and the longer one beside it
 abbrev pub answerer_longer_wait : AnswererState → Option Wait
 answerer_longer_wait PhaseB = Some T1
 answerer_longer_wait WaitTraining = Some T1
@@ -47,10 +48,11 @@ unless_over (Some why) wait = None
 abbrev pub IsOneOf : Option Wait → Option Wait → Wait → Type 0
 IsOneOf wait longer w = (wait ≡ Some w) ⊎ (longer ≡ Some w)
 
--- a wait runs in a caller, and in an answerer
+-- a wait runs in a caller
 abbrev pub CallerRuns : Caller → Wait → Type 0
 CallerRuns c w = IsOneOf (unless_over c.ending (Some (caller_wait c.state))) (unless_over c.ending (caller_longer_wait c.state)) w
 
+-- a wait runs in an answerer
 abbrev pub AnswererRuns : Answerer → Wait → Type 0
 AnswererRuns s w = IsOneOf (unless_over s.ending (Some (answerer_wait s.state))) (unless_over s.ending (answerer_longer_wait s.state)) w
 

@@ -82,7 +82,7 @@ twice : (c : Color) → other (other c) ≡ c
 twice White = refl
 twice Black = refl
 
--- the color after so many turns
+-- the color after a number of turns
 pub color_after : (color : Color) (turns : ℕ) → ((places : List ℕ) → length places ≡ turns → color ≡ turned_after White places)
     → color ≡ other (turned turns)
 color_after color turns is =
