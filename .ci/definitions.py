@@ -8,8 +8,9 @@
 Each name or operator of `crates/*/specs/` that a public clause cites is in the first column of the table of its crate's README, under
 `## Definitions`, in a row that names the file that defines it and says what it means; and each name of a first column is defined in a
 file that its row names. A public clause is one of a contract of an item that other crates can name, or what a type or a trait says of
-itself by `ghost`; in a program it is one of any item that is `pub`, or of main.rt. A type's `view` and `invariant` are left out: they
-say how its private fields hold its value, and are proved. Types, constructors and fields of the code itself aren't asked for.
+itself by `ghost`; in a program it is one of any item that is `pub`, or of main.rt; in a static library one of each function that it
+exports to C. A type's `view` and `invariant` are left out: they say how its private fields hold its value, and are proved. Types,
+constructors and fields of the code itself aren't asked for.
 After each table are two lists: the other definitions that those of all public clauses stand on, which are to be believed with
 them, and the definitions that none of these stands on, which serve the proofs alone. Each list has exactly the names that it says.
 .ci/public_clauses.txt has each public clause by crate, item and name, or by its first words where it has no name: a clause that is
@@ -31,7 +32,7 @@ NAME = rf"(?:[^\s(){{}},;]*◌[^\s(){{}},;]*|{WORD})"
 BLANKED = re.compile(r"""//[^\n]*|b?"(?:\\.|[^"\\])*"|b?'(?:\\.|[^'\\\n])'""", re.S)
 DEFINED = re.compile(rf"^(?:\w+ )*?pub (?:(?:record|data) )?(?!record |data |mod )({NAME})", re.M)
 IMPORT = re.compile(r"\bghost use Rattle\.(\w+)\.specs\.([\w.]+)\.\{([^}]*)\}")
-FUNCTION = re.compile(r"(\bpub\b(?:\([^)]*\))?\s+)?(?:const\s+)?\bfn\s+(\w+)")
+FUNCTION = re.compile(r"(\bpub\b(?:\([^)]*\))?\s+)?(?:const\s+|extern\s+)?\bfn\s+(\w+)")
 CLAUSE = re.compile(r"\b(requires|ensures)\b\*?(?:\s+(\w+))?\s*\{|\bghost\s+(?!use\b|view\b|invariant\b)(\w+)\s*[=:]\s*\{")
 HEADER = re.compile(r"\b(impl|trait)\b\s*(?:<[^{]*?>\s*)?(?:[^{]*\bfor\s+)?[&]?(?:\w+::)*(\w+)")
 IMPORT_IN_SPECS = re.compile(r"^use Rattle\.(\w+)\.specs\.([\w.]+)\.\{([^}]*)\}", re.M)
@@ -118,7 +119,8 @@ def owner_of(crate, file, around, function, said):
         is_trait = headers[-1][1] == "trait" or " for " in headers[-1][0]
         return f"{headers[-1][2]}::{function[2]}" if is_pub or is_trait else None
     is_main = crate.is_program and file.name == "main.rt"
-    return function[2] if is_main or is_pub and crate.shows(file, function[2]) else None
+    is_export = re.search(r"\bextern\b", function[0])
+    return function[2] if is_main or is_export or is_pub and crate.shows(file, function[2]) else None
 
 
 def stands_in(name, text):

@@ -18,8 +18,8 @@ trap 'rm -rf "$work"' EXIT
 white="50 34 0A 31 37 32 38 20 31 0A$(seq 216 | sed 's/.*/ 00/' | tr -d '\n')"
 count=0
 # How many runs of the program there are at least, so that cases that go missing are seen.
-least=1800
-for part in common code decode frames call drive bits words files reference readme; do
+least=1980
+for part in common code decode frames call drive bits words files reference station readme; do
     . "$top/.ci/end_to_end/$part.sh"
 done
 
@@ -65,11 +65,13 @@ for program in "$@"; do
     try_no_image
     try_rtc
     try_outputs
+    try_closed
     try_scripts
     try_calls
     try_counts
     try_drives
     try_bits
+    try_stations
     try_reference
     try_readme
     [ "$count" -ge "$least" ] || fails "$count runs, and not $least at least"

@@ -54,6 +54,8 @@ try_drive_words() {
 --lose 1/1000000000 --seed 1
 --lose 5% --spoil 101% --seed 1
 --lose 5% --spoil five --seed 1
+--lose 5% --busy 101% --seed 1
+--lose 5% --busy always --seed 1
 CASES
     refuses call --lose "5 %" --seed 1 "$input"
     refuses call --lose "" --seed 1 "$input"
@@ -66,10 +68,11 @@ CASES
 --lose 5%|--lose needs --seed
 --lose 60% --spoil 41% --seed 1|--lose and --spoil are more than 100% together
 --lose 5% --script missing --seed 1|--script and --lose can't be used together
---spoil 5% --script missing|--spoil, --seed, --calls and --times are for a call with --lose
---seed 5 --script missing|--spoil, --seed, --calls and --times are for a call with --lose
---calls 5 --script missing|--spoil, --seed, --calls and --times are for a call with --lose
---times 5 --script missing|--spoil, --seed, --calls and --times are for a call with --lose
+--spoil 5% --script missing|--spoil, --busy, --seed, --calls and --times are for a call with --lose
+--busy 5% --script missing|--spoil, --busy, --seed, --calls and --times are for a call with --lose
+--seed 5 --script missing|--spoil, --busy, --seed, --calls and --times are for a call with --lose
+--calls 5 --script missing|--spoil, --busy, --seed, --calls and --times are for a call with --lose
+--times 5 --script missing|--spoil, --busy, --seed, --calls and --times are for a call with --lose
 --times 5|--script or --lose is missing
 --lose 5% --seed 1 --times 5 --out pages|--times keeps no pages, and can't be used with --out
 --lose 5% --seed 1 --times 5 --bits sent|--times keeps no octets, and can't be used with --bits
@@ -108,6 +111,10 @@ try_drives() {
     drives --lose 0% --spoil 100% --seed 1
     is_spoiled=$(tail -2 "$work/output" | head -1)
     [ "$is_spoiled" = "caller no-answer confirmed 0" ] || fails "a call that spoils all ends with $is_spoiled"
+    drives --lose 0% --busy 100% --seed 1
+    asked=$(grep -c " to-caller RNR RR$" "$work/output")
+    is_busy=$(tail -2 "$work/output" | head -1)
+    [ "$asked $is_busy" = "20 caller still-busy confirmed 0" ] || fails "a call to a busy answerer hears $asked RNRs and ends with $is_busy"
     try_drive_words
     faults "fault 8" call --lose 5% --seed 1 "$work/missing"
     faults "fault 7" call --lose 5% --seed 1 "$(: > "$work/nothing"; echo "$work/nothing")"

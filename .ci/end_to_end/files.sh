@@ -57,6 +57,28 @@ try_outputs() {
     [ ! -c /dev/full ] || faults "fault 8" code --code mh "$data/page.pbm" /dev/full
 }
 
+# A closed output gives its number to the first file that is opened then. OUT is whole where nothing is printed; else that is fault 8, and
+# no file is made.
+try_closed() {
+    "$program" code --code mh "$data/page.pbm" "$work/made" >&- || fails "code with a closed output ended with status $?"
+    is_same "$work/made" "$data/page.mh.msb" "OUT of code with a closed output"
+    "$program" decode --code mh --width 315 "$work/made" "$work/decoded" >&- || fails "decode with a closed output ended with status $?"
+    is_same "$work/decoded" "$data/page.pbm" "OUT of decode with a closed output"
+    mkdir -p "$work/none" "$work/sent"
+    input=$(octets "$white")
+    echo "polite 11" > "$work/script"
+    works call --script "$work/script" --bits "$work/sent" "$input"
+    for words in "frames --pages $work/none $work/sent/to-answerer.bits" "call --script $work/script --out $work/none/out.pbm $input" \
+        "call --lose 5% --seed 1 --out $work/none/out.pbm $input" "code --code mh $input -" "decode --code mh --width 315 $work/made -"; do
+        status=0
+        "$program" $words >&- 2> "$work/error" || status=$?
+        [ "$status $(cat "$work/error")" = "1 fault 8" ] || fails "$words with a closed output ended with status $status"
+    done
+    [ -z "$(ls "$work/none")" ] || fails "a file of pages was made with a closed output"
+    rm -r "$work/none" "$work/sent"
+    count=$((count + 7))
+}
+
 # A new file beside OUT takes its place: no file that is there, of whatever name, is written, emptied or removed.
 try_safe() {
     rm -rf "$work/safe"

@@ -21,7 +21,7 @@ try_flood() {
         fails "${1##*/}: a flood of pages is answered otherwise: $(sort "$work/output" | uniq -c | head -5)"
 }
 
-# try_streams FAXTOOL: the rows by octets; 300 random streams of a fixed seed and the octets of 300 calls: what the programs of
+# try_streams FAXTOOL: the rows by octets, what stations of each type say, and the calls of .ci/calls by joined terminals; 300 random streams of a fixed seed and the octets of 300 calls: what the programs of
 # crates/stream_tool answer, store and send is what the reference says. The codes of the calls' pages are FAXTOOL's.
 try_streams() {
     python3 -B "$top/bench/fuzz/fuzz_stream.py" --dry > "$work/output" || fails "fuzz_stream.py doesn't answer its worked streams: $(cat "$work/output")"
@@ -34,6 +34,8 @@ try_streams() {
     for stream in "$built" "$built.by-rattle"; do
         [ -x "$stream" ] || continue
         timeout 600 python3 -B "$data/try_rows.py" "$stream" "$1" "$work/reference" || fails "${stream##*/}: a worked row has other octets"
+        timeout 600 python3 -B "$data/try_stations.py" "$stream" "$work/reference" "$top/docs/TIMERS.md" || fails "${stream##*/}: a station says something else"
+        timeout 600 python3 -B "$data/try_joined.py" "$stream" "$1" "$top/.ci/calls" "$work/reference" || fails "${stream##*/}: joined terminals end otherwise"
         timeout 600 python3 -B "$data/try_streams.py" "$stream" "$work/reference" || fails "${stream##*/}: the reference answers something else"
         timeout 600 python3 -B "$data/try_octets.py" "$stream" "$1" "$work/reference" || fails "${stream##*/}: the reference sends other octets"
         [ "$stream" != "$built" ] || try_flood "$stream" "$1"

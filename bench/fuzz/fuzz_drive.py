@@ -21,10 +21,11 @@ sys.dont_write_bytecode = True
 sys.path.insert(0, str(Path(__file__).resolve().parent))
 from fuzz_calls import CALLER, PROGRAM, Failed, check, compare, compare_bits, line_of_call, pages_of  # noqa: E402
 from fuzz_calls import random_image, random_options, value_of  # noqa: E402
-from reference_drive import Pcg32, drive, fates, rate_of  # noqa: E402
+from reference_drive import RNRS, Drawn, Pcg32, drive, rate_of  # noqa: E402
 
 RATES = ["0%", "1%", "2%", "05%", "10%", "20%", "30%", "40%", "100%", "1/20", "3/1000", "1/3", "000000001/7", "999999999/999999999"]
 SPOILS = ["0%", "5%", "10%", "1/3", "1/1000000"]
+BUSY = ["0%", "10%", "1/2", "90%", "99%", "100%"]
 IMAGES = 24
 
 
@@ -43,20 +44,21 @@ class Pages:
 
 
 def random_rates(rand):
-    """A rate of losses and one of spoiled items, which are 1 at most together."""
+    """A rate of losses and one of spoiled items, which are 1 at most together, and one of a busy answerer."""
     lose, spoil = rand.choice(RATES), rand.choice(SPOILS) if rand.random() < 0.5 else None
     if spoil and rate_of(lose) + rate_of(spoil) > 1:
         spoil = None
-    return lose, spoil
+    return lose, spoil, rand.choice(BUSY) if rand.random() < 0.5 else None
 
 
 def try_drive(rand, pages, folder):
     """One call. Answers the caller's end."""
     chosen = [rand.randrange(IMAGES) for _ in range(rand.randint(1, 4))]
-    options, (lose, spoil) = random_options(rand), random_rates(rand)
+    options, (lose, spoil, busy) = random_options(rand), random_rates(rand)
     seed, calls = rand.choice([0, 1, 2**32 - 1, rand.randrange(2**32)]), rand.choice([None, 1, 2, 3, 4, 9])
     line = ["--lose", lose, "--seed", str(seed)]
     line += ["--spoil", spoil] if spoil else []
+    line += ["--busy", busy] if busy else []
     line += ["--calls", str(calls)] if calls else []
     out, document = os.path.join(folder, "pages.pbm"), os.path.join(folder, "in.pbm")
     with open(document, "wb") as file:
@@ -69,9 +71,9 @@ def try_drive(rand, pages, folder):
     printed = ran.stdout.decode("ascii", "replace")
     try:
         check([pages.images[number] for number in chosen], 1, 10**9, ran.returncode, printed, ran.stderr.decode("utf-8", "replace"), left)
-        drawn = fates(Pcg32(seed, 0), rate_of(lose), rate_of(spoil or "0%"))
+        drawn = Drawn(Pcg32(seed, 0), rate_of(lose), rate_of(spoil or "0%"), rate_of(busy or "0%"))
         line_read = line_of_call([pages.coded(number, options) for number in chosen], options)
-        drive(line_read, drawn, calls or 3, 0)
+        drive(line_read, drawn, calls or 3, RNRS)
         compare(printed, line_read.entries + line_read.ends())
         compare_bits(folder, line_read)
     except Failed as why:

@@ -55,11 +55,11 @@ class Failed(Exception):
 
 def bits_of(octets):
     """The bits as they are sent, the least significant of each octet first."""
-    return "".join(f"{octet:08b}"[::-1] for octet in octets)
+    return f"{int.from_bytes(octets, 'little'):0{8 * len(octets)}b}"[::-1] if octets else ""
 
 
 def octets_of(bits):
-    return bytes(int(bits[at : at + 8][::-1], 2) for at in range(0, len(bits), 8))
+    return int(bits[::-1] or "0", 2).to_bytes(-(-len(bits) // 8), "little")
 
 
 def remainder(left):

@@ -20,7 +20,7 @@ sys.dont_write_bytecode = True
 sys.path.insert(0, str(Path(__file__).resolve().parent))
 from fuzz_calls import PROGRAM, SPEEDS, Failed, compare, need, random_options, value_of  # noqa: E402
 from fuzz_drive import IMAGES, Pages, random_rates  # noqa: E402
-from reference_drive import Pcg32, fates, rate_of  # noqa: E402
+from reference_drive import Drawn, Pcg32, rate_of  # noqa: E402
 from reference_times import times  # noqa: E402
 
 
@@ -33,11 +33,13 @@ def printed_by(words):
 def try_run(rand, pages, folder):
     """One run. Answers the number of its calls."""
     chosen = [rand.randrange(IMAGES) for _ in range(rand.randint(1, 4))]
-    options, (lose, spoil) = random_options(rand), random_rates(rand)
+    options, (lose, spoil, busy) = random_options(rand), random_rates(rand)
+    rates = rate_of(lose), rate_of(spoil or "0%"), rate_of(busy or "0%")
     seed, calls = rand.choice([0, 1, 2**32 - 1, rand.randrange(2**32)]), rand.choice([None, 1, 2, 3, 4, 9])
     count = rand.randint(1, 20)
     line = ["--lose", lose, "--seed", str(seed)]
     line += ["--spoil", spoil] if spoil else []
+    line += ["--busy", busy] if busy else []
     line += ["--calls", str(calls)] if calls else []
     document = os.path.join(folder, "in.pbm")
     Path(document).write_bytes(b"".join(pages.images[number] for number in chosen))
@@ -46,8 +48,7 @@ def try_run(rand, pages, folder):
         speeds, frame = SPEEDS[value_of(options, "--modems", "v17")], int(value_of(options, "--frame", "256"))
         coded = [(width, len(code)) for width, code in (pages.coded(number, options) for number in chosen)]
         printed = printed_by(words)
-        compare(printed, list(times(coded, frame, speeds, lambda number: fates(Pcg32(seed, number), rate_of(lose), rate_of(spoil or "0%")),
-                                    count, calls or 3)))
+        compare(printed, list(times(coded, frame, speeds, lambda number: Drawn(Pcg32(seed, number), *rates), count, calls or 3)))
         alone = printed_by([*line, *options, document]).split("\n")
         first = printed.split("\n")[0]
         need(first.startswith(f"call 0 {alone[-3]} {alone[-2]} deliveries "), f"the call alone ends with {alone[-3:-1]}")

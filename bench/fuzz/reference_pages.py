@@ -8,6 +8,7 @@ Bits are a text of `0` and `1` in the order of sending. A row is the list of its
 import random
 import re
 import sys
+from bisect import bisect_right
 
 # The code words of runs (ITU-T T.4, tables 2 and 3): of 0 to 63 pixels, of 64 to 1728 in steps of 64, and of 1792 to 2560 for both colors.
 WHITE_ENDS = """
@@ -127,12 +128,10 @@ def color_at(row, place):
 
 def b1_and_b2(reference, width, a0, color):
     """The first changing position to the right of a0 whose pixel is of the other color than a0's, and the next one."""
-    after = [(at, number) for number, at in enumerate(reference) if at > a0]
-    to_other = [(at, number) for at, number in after if (number + 1) % 2 == 1 - color]
-    if not to_other:
-        return width, width
-    b1, number = to_other[0]
-    return b1, reference[number + 1] if number + 1 < len(reference) else width
+    number = bisect_right(reference, a0)
+    number += number % 2 != color
+    b1, b2 = (reference[number : number + 2] + [width, width])[:2]
+    return b1, b2
 
 
 def turned(row, width):
@@ -246,6 +245,32 @@ def code_of(rand, rows, width, is_t6):
     return "".join(two_dimensional_words(rand, references[at], row, width) for at, row in enumerate(rows))
 
 
+def prescribed_row(reference, row, width):
+    """A row by the modes that T.6 prescribes."""
+    bits, a0, color, place, ends = [], -1, 0, 0, row + [width, width]
+    while a0 < width:
+        a1, a2 = ends[place : place + 2]
+        b1, b2 = b1_and_b2(reference, width, a0, color)
+        if b2 < a1:
+            bits.append(PASS)
+            a0 = b2
+        elif -3 <= a1 - b1 <= 3:
+            bits.append(VERTICAL[a1 - b1])
+            a0, color, place = a1, 1 - color, place + 1
+        else:
+            bits.append(HORIZONTAL + run_words(color, a1 - max(a0, 0)) + run_words(1 - color, a2 - a1))
+            a0, place = a2, place + 2
+    return "".join(bits)
+
+
+def prescribed(rows, width, is_t6):
+    """The bits of a page: in T.6 with EOFB, else with an EOL before each row and six after the last."""
+    if not is_t6:
+        eol = "000000000001"
+        return "".join(eol + row_words(row, width) for row in rows) + 6 * eol
+    return "".join(prescribed_row(above, row, width) for above, row in zip([[], *rows], rows)) + EOFB
+
+
 def random_rows(rand, width, count):
     """Rows of few and of many changing positions, some near those of the row before."""
     rows, row = [], []
@@ -284,6 +309,9 @@ def dry():
         ends = EOFB if is_t6 else rand.choice(["", "000000000001", 6 * "000000000001"])
         if read_page(code_of(rand, rows, width, is_t6) + ends, width, is_t6) != rows:
             print(f"page {number} isn't read as it was written")
+            return 1
+        if read_page(prescribed(rows, width, is_t6), width, is_t6) != rows:
+            print(f"page {number} isn't read as it is prescribed")
             return 1
     print(f"{len(WORKED)} worked pages and 400 random ones are read")
     return 0

@@ -1,7 +1,8 @@
 #!/usr/bin/env python3
 """What many calls over a bad line must print: a line for each, and a table, from the transcripts of reference_drive.py.
 
-    bench/fuzz/reference_times.py --lose 5% [--spoil 1/20] --seed N --times M [--calls K] [--frame 64] [--speeds N] WIDTH:OCTETS..
+    bench/fuzz/reference_times.py --lose 5% [--spoil 1/20] [--busy 10%] --seed N --times M [--calls K] [--frame 64]
+        [--speeds N] WIDTH:OCTETS..
     bench/fuzz/reference_times.py --dry        tries it on a call worked by hand
 
 The calls have the numbers from 0. A call's deliveries are the events that begin with to-, its lost items those that begin with lose-, and
@@ -12,7 +13,7 @@ from collections import Counter
 from pathlib import Path
 
 sys.path.insert(0, str(Path(__file__).resolve().parent))
-from reference_drive import Pcg32, fates, listed, rate_of, transcript  # noqa: E402
+from reference_drive import Drawn, Listed, Pcg32, rate_of, transcript  # noqa: E402
 
 ENDS = ["normal", "no-answer", "not-compatible", "training", "no-reply", "unreadable", "still-busy", "peer-left", "bad-page",
         "page-too-long"]
@@ -32,7 +33,7 @@ def counted(lines):
 
 
 def times(pages, size, speeds, drawn_for, count, calls=3):
-    """The lines that so many calls print, with the fates that are drawn for each number."""
+    """The lines that so many calls print, with what is drawn for each number."""
     ends, mild, borne, deliveries, again = Counter(), 0, 0, 0, 0
     for number in range(count):
         *events, caller, answerer = transcript(pages, size, speeds, drawn_for(number), calls)
@@ -65,7 +66,7 @@ WORKED = [
 
 
 def dry():
-    printed = list(times([(1728, 1000)], 256, 6, lambda number: listed("cccc" + "clcl"), 1))
+    printed = list(times([(1728, 1000)], 256, 6, lambda number: Listed("cccc" + "clcl"), 1))
     if printed != WORKED:
         print(f"the worked call is {printed}")
         return 1
@@ -77,7 +78,8 @@ def main():
     words = sys.argv[1:]
     if words == ["--dry"]:
         return dry()
-    options = {"--lose": "0%", "--spoil": "0%", "--seed": "0", "--times": "1", "--calls": "3", "--frame": "256", "--speeds": "6"}
+    options = {"--lose": "0%", "--spoil": "0%", "--busy": "0%", "--seed": "0", "--times": "1", "--calls": "3", "--frame": "256"}
+    options["--speeds"] = "6"
     while len(words) > 2 and words[0] in options:
         options[words[0]] = words[1]
         del words[:2]
@@ -85,8 +87,8 @@ def main():
         print(__doc__, file=sys.stderr)
         return 2
     pages = [tuple(int(number) for number in page.split(":")) for page in words]
-    seed, lose, spoil = int(options["--seed"]), rate_of(options["--lose"]), rate_of(options["--spoil"])
-    lines = times(pages, int(options["--frame"]), int(options["--speeds"]), lambda number: fates(Pcg32(seed, number), lose, spoil),
+    seed, rates = int(options["--seed"]), [rate_of(options[name]) for name in ("--lose", "--spoil", "--busy")]
+    lines = times(pages, int(options["--frame"]), int(options["--speeds"]), lambda number: Drawn(Pcg32(seed, number), *rates),
                   int(options["--times"]), int(options["--calls"]))
     print("\n".join(lines))
     return 0

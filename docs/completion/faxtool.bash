@@ -8,7 +8,8 @@ _faxtool_options() {
         show) echo --code --width --order --explain --help ;;
         decode) echo --code --width --order --fine --salvage --repair --whole --verbose --explain --help ;;
         frames) echo --data --pages --explain --help ;;
-        call) echo --script --lose --spoil --seed --calls --times --code --frame --modems --fine --out --bits --explain --help ;;
+        call) echo --script --lose --spoil --busy --seed --calls --times --code --frame --modems --fine --out --bits --explain --help ;;
+        station) echo --answer --call --out --code --modems --standard --widest --limit --frame --fine --t1 --t2 --t4 --t5 --trace --explain --help ;;
         *) echo --help ;;
     esac
 }
@@ -24,9 +25,16 @@ _faxtool_values() {
         --data) echo 8 ;;
         --lose) echo 1% 5% 10% ;;
         --spoil) echo 1% 5% ;;
+        --busy) echo 10% 50% ;;
         --seed) echo 1 ;;
         --calls) echo 3 ;;
         --times) echo 100 1000 ;;
+        --widest) echo 1728 2048 2432 ;;
+        --limit) echo 2 10 ;;
+        --t1) echo 35000 ;;
+        --t2) echo 6000 ;;
+        --t4) echo 3000 ;;
+        --t5) echo 60000 ;;
     esac
 }
 
@@ -34,7 +42,7 @@ _faxtool() {
     local word=${COMP_WORDS[COMP_CWORD]} before=${COMP_WORDS[COMP_CWORD - 1]} values
     COMPREPLY=()
     if [ "$COMP_CWORD" = 1 ]; then
-        COMPREPLY=($(compgen -W "code show decode frames call version help --help" -- "$word"))
+        COMPREPLY=($(compgen -W "code show decode frames call station version help --help" -- "$word"))
         return
     fi
     # bash takes --code=mh as three words
@@ -44,7 +52,7 @@ _faxtool() {
     if [ -n "$values" ]; then
         COMPREPLY=($(compgen -W "$values" -- "$word"))
     elif [ "${COMP_WORDS[1]}" = help ]; then
-        COMPREPLY=($(compgen -W "code show decode frames call version" -- "$word"))
+        COMPREPLY=($(compgen -W "code show decode frames call station version" -- "$word"))
     elif [ "${word#-}" != "$word" ]; then
         COMPREPLY=($(compgen -W "$(_faxtool_options "${COMP_WORDS[1]}")" -- "$word"))
     else

@@ -1,23 +1,15 @@
-//! What no clause of `stations`, `line_sim` and `engines` says: worked calls, streams of foreign peers, and readers and writers that fail.
+//! What no clause of `stations` and `line_sim` says: worked calls, and streams of foreign peers.
 #![tactic(auto)]
 
 #[cfg(test)]
 mod answerer;
 #[cfg(test)]
-mod call;
-#[cfg(test)]
 mod caller;
 #[cfg(test)]
-mod frames;
-#[cfg(test)]
 mod losses;
-#[cfg(test)]
-mod pages;
 #[cfg(test)]
 mod seams;
 #[cfg(test)]
 mod stream;
-#[cfg(test)]
-mod streams;
 #[cfg(test)]
 mod world;

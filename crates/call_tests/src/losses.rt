@@ -1,6 +1,6 @@
 //! The fewest losses that break a driven call, each of a kind, and that it goes through with one less.
 
-use line_sim::{DrivenCall, Fate};
+use line_sim::{DrivenCall, Fate, Patience};
 use page_code::Coding;
 use raster::{Document, Page, Row};
 use signals::{Caps, Modems, PageWidth, Wish};
@@ -40,7 +40,8 @@ fn white_call(alloc: Global) -> Result<DrivenCall, Fail> {
         ecm: true,
     };
     let document = Document::new(alloc, page)?;
-    Ok(DrivenCall::new(alloc, document, wish, caps, 3)?)
+    let patience = Patience { calls: 3, busy: 3 };
+    Ok(DrivenCall::new(alloc, document, wish, caps, patience)?)
 }
 
 // With no loss there come: DIS, DCS, the training check, CFR; FCD, three RCP, PPS, MCF; DCN.

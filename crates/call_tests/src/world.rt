@@ -1,7 +1,7 @@
 //! What a run and the octets on the line show beyond the contracts. Worked calls of a world are scripts of the program, in .ci/calls.
 
 use hdlc::Deframer;
-use line_sim::{DrivenCall, Event, Fate, Form, Kind, LiveCall, World, run};
+use line_sim::{DrivenCall, Event, Fate, Form, Kind, LiveCall, Patience, World, run};
 use page_code::Coding;
 use raster::{Document, Page, Row};
 use signals::{Caps, Modems, PageWidth, Side, Wish};
@@ -188,7 +188,8 @@ fn a_driven_call_that_loses_a_dis_and_an_fcd(rt: HostRuntime) -> Result<(), Fail
         Fate::Comes,
         Fate::Lost,
     ];
-    let mut call = DrivenCall::new(alloc, white_page(alloc)?, WISH, CAPS, 3)?;
+    let patience = Patience { calls: 3, busy: 3 };
+    let mut call = DrivenCall::new(alloc, white_page(alloc)?, WISH, CAPS, patience)?;
     assert_eq!(rt; call.drive(&fates, 1000)?, 19);
     assert!(rt; call.step(Fate::Comes).is_none());
     let ending = call.into_live().into_ending();

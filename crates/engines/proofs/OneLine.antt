@@ -21,7 +21,8 @@ use Rattle.engines.specs.declared.refused.Expected.{Expected}
 use Rattle.engines.specs.declared.refused.Expected.TheVariants.{RunOf, Eol}
 use Rattle.engines.specs.declared.fault.ToolFault.{ToolFault}
 use Rattle.engines.specs.declared.fault.ToolFault.TheVariants.{No, AtBit, AtLine}
-use Rattle.engines.specs.Explanations.{IsOneLine, are_shown, code_table, code_words, explained, image_table, image_words, is_at_end, is_plain}
+use Rattle.engines.specs.Explanations.{IsOneLine, are_shown, code_table, code_words, explained, image_table, image_words, is_at_end}
+use Rattle.engines.specs.Explanations.{is_plain}
 use Rattle.engines.specs.Explanations.{is_shown, line_words, name_text, netpbm_table, no_raw_pbm, other_words, reason_words, row_text}
 use Rattle.engines.specs.Explanations.{tiff_table, try_words, whole_words, words_in}
 

@@ -8,7 +8,7 @@ use Rattle.std.proofs.KnownBytes.{Appends-trans}
 use Rattle.std.proofs.lemmas.List.{append-nil, take_all}
 use Rattle.page_code.specs.declared.one_dim.repair.RepairedRow.{RepairedRow}
 use Rattle.engines.specs.Repairs.{count_line, repaired_line, repaired_text}
-use Rattle.engines.proofs.EntryLines.{take_next}
+use Rattle.engines.proofs.FirstElements.{take_next}
 
 -- all lines, and then their number
 pub whole_text : (before now after : Option (List ℕ)) (rows : List RepairedRow) (index : ℕ) → 0 < length rows → length rows ≤ index

@@ -1,5 +1,4 @@
 //! What went wrong while a command ran.
-use line_sim::WorldFault;
 use raster::RasterFault;
 use run_tables::{CodeFault, CodeFaultKind};
 use std::alloc::AllocError;
@@ -53,18 +52,6 @@ impl From<RasterFault> for ToolFault {
     ghost from_gives = { λ fault tool_fault. tool_fault ≡ No (number_of fault) };
 
     fn from(fault: RasterFault) -> ToolFault {
-        ToolFault::No(fault.number())
-    }
-}
-
-impl From<WorldFault> for ToolFault {
-    ghost use Rattle.std.specs.Prelude.{◌≡◌};
-    ghost use Rattle.line_sim.specs.Report.{number_of};
-    ghost use Rattle.engines.specs.declared.fault.ToolFault.TheVariants.{No};
-
-    ghost from_gives = { λ fault tool_fault. tool_fault ≡ No (number_of fault) };
-
-    fn from(fault: WorldFault) -> ToolFault {
         ToolFault::No(fault.number())
     }
 }

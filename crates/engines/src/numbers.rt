@@ -52,7 +52,7 @@ impl PageNumbers {
 }
 
 /// The number of a page of which something is missing, from 1, and 0 where it isn't known.
-fn missing_page(found: &Captured) -> u64
+pub(crate) fn missing_page(found: &Captured) -> u64
     ensures { result ≡ page_missing found.now }
 {
     match found {

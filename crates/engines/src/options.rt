@@ -1,20 +1,6 @@
-//! What a call is run with, and how a page is read.
+//! How a page is read.
 use page_code::Coding;
 use run_tables::Order;
-use signals::Modems;
-
-/// What a call is run with.
-#[derive(Clone, Copy, Debug, PartialEq, Eq)]
-pub struct CallOptions {
-    /// The code of the pages, where the answerer reads it.
-    pub coding: Coding,
-    /// Frames of 64 octets of data in place of 256.
-    pub small: bool,
-    /// The modems of both stations.
-    pub modems: Modems,
-    /// 7.7 lines a millimetre in place of 3.85.
-    pub fine: bool,
-}
 
 /// How a coded page is read.
 #[derive(Clone, Copy, Debug, PartialEq, Eq)]
@@ -27,4 +13,17 @@ pub struct PageForm {
     pub width: u32,
     /// 7.7 lines a millimetre in place of 3.85.
     pub fine: bool,
+}
+
+/// What is asked for of a page that is decoded.
+#[derive(Clone, Copy, Debug, PartialEq, Eq)]
+pub struct DecodeOptions {
+    /// Its whole rows, where the rest can't be read.
+    pub salvage: bool,
+    /// A row for each line, also where it can't be read; with `salvage` this alone.
+    pub repair: bool,
+    /// A page of T.4 is all there only where its code ends with RTC.
+    pub whole: bool,
+    /// Lines with its rows, the bits of its code and the octets after it.
+    pub verbose: bool,
 }

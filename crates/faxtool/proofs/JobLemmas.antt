@@ -9,14 +9,14 @@ use Rattle.clap.specs.declared.error.Error.{Error}
 use Rattle.clap.specs.declared.builder.value_parser.ValueParser.{ValueParser}
 use Rattle.clap.proofs.OnLiterals.{clap_on_literals}
 use Rattle.clap.proofs.WalkLemmas.{one_text-rows}
-use Rattle.engines.specs.Losses.{IsRate}
-use Rattle.engines.specs.declared.losses.BadLine.{BadLine}
+use Rattle.calls.specs.Losses.{IsRate}
+use Rattle.calls.specs.declared.losses.BadLine.{BadLine}
 use Rattle.std.specs.Prelude.{string_bytes}
-use Rattle.faxtool.specs.declared.words.Job.TheVariants.{Call, Code, Decode, Drive, Frames, Show, Version}
+use Rattle.faxtool.specs.declared.words.Job.TheVariants.{Answer, Call, Code, Decode, Dial, Drive, Frames, Show, Version}
 use Rattle.faxtool.specs.declared.words.Outcome.{Outcome}
 use Rattle.faxtool.specs.declared.words.Outcome.TheVariants.{Done, Fault, Incomplete, Words}
 use Rattle.faxtool.specs.Jobs.{AreOptionsIn, HasNoJob, HasNoOptions, IsFaxtool, IsOutcomeOf, IsRefusalOf, IsWidthIn, ReadsNumber}
-use Rattle.faxtool.specs.Jobs.{IsLineIn, IsTimesIn, IsRateIn, IsSpoilIn, faxtool_app}
+use Rattle.faxtool.specs.Jobs.{IsBusyIn, IsLineIn, IsTimesIn, IsRateIn, IsSpoilIn, call_and_page_app, with_later}
 
 -- ---- the width
 
@@ -61,19 +61,31 @@ width_none rows none n is =
 
 -- ---- the words
 
-pub faxtool_simple : (codings orders sizes modems : ValueParser) → is_simple (faxtool_app codings orders sizes modems) ≡ true
+pub faxtool_simple : (codings orders sizes modems later_codings later_sizes later_modems widths : ValueParser)
+    → is_simple (with_later (call_and_page_app codings orders sizes modems) later_codings later_sizes later_modems widths) ≡ true
 unfolding clap_on_literals
-faxtool_simple codings orders sizes modems = refl
+faxtool_simple codings orders sizes modems later_codings later_sizes later_modems widths = refl
 
-pub faxtool_free : (codings orders sizes modems : ValueParser) → is_simple_and_free (faxtool_app codings orders sizes modems) ≡ true
+pub faxtool_free : (codings orders sizes modems later_codings later_sizes later_modems widths : ValueParser)
+    → is_simple_and_free (with_later (call_and_page_app codings orders sizes modems) later_codings later_sizes later_modems widths) ≡ true
 unfolding clap_on_literals
-faxtool_free codings orders sizes modems = refl
+faxtool_free codings orders sizes modems later_codings later_sizes later_modems widths = refl
+
+-- the whole program, by its parsers alone
+whole : (a : App) (is : IsFaxtool a)
+    → a ≡ with_later (call_and_page_app is.first.codings is.first.orders is.first.sizes is.first.modems) is.codings is.sizes is.modems
+    is.widths
+whole a is = is.commands ∙ ap (λ (begun : App). with_later begun is.codings is.sizes is.modems is.widths) is.first.commands
 
 pub is_faxtool_simple : (a : App) → IsFaxtool a → is_simple a ≡ true
-is_faxtool_simple a is = ap is_simple is.commands ∙ faxtool_simple is.codings is.orders is.sizes is.modems
+is_faxtool_simple a is =
+    ap is_simple (whole a is) ∙ faxtool_simple is.first.codings is.first.orders is.first.sizes is.first.modems is.codings is.sizes is.modems
+    is.widths
 
 pub is_faxtool_free : (a : App) → IsFaxtool a → is_simple_and_free a ≡ true
-is_faxtool_free a is = ap is_simple_and_free is.commands ∙ faxtool_free is.codings is.orders is.sizes is.modems
+is_faxtool_free a is =
+    ap is_simple_and_free (whole a is) ∙ faxtool_free is.first.codings is.first.orders is.first.sizes is.first.modems is.codings is.sizes
+    is.modems is.widths
 
 -- clap's own refusal
 pub refused_by_kind : (words : List Text) (a : App) (error : Error) (outcome : Outcome) → IsFaxtool a
@@ -161,12 +173,27 @@ call_is_version e =
     let bad : 99 ≡ 118 = ap (λ (t : Text). slice_index t 0) e in
     absurd (omega (arith, bad))
 
+show_is_station : codes "show" ≡ codes "station" → ⊥
+show_is_station e =
+    let bad : 104 ≡ 116 = ap (λ (t : Text). slice_index t 1) e in
+    absurd (omega (arith, bad))
+
+decode_is_station : codes "decode" ≡ codes "station" → ⊥
+decode_is_station e =
+    let bad : 100 ≡ 115 = ap (λ (t : Text). slice_index t 0) e in
+    absurd (omega (arith, bad))
+
+call_is_station : codes "call" ≡ codes "station" → ⊥
+call_is_station e =
+    let bad : 99 ≡ 115 = ap (λ (t : Text). slice_index t 0) e in
+    absurd (omega (arith, bad))
+
 -- without a width there is no job for `show`
 pub no_width : (rows : List Row) → ((n : ℕ) → IsWidthIn rows n → ⊥) → HasNoJob (Some (codes "show", rows))
 no_width rows none (Code coding order input output) (others, e, is) = show_is_code (some_name (codes "show") (codes "code") rows others e)
 no_width rows none (Show coding order width input) (others, e, is) =
     none width (subst (λ (xs : List Row). IsWidthIn xs width) (sym (some_rows (codes "show") (codes "show") rows others e)) is.width_is)
-no_width rows none (Decode coding order width fine salvage repair whole verbose input output) (others, e, is) =
+no_width rows none (Decode form options input output) (others, e, is) =
     show_is_decode (some_name (codes "show") (codes "decode") rows others e)
 no_width rows none (Frames most pages input) (others, e, reads, folder, is) =
     show_is_frames (some_name (codes "show") (codes "frames") rows others e)
@@ -174,6 +201,10 @@ no_width rows none (Call script options out bits input) (others, e, is) =
     show_is_call (some_name (codes "show") (codes "call") rows others e)
 no_width rows none (Drive line times options out bits input) (others, e, is) =
     show_is_call (some_name (codes "show") (codes "call") rows others e)
+no_width rows none (Answer caps limit waits out trace) (others, e, is) =
+    show_is_station (some_name (codes "show") (codes "station") rows others e)
+no_width rows none (Dial options waits trace input) (others, e, is) =
+    show_is_station (some_name (codes "show") (codes "station") rows others e)
 no_width rows none Version (others, e) = show_is_version (some_name (codes "show") (codes "version") rows others e)
 
 -- nor is there one for `decode`
@@ -182,8 +213,8 @@ no_width_to_decode rows none (Code coding order input output) (others, e, is) =
     decode_is_code (some_name (codes "decode") (codes "code") rows others e)
 no_width_to_decode rows none (Show coding order width input) (others, e, is) =
     show_is_decode (sym (some_name (codes "decode") (codes "show") rows others e))
-no_width_to_decode rows none (Decode coding order width fine salvage repair whole verbose input output) (others, e, is) =
-    none width (subst (λ (xs : List Row). IsWidthIn xs width) (sym (some_rows (codes "decode") (codes "decode") rows others e))
+no_width_to_decode rows none (Decode form options input output) (others, e, is) =
+    none form.width (subst (λ (xs : List Row). IsWidthIn xs form.width) (sym (some_rows (codes "decode") (codes "decode") rows others e))
     is.shown.width_is)
 no_width_to_decode rows none (Frames most pages input) (others, e, reads, folder, is) =
     decode_is_frames (some_name (codes "decode") (codes "frames") rows others e)
@@ -191,6 +222,10 @@ no_width_to_decode rows none (Call script options out bits input) (others, e, is
     decode_is_call (some_name (codes "decode") (codes "call") rows others e)
 no_width_to_decode rows none (Drive line times options out bits input) (others, e, is) =
     decode_is_call (some_name (codes "decode") (codes "call") rows others e)
+no_width_to_decode rows none (Answer caps limit waits out trace) (others, e, is) =
+    decode_is_station (some_name (codes "decode") (codes "station") rows others e)
+no_width_to_decode rows none (Dial options waits trace input) (others, e, is) =
+    decode_is_station (some_name (codes "decode") (codes "station") rows others e)
 no_width_to_decode rows none Version (others, e) = decode_is_version (some_name (codes "decode") (codes "version") rows others e)
 
 -- without options there is no job for `call`
@@ -199,7 +234,7 @@ no_options rows none (Code coding order input output) (others, e, is) =
     call_is_code (some_name (codes "call") (codes "code") rows others e)
 no_options rows none (Show coding order width input) (others, e, is) =
     show_is_call (sym (some_name (codes "call") (codes "show") rows others e))
-no_options rows none (Decode coding order width fine salvage repair whole verbose input output) (others, e, is) =
+no_options rows none (Decode form options input output) (others, e, is) =
     decode_is_call (sym (some_name (codes "call") (codes "decode") rows others e))
 no_options rows none (Frames most pages input) (others, e, reads, folder, is) =
     call_is_frames (some_name (codes "call") (codes "frames") rows others e)
@@ -209,6 +244,10 @@ no_options rows none (Call script options out bits input) (others, e, is) =
 no_options rows none (Drive line times options out bits input) (others, e, is) =
     none options (subst (λ (xs : List Row). AreOptionsIn xs options) (sym (some_rows (codes "call") (codes "call") rows others e))
     is.options_are)
+no_options rows none (Answer caps limit waits out trace) (others, e, is) =
+    call_is_station (some_name (codes "call") (codes "station") rows others e)
+no_options rows none (Dial options waits trace input) (others, e, is) =
+    call_is_station (some_name (codes "call") (codes "station") rows others e)
 no_options rows none Version (others, e) = call_is_version (some_name (codes "call") (codes "version") rows others e)
 
 -- ---- a bad line
@@ -225,6 +264,13 @@ spoil_only rows text result given only share (inl (none, zero_is)) =
     absurd (cc)
 spoil_only rows text result given only share (inr rate) = rate_only (codes "spoil") rows text result given only share rate
 
+pub busy_only : (rows : List Row) (text : Text) (result : Option ℕ) → Some text ≡ first_of (codes "busy") rows
+    → ((share : ℕ) → IsRate text share → result ≡ Some share) → (share : ℕ) → IsBusyIn rows share → result ≡ Some share
+busy_only rows text result given only share (inl (none, zero_is)) =
+    let no : ◌≡◌ {A = Option Text} (Some text) None = given ∙ none in
+    absurd (cc)
+busy_only rows text result given only share (inr rate) = rate_only (codes "busy") rows text result given only share rate
+
 pub none_there : (share : ℕ) → ◌≡◌ {A = Option ℕ} None (Some share) → ⊥
 none_there share e = cc
 
@@ -238,7 +284,7 @@ no_line rows open_end none (Code coding order input output) (others, e, is) =
     call_is_code (some_name (codes "call") (codes "code") rows others e)
 no_line rows open_end none (Show coding order width input) (others, e, is) =
     show_is_call (sym (some_name (codes "call") (codes "show") rows others e))
-no_line rows open_end none (Decode coding order width fine salvage repair whole verbose input output) (others, e, is) =
+no_line rows open_end none (Decode form options input output) (others, e, is) =
     decode_is_call (sym (some_name (codes "call") (codes "decode") rows others e))
 no_line rows open_end none (Frames most pages input) (others, e, reads, folder, is) =
     call_is_frames (some_name (codes "call") (codes "frames") rows others e)
@@ -249,6 +295,10 @@ no_line rows open_end none (Call script options out bits input) (others, e, is) 
     cc
 no_line rows open_end none (Drive line times options out bits input) (others, e, is) =
     none line (subst (λ (xs : List Row). IsLineIn xs line) (sym (some_rows (codes "call") (codes "call") rows others e)) is.line_is)
+no_line rows open_end none (Answer caps limit waits out trace) (others, e, is) =
+    call_is_station (some_name (codes "call") (codes "station") rows others e)
+no_line rows open_end none (Dial options waits trace input) (others, e, is) =
+    call_is_station (some_name (codes "call") (codes "station") rows others e)
 no_line rows open_end none Version (others, e) = call_is_version (some_name (codes "call") (codes "version") rows others e)
 
 -- without a script, and where no number of calls fits, there is no job for `call`
@@ -258,7 +308,7 @@ no_times rows open_end none (Code coding order input output) (others, e, is) =
     call_is_code (some_name (codes "call") (codes "code") rows others e)
 no_times rows open_end none (Show coding order width input) (others, e, is) =
     show_is_call (sym (some_name (codes "call") (codes "show") rows others e))
-no_times rows open_end none (Decode coding order width fine salvage repair whole verbose input output) (others, e, is) =
+no_times rows open_end none (Decode form options input output) (others, e, is) =
     decode_is_call (sym (some_name (codes "call") (codes "decode") rows others e))
 no_times rows open_end none (Frames most pages input) (others, e, reads, folder, is) =
     call_is_frames (some_name (codes "call") (codes "frames") rows others e)
@@ -269,4 +319,8 @@ no_times rows open_end none (Call script options out bits input) (others, e, is)
     cc
 no_times rows open_end none (Drive line times options out bits input) (others, e, is) =
     none times (subst (λ (xs : List Row). IsTimesIn xs times) (sym (some_rows (codes "call") (codes "call") rows others e)) is.times_is)
+no_times rows open_end none (Answer caps limit waits out trace) (others, e, is) =
+    call_is_station (some_name (codes "call") (codes "station") rows others e)
+no_times rows open_end none (Dial options waits trace input) (others, e, is) =
+    call_is_station (some_name (codes "call") (codes "station") rows others e)
 no_times rows open_end none Version (others, e) = call_is_version (some_name (codes "call") (codes "version") rows others e)

@@ -16,13 +16,19 @@ use Rattle.raster.specs.Pixels.{IsWidth}
 use Rattle.raster.specs.declared.packed.Order.{Order}
 use Rattle.raster.specs.declared.packed.Order.TheVariants.{LsbFirst, MsbFirst}
 use Rattle.engines.specs.declared.fault.ToolFault.TheVariants.{No}
+use Rattle.signals.specs.declared.params.Caps.{Caps}
 use Rattle.signals.specs.declared.params.Modems.{Modems}
 use Rattle.signals.specs.declared.params.Modems.TheVariants.{Fallback, V27, V29, V27V29, V17}
-use Rattle.engines.specs.Losses.{IsRate}
-use Rattle.engines.specs.declared.losses.BadLine.{BadLine}
-use Rattle.engines.specs.declared.options.CallOptions.{CallOptions}
+use Rattle.signals.specs.declared.params.PageWidth.{PageWidth}
+use Rattle.signals.specs.declared.params.PageWidth.TheVariants.{W1728, W2048, W2432}
+use Rattle.calls.specs.Losses.{IsRate}
+use Rattle.calls.specs.declared.losses.BadLine.{BadLine}
+use Rattle.calls.specs.declared.options.CallOptions.{CallOptions}
+use Rattle.engines.specs.declared.options.DecodeOptions.{DecodeOptions}
+use Rattle.engines.specs.declared.options.PageForm.{PageForm}
+use Rattle.faxtool.specs.declared.station_words.GivenWaits.{GivenWaits}
 use Rattle.faxtool.specs.declared.words.Job.{Job}
-use Rattle.faxtool.specs.declared.words.Job.TheVariants.{Call, Code, Decode, Drive, Frames, Show, Version}
+use Rattle.faxtool.specs.declared.words.Job.TheVariants.{Answer, Call, Code, Decode, Dial, Drive, Frames, Show, Version}
 use Rattle.faxtool.specs.declared.words.Request.{Request}
 use Rattle.faxtool.specs.declared.words.Outcome.{Outcome}
 use Rattle.faxtool.specs.declared.words.Outcome.TheVariants.{Done, Fault, Incomplete, Words}
@@ -127,10 +133,11 @@ with_choices app codings sizes modems = with_rule (with_rule (with_rule app
 abbrev pub number_rule : Text → ℕ → ℕ → Rule
 number_rule id first last = record (option_rule id) { parser = Some (vp.Signed (pos first) (pos last)) }
 
--- the command with the options of a bad line: two rates, the seed of the generator, and the numbers of DIS and of calls
+-- the command with the options of a bad line: three rates, the seed of the generator, and the numbers of DIS and of calls
 abbrev pub with_line : App → App
-with_line app = with_rule (with_rule (with_rule (with_rule (with_rule app (option_rule (codes "lose"))) (option_rule (codes "spoil")))
-    (number_rule (codes "seed") 0 4294967295)) (number_rule (codes "calls") 1 1000000)) (number_rule (codes "times") 1 4294967295)
+with_line app = with_rule (with_rule (with_rule (with_rule (with_rule (with_rule app (option_rule (codes "lose")))
+    (option_rule (codes "spoil"))) (option_rule (codes "busy"))) (number_rule (codes "seed") 0 4294967295))
+    (number_rule (codes "calls") 1 1000000)) (number_rule (codes "times") 1 4294967295)
 
 -- `call`: the file of the script, or the options of a bad line, the code, the size of frames, the modems, fine or not, the file of the
 -- stored pages, the folder of what is sent, and the file of the document
@@ -138,6 +145,40 @@ abbrev pub call_app : ValueParser → ValueParser → ValueParser → App
 call_app codings sizes modems = with_explain (with_rule (with_rule (with_rule (with_rule (with_choices (with_line (with_rule
     (new_app (codes "call")) (file_option_rule (codes "script")))) codings sizes modems) (flag_rule (codes "fine")))
     (file_option_rule (codes "out"))) (file_option_rule (codes "bits"))) (file_rule (codes "in")))
+
+-- how long a wait runs, in milliseconds
+abbrev pub millis_rule : Text → Rule
+millis_rule id = number_rule id 1 3600000
+
+-- an option that is one of several names, with none where it isn't given
+abbrev pub named_rule : Text → ValueParser → Rule
+named_rule id names = record (option_rule id) { parser = Some names }
+
+-- the name of a file that need not be there
+abbrev pub optional_file_rule : Text → Rule
+optional_file_rule id = record (file_rule id) { required = false }
+
+-- the command with which station it is, the folder of its pages, the code and the modems
+abbrev pub with_station : App → ValueParser → ValueParser → App
+with_station app codings modems = with_rule (with_rule (with_rule (with_rule (with_rule app (flag_rule (codes "answer")))
+    (flag_rule (codes "call"))) (file_option_rule (codes "out"))) (choice_rule (codes "code") codings (codes "mmr")))
+    (choice_rule (codes "modems") modems (codes "v17"))
+
+-- the command with what an answerer alone is told, and a caller alone
+abbrev pub with_station_choices : App → ValueParser → ValueParser → App
+with_station_choices app sizes widths = with_rule (with_rule (with_rule (with_rule (with_rule app (flag_rule (codes "standard")))
+    (named_rule (codes "widest") widths)) (number_rule (codes "limit") 1 1000)) (named_rule (codes "frame") sizes))
+    (flag_rule (codes "fine"))
+
+-- the command with how long the four waits run
+abbrev pub with_waits : App → App
+with_waits app = with_rule (with_rule (with_rule (with_rule app (millis_rule (codes "t1"))) (millis_rule (codes "t2")))
+    (millis_rule (codes "t4"))) (millis_rule (codes "t5"))
+
+-- `station`: which station it is, what it is told, its waits, the file of its trace, and the file of the document
+abbrev pub station_app : ValueParser → ValueParser → ValueParser → ValueParser → App
+station_app codings sizes modems widths = with_explain (with_rule (with_rule (with_waits (with_station_choices (with_station
+    (new_app (codes "station")) codings modems) sizes widths)) (file_option_rule (codes "trace"))) (optional_file_rule (codes "in")))
 
 -- the program, which wants one of its commands
 abbrev pub empty_app : App
@@ -154,27 +195,47 @@ page_app codings orders = with_subcommand (with_subcommand (with_subcommand (wit
 abbrev pub version_app : App
 version_app = new_app (codes "version")
 
--- the program with all its commands
-abbrev pub faxtool_app : ValueParser → ValueParser → ValueParser → ValueParser → App
-faxtool_app codings orders sizes modems =
-    with_subcommand (with_subcommand (page_app codings orders) (call_app codings sizes modems).top) version_app.top
+-- the program with the command that runs calls too
+abbrev pub call_and_page_app : ValueParser → ValueParser → ValueParser → ValueParser → App
+call_and_page_app codings orders sizes modems = with_subcommand (page_app codings orders) (call_app codings sizes modems).top
+
+-- and with the command that is one end of a call, and `version`
+abbrev pub with_later : App → ValueParser → ValueParser → ValueParser → ValueParser → App
+with_later app codings sizes modems widths =
+    with_subcommand (with_subcommand app (station_app codings sizes modems widths).top) version_app.top
 
 -- the parser takes these names and no other text
 abbrev pub TakesNames : ValueParser → List Text → Type 0
 TakesNames parser names =
     (given : _) × (parser ≡ vp.Names given) × (map (λ name. name.now) given.now ≡ names)
 
--- the command that the program hands to clap
-pub record IsFaxtool (a : App) : Type 0 where
+-- the parsers of codes, of sizes of frames and of modems take their names
+pub record TakeNames (codings sizes modems : ValueParser) : Type 0 where
+  pub takes_codings : TakesNames codings (codes "mh" ∷ codes "mmr" ∷ [])
+  pub takes_sizes : TakesNames sizes (codes "256" ∷ codes "64" ∷ [])
+  pub takes_modems : TakesNames modems (codes "v17" ∷ codes "v27v29" ∷ codes "v29" ∷ codes "v27" ∷ codes "fallback" ∷ [])
+
+-- the program with its first commands
+pub record BeginsFaxtool (a : App) : Type 0 where
   pub codings : ValueParser
   pub orders : ValueParser
   pub sizes : ValueParser
   pub modems : ValueParser
-  pub takes_codings : TakesNames codings (codes "mh" ∷ codes "mmr" ∷ [])
+  pub names : TakeNames codings sizes modems
   pub takes_orders : TakesNames orders (codes "msb" ∷ codes "lsb" ∷ [])
-  pub takes_sizes : TakesNames sizes (codes "256" ∷ codes "64" ∷ [])
-  pub takes_modems : TakesNames modems (codes "v17" ∷ codes "v27v29" ∷ codes "v29" ∷ codes "v27" ∷ codes "fallback" ∷ [])
-  pub commands : a ≡ faxtool_app codings orders sizes modems
+  pub commands : a ≡ call_and_page_app codings orders sizes modems
+
+-- the command that the program hands to clap
+pub record IsFaxtool (a : App) : Type 0 where
+  pub begun : App
+  pub first : BeginsFaxtool begun
+  pub codings : ValueParser
+  pub sizes : ValueParser
+  pub modems : ValueParser
+  pub widths : ValueParser
+  pub names : TakeNames codings sizes modems
+  pub takes_widths : TakesNames widths (codes "1728" ∷ codes "2048" ∷ codes "2432" ∷ [])
+  pub commands : a ≡ with_later begun codings sizes modems widths
 
 -- ---- the jobs
 
@@ -240,16 +301,19 @@ abbrev pub go_together : Coding → Bool → Bool → Bool
 go_together OneDim salvage repair = not (salvage && repair)
 go_together T6 salvage repair = not repair
 
+-- what is asked for of a page that is decoded is what the values say
+pub record AreDecodeOptionsIn (rows : List Row) (options : DecodeOptions) : Type 0 where
+  pub salvage_is : options.salvage ≡ is_named (codes "true") (first_of (codes "salvage") rows)
+  pub repair_is : options.repair ≡ is_named (codes "true") (first_of (codes "repair") rows)
+  pub whole_is : options.whole ≡ is_named (codes "true") (first_of (codes "whole") rows)
+  pub verbose_is : options.verbose ≡ is_named (codes "true") (first_of (codes "verbose") rows)
+
 -- the values of the command `decode` are those of the job
-pub record IsDecodeOf (rows : List Row) (coding : Coding) (order : Order) (width : ℕ) (fine salvage repair whole verbose : Bool)
-    (input output : Text) : Type 0 where
-  pub shown : IsShowOf rows coding order width input
-  pub fine_is : fine ≡ is_named (codes "true") (first_of (codes "fine") rows)
-  pub salvage_is : salvage ≡ is_named (codes "true") (first_of (codes "salvage") rows)
-  pub repair_is : repair ≡ is_named (codes "true") (first_of (codes "repair") rows)
-  pub together : go_together coding salvage repair ≡ true
-  pub whole_is : whole ≡ is_named (codes "true") (first_of (codes "whole") rows)
-  pub verbose_is : verbose ≡ is_named (codes "true") (first_of (codes "verbose") rows)
+pub record IsDecodeOf (rows : List Row) (form : PageForm) (options : DecodeOptions) (input output : Text) : Type 0 where
+  pub shown : IsShowOf rows form.coding form.order form.width input
+  pub fine_is : form.fine ≡ is_named (codes "true") (first_of (codes "fine") rows)
+  pub options_are : AreDecodeOptionsIn rows options
+  pub together : go_together form.coding options.salvage options.repair ≡ true
   pub output_is : first_of (codes "out") rows ≡ Some output
 
 -- the options are those that the values give
@@ -270,7 +334,8 @@ are_both_standard script input = bytes_eq script (codes "-") && bytes_eq input (
 -- a value is of a bad line
 abbrev pub has_line : List Row → Bool
 has_line rows = is_some (first_of (codes "lose") rows) || (is_some (first_of (codes "spoil") rows) ||
-    (is_some (first_of (codes "seed") rows) || (is_some (first_of (codes "calls") rows) || is_some (first_of (codes "times") rows))))
+    (is_some (first_of (codes "busy") rows) || (is_some (first_of (codes "seed") rows) || (is_some (first_of (codes "calls") rows) ||
+    is_some (first_of (codes "times") rows)))))
 
 -- the share is that of the rate that an option's value says
 abbrev pub IsRateIn : Text → List Row → ℕ → Type 0
@@ -279,6 +344,10 @@ IsRateIn id rows share = (text : Text) × (first_of id rows ≡ Some text) × Is
 -- the share of spoiled items, 0 where no rate is given
 abbrev pub IsSpoilIn : List Row → ℕ → Type 0
 IsSpoilIn rows share = ((first_of (codes "spoil") rows ≡ None) × (share ≡ 0)) ⊎ IsRateIn (codes "spoil") rows share
+
+-- the share of words that make the answerer busy, 0 where no rate is given
+abbrev pub IsBusyIn : List Row → ℕ → Type 0
+IsBusyIn rows share = ((first_of (codes "busy") rows ≡ None) × (share ≡ 0)) ⊎ IsRateIn (codes "busy") rows share
 
 -- how many DIS are sent in one wait: three, where no number is given
 abbrev pub calls_of : Option ℕ → ℕ
@@ -290,6 +359,7 @@ pub record IsLineIn (rows : List Row) (line : BadLine) : Type 0 where
   pub lose_is : IsRateIn (codes "lose") rows line.lose
   pub spoil_is : IsSpoilIn rows line.spoil
   pub most : line.lose + line.spoil ≤ 2 ^ 32
+  pub busy_is : IsBusyIn rows line.busy
   pub seed_is : ReadsNumber (codes "seed") rows (Some line.seed)
   pub small : line.seed < 2 ^ 32
   pub calls : Option ℕ
@@ -331,6 +401,75 @@ pub record IsCallOf (rows : List Row) (script : Text) (options : CallOptions) (o
   pub apart : are_both_standard script input ≡ false
   pub alone : has_line rows ≡ false
 
+-- the widest page that a value of `--widest` names: 2432 pixels but for the others
+abbrev pub widest_named : Option Text → PageWidth
+widest_named None = W2432
+widest_named (Some name) = if bytes_eq name (codes "1728") then W1728 else if bytes_eq name (codes "2048") then W2048 else W2432
+
+-- pages may have this code
+abbrev pub takes_t6 : Coding → Bool
+takes_t6 OneDim = false
+takes_t6 T6 = true
+
+-- how many pages wait in memory at most: two, where no number is given
+abbrev pub limit_of : Option ℕ → ℕ
+limit_of None = 2
+limit_of (Some limit) = limit
+
+-- a value is of an answerer alone
+abbrev pub has_answerer : List Row → Bool
+has_answerer rows = is_some (first_of (codes "out") rows) || (is_named (codes "true") (first_of (codes "standard") rows) ||
+    (is_some (first_of (codes "widest") rows) || is_some (first_of (codes "limit") rows)))
+
+-- a value is of a caller alone
+abbrev pub has_caller : List Row → Bool
+has_caller rows = is_some (first_of (codes "frame") rows) || (is_named (codes "true") (first_of (codes "fine") rows) ||
+    is_some (first_of (codes "in") rows))
+
+-- how long the waits run, where that is said
+pub record AreWaitsIn (rows : List Row) (waits : GivenWaits) : Type 0 where
+  pub t1_is : ReadsNumber (codes "t1") rows waits.t1
+  pub t2_is : ReadsNumber (codes "t2") rows waits.t2
+  pub t4_is : ReadsNumber (codes "t4") rows waits.t4
+  pub t5_is : ReadsNumber (codes "t5") rows waits.t5
+
+-- what an answerer can do, as the values say: it takes each code up to the one named, and fine lines unless it takes standard ones alone
+abbrev pub caps_in : List Row → Coding → Caps
+caps_in rows coding = record {
+  receiver = true;
+  modems = modems_named (first_of (codes "modems") rows);
+  fine = not (is_named (codes "true") (first_of (codes "standard") rows));
+  widest = widest_named (first_of (codes "widest") rows);
+  t6 = takes_t6 coding;
+  ecm = true;
+}
+
+-- the values of the command `station` are those of an answerer
+pub record IsAnswerOf (rows : List Row) (caps : Caps) (limit : ℕ) (waits : GivenWaits) (out : Text) (trace : Option Text) : Type 0 where
+  pub answers : is_named (codes "true") (first_of (codes "answer") rows) ≡ true
+  pub calls : is_named (codes "true") (first_of (codes "call") rows) ≡ false
+  pub alone : has_caller rows ≡ false
+  pub coding : Coding
+  pub coding_is : coding_named (first_of (codes "code") rows) ≡ Some coding
+  pub caps_are : caps ≡ caps_in rows coding
+  pub given : Option ℕ
+  pub limit_given : ReadsNumber (codes "limit") rows given
+  pub limit_is : limit ≡ limit_of given
+  pub waits_are : AreWaitsIn rows waits
+  pub out_is : first_of (codes "out") rows ≡ Some out
+  pub trace_is : first_of (codes "trace") rows ≡ trace
+
+-- the values of the command `station` are those of a caller, whose document isn't standard input, where its lines come
+pub record IsDialOf (rows : List Row) (options : CallOptions) (waits : GivenWaits) (trace : Option Text) (input : Text) : Type 0 where
+  pub calls : is_named (codes "true") (first_of (codes "call") rows) ≡ true
+  pub answers : is_named (codes "true") (first_of (codes "answer") rows) ≡ false
+  pub alone : has_answerer rows ≡ false
+  pub options_are : AreOptionsIn rows options
+  pub waits_are : AreWaitsIn rows waits
+  pub trace_is : first_of (codes "trace") rows ≡ trace
+  pub input_is : first_of (codes "in") rows ≡ Some input
+  pub apart : bytes_eq input (codes "-") ≡ false
+
 -- the job of a command's name and values
 abbrev pub IsJobOf : Option (Text × List Row) → Job → Type 0
 IsJobOf met (Code coding order input output) = (rows : List Row)
@@ -339,9 +478,9 @@ IsJobOf met (Code coding order input output) = (rows : List Row)
 IsJobOf met (Show coding order width input) = (rows : List Row)
     × (met ≡ Some (codes "show", rows))
     × IsShowOf rows coding order width (string_bytes input)
-IsJobOf met (Decode coding order width fine salvage repair whole verbose input output) = (rows : List Row)
+IsJobOf met (Decode form options input output) = (rows : List Row)
     × (met ≡ Some (codes "decode", rows))
-    × IsDecodeOf rows coding order width fine salvage repair whole verbose (string_bytes input) (string_bytes output)
+    × IsDecodeOf rows form options (string_bytes input) (string_bytes output)
 IsJobOf met (Frames most pages input) = (rows : List Row)
     × (met ≡ Some (codes "frames", rows))
     × ReadsNumber (codes "data") rows most
@@ -353,6 +492,12 @@ IsJobOf met (Call script options out bits input) = (rows : List Row)
 IsJobOf met (Drive line times options out bits input) = (rows : List Row)
     × (met ≡ Some (codes "call", rows))
     × IsDriveOf rows line times options (option_map string_bytes out) (option_map string_bytes bits) (string_bytes input)
+IsJobOf met (Answer caps limit waits out trace) = (rows : List Row)
+    × (met ≡ Some (codes "station", rows))
+    × IsAnswerOf rows caps limit waits (string_bytes out) (option_map string_bytes trace)
+IsJobOf met (Dial options waits trace input) = (rows : List Row)
+    × (met ≡ Some (codes "station", rows))
+    × IsDialOf rows options waits (option_map string_bytes trace) (string_bytes input)
 IsJobOf met Version = (rows : List Row) × (met ≡ Some (codes "version", rows))
 
 -- no job is of the command's name and values
@@ -400,8 +545,10 @@ status_of (Words error) = 2
 abbrev pub HasWidth : Job → Type 0
 HasWidth (Code coding order input output) = Unit {0}
 HasWidth (Show coding order width input) = IsWidth width
-HasWidth (Decode coding order width fine salvage repair whole verbose input output) = IsWidth width
+HasWidth (Decode form options input output) = IsWidth form.width
 HasWidth (Frames most pages input) = Unit {0}
 HasWidth (Call script options out bits input) = Unit {0}
 HasWidth (Drive line times options out bits input) = Unit {0}
+HasWidth (Answer caps limit waits out trace) = Unit {0}
+HasWidth (Dial options waits trace input) = Unit {0}
 HasWidth Version = Unit {0}

@@ -2,11 +2,11 @@
 ghost use Rattle.clap.specs.Words.{app_of, rule_of};
 ghost use Rattle.clap.specs.declared.builder.command.Command.TheViews.{out-Command as fields_of};
 ghost use Rattle.faxtool.specs.Jobs.{IsFaxtool, empty_app};
-ghost use Rattle.faxtool.specs.Table.{app_in, rule_in};
+ghost use Rattle.faxtool.specs.Table.{app_in, rule_in, with_commands};
 ghost use Rattle.std.specs.Prelude.{◌≡◌, IfOk, None, false};
 
 use crate::faults::FAULTS;
-use crate::table::{Argument, Entry, commands};
+use crate::table::{Argument, Entry, commands, later_commands};
 use clap::builder::ValueParser;
 use clap::{Arg, Command};
 use std::alloc::{AllocError, Global};
@@ -61,13 +61,25 @@ fn empty_command<'a>(alloc: Global) -> Command<'a>
         .arg_required_else_help(true)
 }
 
+/// A command with more commands.
+fn with_entries<'a>(
+    alloc: Global,
+    begun: Command<'a>,
+    entries: &[Entry<'a>],
+) -> Result<Command<'a>, AllocError>
+    ensures { IfOk result (λ made. app_of made ≡ with_commands (app_of begun.entry) entries.now) }
+{
+    let mut command = begun;
+    for entry in entries {
+        command = command.subcommand(command_of(alloc, entry)?)?;
+    }
+    Ok(command)
+}
+
 /// The program with its commands.
 pub(crate) fn faxtool_command<'a>(alloc: Global) -> Result<Command<'a>, AllocError>
     ensures { IfOk result (λ command. IsFaxtool (app_of command)) }
 {
-    let mut command = empty_command(alloc);
-    for entry in commands() {
-        command = command.subcommand(command_of(alloc, entry)?)?;
-    }
-    Ok(command)
+    let first = with_entries(alloc, empty_command(alloc), commands())?;
+    with_entries(alloc, first, later_commands())
 }

@@ -1,13 +1,31 @@
 //! Calls over a bad line.
 
+use crate::bits;
 use crate::bits::CallFiles;
+use crate::call::write_pages;
+use crate::files::{self, read_input};
 use crate::notes::Notes;
-use crate::{bits, files, read_input, write_pages};
-use engines::{BadLine, CallOptions, ToolFault, drive_engine, drive_many};
+use calls::{BadLine, CallOptions, drive_engine, drive_many};
+use engines::ToolFault;
+
+/// Runs the first call over a bad line, or many where a number is given.
+pub(crate) fn drive(
+    rt: &HostRuntime,
+    line: &BadLine,
+    times: Option<u32>,
+    options: &CallOptions,
+    files: CallFiles<'_>,
+    notes: &mut Notes,
+) -> Result<(), ToolFault> {
+    match times {
+        None => drive_file(rt, line, options, files, notes),
+        Some(times) => drive_times(rt, line, times, options, files.input, notes),
+    }
+}
 
 /// Runs the first call over a bad line, and prints what has become of it. The file of the stored pages is opened last, and only
 /// where there are any.
-pub(crate) fn drive_file(
+fn drive_file(
     rt: &HostRuntime,
     line: &BadLine,
     options: &CallOptions,
@@ -21,14 +39,11 @@ pub(crate) fn drive_file(
     let ended = bits::close(rt, writer, driven.is_ok(), notes);
     let pages = driven?;
     ended?;
-    match files.out {
-        Some(name) if !pages.is_empty() => write_pages(rt, name, &pages, notes),
-        _ => Ok(()),
-    }
+    write_pages(rt, files.out, &pages, notes)
 }
 
 /// Runs many calls over a bad line, and prints the line of each as it is over, and then the table.
-pub(crate) fn drive_times(
+fn drive_times(
     rt: &HostRuntime,
     line: &BadLine,
     times: u32,

@@ -2,7 +2,7 @@
 
 /// What the fault lines mean: the number, and what is wrong.
 pub const FAULTS: &str =
-    "Faults, as `fault N`, `fault N at bit B` (from 0) or `fault 30 at line L` (from 1), with status 1:
+    "Faults, as `fault N`, `fault N at bit B` (from 0) or `fault 30 at line L` and 31 (from 1), with status 1:
    1  an image's width isn't 1 to 2432 pixels
    3  an image has more than 20000 rows
    4  an image has no row; at a bit: a page ends before its first row
@@ -26,4 +26,5 @@ pub const FAULTS: &str =
   26  a page's width isn't 1728, 2048 or 2432 pixels, the widths that a call carries
   27  code was given several images
   30  at a line: not a command of a script, or a wrong count or blank
+  31  at a line: none that a station knows, or its time runs back
 Status 2: the words are not a command. With --explain a second line says which file it is, where and why.";

@@ -1,7 +1,7 @@
 //! Files by their names, of which `-` is standard input or output.
 
 ghost use Rattle.engines.specs.Faults.{IsOutside};
-ghost use Rattle.std.specs.Prelude.{IfErr};
+ghost use Rattle.std.specs.Prelude.{◌≡◌, IfErr};
 
 use crate::notes::{Notes, Part};
 use crate::progress::Progress;
@@ -11,6 +11,15 @@ use std::{fs, io};
 
 /// The name of standard input and of standard output.
 pub const STANDARD: &str = "-";
+
+/// The name of the file that a command reads, and that of the file that it writes.
+#[derive(Clone, Copy)]
+pub struct InAndOut<'a> {
+    /// The file that is read.
+    pub input: &'a str,
+    /// The file that is written.
+    pub output: &'a str,
+}
 
 /// How many octets of the input are kept while it is read: those by which an image is known.
 const FIRST_OCTETS: usize = 4;
@@ -32,7 +41,6 @@ pub struct Source<'a> {
     failed: Option<ErrorKind>,
     is_open: bool,
     image: bool,
-    read: u64,
     room: usize,
     octets: Vec<u8>,
 }
@@ -52,7 +60,6 @@ impl Read for Source<'_> {
             Ok(count) => {
                 self.failed = None;
                 self.is_open = *count > 0;
-                self.read = self.read.saturating_add(*count as u64);
                 self.progress.read(*count);
                 self.keep(octets.get(..*count).unwrap_or(&[]));
             }
@@ -82,7 +89,6 @@ impl Source<'_> {
             failed,
             is_open,
             image: _,
-            read,
             room: _,
             octets,
         } = self;
@@ -95,7 +101,6 @@ impl Source<'_> {
         }
         if part == Part::Input {
             notes.octets = octets;
-            notes.read = read;
         }
     }
 }
@@ -135,10 +140,35 @@ pub fn open<'a>(
         failed: None,
         is_open: false,
         image: notes.image && part == Part::Input,
-        read: 0,
         room: FIRST_OCTETS,
         octets: Vec::new(rt.alloc()),
     })
+}
+
+/// All octets of a file or of standard input. Of a file that begins as no image does, where an image is wanted, those are all.
+/// Errs with 8 where it can't be read, and with 9.
+pub fn read_file(
+    rt: &HostRuntime,
+    name: &str,
+    part: Part,
+    notes: &mut Notes,
+) -> Result<Vec<u8>, ToolFault>
+    ensures { IfErr result IsOutside }
+{
+    let mut reader = open(rt, name, part, notes)?;
+    let mut octets = Vec::new(rt.alloc());
+    let read = reader.read_to_end(&mut octets);
+    reader.close(notes);
+    read?;
+    Ok(octets)
+}
+
+/// Reads the input, whose octets are then those of the notes. Errs with 8 where it can't be read, and with 9.
+pub fn read_input(rt: &HostRuntime, input: &str, notes: &mut Notes) -> Result<(), ToolFault>
+    ensures { IfErr result IsOutside }
+{
+    notes.octets = read_file(rt, input, Part::Input, notes)?;
+    Ok(())
 }
 
 /// How many octets of what is printed are written at once.
@@ -149,6 +179,15 @@ const PRINTED_AT_ONCE: usize = 65536;
 pub struct Printed<'a> {
     rt: &'a HostRuntime,
     failed: Option<ErrorKind>,
+}
+
+impl Printed<'_> {
+    /// Why standard output failed, if it did.
+    pub fn failed(&self) -> Option<ErrorKind>
+        ensures { result ≡ self.now.failed }
+    {
+        self.failed
+    }
 }
 
 impl Write for Printed<'_> {

@@ -1,7 +1,10 @@
 //! What is noted of a job while it is done, for the words that explain its fault.
 
-ghost use Rattle.std.specs.Prelude.{◌≡◌, [], None, Some};
+ghost use Rattle.engines.specs.Faults.{IsOutside};
+ghost use Rattle.engines.specs.declared.fault.ToolFault.TheVariants.{No};
+ghost use Rattle.std.specs.Prelude.{◌≡◌, ◌≢◌, [], None, Some};
 
+use engines::{NO_MEMORY, ToolFault};
 use std::alloc::Global;
 use std::io::ErrorKind;
 
@@ -16,6 +19,8 @@ pub enum Part {
     Output,
     /// The folder of `--bits`, and its files.
     Bits,
+    /// The file of `--trace`.
+    Trace,
     /// What is printed.
     Printed,
 }
@@ -29,8 +34,6 @@ pub struct Notes {
     pub unread: Option<Part>,
     /// Whether the input is an image.
     pub image: bool,
-    /// How many octets of the input were read.
-    pub read: u64,
     /// Whether it is shown how far reading is, where that takes long.
     pub long: bool,
     /// All octets of the input where they are read before anything is done with them; else the first ones.
@@ -45,7 +48,6 @@ impl Notes {
         ensures failed { result.failed ≡ None }
         ensures unread { result.unread ≡ None }
         ensures image { result.image ≡ image }
-        ensures read { result.read ≡ 0 }
         ensures long { result.long ≡ long }
         ensures octets { result.octets.items ≡ [] }
         ensures script { result.script.items ≡ [] }
@@ -54,7 +56,6 @@ impl Notes {
             failed: None,
             unread: None,
             image,
-            read: 0,
             long,
             octets: Vec::new(alloc),
             script: Vec::new(alloc),
@@ -66,5 +67,16 @@ impl Notes {
         ensures { self.new ≡ record self.old { failed = Some (part, kind) } }
     {
         self.failed = Some((part, kind));
+    }
+    /// The fault of a job that writes into memory: where no file failed, that was refused.
+    pub fn in_memory(&self, fault: ToolFault) -> ToolFault
+        ensures outside { IsOutside fault → IsOutside result }
+        ensures other { fault ≢ No 8 → result ≡ fault }
+        ensures refused { self.now.failed ≡ None → result ≢ No 8 }
+    {
+        match (fault, self.failed) {
+            (ToolFault::No(8), None) => NO_MEMORY,
+            _ => fault,
+        }
     }
 }

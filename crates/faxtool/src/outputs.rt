@@ -1,7 +1,7 @@
 //! The files that are written, and what was there before them.
 
 ghost use Rattle.engines.specs.Faults.{IsOutside};
-ghost use Rattle.std.specs.Prelude.{IfErr};
+ghost use Rattle.std.specs.Prelude.{◌≤◌, IfErr, IfOk};
 
 use crate::files::STANDARD;
 use crate::notes::{Notes, Part};
@@ -89,13 +89,27 @@ pub fn write_page(
     octets: &[u8],
     notes: &mut Notes,
 ) -> Result<u64, ToolFault>
-    ensures { IfErr result IsOutside }
+    ensures fault { IfErr result IsOutside }
+    ensures number { IfOk result (λ number. first ≤ number) }
 {
     let written = put_page(rt, folder, first, octets);
     if let Err(error) = &written {
         notes.blame(Part::Output, error.kind());
     }
     Ok(written?)
+}
+
+/// Does what `write_page` does, and the file is on disk then: it is synced, and so is its folder. Where that fails no file of it is left.
+pub fn store_page(rt: &HostRuntime, folder: &str, first: u64, octets: &[u8]) -> io::Result<u64>
+    ensures { IfOk result (λ number. first ≤ number) }
+{
+    let made = make_page(rt, folder, first)?;
+    let synced = fill_synced(rt, folder, made.file, octets);
+    if synced.is_err() {
+        let _removed = fs::remove_file(rt, made.name.as_str());
+    }
+    synced?;
+    Ok(made.number)
 }
 
 /// Notes why an output isn't written.
@@ -184,23 +198,25 @@ fn make_beside(rt: &HostRuntime, name: &str, private: bool) -> io::Result<Made> 
     };
     for number in 1..=MOST_NAMES {
         let beside = format!(in rt.alloc(); "{folder}faxtool-{process}-{number}.part")?;
-        match make(rt, beside.as_str(), private) {
-            Ok(file) => return Ok(Made { file, name: beside }),
-            Err(error) if error.kind() == ErrorKind::AlreadyExists => {}
-            Err(error) => return Err(error),
+        if let Some(file) = make(rt, beside.as_str(), private)? {
+            return Ok(Made { file, name: beside });
         }
     }
     Err(io::Error::from(ErrorKind::AlreadyExists))
 }
 
-/// Makes a new file.
-fn make(rt: &HostRuntime, name: &str, private: bool) -> io::Result<File> {
+/// Makes a new file, where its name is free.
+fn make(rt: &HostRuntime, name: &str, private: bool) -> io::Result<Option<File>> {
     let mut options = OpenOptions::new();
     options.write(true).create_new(true);
     if private {
         options.mode(0o600);
     }
-    options.open(rt, name)
+    match options.open(rt, name) {
+        Ok(file) => Ok(Some(file)),
+        Err(error) if error.kind() == ErrorKind::AlreadyExists => Ok(None),
+        Err(error) => Err(error),
+    }
 }
 
 /// A file that is written while a job goes on: beside its place where that is free or a regular file's, or at it.
@@ -267,21 +283,44 @@ impl Growing {
     }
 }
 
-fn put_page(rt: &HostRuntime, folder: &str, first: u64, octets: &[u8]) -> io::Result<u64> {
+/// A page's new file, which nobody else has made.
+#[derive(Drop)]
+struct PageFile {
+    file: File,
+    name: String,
+    number: u64,
+}
+
+/// Makes the new file of a page: of the first number from this one on that is free.
+fn make_page(rt: &HostRuntime, folder: &str, first: u64) -> io::Result<PageFile>
+    ensures { IfOk result (λ made. first ≤ made.number) }
+{
     for number in first..=first.saturating_add(MOST_NUMBERS) {
         let name = format!(in rt.alloc(); "{folder}/page-{number}.pbm")?;
-        match make(rt, name.as_str(), false) {
-            Ok(file) => {
-                let filled = fill(file, None, octets);
-                if filled.is_err() {
-                    let _removed = fs::remove_file(rt, name.as_str());
-                }
-                filled?;
-                return Ok(number);
-            }
-            Err(error) if error.kind() == ErrorKind::AlreadyExists => {}
-            Err(error) => return Err(error),
+        if let Some(file) = make(rt, name.as_str(), false)? {
+            return Ok(PageFile { file, name, number });
         }
     }
     Err(io::Error::from(ErrorKind::AlreadyExists))
+}
+
+fn put_page(rt: &HostRuntime, folder: &str, first: u64, octets: &[u8]) -> io::Result<u64>
+    ensures { IfOk result (λ number. first ≤ number) }
+{
+    let made = make_page(rt, folder, first)?;
+    let filled = fill(made.file, None, octets);
+    if filled.is_err() {
+        let _removed = fs::remove_file(rt, made.name.as_str());
+    }
+    filled?;
+    Ok(made.number)
+}
+
+/// Writes octets into a file, and syncs it and then its folder, which has its name.
+fn fill_synced(rt: &HostRuntime, folder: &str, file: File, octets: &[u8]) -> io::Result<()> {
+    let mut file = file;
+    file.write_all(octets)?;
+    file.sync_all()?;
+    let folder = File::open(rt, folder)?;
+    folder.sync_all()
 }

@@ -1,5 +1,6 @@
 //! The program's commands with their options and files, as a table.
-ghost use Rattle.faxtool.specs.Jobs.{IsFaxtool, empty_app};
+ghost use Rattle.clap.specs.Words.{App};
+ghost use Rattle.faxtool.specs.Jobs.{BeginsFaxtool, IsFaxtool, empty_app};
 ghost use Rattle.faxtool.specs.Table.{with_commands};
 
 use clap::ArgAction;
@@ -202,6 +203,12 @@ const CALL_ARGUMENTS: &[Argument<'static>] = &[
         ..FILE_OPTION
     },
     Argument {
+        id: "busy",
+        shown: &["RATE"],
+        help: "At this rate the answerer is busy when a PPS or an RR comes to it (with --lose)",
+        ..FILE_OPTION
+    },
+    Argument {
         id: "seed",
         shown: &["N"],
         parser: Some(ValueParser::Signed(0, 4_294_967_295)),
@@ -268,8 +275,112 @@ const CALL_ARGUMENTS: &[Argument<'static>] = &[
     EXPLAIN,
 ];
 
-/// The commands, in the order of the help.
-static COMMANDS: [Entry<'static>; 6] = [
+/// How long a wait runs, in milliseconds.
+const MILLIS: Argument<'static> = Argument {
+    shown: &["MS"],
+    parser: Some(ValueParser::Signed(1, 3_600_000)),
+    ..FILE_OPTION
+};
+
+const STATION_ARGUMENTS: &[Argument<'static>] = &[
+    Argument {
+        id: "answer",
+        help: "The station answers, and stores pages (with --out)",
+        ..FLAG
+    },
+    Argument {
+        id: "call",
+        help: "The station calls, and sends the document IN",
+        ..FLAG
+    },
+    Argument {
+        id: "out",
+        shown: &["DIR"],
+        help: "The folder that the stored pages are written to, as page-1.pbm and so on (with --answer, and needed there)",
+        ..FILE_OPTION
+    },
+    Argument {
+        id: "code",
+        defaults: &["mmr"],
+        parser: CODINGS,
+        help: "The code of the pages; an answerer takes mh alone, or both with mmr",
+        ..CHOICE
+    },
+    Argument {
+        id: "modems",
+        defaults: &["v17"],
+        parser: Some(ValueParser::Names(&["v17", "v27v29", "v29", "v27", "fallback"])),
+        help: "The modems of the station",
+        ..CHOICE
+    },
+    Argument {
+        id: "standard",
+        help: "Takes no fine lines, of 7.7 lines a millimetre (with --answer)",
+        ..FLAG
+    },
+    Argument {
+        id: "widest",
+        shown: &["N"],
+        parser: Some(ValueParser::Names(&["1728", "2048", "2432"])),
+        help: "The widest page that is taken in pixels, 1728, 2048 or 2432, which it is if not said (with --answer)",
+        ..FILE_OPTION
+    },
+    Argument {
+        id: "limit",
+        shown: &["PAGES"],
+        parser: Some(ValueParser::Signed(1, 1000)),
+        help: "How many pages wait in memory at most, 1 to 1000, 2 if not said (with --answer)",
+        ..FILE_OPTION
+    },
+    Argument {
+        id: "frame",
+        shown: &["N"],
+        parser: Some(ValueParser::Names(&["256", "64"])),
+        help: "The octets of data in a frame, 256 or 64, 256 if not said (with --call)",
+        ..FILE_OPTION
+    },
+    Argument {
+        id: "fine",
+        help: "Sends 7.7 lines a millimetre in place of 3.85 (with --call)",
+        ..FLAG
+    },
+    Argument {
+        id: "t1",
+        help: "How long T1 runs in milliseconds, 35000 if not said",
+        ..MILLIS
+    },
+    Argument {
+        id: "t2",
+        help: "How long T2 runs in milliseconds, 6000 if not said",
+        ..MILLIS
+    },
+    Argument {
+        id: "t4",
+        help: "How long T4 runs in milliseconds, 3000 if not said",
+        ..MILLIS
+    },
+    Argument {
+        id: "t5",
+        help: "How long T5 runs in milliseconds, 60000 if not said",
+        ..MILLIS
+    },
+    Argument {
+        id: "trace",
+        help: "The file that what is heard and said is written to, with its time",
+        ..FILE_OPTION
+    },
+    Argument {
+        id: "in",
+        shown: &["IN"],
+        required: false,
+        help: "The file of the document, a PBM (with --call, and needed there)",
+        ..FILE
+    },
+    EXPLAIN,
+];
+
+/// The first commands, in the order of the help.
+static COMMANDS: [Entry<'static>; 5] = [
     Entry {
         name: "code",
         about: "Writes the code of an image into a file",
@@ -295,6 +406,15 @@ static COMMANDS: [Entry<'static>; 6] = [
         about: "Runs a call by a script or over a bad line, and prints its transcript",
         arguments: CALL_ARGUMENTS,
     },
+];
+
+/// The commands after these. A list of all of them is more than the check can take in at once.
+static LATER_COMMANDS: [Entry<'static>; 2] = [
+    Entry {
+        name: "station",
+        about: "Runs one end of a call by lines of text that say what is on the line",
+        arguments: STATION_ARGUMENTS,
+    },
     Entry {
         name: "version",
         about: "Prints the program's version",
@@ -302,9 +422,16 @@ static COMMANDS: [Entry<'static>; 6] = [
     },
 ];
 
-/// The program's commands.
+/// The program's first commands.
 pub(crate) fn commands<'a>() -> &'a [Entry<'a>]
-    ensures { IsFaxtool (with_commands empty_app result.now) }
+    ensures { BeginsFaxtool (with_commands empty_app result.now) }
 {
     &COMMANDS
+}
+
+/// The program's other commands.
+pub(crate) fn later_commands<'a>() -> &'a [Entry<'a>]
+    ensures { (app : App) → BeginsFaxtool app → IsFaxtool (with_commands app result.now) }
+{
+    &LATER_COMMANDS
 }

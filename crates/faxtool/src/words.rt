@@ -3,18 +3,20 @@ ghost use Rattle.std.specs.Prelude.{◌≡◌, ◌≢◌, IfOk, IfSome, MatchOpt
 ghost use Rattle.std.specs.Prelude.{ℕ, Option, map, option_map, string_bytes};
 ghost use Rattle.clap.specs.Words.{first_of, found_of, kind_of, rows_of, subcommand_rows_of};
 ghost use Rattle.clap.specs.declared.error.kind.ErrorKind.TheVariants.{OutOfMemory};
-ghost use Rattle.faxtool.specs.Jobs.{AreOptionsIn, HasNoJob, HasNoOptions, IsJobOf, IsOutcomeOf, IsRefusalOf, IsWidthIn, ReadsAs};
+ghost use Rattle.faxtool.specs.Jobs.{AreDecodeOptionsIn, AreOptionsIn, HasNoJob, HasNoOptions, IsJobOf, IsOutcomeOf, IsRefusalOf, IsWidthIn, ReadsAs};
 ghost use Rattle.faxtool.specs.Jobs.{ReadsNumber, are_both_standard, coding_named, explains, go_together, is_named, modems_named};
-ghost use Rattle.faxtool.specs.Jobs.{IsLineIn, IsRateIn, IsSpoilIn, IsTimesIn, calls_of, has_line, order_named, status_of};
-ghost use Rattle.engines.specs.declared.losses.BadLine.{BadLine as LineValue};
+ghost use Rattle.faxtool.specs.Jobs.{IsLineIn, IsRateIn, IsSpoilIn, IsBusyIn, IsTimesIn, calls_of, has_line, order_named, status_of};
+ghost use Rattle.calls.specs.declared.losses.BadLine.{BadLine as LineValue};
 
 use crate::commands::faxtool_command;
+use crate::station_words::{GivenWaits, station_job, unfit_station};
+use calls::{BadLine, CallOptions, read_rate};
 use clap::error::ErrorKind;
 use clap::{ArgMatches, Command, Error};
-use engines::{BadLine, CallOptions, NO_MEMORY, ToolFault, read_rate};
+use engines::{DecodeOptions, NO_MEMORY, PageForm, ToolFault};
 use page_code::Coding;
 use run_tables::Order;
-use signals::Modems;
+use signals::{Caps, Modems};
 use std::alloc::{AllocError, Global};
 
 /// How many words the generator of a bad line has.
@@ -47,22 +49,10 @@ pub enum Job {
     },
     /// Writes the first page in a file as an image.
     Decode {
-        /// The code of the page.
-        coding: Coding,
-        /// Which bit of an octet of the file comes first.
-        order: Order,
-        /// The page's width in pixels, 1 to 2,432.
-        width: u32,
-        /// 7.7 lines a millimetre in place of 3.85.
-        fine: bool,
-        /// Whether of a page that can't be read its whole rows are written.
-        salvage: bool,
-        /// Whether a row that can't be read is given as the one before it.
-        repair: bool,
-        /// Whether it is an incomplete page that ends without its RTC.
-        whole: bool,
-        /// Whether its rows and the bits of its code are shown on standard error.
-        verbose: bool,
+        /// How the page is read; its width is 1 to 2,432 pixels.
+        form: PageForm,
+        /// What is asked for of the page.
+        options: DecodeOptions,
         /// The name of the page's file.
         input: String,
         /// The name of the file that the image goes to.
@@ -102,6 +92,30 @@ pub enum Job {
         out: Option<String>,
         /// The name of the folder that the octets on the line go to, where one is given.
         bits: Option<String>,
+        /// The name of the document's file.
+        input: String,
+    },
+    /// Runs an answerer by lines of text.
+    Answer {
+        /// What it can do.
+        caps: Caps,
+        /// How many pages wait in memory at most, 1 to 1,000.
+        limit: u32,
+        /// How long its waits run.
+        waits: GivenWaits,
+        /// The name of the folder that the stored pages go to.
+        out: String,
+        /// The name of the file that the trace goes to, where one is given.
+        trace: Option<String>,
+    },
+    /// Runs a caller by lines of text.
+    Dial {
+        /// What it is run with.
+        options: CallOptions,
+        /// How long its waits run.
+        waits: GivenWaits,
+        /// The name of the file that the trace goes to, where one is given.
+        trace: Option<String>,
         /// The name of the document's file.
         input: String,
     },
@@ -223,6 +237,9 @@ fn job_in(alloc: Global, matches: &ArgMatches<'_>) -> Result<Option<Job>, AllocE
     if let Some(inner) = matches.subcommand_matches("call") {
         return call_job(alloc, inner);
     }
+    if let Some(inner) = matches.subcommand_matches("station") {
+        return station_job(alloc, inner);
+    }
     if let Some(_inner) = matches.subcommand_matches("version") {
         return Ok(Some(Job::Version));
     }
@@ -287,23 +304,34 @@ fn decode_job(alloc: Global, matches: &ArgMatches<'_>) -> Result<Option<Job>, Al
     let Some(output) = text_in(matches, "out") else {
         return Ok(None);
     };
-    let salvage = is_named(text_in(matches, "salvage"), "true");
-    let repair = is_named(text_in(matches, "repair"), "true");
-    if !go_together(coding, salvage, repair) {
+    let options = decode_options(matches);
+    if !go_together(coding, options.salvage, options.repair) {
         return Ok(None);
     }
-    Ok(Some(Job::Decode {
+    let form = PageForm {
         coding,
         order: order_in(matches),
         width,
         fine: is_named(text_in(matches, "fine"), "true"),
-        salvage,
-        repair,
-        whole: is_named(text_in(matches, "whole"), "true"),
-        verbose: is_named(text_in(matches, "verbose"), "true"),
+    };
+    Ok(Some(Job::Decode {
+        form,
+        options,
         input: String::from_str(alloc, input)?,
         output: String::from_str(alloc, output)?,
     }))
+}
+
+// What is asked for of a page that is decoded.
+fn decode_options(matches: &ArgMatches<'_>) -> DecodeOptions
+    ensures { AreDecodeOptionsIn (rows_of (found_of matches.now)) result }
+{
+    DecodeOptions {
+        salvage: is_named(text_in(matches, "salvage"), "true"),
+        repair: is_named(text_in(matches, "repair"), "true"),
+        whole: is_named(text_in(matches, "whole"), "true"),
+        verbose: is_named(text_in(matches, "verbose"), "true"),
+    }
 }
 
 // Whether rows may be repaired, where that is asked for.
@@ -374,6 +402,7 @@ fn has_line(matches: &ArgMatches<'_>) -> bool
 {
     text_in(matches, "lose").is_some()
         || text_in(matches, "spoil").is_some()
+        || text_in(matches, "busy").is_some()
         || text_in(matches, "seed").is_some()
         || text_in(matches, "calls").is_some()
         || text_in(matches, "times").is_some()
@@ -390,6 +419,9 @@ fn line_in(matches: &ArgMatches<'_>) -> Option<BadLine>
     let Some(spoil) = spoil_in(matches) else {
         return None;
     };
+    let Some(busy) = busy_in(matches) else {
+        return None;
+    };
     let Some(seed) = number_in(matches, "seed") else {
         return None;
     };
@@ -399,6 +431,7 @@ fn line_in(matches: &ArgMatches<'_>) -> Option<BadLine>
     Some(BadLine {
         lose,
         spoil,
+        busy,
         seed: u64::from(seed),
         calls: calls_of(number_in(matches, "calls")),
     })
@@ -456,6 +489,17 @@ fn spoil_in(matches: &ArgMatches<'_>) -> Option<u64>
     }
 }
 
+// The rate at which the answerer is busy, 0 where none is given.
+fn busy_in(matches: &ArgMatches<'_>) -> Option<u64>
+    ensures is { IfSome result (IsBusyIn (rows_of (found_of matches.now))) }
+    ensures only { (share : ℕ) → IsBusyIn (rows_of (found_of matches.now)) share → result ≡ Some share }
+{
+    match text_in(matches, "busy") {
+        Some(text) => read_rate(text),
+        None => Some(0),
+    }
+}
+
 // Whether a script and an image are both standard input.
 fn are_both_standard(script: &str, input: &str) -> bool
     ensures { result ≡ are_both_standard script.now input.now }
@@ -464,7 +508,7 @@ fn are_both_standard(script: &str, input: &str) -> bool
 }
 
 // The options of a call, where the code of its pages isn't missing.
-fn options_in(matches: &ArgMatches<'_>) -> Option<CallOptions>
+pub(crate) fn options_in(matches: &ArgMatches<'_>) -> Option<CallOptions>
     ensures { let rows = rows_of (found_of matches.now) in
         MatchOption result (HasNoOptions rows) (AreOptionsIn rows) }
 {
@@ -480,7 +524,7 @@ fn options_in(matches: &ArgMatches<'_>) -> Option<CallOptions>
 }
 
 // Whether the value is the name.
-fn is_named(value: Option<&str>, name: &str) -> bool
+pub(crate) fn is_named(value: Option<&str>, name: &str) -> bool
     ensures { result ≡ is_named name.now (option_map (λ value. value.now) value.entry) }
 {
     match value {
@@ -489,7 +533,7 @@ fn is_named(value: Option<&str>, name: &str) -> bool
     }
 }
 
-fn modems_named(name: Option<&str>) -> Modems
+pub(crate) fn modems_named(name: Option<&str>) -> Modems
     ensures { result ≡ modems_named (option_map (λ name. name.now) name.entry) }
 {
     match name {
@@ -502,7 +546,7 @@ fn modems_named(name: Option<&str>) -> Modems
 }
 
 // A copy of the text, where there is one.
-fn copy_of(alloc: Global, text: Option<&str>) -> Result<Option<String>, AllocError>
+pub(crate) fn copy_of(alloc: Global, text: Option<&str>) -> Result<Option<String>, AllocError>
     ensures { IfOk result (λ copy. option_map string_bytes copy ≡ option_map (λ text. text.now) text.entry) }
 {
     match text {
@@ -511,7 +555,7 @@ fn copy_of(alloc: Global, text: Option<&str>) -> Result<Option<String>, AllocErr
     }
 }
 
-fn coding_in(matches: &ArgMatches<'_>) -> Option<Coding>
+pub(crate) fn coding_in(matches: &ArgMatches<'_>) -> Option<Coding>
     ensures { result ≡ coding_named (first_of (codes "code") (rows_of (found_of matches.now))) }
 {
     coding_named(text_in(matches, "code"))
@@ -543,7 +587,7 @@ fn order_named(name: Option<&str>) -> Order
 }
 
 // The first value of an argument.
-fn text_in<'a>(matches: &ArgMatches<'a>, id: &str) -> Option<&'a str>
+pub(crate) fn text_in<'a>(matches: &ArgMatches<'a>, id: &str) -> Option<&'a str>
     ensures { option_map (λ text. text.now) result
         ≡ first_of id.now (rows_of (found_of matches.now)) }
 {
@@ -561,7 +605,7 @@ fn width_in(matches: &ArgMatches<'_>) -> Option<u32>
 }
 
 // The number that is an option's value.
-fn number_in(matches: &ArgMatches<'_>, id: &str) -> Option<u32>
+pub(crate) fn number_in(matches: &ArgMatches<'_>, id: &str) -> Option<u32>
     ensures { ReadsNumber id.now (rows_of (found_of matches.now)) result }
 {
     matches.get_one::<u32>(id)
@@ -571,6 +615,7 @@ fn number_in(matches: &ArgMatches<'_>, id: &str) -> Option<u32>
 fn unfit_text(matches: &ArgMatches<'_>) -> &'static str {
     match matches.subcommand() {
         Some((name, inner)) if name == "call" => unfit_call(inner),
+        Some((name, inner)) if name == "station" => unfit_station(inner),
         _ => "--repair is for --code mh, and can't be used with --salvage",
     }
 }
@@ -583,7 +628,7 @@ fn unfit_call(matches: &ArgMatches<'_>) -> &'static str {
         return "--script and --lose can't be used together";
     }
     if has_script && has_line(matches) {
-        return "--spoil, --seed, --calls and --times are for a call with --lose";
+        return "--spoil, --busy, --seed, --calls and --times are for a call with --lose";
     }
     if has_script {
         return "--script and <IN> can't both be standard input";
@@ -591,7 +636,8 @@ fn unfit_call(matches: &ArgMatches<'_>) -> &'static str {
     if !has_lose {
         return "--script or --lose is missing";
     }
-    if rate_in(matches, "lose").is_none() || spoil_in(matches).is_none() {
+    let no_rate = rate_in(matches, "lose").is_none() || spoil_in(matches).is_none();
+    if no_rate || busy_in(matches).is_none() {
         return "a rate is a percentage, as 5%, or a fraction, as 1/20, and 1 at most";
     }
     if number_in(matches, "seed").is_none() {

@@ -63,6 +63,18 @@ sets_kept p (Some busy) d =
       left = rw (leaves.to_answerer, leaves.to_caller, leaves.caller, leaves.ending) refl;
     }
 
+-- a setting doesn't end a call
+pub over_set : (setting : Option Bool) (d : Driven) → is_over (sets setting d) ≡ is_over d
+over_set setting d = (sets_kept (record { calls = 0; busy = 0 }) setting d).over
+
+-- and leaves the caller
+pub caller_set : (setting : Option Bool) (d : Driven) → (sets setting d).world.caller ≡ d.world.caller
+caller_set setting d = (sets_kept (record { calls = 0; busy = 0 }) setting d).caller
+
+-- and what the call has left
+pub left_set : (p : Patience) (setting : Option Bool) (d : Driven) → potential p (sets setting d) ≡ potential p d
+left_set p setting d = (sets_kept p setting d).left
+
 drove_set :
     SpeedsHold → StepsArePlaced → ((c : Caller) → AreShort c) → (most : ℕ) (p : Patience) (settings : List (Option Bool)) (d : Driven) →
     IsPlaced d.world.caller → Drove p (steps_set most p settings d) d (drive_set most p settings d)

@@ -3,7 +3,7 @@ use Rattle.std.proofs.Common.{◌≡◌, ◌≢◌, ◌↔◌, ℕ, zero, suc, �
 use Rattle.std.proofs.Common.{None, List, [], ◌∷◌, ◌++◌, map}
 use Rattle.std.proofs.Common.{drop, refl, ap, sym, subst, ◌∙◌, arith}
 use Rattle.std.specs.Prelude.{nat_lt, ◌&&◌, not, is_some, IsTrue, slice_index_or, length}
-use Rattle.signals.specs.Signals.{PlainSignal}
+use Rattle.signals.specs.Signals.{PlainSignal, rnr}
 use Rattle.stations.specs.Inputs.{PlainItem, framed, checked}
 use Rattle.stations.specs.declared.turn.AnswererState.{AnswererState}
 use Rattle.stations.specs.declared.turn.AnswererState.TheVariants.{PhaseB, WaitTraining, Message}
@@ -11,14 +11,14 @@ use Rattle.stations.specs.declared.turn.CallerState.{CallerState}
 use Rattle.stations.specs.declared.turn.CallerState.TheVariants.{WaitDis, WaitCfr, WaitBlock, WaitReady}
 use Rattle.stations.specs.declared.turn.End.{End}
 use Rattle.line_sim.specs.Driving.{Driven, Fate, Patience, caller_waits, comes_back, dis_is_due, dis_kept, drive}
-use Rattle.line_sim.specs.Driving.{drives, events_back, events_there, events_waiting, first_fate, is_over}
+use Rattle.line_sim.specs.Driving.{drives, events_back, events_there, events_waiting, first_fate, is_over, kept, meets_caller, rnrs_with}
 use Rattle.line_sim.specs.Driving.{is_over_at, is_rnr_item, later_fates, somebody_waits, step_events, steps_made}
 use Rattle.line_sim.specs.Driving.Fate.{comes, lost, spoiled}
-use Rattle.line_sim.specs.Entries.{and_entries, entry_of, head_kind, is_refused, signal_kind}
-use Rattle.line_sim.specs.Fates.{Broken, ComesNext, DrivenFields, Follows, MakesStep, MayAct, ShowsDriven, SpoilsIf, act_to_answerer}
-use Rattle.line_sim.specs.Fates.{act_to_caller, act_waiting, before_act, dis_with, is_fate_due, next_of, plain_fate}
+use Rattle.line_sim.specs.Entries.{and_entries, entry_of, head_kind, is_refused, kind_of, signal_kind}
+use Rattle.line_sim.specs.Fates.{ActsIf, Broken, ComesNext, DrivenFields, Follows, MakesStep, MayAct, SetsBusy, ShowsDriven, act_to_answerer}
+use Rattle.line_sim.specs.Fates.{act_to_caller, act_waiting, before_act, dis_with, is_fate_due, is_one_too_many, is_sending, next_of, plain_fate}
+use Rattle.line_sim.specs.Fates.{rnrs_after}
 use Rattle.line_sim.specs.Line.{World, Outcome, Done, Nothing, InputLost, Cut, happens, run}
-use Rattle.line_sim.specs.Quiet.{has_rnr}
 use Rattle.line_sim.specs.Report.{all_done}
 use Rattle.line_sim.specs.Standing.{Acts, Shows}
 use Rattle.line_sim.specs.declared.call.Call.{Call}
@@ -28,11 +28,13 @@ use Rattle.line_sim.specs.declared.drive.Fate.TheVariants.{Comes, Lost, Spoiled}
 use Rattle.line_sim.specs.declared.drive.Step.{Step}
 use Rattle.line_sim.specs.declared.event.Entry.{Entry}
 use Rattle.line_sim.specs.declared.event.Event.{Event}
-use Rattle.line_sim.specs.declared.event.Event.TheVariants.{CallerT5, LoseToCaller, Spoil}
-use Rattle.line_sim.specs.declared.event.Kind.TheVariants.{Training}
+use Rattle.line_sim.specs.declared.event.Event.TheVariants.{AnswererT1, AnswererT2, Busy, CallerT5, CallerTimeout, LoseToCaller}
+use Rattle.line_sim.specs.declared.event.Kind.{Kind}
+use Rattle.line_sim.specs.declared.event.Kind.TheVariants.{Rnr, Training}
+use Rattle.line_sim.proofs.CallerDrives.{kept_same}
 use Rattle.line_sim.proofs.DrivenRuns.{events_lead}
 use Rattle.line_sim.proofs.Items.{no_check}
-use Rattle.line_sim.proofs.Quiet.{or_false}
+use Rattle.line_sim.proofs.Places.{back_rnrs, kept_at, met_rnrs, t1_place, t2_place, t5_place, timeout_place}
 use Rattle.line_sim.proofs.Reaching.{entry_refused}
 
 -- what is first under way to the answerer meets its fate
@@ -40,26 +42,46 @@ came :
     (p : Patience) (item : PlainItem) (items others : List PlainItem) (d : Driven) → first_fate d.fates ≡ comes →
     Follows p (item ∷ items) others d (act_to_answerer Comes false)
 came p item items others d is =
-    record { goes_on = refl; events = ap (λ f. events_there f item) (sym is); dis = refl }
+    record {
+      goes_on = refl;
+      events = ap (λ f. events_there f item) (sym is);
+      dis = refl;
+      rnrs = met_rnrs (first_fate d.fates) item d.world d.rnrs;
+    }
 
 lost_there :
     (p : Patience) (item : PlainItem) (items others : List PlainItem) (d : Driven) → first_fate d.fates ≡ lost →
     Follows p (item ∷ items) others d (act_to_answerer Lost false)
 lost_there p item items others d is =
-    record { goes_on = refl; events = ap (λ f. events_there f item) (sym is); dis = refl }
+    record {
+      goes_on = refl;
+      events = ap (λ f. events_there f item) (sym is);
+      dis = refl;
+      rnrs = met_rnrs (first_fate d.fates) item d.world d.rnrs;
+    }
 
 check_spoiled :
     (p : Patience) (octets : List ℕ) (items others : List PlainItem) (d : Driven) → first_fate d.fates ≡ spoiled →
     Follows p (checked octets ∷ items) others d (act_to_answerer Spoiled true)
 check_spoiled p octets items others d is =
-    record { goes_on = refl; events = ap (λ f. events_there f (checked octets)) (sym is); dis = refl }
+    record {
+      goes_on = refl;
+      events = ap (λ f. events_there f (checked octets)) (sym is);
+      dis = refl;
+      rnrs = met_rnrs (first_fate d.fates) (checked octets) d.world d.rnrs;
+    }
 
 frame_spoiled :
     (p : Patience) (item : PlainItem) (items others : List PlainItem) (d : Driven) → (head_kind (item ∷ items) ≢ Some Training) →
     first_fate d.fates ≡ spoiled → Follows p (item ∷ items) others d (act_to_answerer Spoiled false)
 frame_spoiled p (checked octets) items others d differs is = absurd (differs refl)
 frame_spoiled p (framed signal) items others d differs is =
-    record { goes_on = refl; events = ap (λ f. events_there f (framed signal)) (sym is); dis = refl }
+    record {
+      goes_on = refl;
+      events = ap (λ f. events_there f (framed signal)) (sym is);
+      dis = refl;
+      rnrs = met_rnrs (first_fate d.fates) (framed signal) d.world d.rnrs;
+    }
 
 no_check_framed : (signal : PlainSignal) → signal_kind signal ≢ Some Training
 no_check_framed signal e = no_check signal Training e refl
@@ -76,41 +98,44 @@ meets_there p (framed signal ∷ items) others d Spoiled true some kind is = abs
 meets_there p (item ∷ items) others d Spoiled false some kind is =
     frame_spoiled p item items others d (λ e. (let fails : false ≡ true = kind.1 e in cc)) is
 
--- what is first under way to the caller is no RNR, and meets its fate
-back : (p : Patience) (b : Bool) (item : PlainItem) (d : Driven) → is_rnr_item item ≡ false →
-    comes_back (is_rnr_item item && b) item d ≡ comes_back false item d
-back p b item d none = ap (λ r. comes_back (r && b) item d) none
-
-back_events : (b : Bool) (item : PlainItem) (events others : List Event) → is_rnr_item item ≡ false →
-    cond (is_rnr_item item && b) events others ≡ others
-back_events b item events others none = ap (λ r. cond (r && b) events others) none
-
+-- what is first under way to the caller meets its fate, or is an RNR too many
 back_follows :
-    (p : Patience) (item : PlainItem) (items : List PlainItem) (d : Driven) (act : Act) → is_rnr_item item ≡ false →
-    before_act act.spoils ++ act.event ∷ [] ≡ events_back (first_fate d.fates) →
-    (comes_back false item d).dis ≡ dis_kept d.world.caller.state (dis_with act.event d.dis) → Follows p [] (item ∷ items) d act
-back_follows p item items d act none events dis =
+    (p : Patience) (item : PlainItem) (items : List PlainItem) (d : Driven) (act : Act) (many : Bool) →
+    (is_rnr_item item && not (nat_lt d.rnrs p.busy)) ≡ many →
+    before_act act.before ++ act.event ∷ [] ≡ cond many (LoseToCaller ∷ CallerT5 ∷ []) (events_back (first_fate d.fates)) →
+    (comes_back many item d).dis ≡ dis_kept d.world.caller.state (dis_with act.event d.dis) →
+    (comes_back many item d).rnrs ≡ rnrs_after act.event (kind_of item) (is_sending d.world.caller) d.rnrs →
+    Follows p [] (item ∷ items) d act
+back_follows p item items d act many is events dis rnrs =
     record {
       goes_on = refl;
-      events = events ∙
-          sym (back_events (not (nat_lt d.rnrs p.busy)) item (LoseToCaller ∷ CallerT5 ∷ []) (events_back (first_fate d.fates)) none);
-      dis = ap (λ (n : Driven). n.dis) (back p (not (nat_lt d.rnrs p.busy)) item d none) ∙ dis;
+      events = events ∙ sym (ap (λ b. cond b (LoseToCaller ∷ CallerT5 ∷ []) (events_back (first_fate d.fates))) is);
+      dis = ap (λ b. (comes_back b item d).dis) is ∙ dis;
+      rnrs = ap (λ b. (comes_back b item d).rnrs) is ∙ rnrs;
     }
 
 pub meets_back :
-    (p : Patience) (items others : List PlainItem) (d : Driven) (fate : CallFate) → items ≡ [] → others ≢ [] → has_rnr others ≡ false →
-    first_fate d.fates ≡ plain_fate fate → Follows p items others d (act_to_caller fate)
-meets_back p (item ∷ items) others d fate none some quiet is = absurd (cc)
-meets_back p [] [] d fate none some quiet is = absurd (some refl)
-meets_back p [] (item ∷ others) d Comes none some quiet is =
-    back_follows p item others d (act_to_caller Comes) (or_false (is_rnr_item item) (has_rnr others) quiet).0
-    (ap events_back (sym is)) refl
-meets_back p [] (item ∷ others) d Lost none some quiet is =
-    back_follows p item others d (act_to_caller Lost) (or_false (is_rnr_item item) (has_rnr others) quiet).0
-    (ap events_back (sym is)) refl
-meets_back p [] (item ∷ others) d Spoiled none some quiet is =
-    back_follows p item others d (act_to_caller Spoiled) (or_false (is_rnr_item item) (has_rnr others) quiet).0
-    (ap events_back (sym is)) refl
+    (p : Patience) (items others : List PlainItem) (d : Driven) (fate : CallFate) (many : Bool) → items ≡ [] → others ≢ [] →
+    d.world.to_caller ≡ others → is_one_too_many (nat_lt d.rnrs p.busy) others ≡ many → first_fate d.fates ≡ plain_fate fate →
+    Follows p items others d (act_to_caller many fate)
+meets_back p (item ∷ items) others d fate many none some there is_many is = absurd (cc)
+meets_back p [] [] d fate many none some there is_many is = absurd (some refl)
+meets_back p [] (item ∷ others) d fate true none some there is_many is =
+    back_follows p item others d (act_to_caller true fate) true is_many refl refl
+    (kept_at d.world.caller.place (happens (happens d.world LoseToCaller Done) CallerT5 Done).caller.place d.rnrs
+    (t5_place (happens d.world LoseToCaller Done)))
+meets_back p [] (item ∷ others) d Comes false none some there is_many is =
+    back_follows p item others d (act_to_caller false Comes) false is_many (ap events_back (sym is)) refl
+    (ap (λ f. kept d.world.caller.place (meets_caller f d.world).caller.place (rnrs_with f item d.rnrs)) is ∙
+    back_rnrs d.world item others d.rnrs there)
+meets_back p [] (item ∷ others) d Lost false none some there is_many is =
+    back_follows p item others d (act_to_caller false Lost) false is_many (ap events_back (sym is)) refl
+    (ap (λ f. kept d.world.caller.place (meets_caller f d.world).caller.place (rnrs_with f item d.rnrs)) is ∙
+    kept_same d.world.caller.place d.rnrs)
+meets_back p [] (item ∷ others) d Spoiled false none some there is_many is =
+    back_follows p item others d (act_to_caller false Spoiled) false is_many (ap events_back (sym is)) refl
+    (ap (λ f. kept d.world.caller.place (meets_caller f d.world).caller.place (rnrs_with f item d.rnrs)) is ∙
+    kept_same d.world.caller.place d.rnrs)
 
 -- nothing is under way, and a wait is over, or the call is
 waits_follow : (p : Patience) (one other : Option End) (due : Bool) (d : Driven) → d.world.caller.ending ≡ one →
@@ -143,6 +168,8 @@ waits_follow p None other due d one_is other_is due_is = at due due_is
           goes_on = on;
           events = sym (made ∙ ap (events_waiting None other) is);
           dis = ap (λ (n : Driven). n.dis) next;
+          rnrs = ap (λ (n : Driven). n.rnrs) next ∙
+              kept_at d.world.caller.place (happens d.world AnswererT2 Done).caller.place d.rnrs (t2_place d.world);
         }
     at false is =
         let next : drives p [] [] d ≡ caller_waits false d = goes ∙ ap (λ b. caller_waits b d) is in
@@ -150,6 +177,8 @@ waits_follow p None other due d one_is other_is due_is = at due due_is
           goes_on = on;
           events = sym (made ∙ ap (events_waiting None other) is);
           dis = ap (λ (n : Driven). n.dis) next;
+          rnrs = ap (λ (n : Driven). n.rnrs) next ∙
+              kept_at d.world.caller.place (happens d.world CallerTimeout Done).caller.place d.rnrs (timeout_place d.world);
         }
 waits_follow p (Some why) None due d one_is other_is due_is =
     let next : drives p [] [] d ≡ somebody_waits p (Some why) None d =
@@ -160,6 +189,8 @@ waits_follow p (Some why) None due d one_is other_is due_is =
           (dis_is_due d.world.caller.state d.world.answerer.state d.world.answerer.ending (nat_lt d.dis p.calls))) one_is ∙
           ap (λ e. events_waiting (Some why) e (dis_is_due d.world.caller.state d.world.answerer.state e (nat_lt d.dis p.calls))) other_is);
       dis = ap (λ (n : Driven). n.dis) next;
+      rnrs = ap (λ (n : Driven). n.rnrs) next ∙
+          kept_at d.world.caller.place (happens d.world AnswererT1 Done).caller.place d.rnrs (t1_place d.world);
     }
 waits_follow p (Some why) (Some other) due d one_is other_is due_is =
     ap (λ e. is_over_at [] [] e d.world.answerer.ending) one_is ∙ ap (λ e. is_over_at [] [] (Some why) e) other_is
@@ -177,17 +208,33 @@ waits_next p [] [] d few act none nothing is made =
     (dis_is_due d.world.caller.state d.world.answerer.state d.world.answerer.ending few) d refl refl
     (ap (λ b. dis_is_due d.world.caller.state d.world.answerer.state d.world.answerer.ending b) is))
 
--- what may be: no act of these sets the answerer busy, and T2 is due where few DIS were sent
-pub may_there : (few : Bool) (fate : CallFate) (check : Bool) → MayAct few (Some (act_to_answerer fate check))
-may_there few Comes check = (tt, λ e. cc)
-may_there few Lost check = (tt, λ e. cc)
-may_there few Spoiled true = (tt, λ e. cc)
-may_there few Spoiled false = (tt, λ e. cc)
+-- what may be: no station hears of what comes before, T2 is due where few DIS were sent, and an RNR comes where few came
+pub may_there : (few_dis few_rnrs : Bool) (kind : Option Kind) (fate : CallFate) (check : Bool) →
+    MayAct few_dis few_rnrs kind (Some (act_to_answerer fate check))
+may_there few_dis few_rnrs kind Comes check = record { before = tt; dis = λ e. cc; rnrs = λ e k. cc }
+may_there few_dis few_rnrs kind Lost check = record { before = tt; dis = λ e. cc; rnrs = λ e k. cc }
+may_there few_dis few_rnrs kind Spoiled true = record { before = tt; dis = λ e. cc; rnrs = λ e k. cc }
+may_there few_dis few_rnrs kind Spoiled false = record { before = tt; dis = λ e. cc; rnrs = λ e k. cc }
 
-pub may_back : (few : Bool) (fate : CallFate) → MayAct few (Some (act_to_caller fate))
-may_back few Comes = (tt, λ e. cc)
-may_back few Lost = (tt, λ e. cc)
-may_back few Spoiled = (tt, λ e. cc)
+-- an item is an RNR by its kind
+rnr_kind : (item : PlainItem) → kind_of item ≡ Some Rnr → is_rnr_item item ≡ true
+rnr_kind (checked octets) e = absurd (cc e)
+rnr_kind (framed rnr) e = refl
+rnr_kind (framed _) e = absurd (cc e)
+
+few_come : (few : Bool) (others : List PlainItem) → is_one_too_many few others ≡ false → head_kind others ≡ Some Rnr → few ≡ true
+few_come true others one kind = refl
+few_come false [] one kind = absurd (cc kind)
+few_come false (item ∷ others) one kind =
+    absurd (let yes : (is_rnr_item item && true) ≡ true = ap (λ b. b && true) (rnr_kind item kind) in
+    let no : true ≡ false = sym yes ∙ one in cc)
+
+pub may_back : (few_dis few_rnrs : Bool) (others : List PlainItem) (fate : CallFate) (many : Bool) →
+    is_one_too_many few_rnrs others ≡ many → MayAct few_dis few_rnrs (head_kind others) (Some (act_to_caller many fate))
+may_back few_dis few_rnrs others fate true is = record { before = tt; dis = λ e. cc; rnrs = λ e k. cc }
+may_back few_dis few_rnrs others Comes false is = record { before = tt; dis = λ e. cc; rnrs = λ e k. few_come few_rnrs others is k }
+may_back few_dis few_rnrs others Lost false is = record { before = tt; dis = λ e. cc; rnrs = λ e k. cc }
+may_back few_dis few_rnrs others Spoiled false is = record { before = tt; dis = λ e. cc; rnrs = λ e k. cc }
 
 -- the answerer's T2 is due by the stations' own tests
 none_is : {A : Type 0} (o : Option A) → is_some o ≡ false → o ≡ None
@@ -268,27 +315,58 @@ dis_shown p old event waits dis d shows waiting dis_is next =
     next ∙ (dis_counted d.world.caller.state waits (dis_with event d.dis) waiting ∙
     (ap (λ n. cond waits (dis_with event n) 0) shows.dis ∙ sym dis_is))
 
+-- the RNRs after a step
+rnrs_shown :
+    (p : Patience) (old : DrivenFields) (event : Event) (kind : Option Kind) (sending : Bool) (rnrs : ℕ) (d : Driven) → ShowsDriven old p d →
+    sending ≡ is_sending d.world.caller → kind ≡ head_kind old.live.to_caller → rnrs ≡ rnrs_after event kind sending old.rnrs →
+    (next_of p d).rnrs ≡ rnrs_after event (head_kind d.world.to_caller) (is_sending d.world.caller) d.rnrs → (next_of p d).rnrs ≡ rnrs
+rnrs_shown p old event kind sending rnrs d shows sends kinds rnrs_is next =
+    let there : head_kind d.world.to_caller ≡ kind = ap head_kind shows.world.to_caller ∙ sym kinds in
+    next ∙ (ap (λ k. rnrs_after event k (is_sending d.world.caller) d.rnrs) there ∙
+    (ap (λ b. rnrs_after event kind b d.rnrs) (sym sends) ∙ (ap (λ n. rnrs_after event kind sending n) shows.rnrs ∙ sym rnrs_is)))
+
 -- so its events lead to the next step's world
 follows_leads : (p : Patience) (d : Driven) (act : Act) → Follows p d.world.to_answerer d.world.to_caller d act →
-    run (all_done (before_act act.spoils ++ act.event ∷ [])) d.world ≡ (next_of p d).world
+    run (all_done (before_act act.before ++ act.event ∷ [])) d.world ≡ (next_of p d).world
 follows_leads p d act follows =
     ap (λ events. run (all_done events) d.world) follows.events ∙ events_lead p d.world.to_answerer d.world.to_caller d
 
+-- what the code has counted after an act
+pub record IsCounted (old : DrivenFields) (event : Event) (d : Driven) (dis rnrs : ℕ) : Type 0 where
+  pub waits : Bool
+  pub sending : Bool
+  pub kind : Option Kind
+  pub waiting : IsTrue waits ↔ (d.world.caller.state ≡ WaitDis)
+  pub sends : sending ≡ is_sending d.world.caller
+  pub kinds : kind ≡ head_kind old.live.to_caller
+  pub dis_is : dis ≡ cond waits (dis_with event old.dis) 0
+  pub rnrs_is : rnrs ≡ rnrs_after event kind sending old.rnrs
+
+-- the fields after an act that was done show the next step
+next_shown : (p : Patience) (old : DrivenFields) (new : Call) (act : Act) (dis rnrs : ℕ) (d : Driven) → ShowsDriven old p d →
+    Follows p d.world.to_answerer d.world.to_caller d act → IsCounted old act.event d dis rnrs → Shows new (next_of p d).world →
+    ShowsDriven (record { live = new; patience = old.patience; dis = dis; rnrs = rnrs }) p (next_of p d)
+next_shown p old new act dis rnrs d shows follows counted there = record {
+  world = there;
+  dis = dis_shown p old act.event counted.waits dis d shows counted.waiting counted.dis_is follows.dis;
+  rnrs = rnrs_shown p old act.event counted.kind counted.sending rnrs d shows counted.sends counted.kinds counted.rnrs_is follows.rnrs;
+  patience = shows.patience;
+}
+
 -- an act was made
 pub act_made :
-    (spoils : Bool) (p : Patience) (old : DrivenFields) (middle new : Call) (event : Event) (spoiled : Option Entry) (entry : Entry)
-    (waits : Bool) (dis : ℕ) (d : Driven) → ShowsDriven old p d →
-    Follows p d.world.to_answerer d.world.to_caller d (record { spoils = spoils; event = event }) →
-    SpoilsIf spoils old.live middle spoiled → Acts middle new event entry → (IsTrue waits ↔ (d.world.caller.state ≡ WaitDis)) →
-    dis ≡ cond waits (dis_with event old.dis) 0 →
-    MakesStep p (record { live = new; calls = old.calls; dis = dis }) d (record { spoiled = spoiled; entry = entry })
-act_made true p old middle new event None entry waits dis d shows follows spoils acts waiting dis_is = absurd spoils
-act_made false p old middle new event (Some first) entry waits dis d shows follows spoils acts waiting dis_is = absurd spoils
-act_made false p old middle new event None entry waits dis d shows follows spoils acts waiting dis_is =
+    (before : Option Event) (p : Patience) (old : DrivenFields) (middle new : Call) (event : Event) (first : Option Entry) (entry : Entry)
+    (dis rnrs : ℕ) (d : Driven) → ShowsDriven old p d →
+    Follows p d.world.to_answerer d.world.to_caller d (record { before = before; event = event }) →
+    ActsIf before old.live middle first → Acts middle new event entry → IsCounted old event d dis rnrs →
+    MakesStep p (record { live = new; patience = old.patience; dis = dis; rnrs = rnrs }) d (record { before = first; entry = entry })
+act_made (Some early) p old middle new event None entry dis rnrs d shows follows did acts counted = absurd did
+act_made None p old middle new event (Some first) entry dis rnrs d shows follows did acts counted = absurd did
+act_made None p old middle new event None entry dis rnrs d shows follows did acts counted =
     let w : World = d.world in
-    let leads = follows_leads p d (record { spoils = false; event = event }) follows in
-    let stands : Shows middle w = subst (λ v. Shows v w) (sym spoils) shows.world in
-    let did = acts.1 w stands in
+    let leads = follows_leads p d (record { before = None; event = event }) follows in
+    let stands : Shows middle w = subst (λ v. Shows v w) (sym did) shows.world in
+    let made = acts.1 w stands in
     record {
       goes_on = follows.goes_on;
       before = [];
@@ -296,51 +374,67 @@ act_made false p old middle new event None entry waits dis d shows follows spoil
       events = follows.events;
       leads = leads;
       outcome = acts.0;
-      shows = did.0;
-      noted = ap (λ e. and_entries e []) (sym did.1);
+      shows = made.0;
+      noted = ap (λ e. and_entries e []) (sym made.1);
       done = λ unmarked. (
         was_done middle new event entry w acts stands unmarked,
-        record {
-          world =
-              subst (Shows new) leads
-              (subst (λ o. Shows new (happens w event o)) (was_done middle new event entry w acts stands unmarked) did.0);
-          dis = dis_shown p old event waits dis d shows waiting dis_is follows.dis;
-          calls = shows.calls;
-        },
+        next_shown p old new (record { before = None; event = event }) dis rnrs d shows follows counted
+            (subst (Shows new) leads
+            (subst (λ o. Shows new (happens w event o)) (was_done middle new event entry w acts stands unmarked) made.0)),
       );
       marked = λ mark. was_not middle new event entry w acts stands mark;
     }
-act_made true p old middle new event (Some first) entry waits dis d shows follows spoils acts waiting dis_is =
+act_made (Some early) p old middle new event (Some first) entry dis rnrs d shows follows did acts counted =
     let w : World = d.world in
-    let leads = follows_leads p d (record { spoils = true; event = event }) follows in
-    let done : spoils.0.0 ≡ Done = was_done old.live middle Spoil first w spoils.0 shows.world spoils.1 in
-    let spoil = spoils.0.1 w shows.world in
-    let after : World = happens w Spoil Done in
-    let stands : Shows middle after = subst (λ o. Shows middle (happens w Spoil o)) done spoil.0 in
-    let said : entry_of w Spoil Done ≡ Some first = subst (λ o. entry_of w Spoil o ≡ Some first) done spoil.1 in
-    let did = acts.1 after stands in
+    let leads = follows_leads p d (record { before = Some early; event = event }) follows in
+    let done : did.0.0 ≡ Done = was_done old.live middle early first w did.0 shows.world did.1 in
+    let begun = did.0.1 w shows.world in
+    let after : World = happens w early Done in
+    let stands : Shows middle after = subst (λ o. Shows middle (happens w early o)) done begun.0 in
+    let said : entry_of w early Done ≡ Some first = subst (λ o. entry_of w early o ≡ Some first) done begun.1 in
+    let made = acts.1 after stands in
     record {
       goes_on = follows.goes_on;
-      before = Spoil ∷ [];
+      before = early ∷ [];
       event = event;
       events = follows.events;
       leads = leads;
       outcome = acts.0;
-      shows = did.0;
+      shows = made.0;
       noted =
           ap (λ e. and_entries e (entry ∷ [])) (sym said) ∙
-          ap (λ e. and_entries (entry_of w Spoil Done) (and_entries e [])) (sym did.1);
+          ap (λ e. and_entries (entry_of w early Done) (and_entries e [])) (sym made.1);
       done = λ unmarked. (
         was_done middle new event entry after acts stands unmarked,
-        record {
-          world =
-              subst (Shows new) leads
-              (subst (λ o. Shows new (happens after event o)) (was_done middle new event entry after acts stands unmarked) did.0);
-          dis = dis_shown p old event waits dis d shows waiting dis_is follows.dis;
-          calls = shows.calls;
-        },
+        next_shown p old new (record { before = Some early; event = event }) dis rnrs d shows follows counted
+            (subst (Shows new) leads
+            (subst (λ o. Shows new (happens after event o)) (was_done middle new event entry after acts stands unmarked) made.0)),
       );
       marked = λ mark. was_not middle new event entry after acts stands mark;
+    }
+
+-- the answerer was set busy or ready
+pub was_set : (p : Patience) (busy : Bool) (old : DrivenFields) (new : Call) (entry : Entry) (d : Driven) → ShowsDriven old p d →
+    Acts old.live new (Busy busy) entry →
+    SetsBusy p busy (record { live = new; patience = old.patience; dis = old.dis; rnrs = old.rnrs }) d entry
+was_set p busy old new entry d shows acts =
+    let w : World = d.world in
+    let made = acts.1 w shows.world in
+    record {
+      outcome = acts.0;
+      shows = made.0;
+      noted = ap (λ e. and_entries e []) (sym made.1);
+      done = λ unmarked. (
+        was_done old.live new (Busy busy) entry w acts shows.world unmarked,
+        record {
+          world = subst (λ o. Shows new (happens w (Busy busy) o)) (was_done old.live new (Busy busy) entry w acts shows.world unmarked)
+              made.0;
+          dis = shows.dis;
+          rnrs = shows.rnrs;
+          patience = shows.patience;
+        },
+      );
+      marked = λ mark. was_not old.live new (Busy busy) entry w acts shows.world mark;
     }
 
 -- the fate at a place of a list
@@ -351,8 +445,16 @@ fate_read (first ∷ fates) zero fate within is = ap plain_fate is
 fate_read (first ∷ fates) (suc at) fate within is = fate_read fates at fate (omega arith) is
 
 -- few DIS were sent, as the numbers say
-pub few_same : (p : Patience) (old : DrivenFields) (d : Driven) → ShowsDriven old p d → nat_lt d.dis p.calls ≡ nat_lt old.dis old.calls
-few_same p old d shows = ap (λ n. nat_lt n p.calls) shows.dis ∙ ap (λ n. nat_lt old.dis n) shows.calls
+pub few_dis_same : (p : Patience) (old : DrivenFields) (d : Driven) → ShowsDriven old p d →
+    nat_lt d.dis p.calls ≡ nat_lt old.dis old.patience.calls
+few_dis_same p old d shows =
+    ap (λ n. nat_lt n p.calls) shows.dis ∙ ap (λ (q : Patience). nat_lt old.dis q.calls) shows.patience
+
+-- and few RNRs came
+pub few_rnrs_same : (p : Patience) (old : DrivenFields) (d : Driven) → ShowsDriven old p d →
+    nat_lt d.rnrs p.busy ≡ nat_lt old.rnrs old.patience.busy
+few_rnrs_same p old d shows =
+    ap (λ n. nat_lt n p.busy) shows.rnrs ∙ ap (λ (q : Patience). nat_lt old.rnrs q.busy) shows.patience
 
 -- a call that is over stays so
 over_stays : (n : ℕ) (p : Patience) (d : Driven) → is_over d ≡ true → drive n p d ≡ d
@@ -419,14 +521,25 @@ drive_ends (suc n) (suc most) p d few over = at (λ e. drive_ends n most p (next
               (ap suc rest.1 ∙ sym (ap (λ b. cond b 0 (suc (steps_made n p (next_of p d)))) goes)),
         )
 
+-- whether a fate is due is said by the fields
+pub due_shown : (p : Patience) (old : DrivenFields) (d : Driven) (due : Bool) → ShowsDriven old p d →
+    due ≡ is_fate_due (nat_lt old.rnrs old.patience.busy) old.live.to_answerer old.live.to_caller →
+    is_fate_due (nat_lt d.rnrs p.busy) d.world.to_answerer d.world.to_caller ≡ due
+due_shown p old d due shows due_is =
+    ap (λ b. is_fate_due b d.world.to_answerer d.world.to_caller) (few_rnrs_same p old d shows) ∙
+    (ap (λ xs. is_fate_due (nat_lt old.rnrs old.patience.busy) xs d.world.to_caller) shows.world.to_answerer ∙
+    (ap (λ ys. is_fate_due (nat_lt old.rnrs old.patience.busy) old.live.to_answerer ys) shows.world.to_caller ∙ sym due_is))
+
 -- the fates that are left after a step
-fates_after : (p : Patience) (items others : List PlainItem) (d : Driven) → has_rnr others ≡ false →
-    (drives p items others d).fates ≡ cond (is_fate_due items others) (later_fates d.fates) d.fates
-fates_after p (item ∷ items) others d quiet = refl
-fates_after p [] (item ∷ others) d quiet =
-    ap (λ (n : Driven). n.fates)
-    (back p (not (nat_lt d.rnrs p.busy)) item d (or_false (is_rnr_item item) (has_rnr others) quiet).0)
-fates_after p [] [] d quiet = at d.world.caller.ending d.world.answerer.ending
+pub fates_after : (p : Patience) (items others : List PlainItem) (d : Driven) →
+    (drives p items others d).fates ≡ cond (is_fate_due (nat_lt d.rnrs p.busy) items others) (later_fates d.fates) d.fates
+fates_after p (item ∷ items) others d = refl
+fates_after p [] (item ∷ others) d = back (is_rnr_item item && not (nat_lt d.rnrs p.busy))
+  where
+    back : (many : Bool) → (comes_back many item d).fates ≡ cond (not many) (later_fates d.fates) d.fates
+    back true = refl
+    back false = refl
+fates_after p [] [] d = at d.world.caller.ending d.world.answerer.ending
   where
     waits : (b : Bool) → (caller_waits b d).fates ≡ d.fates
     waits true = refl
@@ -436,6 +549,13 @@ fates_after p [] [] d quiet = at d.world.caller.ending d.world.answerer.ending
     at None other = waits (dis_is_due d.world.caller.state d.world.answerer.state other (nat_lt d.dis p.calls))
     at (Some why) None = refl
     at (Some why) (Some other) = refl
+
+-- the same by what the fields say
+pub fates_left : (p : Patience) (old : DrivenFields) (d : Driven) (due : Bool) → ShowsDriven old p d →
+    due ≡ is_fate_due (nat_lt old.rnrs old.patience.busy) old.live.to_answerer old.live.to_caller →
+    (next_of p d).fates ≡ cond due (later_fates d.fates) d.fates
+fates_left p old d due shows due_is =
+    fates_after p d.world.to_answerer d.world.to_caller d ∙ ap (λ b. cond b (later_fates d.fates) d.fates) (due_shown p old d due shows due_is)
 
 later_dropped : (at : ℕ) (fates : List Fate) → later_fates (drop at fates) ≡ drop (suc at) fates
 later_dropped zero [] = refl
@@ -465,21 +585,17 @@ past_near false at made place is near = omega arith
 pub along_more :
     (p : Patience) (now new : DrivenFields) (fates : List Fate) (d : Driven) (made at place : ℕ) (due : Bool) (step : Step) →
     Along p now fates d made at → MakesStep p new (drive made p d) step → step.entry.refused ≡ false →
-    due ≡ is_fate_due now.live.to_answerer now.live.to_caller → has_rnr now.live.to_caller ≡ false → place ≡ cond due (at + 1) at →
+    due ≡ is_fate_due (nat_lt now.rnrs now.patience.busy) now.live.to_answerer now.live.to_caller → place ≡ cond due (at + 1) at →
     Along p new fates d (made + 1) place
-along_more p now new fates d made at place due step along makes unmarked due_is quiet place_is =
+along_more p now new fates d made at place due step along makes unmarked due_is place_is =
     let e : Driven = drive made p d in
     let more : drive (suc made) p d ≡ next_of p e = drive_more made p d makes.goes_on in
     let one : suc made ≡ made + 1 = omega arith in
     let shown : ShowsDriven new p (drive (suc made) p d) = subst (ShowsDriven new p) (sym more) (makes.done unmarked).1 in
     let counted : steps_made (suc made) p d ≡ suc made = made_more made p d makes.goes_on ∙ ap suc along.counted in
-    let due_there : is_fate_due e.world.to_answerer e.world.to_caller ≡ due =
-    ap (λ xs. is_fate_due xs e.world.to_caller) along.shows.world.to_answerer ∙
-    (ap (λ ys. is_fate_due now.live.to_answerer ys) along.shows.world.to_caller ∙ sym due_is) in
     let left : (next_of p e).fates ≡ drop place fates =
-    fates_after p e.world.to_answerer e.world.to_caller e (subst (λ ys. has_rnr ys ≡ false) (sym along.shows.world.to_caller) quiet) ∙
-    (ap (λ b. cond b (later_fates e.fates) e.fates) due_there ∙
-    (ap (λ l. cond due (later_fates l) l) along.left ∙ (past_place due at fates ∙ ap (λ n. drop n fates) (sym place_is)))) in
+    fates_left p now e due along.shows due_is ∙
+    (ap (λ l. cond due (later_fates l) l) along.left ∙ (past_place due at fates ∙ ap (λ n. drop n fates) (sym place_is))) in
     record {
       shows = subst (λ n. ShowsDriven new p (drive n p d)) one shown;
       counted = subst (λ n. steps_made n p d ≡ n) one counted;

@@ -56,7 +56,7 @@ pub mod DisPhase
 pub mod Tolerance
 pub mod FewLosses
 pub mod Breaking
-pub mod Quiet
+pub mod Places
 pub mod Fates
 pub mod Putting
 pub mod Redialling

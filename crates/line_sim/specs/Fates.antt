@@ -1,39 +1,44 @@
 -- What fates make of the fields of a driven call.
-use Rattle.std.specs.Prelude.{◌≡◌, ◌≢◌, ℕ, suc, ◌<◌, ◌≤◌, Bool, true, false, cond, List, [], ◌∷◌, ◌++◌, Option, Some, None, Result}
-use Rattle.std.specs.Prelude.{Ok, Err}
+use Rattle.std.specs.Prelude.{◌≡◌, ◌≢◌, ℕ, suc, ◌<◌, ◌≤◌, Bool, true, false, cond, ◌&&◌, not, is_some, List, [], ◌∷◌, ◌++◌}
+use Rattle.std.specs.Prelude.{Option, Some, None, Result, Ok, Err}
 use Rattle.signals.specs.declared.params.Caps.{Caps}
 use Rattle.signals.specs.declared.params.Wish.{Wish}
 use Rattle.stations.specs.CallerFields.{AreCallable}
+use Rattle.stations.specs.CallerStep.{Caller, present_block}
 use Rattle.stations.specs.Inputs.{PlainItem}
 use Rattle.stations.specs.Layers.{Document}
 use Rattle.stations.specs.declared.turn.End.{End}
 use Rattle.line_sim.specs.Driving.{Driven, Ends, Fate, Patience, dis_kept, drive, drives, is_over, is_over_at, most_steps, new_driven}
-use Rattle.line_sim.specs.Driving.{step_events, steps_made}
+use Rattle.line_sim.specs.Driving.{is_rnr_item, step_events, steps_made}
 use Rattle.line_sim.specs.Driving.Fate.{comes, lost, spoiled}
-use Rattle.line_sim.specs.Entries.{entries}
-use Rattle.line_sim.specs.Line.{World, Outcome, Done, run}
-use Rattle.line_sim.specs.Live.{HoldsLive}
-use Rattle.line_sim.specs.Quiet.{SetsNoBusy}
+use Rattle.line_sim.specs.BusyCalls.{sets}
+use Rattle.line_sim.specs.Entries.{entries, head_kind}
+use Rattle.line_sim.specs.Line.{World, Outcome, Done, happens, run}
 use Rattle.line_sim.specs.Report.{all_done}
-use Rattle.line_sim.specs.Standing.{Acts, IsWorldFault, Shows}
+use Rattle.line_sim.specs.Standing.{Acts, IsUnheard, IsWorldFault, Shows}
 use Rattle.line_sim.specs.Tolerance.{CanBear, IsBorne, bad_fates, spoiling_fates}
 use Rattle.line_sim.specs.declared.call.Call.{Call}
 use Rattle.line_sim.specs.declared.drive.Act.{Act}
 use Rattle.line_sim.specs.declared.drive.Fate.{Fate as CallFate}
 use Rattle.line_sim.specs.declared.drive.Fate.TheVariants.{Comes, Lost, Spoiled}
+use Rattle.line_sim.specs.declared.drive.Patience.{Patience as CallPatience}
 use Rattle.line_sim.specs.declared.drive.Step.{Step}
 use Rattle.line_sim.specs.declared.event.Entry.{Entry}
 use Rattle.line_sim.specs.declared.event.Event.{Event}
-use Rattle.line_sim.specs.declared.event.Event.TheVariants.{AnswererT1, AnswererT2, CallerTimeout, DeliverToAnswerer}
+use Rattle.line_sim.specs.declared.event.Event.TheVariants.{AnswererT1, AnswererT2, Busy, CallerT5, CallerTimeout, DeliverToAnswerer}
 use Rattle.line_sim.specs.declared.event.Event.TheVariants.{DeliverToCaller, LoseToAnswerer}
 use Rattle.line_sim.specs.declared.event.Event.TheVariants.{LoseToCaller, Spoil}
+use Rattle.line_sim.specs.declared.event.Kind.{Kind}
+use Rattle.line_sim.specs.declared.event.Kind.TheVariants.{Mcf, Pps, Rnr, Rr}
 use Rattle.line_sim.specs.declared.fault.WorldFault.{WorldFault}
 
--- the fields of a driven call: its call, how many DIS are sent in one wait, and how many were sent in the present one
+-- the fields of a driven call: its call; how many DIS are sent in one wait, and how many RNRs may come for a block; how many were sent in
+-- the present wait, and how many came for the present block
 pub record DrivenFields : Type 0 where
   pub live : Call
-  pub calls : ℕ
+  pub patience : CallPatience
   pub dis : ℕ
+  pub rnrs : ℕ
 
 -- the fate that the code's is
 abbrev pub plain_fate : CallFate → Fate
@@ -41,11 +46,16 @@ plain_fate Comes = comes
 plain_fate Lost = lost
 plain_fate Spoiled = spoiled
 
--- the fields show a driven call. RNRs count for nothing: nobody sets the answerer busy
+-- the patience that the code's is
+abbrev pub plain_patience : CallPatience → Patience
+plain_patience patience = record { calls = patience.calls; busy = patience.busy }
+
+-- the fields show a driven call
 pub record ShowsDriven (v : DrivenFields) (p : Patience) (d : Driven) : Type 0 where
   pub world : Shows v.live d.world
   pub dis : d.dis ≡ v.dis
-  pub calls : p.calls ≡ v.calls
+  pub rnrs : d.rnrs ≡ v.rnrs
+  pub patience : p ≡ plain_patience v.patience
 
 -- the step that comes next in a driven call
 abbrev pub next_of : Patience → Driven → Driven
@@ -55,53 +65,93 @@ next_of p d = drives p d.world.to_answerer d.world.to_caller d
 abbrev pub events_of : Patience → Driven → List Event
 events_of p d = step_events p d.world.to_answerer d.world.to_caller d
 
--- something is under way, so a fate is due
-abbrev pub is_fate_due : List PlainItem → List PlainItem → Bool
-is_fate_due [] [] = false
-is_fate_due _ _ = true
+-- an RNR is first under way that is one too many: few may come yet, or not
+abbrev pub is_one_too_many : Bool → List PlainItem → Bool
+is_one_too_many few [] = false
+is_one_too_many few (item ∷ items) = is_rnr_item item && not few
+
+-- a fate is due where something is under way; but an RNR too many has none, for it is lost
+abbrev pub is_fate_due : Bool → List PlainItem → List PlainItem → Bool
+is_fate_due few (item ∷ items) others = true
+is_fate_due few [] (item ∷ others) = not (is_one_too_many few (item ∷ others))
+is_fate_due few [] [] = false
 
 -- the event before an act's own, if there is one
-abbrev pub before_act : Bool → List Event
-before_act true = Spoil ∷ []
-before_act false = []
+abbrev pub before_act : Option Event → List Event
+before_act None = []
+before_act (Some event) = event ∷ []
 
 -- one more DIS, where an event is the answerer's T2
 abbrev pub dis_with : Event → ℕ → ℕ
 dis_with AnswererT2 dis = suc dis
 dis_with _ dis = dis
 
+-- an item of this kind asks the answerer for more: a busy one answers RNR
+abbrev pub asks_ready : Option Kind → Bool
+asks_ready (Some Pps) = true
+asks_ready (Some Rr) = true
+asks_ready _ = false
+
+-- the caller is sending a block, which an MCF confirms
+abbrev pub is_sending : Caller → Bool
+is_sending c = is_some (present_block c)
+
+-- the RNRs for a block after an item came to the caller that is sending it, or isn't: one more; or those for the next one
+abbrev pub rnrs_heard : Option Kind → Bool → ℕ → ℕ
+rnrs_heard (Some Rnr) sending rnrs = suc rnrs
+rnrs_heard (Some Mcf) true rnrs = 0
+rnrs_heard _ sending rnrs = rnrs
+
+-- the same after an event, by the first item under way to the caller
+abbrev pub rnrs_after : Event → Option Kind → Bool → ℕ → ℕ
+rnrs_after DeliverToCaller kind sending rnrs = rnrs_heard kind sending rnrs
+rnrs_after _ kind sending rnrs = rnrs
+
 -- an act is what comes next: its events are those of the next step
 pub record Follows (p : Patience) (items others : List PlainItem) (d : Driven) (act : Act) : Type 0 where
   pub goes_on : is_over_at items others d.world.caller.ending d.world.answerer.ending ≡ false
-  pub events : before_act act.spoils ++ act.event ∷ [] ≡ step_events p items others d
+  pub events : before_act act.before ++ act.event ∷ [] ≡ step_events p items others d
   pub dis : (drives p items others d).dis ≡ dis_kept d.world.caller.state (dis_with act.event d.dis)
+  pub rnrs : (drives p items others d).rnrs ≡ rnrs_after act.event (head_kind others) (is_sending d.world.caller) d.rnrs
 
 -- what comes next, or the call is over
 abbrev pub ComesNext : Patience → List PlainItem → List PlainItem → Driven → Option Act → Type 0
 ComesNext p items others d None = is_over_at items others d.world.caller.ending d.world.answerer.ending ≡ true
 ComesNext p items others d (Some act) = Follows p items others d act
 
--- no act sets the answerer busy, and a DIS is sent only where few were
-abbrev pub MayAct : Bool → Option Act → Type 0
-MayAct few None = Unit {0}
-MayAct few (Some act) = SetsNoBusy act.event × (act.event ≡ AnswererT2 → few ≡ true)
+-- no station hears of the event before an act's own, if there is one
+abbrev pub IsUnheardIf : Option Event → Type 0
+IsUnheardIf None = Unit {0}
+IsUnheardIf (Some event) = IsUnheard event
+
+-- so it is of an act; a DIS is sent only where few were, and an RNR comes only where few came
+pub record IsPossible (few_dis few_rnrs : Bool) (kind : Option Kind) (act : Act) : Type 0 where
+  pub before : IsUnheardIf act.before
+  pub dis : act.event ≡ AnswererT2 → few_dis ≡ true
+  pub rnrs : act.event ≡ DeliverToCaller → kind ≡ Some Rnr → few_rnrs ≡ true
+
+-- the same, where there is one
+abbrev pub MayAct : Bool → Bool → Option Kind → Option Act → Type 0
+MayAct few_dis few_rnrs kind None = Unit {0}
+MayAct few_dis few_rnrs kind (Some act) = IsPossible few_dis few_rnrs kind act
 
 -- an event alone
 abbrev pub plainly : Event → Act
-plainly event = record { spoils = false; event = event }
+plainly event = record { before = None; event = event }
 
 -- what is first under way to the answerer meets its fate; it may be a training check
 abbrev pub act_to_answerer : CallFate → Bool → Act
 act_to_answerer Comes check = plainly DeliverToAnswerer
 act_to_answerer Lost check = plainly LoseToAnswerer
-act_to_answerer Spoiled true = record { spoils = true; event = DeliverToAnswerer }
+act_to_answerer Spoiled true = record { before = Some Spoil; event = DeliverToAnswerer }
 act_to_answerer Spoiled false = plainly LoseToAnswerer
 
--- what is first under way to the caller does
-abbrev pub act_to_caller : CallFate → Act
-act_to_caller Comes = plainly DeliverToCaller
-act_to_caller Lost = plainly LoseToCaller
-act_to_caller Spoiled = plainly LoseToCaller
+-- what is first under way to the caller does; an RNR too many is lost, and the long wait is over
+abbrev pub act_to_caller : Bool → CallFate → Act
+act_to_caller true fate = record { before = Some LoseToCaller; event = CallerT5 }
+act_to_caller false Comes = plainly DeliverToCaller
+act_to_caller false Lost = plainly LoseToCaller
+act_to_caller false Spoiled = plainly LoseToCaller
 
 -- whose wait is over where nothing is under way, if anybody's: of a caller that runs, or of the answerer where a DIS is due
 abbrev pub act_waiting : Option End → Option End → Bool → Option Act
@@ -109,20 +159,20 @@ act_waiting None ending due = Some (plainly (cond due AnswererT2 CallerTimeout))
 act_waiting (Some why) None due = Some (plainly AnswererT1)
 act_waiting (Some why) (Some other) due = None
 
--- a training check is spoiled, or nothing is done
-abbrev pub SpoilsIf : Bool → Call → Call → Option Entry → Type 0
-SpoilsIf true old new (Some entry) = Acts old new Spoil entry × (entry.refused ≡ false) × HoldsLive old
-SpoilsIf false old new None = new ≡ old
-SpoilsIf _ old new _ = ⊥
+-- an event was done, or there was none to do
+abbrev pub ActsIf : Option Event → Call → Call → Option Entry → Type 0
+ActsIf (Some event) old new (Some entry) = Acts old new event entry × (entry.refused ≡ false)
+ActsIf None old new None = new ≡ old
+ActsIf _ old new _ = ⊥
 
--- the entries of a step, if a check is spoiled in it
+-- an entry after that of the event before it, if there is one
 abbrev pub and_entry : Option Entry → Entry → List Entry
 and_entry None entry = entry ∷ []
 and_entry (Some first) entry = first ∷ entry ∷ []
 
 -- the entries of a step
 abbrev pub entries_of : Step → List Entry
-entries_of step = and_entry step.spoiled step.entry
+entries_of step = and_entry step.before step.entry
 
 -- a step of a driven call was made: it is its events, which lead to the next step's world where all is done of each, and in the last one
 -- alone a growth may have been refused. The entries are theirs, and where none is marked the fields show the next step
@@ -176,9 +226,16 @@ BearsTwo old new fates most =
     CanBear document wish caps p (spoiling_fates fates) → bad_fates fates ≤ 2 → most_steps p document < most →
     (w : World) × Shows new.live w × IsBorne document w
 
+-- the answerer of a driven call was set busy or ready, or a growth was refused, which the entry shows; the entry is the event's
+pub record SetsBusy (p : Patience) (busy : Bool) (new : DrivenFields) (d : Driven) (entry : Entry) : Type 0 where
+  pub outcome : Outcome
+  pub shows : Shows new.live (happens d.world (Busy busy) outcome)
+  pub noted : entry ∷ [] ≡ entries ((Busy busy, outcome) ∷ []) d.world
+  pub done : entry.refused ≡ false → (outcome ≡ Done) × ShowsDriven new p (sets (Some busy) d)
+  pub marked : entry.refused ≡ true → outcome ≢ Done
+
 -- the start of a driven call, unless memory is refused or a page's width isn't callable: one DIS is under way
-abbrev pub NewDriven : Document → Wish → Caps → ℕ → Result DrivenFields WorldFault → Type 0
-NewDriven document wish caps calls (Ok v) =
-    AreCallable document ×
-    ((p : Patience) (fates : List Fate) → p.calls ≡ calls → ShowsDriven v p (new_driven document wish caps fates))
-NewDriven document wish caps calls (Err fault) = IsWorldFault document fault
+abbrev pub NewDriven : Document → Wish → Caps → CallPatience → Result DrivenFields WorldFault → Type 0
+NewDriven document wish caps patience (Ok v) =
+    AreCallable document × ((fates : List Fate) → ShowsDriven v (plain_patience patience) (new_driven document wish caps fates))
+NewDriven document wish caps patience (Err fault) = IsWorldFault document fault

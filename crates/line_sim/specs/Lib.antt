@@ -20,6 +20,5 @@ pub mod Putting
 pub mod Tolerance
 pub mod BusyCalls
 pub mod Breaking
-pub mod Quiet
 pub mod Fates
 pub mod Redialling

@@ -1,14 +1,14 @@
 //! A call that fates drive: no script says what happens next.
 
-ghost use Rattle.line_sim.specs.Driving.{Driven, Patience, dis_is_due, first_fate};
+ghost use Rattle.line_sim.specs.Driving.{Driven, Patience as PatienceValue, dis_is_due, first_fate};
 ghost use Rattle.line_sim.specs.Entries.{head_kind};
-ghost use Rattle.line_sim.specs.Fates.{BearsTwo, ComesNext, DrivesAll, EndsDriven, MayAct, NewDriven, ShowsDriven, SpoilsIf, Steps};
-ghost use Rattle.line_sim.specs.Fates.{act_to_answerer, act_to_caller, act_waiting, dis_with, is_fate_due, plain_fate, plainly};
+ghost use Rattle.line_sim.specs.Fates.{ActsIf, BearsTwo, ComesNext, DrivesAll, EndsDriven, IsUnheardIf, MayAct, NewDriven, SetsBusy, ShowsDriven};
+ghost use Rattle.line_sim.specs.Fates.{Steps, act_to_answerer, act_to_caller, act_waiting, asks_ready, dis_with, is_fate_due, is_one_too_many, is_sending};
+ghost use Rattle.line_sim.specs.Fates.{plain_fate, plainly, rnrs_after, rnrs_heard};
 ghost use Rattle.line_sim.specs.Line.{World as WorldValue};
-ghost use Rattle.line_sim.specs.Quiet.{IsQuiet, has_rnr};
 ghost use Rattle.line_sim.specs.Standing.{Shows};
 ghost use Rattle.stations.specs.declared.turn.CallerState.TheVariants.{WaitDis};
-ghost use Rattle.std.specs.Prelude.{◌≡◌, ◌+◌, ◌<◌, ◌^◌, IsTrue, ◌↔◌, IfOk, cond, drop, map, nat_lt, true, false, Some};
+ghost use Rattle.std.specs.Prelude.{◌≡◌, ◌+◌, ◌<◌, ◌^◌, Bool, IsTrue, ◌↔◌, IfOk, cond, drop, map, nat_lt, true, false, Some};
 
 use crate::call::Call;
 use crate::event::{Entry, Event, Kind};
@@ -17,7 +17,7 @@ use crate::laws::{calls_bear, driven_calls_end};
 use crate::live::LiveCall;
 use raster::Document;
 use signals::{Caps, Wish};
-use stations::laws::{always_answered, answerers_keep};
+use stations::Turn;
 use std::alloc::{AllocError, Global};
 use std::marker::Model;
 
@@ -32,19 +32,28 @@ pub enum Fate {
     Spoiled,
 }
 
+/// How patient the stations of a driven call are.
+#[derive(Clone, Copy, Debug, PartialEq, Eq)]
+pub struct Patience {
+    /// How many DIS are sent in one wait for a DIS, and at least the first one.
+    pub calls: u64,
+    /// How many RNRs may come for one block. The next one is lost, and the caller's wait for a busy answerer is over, T5 of ITU-T T.30.
+    pub busy: u64,
+}
+
 /// What one step of a driven call was.
 #[derive(Clone, Copy, Debug, PartialEq, Eq)]
 pub struct Step {
-    /// The training check is spoiled first, where it is.
-    pub spoiled: Option<Entry>,
-    /// What the step does then. It shows whether a growth was refused.
+    /// What comes before the step's own event, where there is one: the training check is spoiled, or an RNR too many is lost.
+    pub before: Option<Entry>,
+    /// The step's own event. It shows whether a growth was refused.
     pub entry: Entry,
 }
 
-/// What comes next in a driven call: an event, and whether the training check is spoiled before it.
+/// What comes next in a driven call: an event, and another one before it, which no station hears of.
 #[derive(Clone, Copy, Debug, PartialEq, Eq)]
 pub(crate) struct Act {
-    pub(crate) spoils: bool,
+    pub(crate) before: Option<Event>,
     pub(crate) event: Event,
 }
 
@@ -53,7 +62,7 @@ fn alone(event: Event) -> Act
     ensures { result ≡ plainly event }
 {
     Act {
-        spoils: false,
+        before: None,
         event,
     }
 }
@@ -68,7 +77,7 @@ fn to_answerer(fate: Fate, check: bool) -> Act
         Fate::Spoiled => {
             if check {
                 return Act {
-                    spoils: true,
+                    before: Some(Event::Spoil),
                     event: Event::DeliverToAnswerer,
                 };
             }
@@ -77,10 +86,16 @@ fn to_answerer(fate: Fate, check: bool) -> Act
     }
 }
 
-/// What is first under way to the caller meets its fate.
-fn to_caller(fate: Fate) -> Act
-    ensures { result ≡ act_to_caller fate }
+/// What is first under way to the caller meets its fate; an RNR too many is lost, and T5 is over.
+fn to_caller(fate: Fate, many: bool) -> Act
+    ensures { result ≡ act_to_caller many fate }
 {
+    if many {
+        return Act {
+            before: Some(Event::LoseToCaller),
+            event: Event::CallerT5,
+        };
+    }
     match fate {
         Fate::Comes => alone(Event::DeliverToCaller),
         Fate::Lost | Fate::Spoiled => alone(Event::LoseToCaller),
@@ -98,6 +113,35 @@ fn dis_after(waits: bool, dis: u64, event: Event) -> u64
     match event {
         Event::AnswererT2 => dis + 1,
         _ => dis,
+    }
+}
+
+/// How many RNRs came for the caller's present block, after an event: by the first item that was under way to it, and by whether it
+/// was sending a block.
+fn rnrs_after(event: Event, kind: Option<Kind>, sending: bool, rnrs: u64) -> u64
+    requires { event ≡ Event.DeliverToCaller → kind ≡ Some Kind.Rnr → rnrs + 1 < 2 ^ 64 }
+    ensures { result ≡ rnrs_after event kind sending rnrs }
+{
+    match event {
+        Event::DeliverToCaller => rnrs_heard(kind, sending, rnrs),
+        _ => rnrs,
+    }
+}
+
+/// The same after an item came to it.
+fn rnrs_heard(kind: Option<Kind>, sending: bool, rnrs: u64) -> u64
+    requires { kind ≡ Some Kind.Rnr → rnrs + 1 < 2 ^ 64 }
+    ensures { result ≡ rnrs_heard kind sending rnrs }
+{
+    match kind {
+        Some(Kind::Rnr) => rnrs + 1,
+        Some(Kind::Mcf) => {
+            if sending {
+                return 0;
+            }
+            rnrs
+        }
+        _ => rnrs,
     }
 }
 
@@ -127,6 +171,37 @@ impl Call {
         matches!(self.to_answerer.head(), Some(Kind::Training))
     }
 
+    /// Whether an RNR is first under way to the caller that is one too many, as few may come yet or not.
+    fn has_one_too_many(&self, few: bool) -> bool
+        ensures { result ≡ is_one_too_many few self.now.to_caller }
+    {
+        if few {
+            return false;
+        }
+        matches!(self.to_caller.head(), Some(Kind::Rnr))
+    }
+
+    /// Whether a fate is due: something is under way that is no RNR too many.
+    fn takes_fate(&self, few: bool) -> bool
+        ensures { result ≡ is_fate_due few self.now.to_answerer self.now.to_caller }
+    {
+        if !self.to_answerer.is_empty() {
+            return true;
+        }
+        if self.to_caller.is_empty() {
+            return false;
+        }
+        !self.has_one_too_many(few)
+    }
+
+    /// Whether the caller is sending a block, which an MCF would confirm: there is a PPS that it could send.
+    fn is_sending(&self) -> bool
+        ensures { (w : WorldValue) → Shows self.now w → result ≡ is_sending w.caller }
+    {
+        let mut items = self.caller.frames(&Turn::Pps);
+        items.take_next().is_some()
+    }
+
     /// Whether the answerer's T2 is due: the caller waits for a DIS, the answerer for a DCS, and few DIS were sent.
     fn dis_is_due(&self, few: bool) -> bool
         ensures is { (w : WorldValue) → Shows self.now w → result ≡ dis_is_due w.caller.state w.answerer.state w.answerer.ending few }
@@ -146,7 +221,7 @@ impl Call {
 
     /// Whose wait is over where nothing is under way, if anybody's.
     fn wait_over(&self, few: bool) -> Option<Act>
-        ensures may { MayAct few result }
+        ensures may { (few_rnrs : Bool) → MayAct few few_rnrs (head_kind self.now.to_caller) result }
         ensures is { (w : WorldValue) → Shows self.now w →
             result ≡ act_waiting w.caller.ending w.answerer.ending (dis_is_due w.caller.state w.answerer.state w.answerer.ending few) }
     {
@@ -162,20 +237,19 @@ impl Call {
         None
     }
 
-    /// What comes next by a fate; none where the call is over. At few DIS another one may be sent.
-    fn driven_by(&self, fate: Fate, few: bool) -> Option<Act>
-        requires { IsQuiet self.now }
-        ensures next { (p : Patience) (d : Driven) → Shows self.now d.world → first_fate d.fates ≡ plain_fate fate →
-            nat_lt d.dis p.calls ≡ few → ComesNext p d.world.to_answerer d.world.to_caller d result }
-        ensures may { MayAct few result }
+    /// What comes next by a fate; none where the call is over. At few DIS another one may be sent, at few RNRs another one may come.
+    fn driven_by(&self, fate: Fate, few_dis: bool, few_rnrs: bool) -> Option<Act>
+        ensures next { (p : PatienceValue) (d : Driven) → Shows self.now d.world → first_fate d.fates ≡ plain_fate fate →
+            nat_lt d.dis p.calls ≡ few_dis → nat_lt d.rnrs p.busy ≡ few_rnrs → ComesNext p d.world.to_answerer d.world.to_caller d result }
+        ensures may { MayAct few_dis few_rnrs (head_kind self.now.to_caller) result }
     {
         if !self.to_answerer.is_empty() {
             return Some(to_answerer(fate, self.has_check()));
         }
         if !self.to_caller.is_empty() {
-            return Some(to_caller(fate));
+            return Some(to_caller(fate, self.has_one_too_many(few_rnrs)));
         }
-        self.wait_over(few)
+        self.wait_over(few_dis)
     }
 }
 
@@ -187,109 +261,150 @@ impl LiveCall {
         self.call.caller.waits_for_dis()
     }
 
-    /// Whether something is under way.
-    fn has_items(&self) -> bool
-        ensures { result ≡ is_fate_due self.now.to_answerer self.now.to_caller }
+    /// Whether a fate is due.
+    fn takes_fate(&self, few: bool) -> bool
+        ensures { result ≡ is_fate_due few self.now.to_answerer self.now.to_caller }
     {
-        !self.call.to_answerer.is_empty() || !self.call.to_caller.is_empty()
+        self.call.takes_fate(few)
+    }
+
+    /// What the first item under way to the caller is.
+    fn head_to_caller(&self) -> Option<Kind>
+        ensures { result ≡ head_kind self.now.to_caller }
+    {
+        self.call.to_caller.head()
+    }
+
+    /// Whether the caller is sending a block.
+    fn is_sending(&self) -> bool
+        ensures { (w : WorldValue) → Shows self.now w → result ≡ is_sending w.caller }
+    {
+        self.call.is_sending()
     }
 
     /// What comes next by a fate.
-    fn driven_by(&self, fate: Fate, few: bool) -> Option<Act>
-        requires { IsQuiet self.now }
-        ensures next { (p : Patience) (d : Driven) → Shows self.now d.world → first_fate d.fates ≡ plain_fate fate →
-            nat_lt d.dis p.calls ≡ few → ComesNext p d.world.to_answerer d.world.to_caller d result }
-        ensures may { MayAct few result }
+    fn driven_by(&self, fate: Fate, few_dis: bool, few_rnrs: bool) -> Option<Act>
+        ensures next { (p : PatienceValue) (d : Driven) → Shows self.now d.world → first_fate d.fates ≡ plain_fate fate →
+            nat_lt d.dis p.calls ≡ few_dis → nat_lt d.rnrs p.busy ≡ few_rnrs → ComesNext p d.world.to_answerer d.world.to_caller d result }
+        ensures may { MayAct few_dis few_rnrs (head_kind self.now.to_caller) result }
     {
-        self.call.driven_by(fate, few)
+        self.call.driven_by(fate, few_dis, few_rnrs)
     }
 
-    /// Spoils a training check, or does nothing.
-    fn spoil_if(&mut self, spoils: bool) -> Option<Entry>
-        ensures { SpoilsIf spoils self.old self.new result }
+    /// An event that no station hears of, if there is one.
+    fn event_if(&mut self, event: Option<Event>) -> Option<Entry>
+        requires { IsUnheardIf event }
+        ensures { ActsIf event self.old self.new result }
     {
-        if spoils {
-            return Some(self.event(Event::Spoil));
+        match event {
+            Some(event) => Some(self.event(event)),
+            None => None,
         }
-        None
     }
 }
 
 /// A call over a bad line, with no script: what is first under way comes, is lost or is spoiled, as its fate says; where nothing
 /// is under way a wait is over. Waits are over in a fixed order, which is a scheduler's choice and no duration of T.30: while the
 /// caller waits for a DIS the answerer's T2, until `calls` DIS were sent in this wait; then, and in each other wait, the caller's; and
-/// once the caller has ended the answerer's T1. It keeps no transcript: each step answers its entries.
+/// once the caller has ended the answerer's T1. Where the answerer was set busy, `busy` RNRs may come for a block; the next one is lost,
+/// and the caller's T5 is over. It keeps no transcript: each step answers its entries.
 #[derive(Debug, Drop)]
 pub struct DrivenCall {
     live: LiveCall,
-    calls: u64,
+    patience: Patience,
     dis: u64,
+    rnrs: u64,
 }
 
 impl Model for DrivenCall {
     ghost use Rattle.line_sim.specs.Fates.{DrivenFields};
-    ghost use Rattle.line_sim.specs.Quiet.{IsQuiet};
 
     ghost Value = { DrivenFields };
 
-    ghost view = { λ d. record { live = d.live; calls = d.calls; dis = d.dis } };
-
-    ghost invariant = { λ d. IsQuiet d.live };
+    ghost view = { λ d. record { live = d.live; patience = d.patience; dis = d.dis; rnrs = d.rnrs } };
 }
 
 impl DrivenCall {
-    /// A call at its start: the answerer's DIS is under way, and nothing is stored or confirmed. In one wait `calls` DIS are sent,
-    /// and at least the first one. Errs where memory is refused, and where the width of a page is none that a call can have.
+    /// A call at its start: the answerer's DIS is under way, it isn't busy, and nothing is stored or confirmed. Errs where memory is
+    /// refused, and where the width of a page is none that a call can have.
     pub fn new(
         alloc: Global,
         document: Document,
         wish: Wish,
         caps: Caps,
-        calls: u64,
+        patience: Patience,
     ) -> Result<DrivenCall, WorldFault>
         requires receiver { caps.receiver ≡ true }
         requires ecm { caps.ecm ≡ true }
-        ensures { NewDriven document wish caps calls result }
+        ensures { NewDriven document wish caps patience result }
     {
         let live = LiveCall::new(alloc, document, wish, caps)?;
         Ok(DrivenCall {
             live,
-            calls,
+            patience,
             dis: 1,
+            rnrs: 0,
         })
     }
 
-    /// Whether something is under way, so that the next step takes a fate.
-    pub fn is_fate_due(&self) -> bool
-        ensures due { result ≡ is_fate_due self.now.live.to_answerer self.now.live.to_caller }
-        ensures quiet { has_rnr self.now.live.to_caller ≡ false }
+    /// Sets the answerer busy or ready: a busy one answers RNR where it would answer MCF. Answers the event's entry, which shows whether
+    /// a growth was refused. By the law `busy_calls_end` a call in which this is done before any of its steps ends all the same.
+    pub fn set_busy(&mut self, busy: bool) -> Entry
+        ensures sets { (p : PatienceValue) (d : Driven) → ShowsDriven self.old p d → SetsBusy p busy self.new d result }
     {
-        self.live.has_items()
+        self.live.event(Event::Busy(busy))
     }
 
-    /// One step, with the fate of what is first under way; where nothing is, the fate counts for nothing. None where the call is over.
+    /// Whether fewer RNRs came for the present block than may.
+    fn few_rnrs(&self) -> bool
+        ensures { result ≡ nat_lt self.now.rnrs self.now.patience.busy }
+    {
+        self.rnrs < self.patience.busy
+    }
+
+    /// Whether a PPS or an RR is first under way to the answerer, to which a busy one answers RNR.
+    pub fn asks_ready(&self) -> bool
+        ensures { result ≡ asks_ready (head_kind self.now.live.to_answerer) }
+    {
+        match self.live.call.to_answerer.head() {
+            Some(Kind::Pps) => true,
+            Some(Kind::Rr) => true,
+            _ => false,
+        }
+    }
+
+    /// Whether the next step takes a fate: something is under way that is no RNR too many.
+    pub fn is_fate_due(&self) -> bool
+        ensures { result ≡ is_fate_due (nat_lt self.now.rnrs self.now.patience.busy) self.now.live.to_answerer self.now.live.to_caller }
+    {
+        self.live.takes_fate(self.few_rnrs())
+    }
+
+    /// One step, with the fate of what is first under way; where none is due, the fate counts for nothing. None where the call is over.
     /// Where a growth was refused in the step, its entry shows it.
     pub fn step(&mut self, fate: Fate) -> Option<Step>
-        ensures { (p : Patience) (d : Driven) → ShowsDriven self.old p d → first_fate d.fates ≡ plain_fate fate →
+        ensures { (p : PatienceValue) (d : Driven) → ShowsDriven self.old p d → first_fate d.fates ≡ plain_fate fate →
             Steps p self.old self.new d result }
     {
-        answerers_keep();
-        always_answered();
-        let few = self.dis < self.calls;
-        let Some(act) = self.live.driven_by(fate, few) else {
+        let few_dis = self.dis < self.patience.calls;
+        let few_rnrs = self.rnrs < self.patience.busy;
+        let Some(act) = self.live.driven_by(fate, few_dis, few_rnrs) else {
             return None;
         };
         let waits = self.live.waits_for_dis();
-        let spoiled = self.live.spoil_if(act.spoils);
+        let sending = self.live.is_sending();
+        let kind = self.live.head_to_caller();
+        let before = self.live.event_if(act.before);
         let entry = self.live.event(act.event);
         self.dis = dis_after(waits, self.dis, act.event);
-        Some(Step { spoiled, entry })
+        self.rnrs = rnrs_after(act.event, kind, sending, self.rnrs);
+        Some(Step { before, entry })
     }
 
     /// Makes steps by fates, in order, until the call is over or `most` steps were made; after the last fate all comes. Answers the
     /// number of steps. Errs at the first step in which a growth was refused.
     pub fn drive(&mut self, fates: &[Fate], most: u64) -> Result<u64, AllocError>
-        ensures drives { (p : Patience) (d : Driven) → ShowsDriven self.old p d → d.fates ≡ map plain_fate fates.now →
+        ensures drives { (p : PatienceValue) (d : Driven) → ShowsDriven self.old p d → d.fates ≡ map plain_fate fates.now →
             DrivesAll p self.new d most result }
         ensures ends { IfOk result (λ number. EndsDriven self.old (map plain_fate fates.now) most number) }
         ensures bears { IfOk result (λ number. BearsTwo self.old self.new (map plain_fate fates.now) most) }

@@ -15,7 +15,7 @@ mod sender;
 mod stream;
 mod world;
 
-pub use crate::drive::{DrivenCall, Fate, Step};
+pub use crate::drive::{DrivenCall, Fate, Patience, Step};
 pub use crate::event::{Entry, Event, Form, Kind, LineItem};
 pub use crate::fault::WorldFault;
 pub use crate::live::{Ending, LiveCall, Next};

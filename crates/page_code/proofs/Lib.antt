@@ -8,3 +8,4 @@ pub mod AppendedOctets
 pub mod CodingPacked
 pub mod PageReaders
 pub mod HandCoded
+pub mod RowCoders

@@ -3,6 +3,7 @@ pub mod PageCodes
 pub mod Codings
 pub mod RowsSoFar
 pub mod PageReaders
+pub mod RowCoders
 pub mod OneDimension
 pub mod TwoDimensions
 pub mod WorkedPages

@@ -7,11 +7,13 @@ pub mod laws;
 mod one_dim;
 mod page;
 mod page_reader;
+mod row_coder;
 mod t6;
 
 pub use crate::coding::{Coding, PageCode};
 pub use crate::one_dim::OneDim;
 pub use crate::one_dim::repair::{RepairedPage, RepairedRow};
 pub use crate::page_reader::PageReader;
+pub use crate::row_coder::RowCoder;
 pub use crate::t6::T6;
 pub use crate::t6::mode::{ModeCode, Shift};

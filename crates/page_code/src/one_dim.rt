@@ -2,7 +2,7 @@
 
 ghost use Rattle.page_code.specs.PageCodes.{GivesPage};
 ghost use Rattle.page_code.specs.OneDimension.Fronts.{read_page as read_bits};
-ghost use Rattle.page_code.specs.OneDimension.Pages.{rows_words, eol_words, page_words, rtc};
+ghost use Rattle.page_code.specs.OneDimension.Pages.{eol_word, row_words, rows_words, eol_words, page_words, rtc};
 ghost use Rattle.page_code.specs.OneDimension.Reading.{FindsRow, ReadsRowOfPage, SeesStart};
 ghost use Rattle.page_code.specs.RowsSoFar.{IsReadTo, ReadsOn};
 ghost use Rattle.raster.specs.Packed.{Bits, bits_of};
@@ -145,7 +145,7 @@ pub(crate) fn read_on(
 }
 
 /// Writes the return to control: six EOLs (ITU-T T.4, 4.1.4).
-fn write_rtc(bits: &mut BitWriter) -> Result<(), AllocError>
+pub(crate) fn write_rtc(bits: &mut BitWriter) -> Result<(), AllocError>
     ensures ok { OnOk result (Appends (eol_words rtc) bits.old bits.new) }
     ensures err { OnErr result (KeepsBits bits.old bits.new) }
 {
@@ -153,6 +153,21 @@ fn write_rtc(bits: &mut BitWriter) -> Result<(), AllocError>
         bits.write_eol()?;
     }
     Ok(())
+}
+
+/// Writes an EOL and a row, in the memory of a list.
+#[inline(always)]
+pub(crate) fn write_row(
+    bits: &mut BitWriter,
+    row: &Row,
+    list: &mut Vec<u32>,
+) -> Result<(), AllocError>
+    requires { 0 < length row.now }
+    ensures ok { OnOk result (Appends (eol_word 11 ++ row_words row.now) bits.old bits.new) }
+    ensures keeps { KeepsBits bits.old bits.new }
+{
+    bits.write_eol()?;
+    bits.write_row_1d_in(row, list)
 }
 
 /// Writes the rows, each after an EOL.
@@ -163,8 +178,7 @@ fn write_rows(alloc: Global, rows: &[Row], bits: &mut BitWriter) -> Result<(), A
 {
     let mut list = Vec::new(alloc);
     for row in rows {
-        bits.write_eol()?;
-        bits.write_row_1d_in(row, &mut list)?;
+        write_row(bits, row, &mut list)?;
     }
     Ok(())
 }

@@ -12,7 +12,7 @@ mod lines;
 pub(crate) mod mode;
 mod mode_table;
 pub(crate) mod read;
-mod write;
+pub(crate) mod write;
 
 use crate::coding::PageCode;
 use crate::page::{Progress, are_octets};

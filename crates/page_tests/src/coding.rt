@@ -2,7 +2,7 @@
 
 ghost use Rattle.std.specs.Prelude.{◌≤◌};
 
-use page_code::Coding;
+use page_code::{Coding, RowCoder};
 use raster::packed::Order;
 use raster::{Page, RasterFault, Row};
 use run_tables::{CodeFault, CodeFaultKind};
@@ -46,6 +46,29 @@ fn a_wide_page_comes_back(rt: HostRuntime) -> Result<(), Fail> {
             assert_eq!(rt; used.div_ceil(8), octets.len() as u128);
             assert_eq!(rt; read.fine(), true);
             assert_eq!(rt; read.rows().len(), 300);
+            assert_eq!(rt; runs_of(alloc, &read)?.as_slice(), runs.as_slice());
+        }
+    }
+    Ok(())
+}
+
+// Row by row, with the octets moved out after each row.
+#[test]
+fn a_wide_page_is_coded_row_by_row(rt: HostRuntime) -> Result<(), Fail> {
+    let alloc = rt.alloc();
+    let page = wide_page(alloc, 300)?;
+    let runs = runs_of(alloc, &page)?;
+    for coding in [Coding::OneDim, Coding::T6] {
+        for order in [Order::LsbFirst, Order::MsbFirst] {
+            let mut coder = RowCoder::new(alloc, coding, order, WIDTH)?;
+            let mut octets = Vec::new(alloc);
+            for row in page.rows() {
+                coder.push_row(row)?;
+                coder.move_octets(&mut octets)?;
+            }
+            assert_eq!(rt; coder.rows(), 300);
+            coder.finish(&mut octets)?;
+            let (read, _used) = coding.decode(alloc, &octets, order, WIDTH, true)?;
             assert_eq!(rt; runs_of(alloc, &read)?.as_slice(), runs.as_slice());
         }
     }

@@ -290,6 +290,51 @@ pub fills_none : (order : Order) (octets : List ℕ) (at word filled : ℕ) → 
 fills_none order octets at word filled none empty =
     rw (none, empty, held-none) (record { fill = 0; few = omega arith; filled = bits_in-none order [] })
 
+-- ---- whole octets that are moved out
+
+-- a stored word changes no bits that are held
+pub held_stored : (order : Order) (old new : List ℕ) (at word filled : ℕ) → IsStored order old new at word
+    → held order new at word filled ≡ held order old at word filled
+unfolding held
+held_stored order old new at word filled stored =
+    ap (λ (bits : List Bool). bits ++ word_bits filled word) (bits_in-same order new old (8 * at) stored.before)
+
+abbrev pub rest_word : ℕ → ℕ → ℕ
+rest_word word filled = word * 2 ^ (filled - filled % 8) % 2 ^ 64
+
+pub length-left : (order : Order) (octets : List ℕ) (word filled : ℕ) → length (held order octets 0 word (filled % 8)) < 8
+length-left order octets word filled = rw length-held (omega arith)
+
+pub clear_left : (word filled : ℕ) → filled < 64 → IsClear filled word → IsClear (filled % 8) (rest_word word filled)
+clear_left word filled few clear k low h =
+    elim (cases_lt (filled - filled % 8 + k) 64) [
+      | inl lt ↦ back_inside word (filled - filled % 8) k lt ∙ clear (filled - filled % 8 + k) (omega arith) lt
+      | inr le ↦ back_past word (filled - filled % 8) k le h
+    ]
+
+-- the bits held are those of the whole octets, and then the ones that are left in the word
+pub held_moved : (order : Order) (old new : List ℕ) (at word filled : ℕ) → filled < 64 → at + 8 ≤ length new
+    → IsStored order old new at word
+    → held order old at word filled
+    ≡ bits_of order (take (at + filled / 8) new) ++ held order new 0 (rest_word word filled) (filled % 8)
+unfolding held word_bits
+held_moved order old new at word filled few room stored =
+    let n : ℕ = at + filled / 8 in
+    let by : ℕ = filled - filled % 8 in
+    let long : length (take (at + filled / 8) new) ≡ at + filled / 8 = length-take-le (at + filled / 8) new (omega (arith, room)) in
+    let whole : 8 * n ≡ 8 * length (take n new) = ap (λ m. 8 * m) (sym long) in
+    let all : 8 * at + filled ≡ 8 * (at + filled / 8) + filled % 8 = omega arith in
+    sym (stored_bits order old new at word filled stored (omega arith)) ∙
+    (ap (bits_in order new) all ∙
+    (bits_in_grow order (take n new) new (8 * n) (filled % 8) (λ place. bit_of_word (rest_word word filled) place)
+    (λ k h. sym (bit_in-take order new n k h))
+    (λ j h.
+    let there : 8 * (at + filled / 8) + j ≡ 8 * at + (filled - filled % 8 + j) = omega arith in
+    ap (bit_in order new) there ∙ (stored.inside (by + j) (omega arith) ∙ sym (back_inside word by j (omega arith)))) ∙
+    (ap (λ m. bits_in order (take n new) m ++ word_bits (filled % 8) (rest_word word filled)) whole ∙
+    ap (λ (bits : List Bool). bits_of order (take n new) ++ (bits ++ word_bits (filled % 8) (rest_word word filled)))
+    (sym (bits_in-none order new)))))
+
 -- ---- runs of a bit
 
 pub replicate_join : (a b : ℕ) (bit : Bool) → replicate (a + b) bit ≡ replicate a bit ++ replicate b bit

@@ -6,7 +6,7 @@ ghost use Rattle.raster.specs.Packed.{bit_in, bits_of, FillsOctets};
 ghost use Rattle.raster.specs.Words.{bit_of_word, number_bits};
 ghost use Rattle.run_tables.specs.Codes.{run_words, text};
 ghost use Rattle.run_tables.specs.Pending.{word_bits, IsClear, IsStored};
-ghost use Rattle.run_tables.specs.Written.{Appends, AppendsRow, KeepsBits, eol};
+ghost use Rattle.run_tables.specs.Written.{Appends, AppendsRow, KeepsBits, MovesOctets, eol};
 ghost use Rattle.raster.specs.declared.row.Color.{Color};
 ghost use Rattle.std.specs.Prelude.{ℕ, List, ◌≡◌, ◌≤◌, ◌<◌, ◌+◌, ◌-◌, ◌*◌, ◌++◌, ◌∷◌, [], length};
 ghost use Rattle.std.specs.Prelude.{slice_index_or, take, IfOk, OnOk, OnErr};
@@ -226,6 +226,26 @@ impl BitWriter {
         self.word = first_of(word, filled);
         self.at = at;
         self.filled = filled;
+    }
+
+    /// Moves the octets that are whole to the end of a list. The last bits, fewer than eight, stay, and the writer goes
+    /// on after them in the memory that it has. Errs where memory is refused, which changes nothing.
+    pub fn move_octets(&mut self, out: &mut Vec<u8>) -> Result<(), AllocError>
+        ensures ok { OnOk result (MovesOctets out.old.items out.new.items self.old self.new) }
+        ensures err { OnErr result (out.new.items ≡ out.old.items) }
+        ensures kept { OnErr result (self.new ≡ self.old) }
+    {
+        if self.limit == 0 {
+            return Ok(()); // there are no bits
+        }
+        put_word(self.order, &mut self.octets, self.at, self.word);
+        let whole = self.at + (self.filled / 8) as usize;
+        out.extend_from_slice(&self.octets[..whole])?;
+        let left = self.filled % 8;
+        self.word <<= self.filled - left;
+        self.filled = left;
+        self.at = 0;
+        Ok(())
     }
 
     /// The octets that hold the bits, eight an octet, the last octet filled with 0 bits.

@@ -27,7 +27,7 @@ pub fn coding_of(number: u8) -> Coding {
 }
 
 /// The event of this number, as `.ci/data/try_octets.py` counts them, and the station to which it delivers or loses an item.
-fn event_of(number: u8) -> (Event, Option<Side>) {
+pub fn event_of(number: u8) -> (Event, Option<Side>) {
     match number {
         0 => (Event::DeliverToAnswerer, Some(Side::Answerer)),
         1 => (Event::DeliverToCaller, Some(Side::Caller)),

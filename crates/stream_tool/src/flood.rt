@@ -7,7 +7,8 @@ use stations::{AnswererIn, LimitedAnswerer, Limits, Turn};
 use std::alloc::AllocError;
 use std::io;
 
-const LIMITS: Limits = Limits {
+/// Room for two pages.
+pub const LIMITS: Limits = Limits {
     pages: 2,
     octets: 100_000_000,
 };

@@ -12,10 +12,16 @@ ghost use Rattle.std.specs.Prelude.{◌≡◌, true};
 mod call;
 mod caller;
 mod flood;
+mod framing;
+mod join;
+mod shown;
+mod station;
 
 use crate::call::show_call;
 use crate::caller::show_caller;
 use crate::flood::show_flood;
+use crate::join::show_joined;
+use crate::station::show_tried;
 use line_sim::{Answered, Feed, answer_stream};
 use raster::Page;
 use signals::{Caps, Modems, PageWidth};
@@ -145,6 +151,8 @@ fn main(rt: HostRuntime) -> io::Result<()> {
             "call" => show_call(&rt, &octets),
             "caller" => show_caller(&rt, &octets),
             "flood" => show_flood(&rt, &octets),
+            "join" => show_joined(&rt, &octets),
+            "station" => show_tried(&rt, &octets),
             _ => show_stream(&rt, FEW_CAPS, &octets),
         },
     }

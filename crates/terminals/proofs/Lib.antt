@@ -1,5 +1,7 @@
 pub mod After
 pub mod Cutting
 pub mod Fed
+pub mod CutOff
 pub mod Taking
+pub mod Few
 pub mod Sent

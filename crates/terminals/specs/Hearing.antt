@@ -1,5 +1,5 @@
 -- What is heard of the octets of a line: the signals of its good frames, in order.
-use Rattle.std.specs.Prelude.{ℕ, ◌≡◌, Bool, List, [], ◌∷◌, ◌++◌, length, drop, Result, Ok, Err}
+use Rattle.std.specs.Prelude.{ℕ, ◌≡◌, ◌-◌, ◌^◌, Bool, List, [], ◌∷◌, ◌++◌, length, drop, min, Result, Ok, Err}
 use Rattle.raster.specs.Packed.{bits_of}
 use Rattle.raster.specs.declared.packed.Order.TheVariants.{LsbFirst}
 use Rattle.hdlc.specs.DeframerState.{DeframerState, IsAfter}
@@ -55,3 +55,7 @@ HasHeard framing octets = IsAfter framing (bits_of LsbFirst octets) (length (con
 abbrev pub CutsChangeNothing : Type 0
 CutsChangeNothing =
     (before front rest : List ℕ) → heard_of before (front ++ rest) ≡ heard_of before front ++ heard_of (before ++ front) rest
+
+-- how many good frames octets of the line have; the count stays at the greatest number of 64 bits
+abbrev pub good_frames : List ℕ → ℕ
+good_frames octets = min (2 ^ 64 - 1) (length (contents octets))

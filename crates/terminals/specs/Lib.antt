@@ -1,7 +1,9 @@
+pub mod Bursts
 pub mod Hearing
 pub mod Runs
 pub mod Sending
 pub mod Speaking
 pub mod Stations
 pub mod StationsAfter
+pub mod Stopping
 pub mod Timing

@@ -1,7 +1,9 @@
-//! Laws of what is heard, and of where it leads. Nothing runs.
+//! Laws of what is heard, of where it leads, and of DCN. Nothing runs.
 
+ghost use Rattle.terminals.specs.Bursts.{AnswerersSendOne, CallersSendTwo};
 ghost use Rattle.terminals.specs.Hearing.{CutsChangeNothing};
 ghost use Rattle.terminals.specs.StationsAfter.{AnswererIsAfter, CallerIsAfter};
+ghost use Rattle.terminals.specs.Stopping.{AnswerersSendDcn, CallersSendDcn};
 
 /// Octets of the line that come in two pieces are heard as those that come in one.
 pub fn cuts_change_nothing()
@@ -16,3 +18,17 @@ pub fn stations_are_after()
     ensures caller { CallerIsAfter }
     ensures answerer { AnswererIsAfter }
 {}
+
+/// DCN goes out as one burst by V.21, with no other frame, from each station in every state.
+pub fn dcn_goes_alone()
+    ensures caller { CallersSendDcn }
+    ensures answerer { AnswerersSendDcn }
+{}
+
+/// A turn of a caller has two bursts at most, and one of an answerer has one.
+pub fn turns_have_few_bursts()
+    ensures caller { CallersSendTwo }
+    ensures answerer { AnswerersSendOne }
+{
+    stations::laws::bursts_cut();
+}

@@ -7,6 +7,7 @@ pub mod laws;
 mod sending;
 mod speaking;
 mod station;
+mod stopping;
 mod terminal;
 mod timing;
 
@@ -14,6 +15,7 @@ pub use crate::fault::HearFault;
 pub use crate::input::Input;
 pub use crate::sending::SentBurst;
 pub use crate::station::Station;
+pub use crate::stopping::{Shown, Stoppable};
 pub use crate::terminal::{AnswererTerminal, CallerTerminal, Terminal};
 pub use crate::timing::{
     BETWEEN_CARRIERS_MILLIS, T1_MILLIS, T2_MILLIS, T4_MILLIS, T5_MILLIS, flags_after, flags_before,

@@ -68,7 +68,7 @@ fn write_flags(writer: &mut BitWriter, count: u32) -> Result<(), AllocError>
     Ok(())
 }
 
-/// Writes the 0 bits of a training check of so many octets. An `Err` may leave some of them.
+/// Writes the 0 bits of a training check of this number of octets. An `Err` may leave some of them.
 fn write_zeros(writer: &mut BitWriter, octets: u32) -> Result<(), AllocError>
     ensures { OnOk result (Appends (replicate (8 * octets) false) writer.old writer.new) }
 {

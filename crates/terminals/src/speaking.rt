@@ -6,10 +6,12 @@ ghost use Rattle.terminals.specs.Hearing.{heard, heard_if, plain_input};
 ghost use Rattle.terminals.specs.Runs.{TakesAll, TakesSome};
 ghost use Rattle.terminals.specs.Sending.{Sends};
 ghost use Rattle.terminals.specs.Speaking.{Takes, is_silent, spoken};
+ghost use Rattle.terminals.specs.Stopping.{hung_up, silenced, stopped};
 
 use crate::input::Input;
 use crate::sending::{SentBurst, pass, send};
 use crate::station::Station;
+use crate::stopping::Stoppable;
 use hdlc::Deframer;
 use stations::Turn;
 use std::alloc::{AllocError, Global};
@@ -95,6 +97,37 @@ impl<S: Station> Speaker<S> {
             Ok(()) => true,
             Err(_) => false,
         }
+    }
+}
+
+impl<S: Stoppable> Speaker<S> {
+    /// The program stops the call: DCN takes the place of the turn that is kept. Where the call has ended nothing changes.
+    pub(crate) fn stop(&mut self)
+        ensures { self.new ≡ stopped S.cut_off S.stop_says self.old }
+    {
+        let turn = self.station.stop();
+        if !is_silent(&turn) {
+            self.turn = turn;
+            self.taken = 0;
+        }
+    }
+
+    /// The program stops the call, and DCN takes the place of the turn that is kept, also where the call has ended.
+    pub(crate) fn hang_up(&mut self)
+        ensures { self.new ≡ hung_up S.cut_off self.old }
+    {
+        let _turn = self.station.stop();
+        self.turn = Turn::Dcn;
+        self.taken = 0;
+    }
+
+    /// The line is gone: nothing is left to be said.
+    pub(crate) fn lost(&mut self)
+        ensures { self.new ≡ silenced S.cut_off self.old }
+    {
+        self.station.lost();
+        self.turn = Turn::Silent;
+        self.taken = 0;
     }
 }
 

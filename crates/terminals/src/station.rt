@@ -86,7 +86,7 @@ impl Station for Answerer {
 }
 
 /// What a caller takes of an input, by the wait that runs.
-fn caller_input(running: Option<Wait>, input: Input<'_>) -> Option<CallerIn<'_>>
+pub(crate) fn caller_input(running: Option<Wait>, input: Input<'_>) -> Option<CallerIn<'_>>
     ensures { plain_caller_input result ≡ caller_takes running (plain_input input.entry) }
 {
     match (input, running) {
@@ -99,7 +99,7 @@ fn caller_input(running: Option<Wait>, input: Input<'_>) -> Option<CallerIn<'_>>
 }
 
 /// What an answerer takes of an input.
-fn answerer_input(input: Input<'_>) -> Option<AnswererIn<'_>>
+pub(crate) fn answerer_input(input: Input<'_>) -> Option<AnswererIn<'_>>
     ensures { plain_answerer_input result ≡ answerer_takes (plain_input input.entry) }
 {
     match input {

@@ -1,21 +1,23 @@
 //! A station over the bits of a line.
 
-ghost use Rattle.std.specs.Prelude.{◌≡◌, [], OnOk, OnErr};
+ghost use Rattle.std.specs.Prelude.{◌≡◌, ℕ, List, [], OnOk, OnErr};
 ghost use Rattle.hdlc.specs.DeframerState.{IsAfter};
-ghost use Rattle.terminals.specs.Hearing.{check, over, busy};
+ghost use Rattle.terminals.specs.Hearing.{HasHeard, check, over, busy, good_frames};
 ghost use Rattle.terminals.specs.Runs.{Hears};
 ghost use Rattle.terminals.specs.Sending.{Sends};
 ghost use Rattle.terminals.specs.Speaking.{Takes};
 ghost use Rattle.terminals.specs.Stations.{without_pages};
+ghost use Rattle.terminals.specs.Stopping.{IsShown, hung_up, silenced, stopped, with_pages_taken};
 
 use crate::fault::HearFault;
 use crate::input::Input;
 use crate::sending::SentBurst;
 use crate::speaking::{Speaker, hear_waiting};
 use crate::station::Station;
+use crate::stopping::{Shown, Stoppable};
 use hdlc::Deframer;
 use raster::Page;
-use stations::{Answerer, Caller, Turn, Wait};
+use stations::{Answerer, Caller, LimitedAnswerer, Turn, Wait};
 use std::alloc::{AllocError, Global};
 use std::marker::Model;
 
@@ -59,6 +61,13 @@ impl<S: Station> Terminal<S> {
         ensures { result.now ≡ self.now.speaking.station }
     {
         &self.speaker.station
+    }
+
+    /// How many good frames the octets that were heard had. The count stays at 2^64 - 1 once it is there.
+    pub fn good_frames(&self) -> u64
+        ensures { (octets : List ℕ) → HasHeard self.now.framing octets → result ≡ good_frames octets }
+    {
+        self.deframer.counts().good
     }
 
     /// Hears the next octets of the line, on which the least significant bit of each is the first, in pieces of any size. The station
@@ -110,6 +119,52 @@ impl<S: Station> Terminal<S> {
         ensures framing { self.new.framing ≡ self.old.framing }
     {
         self.speaker.next_burst(self.alloc)
+    }
+}
+
+impl<S: Stoppable> Terminal<S> {
+    /// Stops the call: DCN takes the place of the turn that is kept. A call that has ended stays as it ended, and nothing changes.
+    pub fn stop(&mut self)
+        ensures framing { self.new.framing ≡ self.old.framing }
+        ensures speaking { self.new.speaking ≡ stopped S.cut_off S.stop_says self.old.speaking }
+    {
+        self.speaker.stop();
+    }
+
+    /// Stops the call, and has DCN to be sent in place of the turn that is kept, also where the call has ended: what that turn says is
+    /// not to be said.
+    pub fn hang_up(&mut self)
+        ensures framing { self.new.framing ≡ self.old.framing }
+        ensures speaking { self.new.speaking ≡ hung_up S.cut_off self.old.speaking }
+    {
+        self.speaker.hang_up();
+    }
+
+    /// The line is gone: nothing is left to be sent. A call that has ended stays as it ended.
+    pub fn lost(&mut self)
+        ensures framing { self.new.framing ≡ self.old.framing }
+        ensures speaking { self.new.speaking ≡ silenced S.cut_off self.old.speaking }
+    {
+        self.speaker.lost();
+    }
+
+    /// What the station shows of its call: its waits, what it listens for, and its end.
+    pub fn shown(&self) -> Shown
+        ensures { IsShown S.shows self.now.speaking.station result }
+    {
+        self.speaker.station.shown()
+    }
+}
+
+impl Terminal<LimitedAnswerer> {
+    /// The pages stored so far, in the order in which they came; none is stored then, and the answerer is as busy as it was told. Takes
+    /// no memory.
+    pub fn take_pages(&mut self) -> Vec<Page>
+        ensures pages { result.items ≡ self.old.speaking.station.station.pages }
+        ensures framing { self.new.framing ≡ self.old.framing }
+        ensures left { self.new.speaking ≡ with_pages_taken self.old.speaking }
+    {
+        self.speaker.station.take_pages()
     }
 }
 

@@ -1,13 +1,16 @@
-//! A caller's step, a terminal, a call of two stations over one line, and an answerer over octets.
+//! A caller's step, a terminal, an answerer by lines, a call of two stations over one line, and an answerer over octets.
 
 ghost use Rattle.line_sim.specs.Report.{Keeps};
 ghost use Rattle.std.specs.Prelude.{IfOk};
 
+use calls::{CallOptions, call_engine};
+use conversations::{Conversation, PageStore, TakeFault, TimedLine, answer_line};
+use engines::ToolFault;
 use line_sim::{Answered, Event, Feed, Report, World, WorldFault, answer_stream};
 use page_code::Coding;
 use raster::Document;
 use signals::{Caps, Modems, PageWidth, Signal, Wish};
-use stations::{Caller, CallerIn, Item};
+use stations::{Caller, CallerIn, Item, LimitedAnswerer};
 use std::alloc::{AllocError, Global};
 use terminals::{AnswererTerminal, SentBurst};
 
@@ -72,4 +75,30 @@ pub fn answer(
 ) -> Result<Answered, AllocError> {
     let feeds = [Feed::Octets(dcs), Feed::Training(check), Feed::Octets(page)];
     answer_stream(alloc, CAPS, &feeds)
+}
+
+/// An answerer by lines takes the next one: what it then has to send on its next carrier, if anything. Each page that came is stored
+/// before that; where one can't be stored the answer is DCN.
+pub fn takes_line<P: PageStore>(
+    conversation: &mut Conversation<LimitedAnswerer>,
+    line: &TimedLine,
+    store: &mut P,
+) -> Result<Option<SentBurst>, TakeFault> {
+    let _refused = answer_line(conversation, line, store)?;
+    Ok(conversation.next_burst()?)
+}
+
+/// What `faxtool call` prints for a script and an image that are in memory.
+pub fn call_text(alloc: Global, script: &[u8], image: &[u8]) -> Result<Vec<u8>, ToolFault> {
+    let options = CallOptions {
+        coding: WISH.coding,
+        small: WISH.small,
+        modems: WISH.modems,
+        fine: false,
+    };
+    let mut commands = script;
+    let mut reader = image;
+    let mut text = Vec::new(alloc);
+    call_engine(alloc, &mut commands, &mut reader, &mut text, &options)?;
+    Ok(text)
 }

@@ -2,7 +2,7 @@
 
 ghost use Rattle.std.specs.Prelude.{};
 
-use crate::calls::{answer, hears, send};
+use crate::calls::{answer, call_text, hears, send};
 use crate::frames::{asks_again, confirmation, list_frames, lose_a_frame};
 use crate::pages::{code_image, code_rows, copy_images, decode_rows, read_in_two, recode};
 use hdlc::write_frame;
@@ -150,6 +150,17 @@ fn a_document_is_sent(rt: HostRuntime) -> Result<(), Fail> {
     for stored in report.pages.iter() {
         assert!(rt; are_same(stored.rows(), page.rows()));
     }
+    Ok(())
+}
+
+// T1 is over, so the caller gives up, and its DCN comes.
+#[test]
+fn a_script_is_run(rt: HostRuntime) -> Result<(), Fail> {
+    let text = call_text(rt.alloc(), b"caller-timeout\nto-answerer\n", &white_image())?;
+    assert_eq!(rt;
+        text.as_slice(),
+        b"1 caller-timeout - DCN\n2 to-answerer DCN -\ncaller no-answer confirmed 0\nanswerer peer-left pages 0\n".as_slice()
+    );
     Ok(())
 }
 

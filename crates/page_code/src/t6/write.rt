@@ -2,14 +2,14 @@
 
 ghost use Rattle.page_code.specs.TwoDimensions.Changes.{AreHeld};
 ghost use Rattle.page_code.specs.TwoDimensions.Code.{page_code, row_code, rows_code, verticals, vertical_to};
-ghost use Rattle.page_code.specs.TwoDimensions.Coding.{FitsCoding, IsListed, WritesOn};
+ghost use Rattle.page_code.specs.TwoDimensions.Coding.{FitsCoding, FitsLines, IsListed, WritesOn};
 ghost use Rattle.page_code.specs.TwoDimensions.Fronts.{mode_word};
 ghost use Rattle.page_code.specs.TwoDimensions.Modes.{horizontal_word};
 ghost use Rattle.page_code.specs.TwoDimensions.Writing.{reference_at, row_at};
 ghost use Rattle.raster.specs.Pixels.{IsWidth, max_width, other};
 ghost use Rattle.run_tables.specs.Codes.{run_words};
 ghost use Rattle.run_tables.specs.Written.{Appends, KeepsBits};
-ghost use Rattle.std.specs.Prelude.{ℕ, List, ◌≡◌, ◌≤◌, ◌<◌, ◌+◌, ◌++◌, All, IfOk, length, slice_index_or, OnErr, OnOk};
+ghost use Rattle.std.specs.Prelude.{ℕ, List, ◌≡◌, ◌≤◌, ◌<◌, ◌+◌, ◌++◌, All, IfOk, length, slice_index_or, take, OnErr, OnOk};
 
 use crate::page::row_of;
 use crate::t6::changes::put_held;
@@ -169,7 +169,7 @@ fn write_row(
     requires listed { IsListed row.now width }
     ensures code { OnOk result ((a b : List Color) → AreHeld a reference.now → AreHeld b row.now → length a ≡ length b
         → Appends (row_code a b) writer.old writer.new) }
-    ensures err { OnErr result (KeepsBits writer.old writer.new) }
+    ensures keeps { KeepsBits writer.old writer.new }
 {
     let mut front = Front::begin();
     while front.from <= width {
@@ -187,6 +187,63 @@ fn list_for(alloc: Global, width: u32) -> Result<Vec<u32>, AllocError>
     Ok(list)
 }
 
+/// The changing elements of a reference line and those of a row, in lists that are written in place.
+#[derive(Debug, Drop)]
+pub(crate) struct Lines {
+    pub(crate) reference: Vec<u32>,
+    pub(crate) known: usize,
+    pub(crate) row: Vec<u32>,
+}
+
+impl Lines {
+    /// Lists with no room, of no line.
+    pub(crate) fn none(alloc: Global) -> Lines {
+        Lines {
+            reference: Vec::new(alloc),
+            known: 0,
+            row: Vec::new(alloc),
+        }
+    }
+
+    /// Lists for rows as wide as a line, the first of which comes after it.
+    pub(crate) fn after(alloc: Global, line: &Row) -> Result<Lines, AllocError>
+        ensures fits { IfOk result (λ lines. FitsLines (length line.now) lines.reference.items lines.row.items lines.known) }
+        ensures held { IfOk result (λ lines. AreHeld line.now (take lines.known lines.reference.items)) }
+    {
+        let mut reference = list_for(alloc, line.width())?;
+        let row = list_for(alloc, line.width())?;
+        let known = put_held(line, &mut reference);
+        Ok(Lines {
+            reference,
+            known,
+            row,
+        })
+    }
+
+    /// Appends the code of a row after the reference line. The row is the next one's reference line then.
+    #[inline(always)]
+    pub(crate) fn write_row(&mut self, writer: &mut BitWriter, row: &Row) -> Result<(), AllocError>
+        requires { FitsLines (length row.now) self.old.reference.items self.old.row.items self.old.known }
+        ensures fits { FitsLines (length row.now) self.new.reference.items self.new.row.items self.new.known }
+        ensures code { OnOk result ((line : List Color) → AreHeld line (take self.old.known self.old.reference.items)
+            → length line ≡ length row.now → Appends (row_code line row.now) writer.old writer.new) }
+        ensures held { OnOk result (AreHeld row.now (take self.new.known self.new.reference.items)) }
+        ensures keeps { KeepsBits writer.old writer.new }
+        ensures same { OnErr result (take self.new.known self.new.reference.items ≡ take self.old.known self.old.reference.items) }
+    {
+        let count = put_held(row, &mut self.row);
+        write_row(
+            writer,
+            &self.reference[..self.known],
+            &self.row[..count],
+            row.width(),
+        )?;
+        mem::swap(&mut self.reference, &mut self.row);
+        self.known = count;
+        Ok(())
+    }
+}
+
 /// Appends the codes of rows, each after the one before and the first after a white row.
 fn write_rows(
     alloc: Global,
@@ -198,15 +255,9 @@ fn write_rows(
     ensures ok { OnOk result (Appends (rows_code white.now rows.now) writer.old writer.new) }
     ensures err { OnErr result (KeepsBits writer.old writer.new) }
 {
-    let width = white.width();
-    let mut reference = list_for(alloc, width)?;
-    let mut row = list_for(alloc, width)?;
-    let mut known = put_held(white, &mut reference);
+    let mut lines = Lines::after(alloc, white)?;
     for at in 0..rows.len() {
-        let count = put_held(&rows[at], &mut row);
-        write_row(writer, &reference[..known], &row[..count], width)?;
-        mem::swap(&mut reference, &mut row);
-        known = count;
+        lines.write_row(writer, &rows[at])?;
     }
     Ok(())
 }

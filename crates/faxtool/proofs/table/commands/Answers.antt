@@ -10,9 +10,11 @@ returns c = record {
   orders = _;
   sizes = _;
   modems = _;
-  takes_codings = (_, refl, refl);
+  names = record {
+    takes_codings = (_, refl, refl);
+    takes_sizes = (_, refl, refl);
+    takes_modems = (_, refl, refl);
+  };
   takes_orders = (_, refl, refl);
-  takes_sizes = (_, refl, refl);
-  takes_modems = (_, refl, refl);
   commands = refl;
 }

@@ -10,6 +10,9 @@ returns-in_default c line is = none_there line.lose (c.in_default.ensures.only l
 pub returns-in_default-spoil_in : goal.returns-in_default-spoil_in
 returns-in_default-spoil_in c line is = none_there line.spoil (c.in_default-spoil_in.ensures.only line.spoil is.spoil_is)
 
+pub returns-in_default-busy_in : goal.returns-in_default-busy_in
+returns-in_default-busy_in c line is = none_there line.busy (c.in_default-busy_in.ensures.only line.busy is.busy_is)
+
 pub returns-then-lose-gt-ALL_WORDS : goal.returns-then-lose-gt-ALL_WORDS
 returns-then-lose-gt-ALL_WORDS c line is =
     let lose : c.in-Some.lose ≡ line.lose = same_number c.in-Some.lose line.lose (c.in-Some.ensures.only line.lose is.lose_is) in

@@ -4,8 +4,6 @@ use Rattle.page_code.proofs.one_dim.write_rows.Goals as goal
 
 pub loop-row-preserved : goal.loop-row-preserved
 loop-row-preserved c =
-    let wrote = c.in_ok-write_row_1d_in.ensures.ok in
     let here : get_or c.args.rows.now c.loop-row.row-index c.row-item.result ≡ c.row-item.result = sym c.row-item.is in
-    row_written c.args.bits.now c.loop-row.bits c.write_eol.new.self c.write_row_1d_in.new.self c.args.rows.now c.loop-row.row-index
-    c.row-item.result wrote.0 c.loop-row-test.true here (rw here at (c.requires c.loop-row.row-index c.row-item.result
-    c.loop-row-test.true)) wrote.1 c.loop-row.invariant c.in_ok-write_eol.ensures.ok wrote.2
+    row_written c.args.bits.now c.loop-row.bits c.write_row.new.bits c.args.rows.now c.loop-row.row-index c.row-item.result
+    c.loop-row-test.true here c.loop-row.invariant c.in_ok-write_row.ensures.ok

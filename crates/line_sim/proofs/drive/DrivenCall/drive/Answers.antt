@@ -45,7 +45,7 @@ loop-made-preserved c =
           along_more p c.loop-made.self c.step.new.self (map plain_fate c.args.fates.now) d c.loop-made.made c.loop-made.at
           c.past-at.result c.is_fate_due-due.result c.in-Some.step along
           (c.in-Some.ensures p (drive c.loop-made.made p d) along.shows (ap first_fate along.left ∙ sym c.fate_at.ensures))
-          c.if-step.false c.is_fate_due-due.ensures.due c.is_fate_due-due.ensures.quiet c.past-at.ensures;
+          c.if-step.false c.is_fate_due-due.ensures c.past-at.ensures;
       few = omega arith;
       near = past_near c.is_fate_due-due.result c.loop-made.at c.loop-made.made c.past-at.result
           c.past-at.ensures c.loop-made.invariant.near;

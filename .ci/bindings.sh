@@ -1,0 +1,89 @@
+#!/bin/sh
+# Builds the library for C, and its examples with the kit's clang under the address sanitizer and with traps for what C doesn't define;
+# runs them on files that other programs wrote, and compares octets and texts. Then it installs the library, and tests the module for
+# Python. Ends with status 1 at the first difference. It needs the kit and Python's standard library alone.
+set -e
+top=$(cd "$(dirname "$0")/.." && pwd)
+kit=${KIT:-/opt/rattle}
+data=$top/.ci/data
+work=$(mktemp -d)
+trap 'rm -rf "$work"' EXIT
+runs=0
+
+fails() {
+    echo "bindings: FAILED: $*" >&2
+    exit 1
+}
+
+# builds FILE WORDS: a C file of bindings as a program in the work folder, linked with these words.
+builds() {
+    file=$top/bindings/$1 name=$(basename "$1" .c)
+    shift
+    "$kit/toolchain/bin/clang" -std=c11 -Wall -Wextra -Werror -O1 -g -fPIE -fsanitize=address,undefined -fsanitize-trap=undefined \
+        -nostdinc -isystem "$top/bindings/include" -I "$work" -c "$file" -o "$work/$name.o"
+    lib=$kit/toolchain/lib
+    "$kit/toolchain/bin/ld.lld" -pie --eh-frame-hdr -dynamic-linker /lib64/ld-linux-x86-64.so.2 -o "$work/$name" "$@" "$lib/Scrt1.o" \
+        "$lib/crtbeginS.o" "$work/$name.o" "$work/libg3fax.a" --whole-archive "$kit/c/asan.a" --no-whole-archive "$lib/libc.so.6" \
+        "$lib/libc_nonshared.a" "$lib/libm.so.6" "$lib/ld-linux-x86-64.so.2" "$lib/libgcc_s.so.1" "$lib/libgcc.a" "$lib/crtendS.o"
+}
+
+# gives STATUS NAME WORDS: the example ends with the status.
+gives() {
+    end=$1 name=$2 status=0
+    shift 2
+    timeout 60 "$work/$name" "$@" > "$work/output" 2> "$work/error" || status=$?
+    [ "$status" = "$end" ] || { head -5 "$work/error" >&2; fails "$name $* ended with status $status, and not $end"; }
+    runs=$((runs + 1))
+}
+
+# is_same FILE WANTED WORDS: the file has the octets of the other one.
+is_same() {
+    difference=$(cmp "$1" "$2" 2>&1) || fails "$3: other octets: $difference"
+}
+
+"$top/bindings/build.sh" "$work"
+for name in encode decode raster frames misuse; do builds "c/$name.c"; done
+for name in memory random; do builds "tests/$name.c" --wrap=malloc --wrap=realloc --wrap=free; done
+
+for code in mh mmr; do
+    for order in msb lsb; do
+        gives 0 encode "$data/page.pbm" "$work/code" "$code" "$order"
+        is_same "$work/code" "$data/page.$code.$order" "encode $code $order"
+        gives 0 decode "$data/page.$code.$order" "$work/page.pbm" "$code" "$order" 315
+        is_same "$work/page.pbm" "$data/page.pbm" "decode $code $order"
+    done
+done
+
+# rows in memory with octets between them
+gives 0 raster "$data/page.pbm" "$work/page.pbm"
+is_same "$work/page.pbm" "$data/page.pbm" raster
+
+# a page that is cut short: the fault and its bit, and the rows before it
+head -c 500 "$data/page.mmr.msb" > "$work/cut"
+gives 1 decode "$work/cut" "$work/page.pbm" mmr msb 315
+[ "$(cat "$work/error")" = "fault 11 at bit 3999: the bits end inside a code" ] || fails "decode said of a cut page: $(cat "$work/error")"
+
+# the frames of a line that was written with no code of this repository
+gives 0 frames "$data/line.bits"
+grep '^[0-9]' "$data/line.txt" | cut -d ' ' -f 1,2 > "$work/wanted"
+grep '^[0-9]' "$work/output" > "$work/contents"
+is_same "$work/contents" "$work/wanted" "frames"
+tail -n 1 "$data/line.txt" > "$work/wanted"
+tail -n 1 "$work/output" > "$work/counts"
+is_same "$work/counts" "$work/wanted" "the counts of frames"
+
+gives 0 misuse
+[ ! -s "$work/output" ] || fails "misuse printed: $(cat "$work/output")"
+
+# each growth of memory refused in turn; and random calls on random handles
+gives 0 memory "$data/page.pbm" "$data/line.bits"
+growths=$(sed -n 's/^growths //p' "$work/output")
+[ "${growths:-0}" -gt 50 ] || fails "memory refused $growths growths"
+gives 0 random 200000
+[ ! -s "$work/output" ] || fails "random printed: $(head -3 "$work/output")"
+"$top/.ci/installed.sh" "$work"
+
+# the module for Python, over the shared library
+PYTHONDONTWRITEBYTECODE=1 G3FAX_LIBRARY=$work/libg3fax.so.0 timeout 120 python3 -W error "$top/bindings/python/test_g3fax.py" \
+    > "$work/output" 2>&1 || { cat "$work/output" >&2; fails "bindings/python/test_g3fax.py"; }
+echo "bindings: $runs runs of the examples, under the sanitizers, gave what other programs wrote; $growths growths were refused in turn"

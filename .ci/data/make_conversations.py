@@ -1,0 +1,110 @@
+"""Writes the conversations of .ci/conversations: make_conversations.py FOLDER
+
+Of those named worked_ the frames are worked by hand from T.30's tables, in bench/fuzz/reference_station.py; only flags, stuffed bits and
+check sequences are added here. Of those named reference_ the answers are the ones of that reading. A conversation is the words of its
+station, with IN and DIR; the lines in; the lines out; and the last line on standard error. A caller has its document, an answerer the pages
+that it stores."""
+
+import os
+import sys
+from pathlib import Path
+
+sys.dont_write_bytecode = True
+TOP = Path(__file__).resolve().parent.parent.parent
+sys.path.insert(0, str(TOP / "bench" / "fuzz"))
+import reference_station as reference  # noqa: E402
+from reference_station import ANSWERED, CALLED, SENT_WELL, UNANSWERED, written  # noqa: E402
+from reference_station import CFR, CHECK, DCN, DCS, DIS, LAST, MCF, PAGE, RNR, RR, WHITE_BURST  # noqa: E402
+
+folder = Path(sys.argv[1])
+WHITE = (TOP / "docs" / "examples" / "row.pbm").read_bytes()
+TWO_WIDTHS = WHITE + b"P4\n2048 1\n" + bytes(256)
+
+
+def write(name, words, lines, answers, errors, document=b"", pages=()):
+    texts = {"words": words, "lines": "\n".join(lines), "expected": "\n".join(answers), "error": "\n".join(errors)}
+    for kind, text in texts.items():
+        (folder / f"{name}.{kind}").write_text(text + "\n" * bool(text), encoding="ascii", newline="")
+    for kind, octets in (("pbm", document), ("pages", b"".join(pages))):
+        if octets:
+            (folder / f"{name}.{kind}").write_bytes(octets)
+
+
+def text_of(line):
+    """A line in, as it is or from the contents of its frames or the bits of its check."""
+    return line if isinstance(line, str) else f"{line[0]} {written(line[1:])}"
+
+
+def worked(name, words, table, **files):
+    answers = []
+    for line, bursts in table[:-1]:
+        answers += [burst if isinstance(burst, str) else "tx " + written(burst) for burst in bursts]
+        answers.append("done" if (line, bursts) == table[-2] else "wait")
+    write("worked_" + name, words, [text_of(line) for line, _ in table[:-1]], answers, table[-1:], **files)
+
+
+def referred(name, words, lines, document=b"", errors=None):
+    """The answers, and the last line on standard error, are those of the reference."""
+    source, pages, answers = folder / f"reference_{name}.pbm", [], []
+    if document:
+        source.write_bytes(document)
+    asked = words.replace("IN", str(source)).split()
+    texts = [text_of(line) for line in lines]
+    told, _ = reference.serve(reference.end_of(reference.arguments(asked), pages.append), [text.encode() for text in texts], answers.extend)
+    write("reference_" + name, words, texts, answers, errors or told, document, pages)
+
+
+BEGUN = ["quiet 1000", ("rx 2000", "v21", [DCS]), ("rx 4000", PAGE, CHECK)]
+FIRST_OF_TWO, SECOND = "FF13BF4F000000", "FF13BF2F010000"
+SENT = [("rx 6000", PAGE, WHITE_BURST), ("rx 7000", "v21", [FIRST_OF_TWO])]
+worked("answerer", "--answer --out DIR", ANSWERED, pages=[WHITE])
+worked("caller_before_a_busy_answerer", "--call IN", CALLED, document=WHITE)
+worked("caller", "--call IN", SENT_WELL, document=WHITE)
+worked("caller_alone", "--call IN", UNANSWERED, document=WHITE)
+referred("no_lines", "--answer --out DIR", [])
+referred("line_drops_after_a_page", "--answer --out DIR", BEGUN + SENT + ["end 7500", "quiet 7600"])
+referred("input_ends_after_a_page", "--answer --out DIR", BEGUN + SENT)
+referred("stopped_after_a_page", "--answer --out DIR", BEGUN + SENT + ["stop 7500"])
+referred("wrong_line_after_a_page", "--answer --out DIR", BEGUN + SENT + ["quiet 6999", "quiet 8000"])
+referred("no_line_at_all", "--call IN", ["hello"], WHITE)
+# With room for one page each is answered by RNR, and taken before the RR comes.
+asked_again = [("rx 8000", "v21", [RR]), ("rx 9000", PAGE, WHITE_BURST), ("rx 10000", "v21", [SECOND]), ("rx 11000", "v21", [RR])]
+referred("room_for_one_page", "--answer --limit 1 --out DIR", BEGUN + SENT + asked_again + [("rx 12000", "v21", [DCN])])
+# The second of two pages in one burst is kept out, and the caller has to send it again.
+two_pages = ("rx 6000", PAGE, [WHITE_BURST[0], FIRST_OF_TWO, WHITE_BURST[0], SECOND])
+referred("two_pages_at_once", "--answer --limit 1 --out DIR", BEGUN + [two_pages])
+referred("few_capabilities", "--answer --code mh --standard --widest 1728 --modems v29 --out DIR", BEGUN + [("rx 6000", PAGE, WHITE_BURST)])
+referred("own_waits", "--answer --t1 20000 --t2 500 --out DIR", [f"quiet {at}" for at in range(500, 21500, 250)])
+second_group = [("rx 9000", "v21", [MCF]), "quiet 9100", ("rx 15000", "v21", [DIS]), ("rx 17000", "v21", [CFR]), ("rx 20000", "v21", [MCF])]
+referred("two_widths", "--call IN", [("rx 1000", "v21", [DIS]), ("rx 4000", "v21", [CFR])] + second_group, TWO_WIDTHS)
+# What is over of the frame of a DIS comes with the next burst, and the frame is heard then.
+whole = written(("v21", [DIS])).split(" ")
+referred(
+    "frame_in_two_bursts",
+    "--call --modems fallback --frame 64 --code mh --fine IN",
+    [f"rx 1000 v21 hdlc 320 {whole[3][:80]}", f"rx 2000 v21 hdlc 83 {whole[3][80:]}", ("rx 4000", "v21", [CFR])],
+    WHITE,
+)
+# A DCS that the answerer doesn't allow isn't answered, nor is the check after it.
+TOO_WIDE, FINE = "FF13830022F944", "FF13830062F844"
+REFUSED = [("--widest 1728", TOO_WIDE), ("--standard", FINE), ("--code mh", DCS), ("--modems v29", DCS)]
+for words, dcs in REFUSED:
+    name = "refused_by_" + words[2:].partition(" ")[0]
+    referred(name, f"--answer {words} --out DIR", ["quiet 1000", ("rx 2000", "v21", [dcs]), ("rx 4000", PAGE, CHECK)])
+dcs_again = [("rx 6000", PAGE, WHITE_BURST), ("rx 7000", "v21", [DCS]), ("rx 9000", PAGE, CHECK), ("rx 10000", "v21", [LAST])]
+referred("second_dcs", "--answer --out DIR", BEGUN + dcs_again)
+referred("page_carrier_before_the_check", "--answer --out DIR", BEGUN[:2] + [("rx 3000", PAGE, [DCN]), ("rx 4000", PAGE, CHECK)])
+# Both waits are over at 50,000 ms after the DCS, T2 and T1.
+referred("two_waits_at_once", "--answer --out DIR", BEGUN[:2] + ["quiet 2100", "quiet 50000", "quiet 50020"])
+referred("cfr_and_dcn_in_one_burst", "--call IN", [("rx 1000", "v21", [DIS]), ("rx 4000", "v21", [CFR, DCN])], WHITE)
+# A PPR between two RNRs of a block: T5 runs from the first RNR.
+asked = [("rx 6000", "v21", [RNR]), ("rx 8000", "v21", ["FF13BC" + 32 * "FF"]), ("rx 10000", "v21", [RNR]), ("rx 12500", "v21", [RNR])]
+waited = ["quiet 15999", "quiet 16000", "quiet 20000"]
+referred("busy_around_a_ppr", "--call --t5 10000 IN", [("rx 1000", "v21", [DIS]), ("rx 4000", "v21", [CFR])] + asked + waited, WHITE)
+# A page of ten rows, whose file has more than a kibioctet; and what is answered where the file can't be written: DCN.
+TEN_ROWS = "FF030600" + "FF03200002".ljust(512, "0")
+referred("page_of_many_rows", "--answer --out DIR", BEGUN + [("rx 6000", PAGE, [TEN_ROWS]), ("rx 7000", "v21", [LAST])])
+answers = (folder / "reference_page_of_many_rows.expected").read_text().split("\n")[:-3]
+unwritten = [*answers, "tx " + written(("v21", ["FF13FA"])), "done", ""]
+(folder / "reference_page_of_many_rows.unwritten").write_text("\n".join(unwritten), encoding="ascii", newline="")
+print(f"{len(os.listdir(folder))} files")

@@ -1,0 +1,180 @@
+# The command station: conversations that are kept as files, files that can't be written, and random conversations.
+
+# converse NAME: the program answers the lines of a kept conversation as it is kept, and stores its pages. NAME.words has the words after
+# `station`, with IN for NAME.pbm and DIR for the folder of the pages.
+converse() {
+    kept=$top/.ci/conversations/$1 status=0
+    rm -rf "$work/stored"
+    mkdir "$work/stored"
+    words=$(sed "s,IN,$kept.pbm,; s,DIR,$work/stored," "$kept.words")
+    timeout 60 "$program" station $words < "$kept.lines" > "$work/output" 2> "$work/error" || status=$?
+    is_same "$work/output" "$kept.expected" "the answers of conversation $1"
+    is_same "$work/error" "$kept.error" "the last line of conversation $1"
+    wanted=1
+    ! grep -q '^end normal ' "$kept.error" || wanted=0
+    [ "$status" = "$wanted" ] || fails "conversation $1 ended with status $status, and not $wanted"
+    cat "$work/stored"/* > "$work/pages" 2> /dev/null || :
+    if [ -f "$kept.pages" ]; then
+        is_same "$work/pages" "$kept.pages" "the pages of conversation $1"
+    else
+        [ ! -s "$work/pages" ] || fails "conversation $1 left a page"
+    fi
+    count=$((count + 1))
+}
+
+# A page whose number is taken goes to the next one that is free, and what was there stays.
+try_taken_numbers() {
+    words="station --answer --out $work/stored"
+    rm -rf "$work/stored"
+    mkdir "$work/stored"
+    echo mine > "$work/stored/page-1.pbm"
+    kept=$top/.ci/conversations/worked_answerer
+    "$program" $words < "$kept.lines" > "$work/output" 2> "$work/error" || fails "a taken number: status $?"
+    is_same "$work/output" "$kept.expected" "the answers where a number is taken"
+    is_same "$work/stored/page-2.pbm" "$kept.pages" "the page of the next number"
+    printf '%s\n' "page 1 written as page-2.pbm" "end normal pages 1" > "$work/wanted"
+    is_same "$work/error" "$work/wanted" "what is told of a taken number"
+    [ "$(cat "$work/stored/page-1.pbm")" = mine ] || fails "a station wrote into a file that was there"
+    count=$((count + 1))
+}
+
+# A page that can't be written isn't confirmed: the station sends DCN where it would send MCF, and ends with fault 8.
+try_unwritten() {
+    rm -rf "$work/stored"
+    mkdir "$work/stored"
+    lines=$top/.ci/conversations/reference_page_of_many_rows
+    status=$(
+        exec 4>&1
+        {
+            (trap '' XFSZ; ulimit -f 1; exec "$program" station --answer --out "$work/stored" 4>&-) < "$lines.lines" 2> "$work/error" ||
+                echo $? >&4
+        } | cat > "$work/output"
+    )
+    [ "$status $(head -1 "$work/error")" = "1 fault 8" ] || fails "a page that can't be written: status $status"
+    is_same "$work/output" "$lines.unwritten" "what is answered to a page that can't be written"
+    [ -z "$(ls "$work/stored")" ] || fails "a part of a page stayed"
+    count=$((count + 1))
+}
+
+# Lines of no allowed form, and one of more than 400,000 octets; and one of as many, which is allowed.
+try_no_lines() {
+    kept=$work/stored
+    while IFS= read -r line; do
+        status=0
+        printf "$line\n" | "$program" station --answer --out "$kept" > "$work/output" 2> "$work/error" || status=$?
+        [ "$status $(cat "$work/error" "$work/output")" = "1 fault 31 at line 1" ] || fails "the line '$line' ended with status $status"
+        count=$((count + 1))
+    done << 'CASES'
+
+quiet
+quiet 1\040
+\040quiet 1
+quiet 1\r
+Quiet 1
+quiet +1
+quiet 1000000000000000
+quiet 1 1
+end
+rx 1 v21 hdlc 0
+rx 1 v21 hdlc 8 0
+rx 1 v21 hdlc 8 0000
+rx 1 v21 hdlc 9 00
+rx 1 v21 hdlc 8 0G
+rx 1 v21 psk 8 00
+rx 1 v17-4800 raw 8 00
+rx 1 v21 hdlc 00000008 00
+rx 1  v21 hdlc 8 00
+CASES
+    rm -f "$work/told"
+    for time in 1 01; do
+        { printf "rx $time v21 hdlc 1599912 "; head -c 399978 /dev/zero | tr '\0' 0; echo; } > "$work/long"
+        "$program" station --answer --out "$kept" < "$work/long" > "$work/output" 2> "$work/error" || :
+        echo "$time $(cat "$work/output" "$work/error" | tr '\n' ' ')" >> "$work/told"
+    done
+    printf '%s\n' "1 wait end line-lost pages 0 " "01 fault 31 at line 1 " > "$work/wanted"
+    is_same "$work/told" "$work/wanted" "lines of 400,000 octets and one more"
+    count=$((count + 2))
+}
+
+# The trace of the caller of a kept conversation, by hand: it comes after what its file had.
+try_trace() {
+    kept=$top/.ci/conversations/worked_caller
+    echo "an earlier trace" | tee "$work/trace" > "$work/wanted"
+    cat >> "$work/wanted" << 'LINES'
+34900 heard DIS receiver v17 fine 2432 t6 ecm
+34900 said DCS v17-14400 standard 1728 t6 256
+34900 said TRAINING
+43000 said DCS v17-14400 standard 1728 t6 256
+43000 said TRAINING
+44000 heard CFR
+44000 said FCD 0 256
+44000 said RCP
+44000 said RCP
+44000 said RCP
+44000 said PPS EOP page 0 block 0 last 0
+50000 heard MCF
+50000 said DCN
+LINES
+    "$program" station --call --trace "$work/trace" "$kept.pbm" < "$kept.lines" > "$work/output" 2> "$work/error" ||
+        fails "a station with a trace ended with status $?"
+    is_same "$work/trace" "$work/wanted" "the trace of a caller"
+    status=0
+    "$program" station --call --trace "$work/missing/trace" "$kept.pbm" < "$kept.lines" > "$work/output" 2> "$work/error" || status=$?
+    [ "$status $(head -1 "$work/error")" = "1 fault 8" ] || fails "a trace that can't be written: status $status"
+    count=$((count + 2))
+}
+
+# Two processes that are joined: each line is answered at once, and the pages arrive.
+try_joined() {
+    for words in "--lose 0 --seed 1" "--lose 0.1 --seed 4" "--lose 0.1 --seed 5"; do
+        rm -rf "$work/stored"
+        mkdir "$work/stored"
+        timeout 60 python3 -B "$top/docs/examples/join.py" $words --caller-command "$program station --call" --answerer-command \
+            "$program station --answer" "$top/docs/examples/row.pbm" "$work/stored" > "$work/output" 2> "$work/error" ||
+            fails "join.py $words ended with status $?"
+        [ "$(grep -c ': end normal ' "$work/output")" = 2 ] || fails "join.py $words: $(tail -2 "$work/output")"
+        is_same "$work/stored/page-1.pbm" "$top/docs/examples/row.pbm" "the page of join.py $words"
+        count=$((count + 1))
+    done
+}
+
+# The kept conversations, of which there are 26 at least; words that are no station's; and random conversations for a minute.
+try_stations() {
+    held=0
+    for kept in "$top"/.ci/conversations/*.words; do
+        name=${kept##*/}
+        converse "${name%.words}"
+        held=$((held + 1))
+    done
+    [ "$held" -ge 26 ] || fails "there are only $held conversations in .ci/conversations"
+    while read -r words; do
+        refuses station $words
+    done << 'CASES'
+
+--answer
+--call
+--answer --call --out DIR
+--answer --out DIR IN
+--answer --out DIR --fine
+--answer --out DIR --limit 0
+--answer --out DIR --t1 0
+--call -
+--call --out DIR IN
+--call --limit 1 IN
+--call --widest 1728 IN
+--call --t4 x IN
+CASES
+    faults "fault 8" station --answer --out "$work/missing"
+    faults "fault 8" station --call "$work/missing"
+    faults "fault 26" station --call "$(octets "50 34 0A 38 20 31 0A 30")"
+    try_taken_numbers
+    try_unwritten
+    try_no_lines
+    try_trace
+    try_joined
+    python3 -B "$top/bench/fuzz/reference_station.py" --dry > "$work/output" || fails "reference_station.py: $(cat "$work/output")"
+    FAXTOOL=$program timeout 600 python3 -B "$top/bench/fuzz/fuzz_station.py" --seconds 60 --seed 36 > "$work/output" ||
+        fails "random conversations: $(cat "$work/output")"
+    [ "$(cut -d " " -f 1 "$work/output" | head -1)" -ge 100 ] || fails "only $(head -1 "$work/output") in a minute"
+    count=$((count + 100))
+}

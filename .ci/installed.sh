@@ -1,0 +1,69 @@
+#!/bin/sh
+# Installs the library for C that bindings/build.sh left in a folder into a new folder there, and builds an example by the flags that the
+# installed g3fax.pc gives, with the shared library and with the archive; runs both on a page, and compares their octets with those of
+# another program:
+#
+#     .ci/installed.sh FOLDER
+#
+# The flags are read from the file here; where pkg-config is there, it must give the same. The kit's clang compiles, and knows no folder
+# but those of the flags and bindings/include. Ends with status 1 at the first difference.
+set -e
+top=$(cd "$(dirname "$0")/.." && pwd)
+kit=${KIT:-/opt/rattle}
+work=$(cd "$1" && pwd)
+data=$top/.ci/data
+lib=$kit/toolchain/lib
+
+fails() {
+    echo "installed: FAILED: $*" >&2
+    exit 1
+}
+
+# flags LINE: the flags of a line of the installed g3fax.pc, its variables put in
+flags() (
+    pc=$work/prefix/lib/pkgconfig/g3fax.pc
+    eval "$(grep '^[a-z]*=' "$pc")"
+    eval "echo $(sed -n "s/^$1: //p" "$pc")"
+)
+
+# links NAME WORDS: the example as a program, linked with these words alone
+links() {
+    name=$1
+    shift
+    "$kit/toolchain/bin/ld.lld" -pie --eh-frame-hdr -dynamic-linker /lib64/ld-linux-x86-64.so.2 -o "$work/$name" "$lib/Scrt1.o" \
+        "$lib/crti.o" "$lib/crtbeginS.o" "$work/installed.o" "$@" "$lib/libc.so.6" "$lib/libc_nonshared.a" "$lib/crtendS.o" "$lib/crtn.o"
+}
+
+# codes NAME: the program codes a page as another program does
+codes() {
+    "$work/$1" "$data/page.pbm" "$work/code" mmr msb || fails "$1 ended with status $?"
+    difference=$(cmp "$work/code" "$data/page.mmr.msb" 2>&1) || fails "$1: other octets: $difference"
+}
+
+"$top/bindings/install.sh" "$work" "$work/prefix"
+"$top/bindings/install.sh" "$work" /opt/g3fax "$work/stage"
+(cd "$work/prefix" && find . | sort) > "$work/wanted"
+(cd "$work/stage/opt/g3fax" && find . | sort) | cmp - "$work/wanted" || fails "other files where DESTDIR is given"
+grep -q '^prefix=/opt/g3fax$' "$work/stage/opt/g3fax/lib/pkgconfig/g3fax.pc" || fails "g3fax.pc has another prefix"
+grep -q "^Version: $(cat "$top/VERSION")\$" "$work/prefix/lib/pkgconfig/g3fax.pc" || fails "g3fax.pc has another version"
+
+if pkg=$(command -v pkg-config); then
+    for line in Cflags Libs; do
+        word=$(echo --$line | tr CL cl)
+        given=$(PKG_CONFIG_PATH=$work/prefix/lib/pkgconfig "$pkg" $word g3fax | sed 's/ *$//')
+        [ "$given" = "$(flags $line)" ] || fails "pkg-config $word gives $given"
+    done
+fi
+
+# the words of these flags have no spaces of their own, unless TMPDIR has
+# shellcheck disable=SC2046
+"$kit/toolchain/bin/clang" -std=c11 -Wall -Wextra -Werror -O1 -fPIE -nostdinc -isystem "$top/bindings/include" $(flags Cflags) \
+    -c "$top/bindings/c/encode.c" -o "$work/installed.o"
+# shellcheck disable=SC2046
+links shared $(flags Libs)
+# shellcheck disable=SC2046
+links static $(flags Libs | sed 's/-lg3fax/-l:libg3fax.a/')
+codes static
+! "$work/shared" "$data/page.pbm" "$work/code" mmr msb 2> /dev/null || fails "shared wants no libg3fax.so.0"
+LD_LIBRARY_PATH=$work/prefix/lib codes shared
+echo "installed: an example runs with the installed shared library and with the archive, by the flags of g3fax.pc"

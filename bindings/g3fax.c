@@ -1,0 +1,164 @@
+/* The functions of g3fax.h: each tests its addresses for NULL, and calls the proved function of the same name, g3_core_.. No other
+ * work is done here. A NULL handle is an empty one; where another address is NULL, the answer is G3_BAD_LENGTH. */
+#include "g3fax.h"
+
+/* a handle of any kind: the proved functions tell the kinds apart */
+typedef struct handle handle;
+void g3_core_free(handle *);
+g3_status g3_core_page_new(handle *, uint32_t, uint32_t);
+g3_status g3_core_page_push_row(handle *, const uint8_t *, size_t);
+g3_status g3_core_page_size(handle *, g3_size *);
+g3_status g3_core_page_row(handle *, uint32_t, uint8_t *, size_t, uint64_t *);
+g3_status g3_core_page_read_raster(const uint8_t *, size_t, const g3_raster *, handle *);
+g3_status g3_core_page_write_raster(handle *, uint64_t, uint8_t *, size_t, uint64_t *);
+g3_status g3_core_page_encode(handle *, uint32_t, uint32_t, handle *);
+g3_status g3_core_page_decode(const uint8_t *, size_t, const g3_code *, handle *, uint64_t *);
+g3_status g3_core_page_salvage(const uint8_t *, size_t, const g3_code *, handle *);
+g3_status g3_core_page_repair(const uint8_t *, size_t, const g3_code *, handle *, uint64_t *);
+g3_status g3_core_page_read_pbm(const uint8_t *, size_t, uint32_t, handle *, uint64_t *);
+g3_status g3_core_page_write_pbm(handle *, handle *);
+g3_status g3_core_octets_len(handle *, uint64_t *);
+g3_status g3_core_octets_copy(handle *, uint8_t *, size_t, uint64_t *);
+g3_status g3_core_deframer_new(handle *);
+g3_status g3_core_deframer_feed(handle *, const uint8_t *, size_t);
+g3_status g3_core_deframer_next(handle *, uint8_t *, size_t, uint64_t *);
+g3_status g3_core_deframer_counts(handle *, g3_counts *);
+g3_status g3_core_frame_write(const uint8_t *, size_t, handle *, uint64_t *);
+
+#define HANDLE(it) do { if ((it) == NULL) return G3_EMPTY_HANDLE; } while (0)
+#define PLACE(it) do { if ((it) == NULL) return G3_BAD_LENGTH; } while (0)
+/* octets at NULL are none: an address stands for them */
+#define OCTETS(it, length) do { if ((it) == NULL) { PLACE((length) == 0 ? none : NULL); (it) = none; } } while (0)
+static uint8_t none[1];
+
+void g3_page_free(g3_page *page) { if (page != NULL) g3_core_free((handle *)page); }
+void g3_octets_free(g3_octets *octets) { if (octets != NULL) g3_core_free((handle *)octets); }
+void g3_deframer_free(g3_deframer *deframer) { if (deframer != NULL) g3_core_free((handle *)deframer); }
+
+g3_status g3_page_new(g3_page *out, uint32_t width, uint32_t fine)
+{
+    HANDLE(out);
+    return g3_core_page_new((handle *)out, width, fine);
+}
+g3_status g3_page_push_row(g3_page *page, const uint8_t *octets, size_t length)
+{
+    HANDLE(page); OCTETS(octets, length);
+    return g3_core_page_push_row((handle *)page, octets, length);
+}
+g3_status g3_page_size(g3_page *page, g3_size *size)
+{
+    HANDLE(page); PLACE(size);
+    return g3_core_page_size((handle *)page, size);
+}
+g3_status g3_page_row(g3_page *page, uint32_t number, uint8_t *buffer, size_t room, uint64_t *count)
+{
+    HANDLE(page); OCTETS(buffer, room); PLACE(count);
+    return g3_core_page_row((handle *)page, number, buffer, room, count);
+}
+g3_status g3_page_read_raster(const uint8_t *octets, size_t length, const g3_raster *raster, g3_page *out)
+{
+    OCTETS(octets, length); PLACE(raster); HANDLE(out);
+    return g3_core_page_read_raster(octets, length, raster, (handle *)out);
+}
+g3_status g3_page_write_raster(g3_page *page, uint64_t stride, uint8_t *buffer, size_t room, uint64_t *count)
+{
+    HANDLE(page); OCTETS(buffer, room); PLACE(count);
+    return g3_core_page_write_raster((handle *)page, stride, buffer, room, count);
+}
+g3_status g3_page_encode(g3_page *page, uint32_t coding, uint32_t order, g3_octets *out)
+{
+    HANDLE(page); HANDLE(out);
+    return g3_core_page_encode((handle *)page, coding, order, (handle *)out);
+}
+g3_status g3_page_decode(const uint8_t *octets, size_t length, const g3_code *code, g3_page *out, uint64_t *place)
+{
+    OCTETS(octets, length); PLACE(code); HANDLE(out); PLACE(place);
+    return g3_core_page_decode(octets, length, code, (handle *)out, place);
+}
+g3_status g3_page_salvage(const uint8_t *octets, size_t length, const g3_code *code, g3_page *out)
+{
+    OCTETS(octets, length); PLACE(code); HANDLE(out);
+    return g3_core_page_salvage(octets, length, code, (handle *)out);
+}
+g3_status g3_page_repair(const uint8_t *octets, size_t length, const g3_code *code, g3_page *out, uint64_t *count)
+{
+    OCTETS(octets, length); PLACE(code); HANDLE(out); PLACE(count);
+    return g3_core_page_repair(octets, length, code, (handle *)out, count);
+}
+g3_status g3_page_read_pbm(const uint8_t *octets, size_t length, uint32_t fine, g3_page *out, uint64_t *count)
+{
+    OCTETS(octets, length); HANDLE(out); PLACE(count);
+    return g3_core_page_read_pbm(octets, length, fine, (handle *)out, count);
+}
+g3_status g3_page_write_pbm(g3_page *page, g3_octets *out)
+{
+    HANDLE(page); HANDLE(out);
+    return g3_core_page_write_pbm((handle *)page, (handle *)out);
+}
+g3_status g3_octets_len(g3_octets *octets, uint64_t *count)
+{
+    HANDLE(octets); PLACE(count);
+    return g3_core_octets_len((handle *)octets, count);
+}
+g3_status g3_octets_copy(g3_octets *octets, uint8_t *buffer, size_t room, uint64_t *count)
+{
+    HANDLE(octets); OCTETS(buffer, room); PLACE(count);
+    return g3_core_octets_copy((handle *)octets, buffer, room, count);
+}
+g3_status g3_deframer_new(g3_deframer *out)
+{
+    HANDLE(out);
+    return g3_core_deframer_new((handle *)out);
+}
+g3_status g3_deframer_feed(g3_deframer *deframer, const uint8_t *octets, size_t length)
+{
+    HANDLE(deframer); OCTETS(octets, length);
+    return g3_core_deframer_feed((handle *)deframer, octets, length);
+}
+g3_status g3_deframer_next(g3_deframer *deframer, uint8_t *buffer, size_t room, uint64_t *count)
+{
+    HANDLE(deframer); OCTETS(buffer, room); PLACE(count);
+    return g3_core_deframer_next((handle *)deframer, buffer, room, count);
+}
+g3_status g3_deframer_counts(g3_deframer *deframer, g3_counts *counts)
+{
+    HANDLE(deframer); PLACE(counts);
+    return g3_core_deframer_counts((handle *)deframer, counts);
+}
+g3_status g3_frame_write(const uint8_t *content, size_t length, g3_octets *out, uint64_t *bits)
+{
+    OCTETS(content, length); HANDLE(out); PLACE(bits);
+    return g3_core_frame_write(content, length, (handle *)out, bits);
+}
+
+const char *g3_version(void) { return G3_VERSION; }
+const char *g3_status_text(g3_status status)
+{
+    switch (status) {
+    case G3_OK: return "done";
+    case G3_BAD_WIDTH: return "the width isn't 1 to 2432 pixels";
+    case G3_TOO_MANY_ROWS: return "the page has more than 20000 rows";
+    case G3_NO_ROWS: return "the page has no row";
+    case G3_BAD_HEADER: return "the header is no raw PBM header";
+    case G3_SHORT_DATA: return "the rows of the image are cut short";
+    case G3_NO_IMAGE: return "there is no image";
+    case G3_NO_MEMORY: return "no memory";
+    case G3_BAD_CODE: return "no code that may stand there";
+    case G3_TRUNCATED: return "the bits end inside a code";
+    case G3_RUN_TOO_LONG: return "the run passes the row's width";
+    case G3_BACKWARDS: return "the mode doesn't move to the right";
+    case G3_PAST_END: return "the mode passes the row's width";
+    case G3_EMPTY_HORIZONTAL: return "the horizontal mode has no pixel";
+    case G3_EXTENSION: return "an extension code";
+    case G3_MISSING_EOFB: return "the end of the facsimile block is missing";
+    case G3_TOO_MANY_CODED_ROWS: return "more than 20000 coded rows";
+    case G3_EMPTY_HANDLE: return "the handle is empty";
+    case G3_OTHER_HANDLE: return "the handle has something of another kind";
+    case G3_FULL_HANDLE: return "the handle that is to be filled has something";
+    case G3_NO_ROOM: return "the buffer has too little room";
+    case G3_BAD_CHOICE: return "a number that stands for no choice";
+    case G3_BAD_LENGTH: return "a length that isn't allowed, or no address";
+    case G3_NOTHING: return "nothing is there";
+    default: return "no such status";
+    }
+}

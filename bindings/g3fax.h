@@ -1,0 +1,120 @@
+/* The proved Group 3 fax codec and frames, for C and for every language that calls C. README.md, beside this file, says
+ * what is defined and what isn't, who owns what, and which status comes when. SPDX: MIT OR Apache-2.0 */
+#ifndef G3FAX_H
+#define G3FAX_H
+#include <stddef.h>
+#include <stdint.h>
+#ifdef __cplusplus
+extern "C" {
+#endif
+
+/* A handle is empty, G3_EMPTY, or has one value, which it owns: free it by the function of its kind. Don't copy one that has a value,
+ * and use each from one thread at a time; two handles share nothing. */
+typedef struct g3_page { void *at; } g3_page;
+typedef struct g3_octets { void *at; } g3_octets;
+typedef struct g3_deframer { void *at; } g3_deframer;
+#define G3_EMPTY {NULL}
+
+/* What each function answers. By any status above 0 each handle is as it was. */
+typedef uint32_t g3_status;
+enum {
+    G3_OK = 0,
+    /* faults of pages and images */
+    G3_BAD_WIDTH = 1, G3_TOO_MANY_ROWS = 3, G3_NO_ROWS = 4, G3_BAD_HEADER = 5, G3_SHORT_DATA = 6, G3_NO_IMAGE = 7, G3_NO_MEMORY = 9,
+    /* faults of coded pages, with G3_NO_ROWS */
+    G3_BAD_CODE = 10, G3_TRUNCATED = 11, G3_RUN_TOO_LONG = 12, G3_BACKWARDS = 13, G3_PAST_END = 14, G3_EMPTY_HORIZONTAL = 15,
+    G3_EXTENSION = 16, G3_MISSING_EOFB = 17, G3_TOO_MANY_CODED_ROWS = 18,
+    /* wrong use */
+    G3_EMPTY_HANDLE = 100, G3_OTHER_HANDLE = 101, G3_FULL_HANDLE = 102, G3_NO_ROOM = 103, G3_BAD_CHOICE = 104, G3_BAD_LENGTH = 105,
+    G3_NOTHING = 106
+};
+
+enum { G3_MH = 1, G3_MMR = 2 };              /* T.4 in one dimension, T.6 */
+enum { G3_MSB_FIRST = 0, G3_LSB_FIRST = 1 }; /* which bit of an octet is first */
+
+typedef struct g3_size {
+    uint32_t width; /* pixels */
+    uint32_t rows;
+    uint32_t fine; /* 1: 7.7 lines a millimeter, 0: 3.85 */
+} g3_size;
+
+typedef struct g3_code {
+    uint32_t coding; /* G3_MH or G3_MMR */
+    uint32_t order;  /* G3_MSB_FIRST or G3_LSB_FIRST */
+    uint32_t width;  /* pixels, 1 to 2432 */
+    uint32_t fine;
+} g3_code;
+
+/* How rows lie in octets; stride comes first, so that the struct has no gap between its members. */
+typedef struct g3_raster {
+    uint64_t stride; /* octets from the beginning of a row to that of the next one */
+    uint32_t width;  /* pixels, 1 to 2432 */
+    uint32_t rows;   /* 0 to 20000 */
+    uint32_t fine;
+} g3_raster;
+
+/* gaps between flags: good frames, those with six 1 bits in a row, no whole number of octets, fewer than 5 octets, more than 302, and
+ * those with a wrong check sequence */
+typedef struct g3_counts { uint64_t good, aborted, ragged, too_short, too_long, damaged; } g3_counts;
+
+/* Frees what a handle has; it is empty then. An empty one stays empty. */
+void g3_page_free(g3_page *page);
+void g3_octets_free(g3_octets *octets);
+void g3_deframer_free(g3_deframer *deframer);
+
+/* The text of a status, in English; never NULL, and not to be freed. */
+const char *g3_status_text(g3_status status);
+/* The version of the library, as "0.1". */
+const char *g3_version(void);
+
+/* Pages: 0 to 20000 rows of 1 to 2432 pixels. A row is octets as in a raw PBM file: eight pixels an octet, the leftmost in the
+ * highest bit, 1 black. */
+g3_status g3_page_new(g3_page *out, uint32_t width, uint32_t fine);
+/* Appends a row of the first bits of octets; later bits are ignored. G3_BAD_LENGTH: too few octets. */
+g3_status g3_page_push_row(g3_page *page, const uint8_t *octets, size_t length);
+g3_status g3_page_size(g3_page *page, g3_size *size);
+/* Copies row `number`, from 0 at the top. *count: the octets of a row, also where G3_NO_ROOM is answered. G3_NOTHING: no such row. */
+g3_status g3_page_row(g3_page *page, uint32_t number, uint8_t *buffer, size_t room, uint64_t *count);
+
+/* Makes a page of the rows of octets. What is between the rows, and after the last one, is ignored; the last row wants its own octets
+ * alone. G3_BAD_LENGTH: the stride is less than a row's octets, or there are too few octets. */
+g3_status g3_page_read_raster(const uint8_t *octets, size_t length, const g3_raster *raster, g3_page *out);
+/* Copies all rows, so many octets apart; the octets between the rows stay. *count: the octets from the first row's beginning to the last
+ * one's end, also where G3_NO_ROOM is answered. G3_BAD_LENGTH: the stride is less than a row's octets. */
+g3_status g3_page_write_raster(g3_page *page, uint64_t stride, uint8_t *buffer, size_t room, uint64_t *count);
+
+/* Codes a page; the last octet is filled with 0 bits. */
+g3_status g3_page_encode(g3_page *page, uint32_t coding, uint32_t order, g3_octets *out);
+/* Reads the page that octets begin with; what follows is ignored. *place: the bits used, or, of G3_NO_ROWS and 10 to 18, the bit from 0
+ * where no page can go on. */
+g3_status g3_page_decode(const uint8_t *octets, size_t length, const g3_code *code, g3_page *out, uint64_t *place);
+/* Reads the whole rows that octets begin with, of a page that can't be read: there may be none. */
+g3_status g3_page_salvage(const uint8_t *octets, size_t length, const g3_code *code, g3_page *out);
+/* Reads the page whose lines octets of G3_MH begin with, as a receiver without error correction gives it: a row that can't be read is the
+ * one before it. *count: how many rows are such. 4 and 10 to 18 where no row can be read. G3_BAD_CHOICE: G3_MMR has no repair. */
+g3_status g3_page_repair(const uint8_t *octets, size_t length, const g3_code *code, g3_page *out, uint64_t *count);
+
+/* The first image of a raw PBM file in memory, and how many images it has; and a page as such an image. */
+g3_status g3_page_read_pbm(const uint8_t *octets, size_t length, uint32_t fine, g3_page *out, uint64_t *count);
+g3_status g3_page_write_pbm(g3_page *page, g3_octets *out);
+
+/* Octets that a call has made. *count: how many there are, also where G3_NO_ROOM is answered. */
+g3_status g3_octets_len(g3_octets *octets, uint64_t *count);
+g3_status g3_octets_copy(g3_octets *octets, uint8_t *buffer, size_t room, uint64_t *count);
+
+/* Frames (HDLC): found in bits that come in pieces of any octets, the least significant bit of each first. */
+g3_status g3_deframer_new(g3_deframer *out);
+/* G3_NO_MEMORY: nothing was taken; give the octets again. */
+g3_status g3_deframer_feed(g3_deframer *deframer, const uint8_t *octets, size_t length);
+/* Copies the content of the oldest good frame that wasn't handed out: 3 to 300 octets, without the check sequence. G3_NOTHING: none
+ * waits. G3_NO_ROOM: room for fewer than 300 octets; nothing is handed out. */
+g3_status g3_deframer_next(g3_deframer *deframer, uint8_t *buffer, size_t room, uint64_t *count);
+g3_status g3_deframer_counts(g3_deframer *deframer, g3_counts *counts);
+/* Writes the frame of a content of 3 to 300 octets: a flag, the content and its check sequence with 0 bits stuffed, and a flag. *bits:
+ * how many bits it has; fewer than eight 0 bits fill the last octet. */
+g3_status g3_frame_write(const uint8_t *content, size_t length, g3_octets *out, uint64_t *bits);
+
+#ifdef __cplusplus
+}
+#endif
+#endif

@@ -1,0 +1,7 @@
+#ifndef KIT_STRING_H
+#define KIT_STRING_H
+#include <stddef.h>
+int strcmp(const char *a, const char *b);
+int memcmp(const void *a, const void *b, size_t length);
+void *memcpy(void *to, const void *from, size_t length);
+#endif

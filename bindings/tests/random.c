@@ -1,0 +1,70 @@
+/* random CALLS: calls of every function on random handles, of any kind, with random words and NULL; each status is one of the table, and
+ * no block is left. The same number of calls is the same calls. */
+#include "g3fax.h"
+#include "heap.h"
+#include <stdint.h>
+#include <stdio.h>
+#include <stdlib.h>
+
+static uint64_t state = 88172645463325252u;
+static uint8_t buffer[512];
+
+/* a number below another one */
+static uint32_t below(uint32_t end)
+{
+    state ^= state << 13;
+    state ^= state >> 7;
+    state ^= state << 17;
+    return (uint32_t)(state >> 32) % end;
+}
+
+static g3_status call(uint32_t which, void *a, void *b)
+{
+    static uint64_t told;
+    static g3_size size;
+    static g3_counts counts;
+    g3_code code = {below(4), below(3), below(2) ? 8 : below(3000), below(3)};
+    uint64_t stride = below(20) ? below(6) : (uint64_t)below(UINT32_MAX) << 32;
+    g3_raster raster = {stride, below(2) ? 8 : below(3000), below(20) ? below(50) : below(30000), 1};
+    size_t length = below(sizeof buffer + 1);
+    uint8_t *octets = below(50) ? buffer : NULL;
+    uint64_t *number = below(50) ? &told : NULL;
+    for (size_t at = 0; at < length; at += 1 + below(40)) buffer[at] = (uint8_t)below(256);
+    switch (which) {
+    case 0: return g3_page_new(a, below(2) ? 8 : below(3000), below(2));
+    case 1: return g3_page_push_row(a, octets, length);
+    case 2: return g3_page_size(a, below(50) ? &size : NULL);
+    case 3: return g3_page_row(a, below(4), octets, length, number);
+    case 4: return g3_page_encode(a, below(4), below(3), b);
+    case 5: return g3_page_decode(octets, length, below(50) ? &code : NULL, a, number);
+    case 6: return g3_page_salvage(octets, length, &code, a);
+    case 7: return g3_page_repair(octets, length, &code, a, number);
+    case 8: return g3_page_read_pbm(octets, length, below(2), a, number);
+    case 9: return g3_page_write_pbm(a, b);
+    case 10: return g3_octets_len(a, number);
+    case 11: return g3_octets_copy(a, octets, length, number);
+    case 12: return g3_deframer_new(a);
+    case 13: return g3_deframer_feed(a, octets, length);
+    case 14: return g3_deframer_next(a, octets, length, number);
+    case 15: return g3_deframer_counts(a, below(50) ? &counts : NULL);
+    case 16: return g3_frame_write(octets, length, a, number);
+    case 17: return g3_page_read_raster(octets, length, below(50) ? &raster : NULL, a);
+    case 18: return g3_page_write_raster(a, raster.stride, octets, length, number);
+    default: g3_page_free(a); return G3_OK;
+    }
+}
+
+int main(int argc, char **argv)
+{
+    g3_page handles[8] = {G3_EMPTY}; /* of any kind: a page is freed as octets are */
+    int bad = 0;
+    for (int calls = argc == 2 ? atoi(argv[1]) : 0; calls > 0; calls--) {
+        uint32_t first = below(8), second = (first + 1 + below(7)) % 8;
+        if (below(20) == 0) refused = grown + 1 + below(4);
+        g3_status status = call(below(22), below(50) ? &handles[first] : NULL, below(50) ? &handles[second] : NULL);
+        if (status > G3_NOTHING || (status > G3_TOO_MANY_CODED_ROWS && status < G3_EMPTY_HANDLE)) printf("status %u\n", status), bad = 1;
+    }
+    for (int at = 0; at < 8; at++) g3_page_free(&handles[at]);
+    if (blocks != 0) printf("%ld blocks are left\n", blocks), bad = 1;
+    return bad;
+}

@@ -1,0 +1,219 @@
+//! What `call --lose` does: it runs a call of a document over a bad line, over any reader and any writer.
+
+ghost use Rattle.calls.specs.BadLines.{Draws, DrivesCall, Going, IsSet, RefusesDriven, Stands, TellsAll, TellsDriven, entry_if};
+ghost use Rattle.calls.specs.BadLines.{is_marked, patience_of};
+ghost use Rattle.calls.specs.Calls.{HaveRows};
+ghost use Rattle.engines.specs.Faults.{IsOutside};
+ghost use Rattle.calls.specs.SentBits.{WritesLines};
+ghost use Rattle.calls.specs.Transcripts.{entry_line, entry_lines};
+ghost use Rattle.engines.specs.declared.fault.ToolFault.TheVariants.{No};
+ghost use Rattle.line_sim.specs.Fates.{entries_of, plain_patience};
+ghost use Rattle.stations.specs.CallerFields.{AreCallable};
+ghost use Rattle.std.specs.Prelude.{◌≡◌, ◌+◌, ◌⊎◌, false, length, IfErr, IfOk, IfSome, OnOk};
+
+use crate::call::{after, answerer_caps, fault_of};
+use crate::call_writer::CallWriter;
+use crate::counts::Counts;
+use crate::losses::{BadLine, draw, draw_busy, generator_of};
+use crate::options::CallOptions;
+use crate::sent::write_sent;
+use engines::{FAILED, NO_MEMORY, ToolFault};
+use line_sim::laws::headline;
+use line_sim::{DrivenCall, Entry, Fate, Patience, Step};
+use rand_pcg::Lcg64Xsh32;
+use raster::{Document, Page, read_pbm};
+use signals::Wish;
+use std::alloc::Global;
+use std::io::Read;
+
+/// How many RNRs may come for a block: T5, 60 s, is over after 20 exchanges of RNR and RR, of some 3 s each.
+const MOST_RNRS: u64 = 20;
+
+/// How patient the stations of a call over a bad line are.
+pub(crate) fn patience_of(line: &BadLine) -> Patience
+    ensures { plain_patience result ≡ patience_of line.now }
+{
+    Patience {
+        calls: line.calls,
+        busy: MOST_RNRS,
+    }
+}
+
+/// Sets the answerer busy or ready, as the next word of the generator has it, where a PPS or an RR is first under way to it and it
+/// may be busy at all. Answers the event's entry.
+pub(crate) fn set_answerer(
+    call: &mut DrivenCall,
+    line: &BadLine,
+    generator: &mut Lcg64Xsh32,
+) -> Option<Entry>
+    ensures { (g : Going) → Stands call.old line.now generator.old g → IsSet line.now g call.new generator.new result }
+{
+    if line.busy == 0 {
+        return None;
+    }
+    if !call.asks_ready() {
+        return None;
+    }
+    let busy = draw_busy(line, generator);
+    Some(call.set_busy(busy))
+}
+
+/// Makes the next step of a call, by a fate of the generator where one is due.
+pub(crate) fn next_step(
+    call: &mut DrivenCall,
+    line: &BadLine,
+    generator: &mut Lcg64Xsh32,
+) -> Option<Step>
+    ensures { (g : Going) → Stands call.old line.now generator.old g → Draws line.now g call.old call.new generator.new result }
+{
+    if call.is_fate_due() {
+        let fate = draw(line, generator);
+        return call.step(fate);
+    }
+    call.step(Fate::Comes)
+}
+
+/// Writes the line of an entry with a number, after which the next one comes. Errs with 8 where the writer fails or no number is
+/// left, and with 9.
+fn tell_entry<T: CallWriter>(
+    entry: &Entry,
+    number: &mut u64,
+    writer: &mut T,
+) -> Result<(), ToolFault>
+    ensures line { OnOk result (WritesLines (T.written writer.old) (T.written writer.new) (entry_line number.old entry.now)) }
+    ensures next { OnOk result (number.new ≡ number.old + 1) }
+    ensures fault { IfErr result IsOutside }
+{
+    writer.entry(*number, entry)?;
+    *number = after(*number)?;
+    Ok(())
+}
+
+/// Writes the lines of a step, one or two.
+fn tell_step<T: CallWriter>(step: &Step, number: &mut u64, writer: &mut T) -> Result<(), ToolFault>
+    ensures lines { OnOk result (WritesLines (T.written writer.old) (T.written writer.new) (entry_lines number.old (entries_of step.now))) }
+    ensures next { OnOk result (number.new ≡ number.old + length (entries_of step.now)) }
+    ensures fault { IfErr result IsOutside }
+{
+    let Some(before) = step.before else {
+        return tell_entry(&step.entry, number, writer);
+    };
+    tell_entry(&before, number, writer)?;
+    tell_entry(&step.entry, number, writer)
+}
+
+/// Writes the line of an entry, if there is one. Errs with 8 where the writer fails or no number is left, and with 9, after the line where
+/// a growth was refused.
+fn tell_set<T: CallWriter>(
+    set: Option<Entry>,
+    number: &mut u64,
+    writer: &mut T,
+) -> Result<(), ToolFault>
+    ensures lines { OnOk result (WritesLines (T.written writer.old) (T.written writer.new) (entry_lines number.old (entry_if set))) }
+    ensures next { OnOk result (number.new ≡ number.old + length (entry_if set)) }
+    ensures whole { OnOk result (is_marked set ≡ false) }
+    ensures fault { IfErr result IsOutside }
+{
+    let Some(entry) = set else {
+        return Ok(());
+    };
+    tell_entry(&entry, number, writer)?;
+    if entry.refused {
+        return Err(NO_MEMORY);
+    }
+    Ok(())
+}
+
+/// Makes the steps of a call until it is over, by the words of the generator, and writes the lines of each as it is made, and what
+/// it has put under way. Errs with 9 after the lines of a step in which a growth was refused.
+fn follow_fates<T: CallWriter>(
+    call: &mut DrivenCall,
+    line: &BadLine,
+    generator: &mut Lcg64Xsh32,
+    writer: &mut T,
+) -> Result<(), ToolFault>
+    ensures told { OnOk result ((first : Going) → Stands call.old line.now generator.old first →
+        TellsAll line.now first call.new (T.written writer.old) (T.written writer.new)) }
+    ensures fault { IfErr result IsOutside }
+{
+    let mut number: u64 = 1;
+    for _made in 0..u64::MAX {
+        let counts = Counts::of(call.live());
+        let set = set_answerer(call, line, generator);
+        tell_set(set, &mut number, writer)?;
+        let Some(step) = next_step(call, line, generator) else {
+            return Ok(());
+        };
+        tell_step(&step, &mut number, writer)?;
+        write_sent(call.live(), counts, writer)?;
+        if step.entry.refused {
+            return Err(NO_MEMORY);
+        }
+    }
+    Err(FAILED)
+}
+
+/// Runs the call of a number, of a document, over a bad line, writes the line of each event as it happens, and then how the call
+/// ended, and answers the pages stored.
+fn tell_driven<T: CallWriter>(
+    alloc: Global,
+    document: Document,
+    options: &CallOptions,
+    line: &BadLine,
+    number: u64,
+    writer: &mut T,
+) -> Result<Vec<Page>, ToolFault>
+    ensures told { IfOk result (λ pages.
+        TellsDriven options.now line.now number document (T.written writer.old) (T.written writer.new) pages.items) }
+    ensures rows { IfOk result (λ pages. HaveRows pages.items) }
+    ensures refused { IfErr result (λ fault. IsOutside fault ⊎ (¬ AreCallable document × (fault ≡ No 26))) }
+    ensures unwritten { IfErr result (λ fault. IsOutside fault ⊎ (writer.new ≡ writer.old)) }
+{
+    headline();
+    let _pages = document.pages();
+    let wish = Wish {
+        modems: options.modems,
+        coding: options.coding,
+        small: options.small,
+    };
+    let caps = answerer_caps(options.modems);
+    let patience = patience_of(line);
+    let mut call = match DrivenCall::new(alloc, document, wish, caps, patience) {
+        Ok(call) => call,
+        Err(fault) => return Err(fault_of(fault)),
+    };
+    write_sent(call.live(), Counts::none(), writer)?;
+    let mut generator = generator_of(line, number);
+    follow_fates(&mut call, line, &mut generator, writer)?;
+    let ending = call.into_live().into_ending();
+    writer.ending(&ending)?;
+    Ok(ending.pages)
+}
+
+/// Reads a document's images and runs the call of a number over a bad line between a caller that has the document and an answerer that
+/// can take it, until it is over. Each item under way comes, is lost or is spoiled, as the next word of the generator says,
+/// PCG-XSH-RR of 64 bits of state and 32 bits a word, which begins with the seed and has the number as its stream; where the line makes the
+/// answerer busy, the word before that of a PPS or an RR says whether it is. Writes the line of each
+/// event as it happens, of which it keeps none, and then what has become of the call, and answers the pages that the answerer has stored.
+/// A `WithBits` gets the octets of what each station sends too, also of what is lost, the answerer's DIS first.
+/// Errs with the first fault of the images; with 26 where the width of a page is none that a call can have; with 8 where the reader or
+/// the writer fails or there are 2^64 events; and with 9, after its line, where a growth was refused in an event. With any fault but
+/// 8 and 9 nothing is written.
+pub fn drive_engine<R: Read, T: CallWriter>(
+    alloc: Global,
+    input: &mut R,
+    writer: &mut T,
+    options: &CallOptions,
+    line: &BadLine,
+    number: u64,
+) -> Result<Vec<Page>, ToolFault>
+    ensures called { IfOk result (λ pages. IfSome (R.remaining input.old) (λ images.
+        DrivesCall options.now line.now number images (T.written writer.old) (T.written writer.new) pages.items)) }
+    ensures refused { IfErr result (λ fault. IfSome (R.remaining input.old) (λ images. RefusesDriven options.now.fine images fault)) }
+    ensures rows { IfOk result (λ pages. HaveRows pages.items) }
+    ensures unwritten { IfErr result (λ fault. IsOutside fault ⊎ (writer.new ≡ writer.old)) }
+{
+    let document = read_pbm(alloc, input, options.fine)?;
+    let pages = tell_driven(alloc, document, options, line, number, writer)?;
+    Ok(pages)
+}

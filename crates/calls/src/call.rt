@@ -1,0 +1,254 @@
+//! What `call` does: it runs a call of a document by a script, over any readers and any writer.
+
+ghost use Rattle.calls.specs.Calls.{HaveRows, IsAtLine, IsBadScript, RefusesCall, RunsCall, TellsCall, TellsCommand, TellsCommands};
+ghost use Rattle.calls.specs.Calls.{TellsEvent, TellsNext, answerer_caps};
+ghost use Rattle.engines.specs.Faults.{IsOutside};
+ghost use Rattle.calls.specs.Scripts.{IsScript};
+ghost use Rattle.engines.specs.declared.fault.ToolFault.TheVariants.{No};
+ghost use Rattle.calls.specs.declared.script.Command.TheVariants.{Events, Polite};
+ghost use Rattle.line_sim.specs.Line.{World as WorldValue};
+ghost use Rattle.line_sim.specs.Report.{number_of};
+ghost use Rattle.line_sim.specs.Standing.{Shows};
+ghost use Rattle.raster.specs.Pages.{IsDocument};
+ghost use Rattle.stations.specs.CallerFields.{AreCallable};
+ghost use Rattle.std.specs.Prelude.{◌≡◌, ◌+◌, ◌⊎◌, IfErr, IfOk, IfSome, OnOk};
+
+use crate::call_writer::CallWriter;
+use crate::counts::Counts;
+use crate::options::CallOptions;
+use crate::script::{Command, read_script};
+use crate::sent::write_sent;
+use engines::{FAILED, ToolFault};
+use line_sim::laws::headline;
+use line_sim::{Event, LiveCall, Next, WorldFault};
+use raster::{Document, Page, read_pbm};
+use signals::{Caps, Modems, PageWidth, Wish};
+use std::alloc::Global;
+use std::io::Read;
+
+/// The fault of a document that no call can have.
+pub(crate) fn fault_of(fault: WorldFault) -> ToolFault
+    ensures { result ≡ No (number_of fault) }
+{
+    ToolFault::No(fault.number())
+}
+
+/// The answerer of a call: with these modems, it takes pages of each width, of fine lines too, in each
+/// code, with error correction.
+pub(crate) fn answerer_caps(modems: Modems) -> Caps
+    ensures { result ≡ answerer_caps modems }
+{
+    Caps {
+        receiver: true,
+        modems,
+        fine: true,
+        widest: PageWidth::W2432,
+        t6: true,
+        ecm: true,
+    }
+}
+
+/// The number of the line after the one with this number. Errs with 8 where it would be 2^64.
+pub(crate) fn after(number: u64) -> Result<u64, ToolFault>
+    ensures next { IfOk result (λ next. next ≡ number + 1) }
+    ensures fault { IfErr result IsOutside }
+{
+    number.checked_add(1).ok_or(FAILED)
+}
+
+/// A call is given an event, and the line of its entry is written with a number, after which the next one
+/// comes, and what it has put under way. Answers whether a growth was refused in the event. Errs with 8 where
+/// the writer fails or no number is left, and with 9.
+fn tell<T: CallWriter>(
+    live: &mut LiveCall,
+    event: Event,
+    number: &mut u64,
+    writer: &mut T,
+) -> Result<bool, ToolFault>
+    ensures told { IfOk result (λ refused. (w : WorldValue) → Shows live.old w →
+        TellsEvent event w live.new number.old number.new (T.written writer.old) (T.written writer.new) refused) }
+    ensures fault { IfErr result IsOutside }
+{
+    let counts = Counts::of(live);
+    let entry = live.event(event);
+    writer.entry(*number, &entry)?;
+    write_sent(live, counts, writer)?;
+    *number = after(*number)?;
+    Ok(entry.refused)
+}
+
+/// A call is given an event `count` times, whatever becomes of each, with the line of each.
+fn repeat<T: CallWriter>(
+    live: &mut LiveCall,
+    event: Event,
+    count: u64,
+    number: &mut u64,
+    writer: &mut T,
+) -> Result<(), ToolFault>
+    ensures told { OnOk result ((w : WorldValue) → Shows live.old w →
+        TellsCommand (Events event count) w live.new number.old number.new (T.written writer.old) (T.written writer.new)) }
+    ensures fault { IfErr result IsOutside }
+{
+    for _time in 0..count {
+        let _refused = tell(live, event, number, writer)?;
+    }
+    Ok(())
+}
+
+/// The next delivery comes, if there is one; between groups the answerer sends its DIS again, which comes.
+/// Answers whether there was one and no growth was refused in it; a refused event is the last one.
+fn deliver_next<T: CallWriter>(
+    live: &mut LiveCall,
+    number: &mut u64,
+    writer: &mut T,
+) -> Result<bool, ToolFault>
+    ensures told { IfOk result (λ whole. (w : WorldValue) → Shows live.old w →
+        TellsNext w live.new number.old number.new (T.written writer.old) (T.written writer.new) whole) }
+    ensures fault { IfErr result IsOutside }
+{
+    match live.next_delivery() {
+        Next::Item(event) => {
+            let item_refused = tell(live, event, number, writer)?;
+            Ok(!item_refused)
+        }
+        Next::Group => {
+            let group_refused = tell(live, Event::AnswererT2, number, writer)?;
+            if group_refused {
+                return Ok(false);
+            }
+            let dis_refused = tell(live, Event::DeliverToCaller, number, writer)?;
+            Ok(!dis_refused)
+        }
+        Next::Nothing => Ok(false),
+    }
+}
+
+/// A call is given deliveries, `most` at most, up to the first that is refused, with the line of each event.
+fn politely<T: CallWriter>(
+    live: &mut LiveCall,
+    most: u64,
+    number: &mut u64,
+    writer: &mut T,
+) -> Result<(), ToolFault>
+    ensures told { OnOk result ((w : WorldValue) → Shows live.old w →
+        TellsCommand (Polite most) w live.new number.old number.new (T.written writer.old) (T.written writer.new)) }
+    ensures fault { IfErr result IsOutside }
+{
+    for _delivery in 0..most {
+        let whole = deliver_next(live, number, writer)?;
+        if !whole {
+            return Ok(());
+        }
+    }
+    Ok(())
+}
+
+/// A call is given a command, with the line of each event.
+fn follow<T: CallWriter>(
+    live: &mut LiveCall,
+    command: Command,
+    number: &mut u64,
+    writer: &mut T,
+) -> Result<(), ToolFault>
+    ensures told { OnOk result ((w : WorldValue) → Shows live.old w →
+        TellsCommand command w live.new number.old number.new (T.written writer.old) (T.written writer.new)) }
+    ensures fault { IfErr result IsOutside }
+{
+    match command {
+        Command::Events { event, count } => repeat(live, event, count, number, writer),
+        Command::Polite(most) => politely(live, most, number, writer),
+    }
+}
+
+/// A call is given commands, one after the other, with the line of each event.
+fn follow_all<T: CallWriter>(
+    live: &mut LiveCall,
+    commands: &[Command],
+    number: &mut u64,
+    writer: &mut T,
+) -> Result<(), ToolFault>
+    ensures told { OnOk result ((w : WorldValue) → Shows live.old w →
+        TellsCommands commands.now w live.new number.old number.new (T.written writer.old) (T.written writer.new)) }
+    ensures fault { IfErr result IsOutside }
+{
+    for command in commands {
+        follow(live, *command, number, writer)?;
+    }
+    Ok(())
+}
+
+/// Runs a call of a document by commands, writes the line of each event as it happens, and then how the call
+/// ended, and answers the pages stored. Errs with 26 where the width of a page is none that a call can have,
+/// with 8 where the writer fails, and with 9; with 26 nothing is written.
+fn tell_call<T: CallWriter>(
+    alloc: Global,
+    document: Document,
+    commands: &[Command],
+    options: &CallOptions,
+    writer: &mut T,
+) -> Result<Vec<Page>, ToolFault>
+    ensures told { IfOk result (λ pages.
+        TellsCall options.now document commands.now (T.written writer.old) (T.written writer.new) pages.items) }
+    ensures rows { IfOk result (λ pages. HaveRows pages.items) }
+    ensures refused { IfErr result (λ fault. IsOutside fault ⊎ (¬ AreCallable document × (fault ≡ No 26))) }
+    ensures unwritten { IfErr result (λ fault. IsOutside fault ⊎ (writer.new ≡ writer.old)) }
+{
+    headline();
+    let _pages = document.pages();
+    let wish = Wish {
+        modems: options.modems,
+        coding: options.coding,
+        small: options.small,
+    };
+    let caps = answerer_caps(options.modems);
+    let mut live = match LiveCall::new(alloc, document, wish, caps) {
+        Ok(live) => live,
+        Err(fault) => return Err(fault_of(fault)),
+    };
+    write_sent(&live, Counts::none(), writer)?;
+    let mut number = 1;
+    follow_all(&mut live, commands, &mut number, writer)?;
+    let ending = live.into_ending();
+    writer.ending(&ending)?;
+    Ok(ending.pages)
+}
+
+/// Reads a script. Errs with 30 at its first line that isn't one, with 8 where the reader fails, and
+/// with 9.
+fn read_commands<S: Read>(alloc: Global, script: &mut S) -> Result<Vec<Command>, ToolFault>
+    ensures said { IfOk result (λ commands. IfSome (S.remaining script.old) (λ said. IsScript said commands.items)) }
+    ensures refused { IfErr result (λ fault. IfSome (S.remaining script.old) (λ said. IsOutside fault ⊎ IsBadScript said fault)) }
+{
+    let mut said = Vec::new(alloc);
+    script.read_to_end(&mut said)?;
+    read_script(alloc, &said)
+}
+
+/// Reads a script and then a document's images, and runs the call that the script says between a caller
+/// that has the document and an answerer that can take it. Writes the line of each event as it happens, of
+/// which it keeps none, and then what has become of the call, and answers the pages that the answerer has
+/// stored. A `WithBits` gets the octets of what each station sends too, the answerer's DIS first. Errs with 30
+/// at the line of the script that is refused, before it reads images; with the first fault of the images; with
+/// 26 where the width of a page is none that a call can have; with 8 where a reader or the writer fails or there
+/// are 2^64 events; and with 9. With any fault but these two nothing is written; where the writer fails, the call
+/// ends after the lines that it took. A growth that is refused while the call runs is no fault: its line shows it.
+pub fn call_engine<S: Read, R: Read, T: CallWriter>(
+    alloc: Global,
+    script: &mut S,
+    input: &mut R,
+    writer: &mut T,
+    options: &CallOptions,
+) -> Result<Vec<Page>, ToolFault>
+    ensures called { IfOk result (λ pages. IfSome (S.remaining script.old) (λ said. IfSome (R.remaining input.old) (λ images.
+        RunsCall options.now said images (T.written writer.old) (T.written writer.new) pages.items))) }
+    ensures refused { IfErr result (λ fault. IfSome (S.remaining script.old) (λ said. IfSome (R.remaining input.old) (λ images.
+        RefusesCall options.now.fine said images fault))) }
+    ensures rows { IfOk result (λ pages. HaveRows pages.items) }
+    ensures early { IfErr result (λ fault. IsAtLine fault → (input.new ≡ input.old) × (writer.new ≡ writer.old)) }
+    ensures unwritten { IfErr result (λ fault. IsOutside fault ⊎ (writer.new ≡ writer.old)) }
+{
+    let commands = read_commands(alloc, script)?;
+    let document = read_pbm(alloc, input, options.fine)?;
+    let pages = tell_call(alloc, document, &commands, options, writer)?;
+    Ok(pages)
+}

@@ -1,0 +1,84 @@
+//! What a call is written to: its lines, and where they are wanted the octets that are sent on the line.
+
+ghost use Rattle.engines.specs.Faults.{IsOutside};
+ghost use Rattle.calls.specs.SentBits.{Written, WritesLines, WritesOctets};
+ghost use Rattle.calls.specs.Transcripts.{ending_text, entry_line};
+ghost use Rattle.std.specs.Prelude.{IfErr, OnOk};
+
+use crate::transcript::{write_ending, write_entry};
+use engines::ToolFault;
+use line_sim::{Ending, Entry};
+use signals::Side;
+use std::io::Write;
+
+/// What a call is written to. A writer takes its lines alone, and `WithBits` the octets on the line too.
+pub trait CallWriter {
+    ghost written: { Self → Written };
+
+    /// Writes the line of an event, with its number. Errs with 8 where the writer fails, and with 9.
+    fn entry(&mut self, number: u64, entry: &Entry) -> Result<(), ToolFault>
+        ensures line { OnOk result (WritesLines (written self.old) (written self.new) (entry_line number entry.now)) }
+        ensures fault { IfErr result IsOutside };
+
+    /// Writes how a call ended. Errs with 8 where the writer fails, and with 9.
+    fn ending(&mut self, ending: &Ending) -> Result<(), ToolFault>
+        ensures lines { OnOk result (WritesLines (written self.old) (written self.new) (ending_text ending.now)) }
+        ensures fault { IfErr result IsOutside };
+
+    /// Writes the octets of an item that is sent to a station. Errs with 8 where the writer fails, and with 9.
+    fn sent(&mut self, to: Side, octets: &[u8]) -> Result<(), ToolFault>
+        ensures octets { OnOk result (WritesOctets to (written self.old) (written self.new) octets.now) }
+        ensures fault { IfErr result IsOutside };
+}
+
+impl<W: Write> CallWriter for W {
+    ghost use Rattle.calls.specs.SentBits.{lines_alone};
+
+    ghost written = { λ w. lines_alone (W.contents w) };
+
+    fn entry(&mut self, number: u64, entry: &Entry) -> Result<(), ToolFault> {
+        write_entry(number, entry, self)
+    }
+
+    fn ending(&mut self, ending: &Ending) -> Result<(), ToolFault> {
+        write_ending(ending, self)
+    }
+
+    fn sent(&mut self, _to: Side, _octets: &[u8]) -> Result<(), ToolFault> {
+        Ok(())
+    }
+}
+
+/// A writer of a call's lines, and one for each direction of the line, which gets the octets of each item that is sent, also of one that
+/// is lost or spoiled then: the least significant bit of an octet first, as the frames are that `frames_engine` reads.
+#[derive(Debug, Drop)]
+pub struct WithBits<L, B> {
+    /// Takes the lines.
+    pub lines: L,
+    /// Takes the octets of what the caller sends.
+    pub to_answerer: B,
+    /// Takes the octets of what the answerer sends.
+    pub to_caller: B,
+}
+
+impl<L: Write, B: Write> CallWriter for WithBits<L, B> {
+    ghost use Rattle.calls.specs.SentBits.{lines_and_bits};
+
+    ghost written = { λ w. lines_and_bits (L.contents w.lines) (B.contents w.to_answerer) (B.contents w.to_caller) };
+
+    fn entry(&mut self, number: u64, entry: &Entry) -> Result<(), ToolFault> {
+        write_entry(number, entry, &mut self.lines)
+    }
+
+    fn ending(&mut self, ending: &Ending) -> Result<(), ToolFault> {
+        write_ending(ending, &mut self.lines)
+    }
+
+    fn sent(&mut self, to: Side, octets: &[u8]) -> Result<(), ToolFault> {
+        match to {
+            Side::Answerer => self.to_answerer.write_all(octets)?,
+            Side::Caller => self.to_caller.write_all(octets)?,
+        }
+        Ok(())
+    }
+}

@@ -1,0 +1,308 @@
+//! What `call --times` does: it runs many calls of a document over a bad line, over any writer, and tells what became of them.
+
+ghost use Rattle.calls.specs.BadLines.{Going, RefusesDriven, Stands, is_marked};
+ghost use Rattle.engines.specs.Faults.{IsOutside};
+ghost use Rattle.calls.specs.ManyCalls.{CountsAll, IsCallOf, IsDrivenTo, TellsMany, counts_in, counts_with, frames_again, one_if};
+ghost use Rattle.calls.specs.ManyCalls.{counts_words, ends_words, is_delivery, is_loss, is_spoiling, one_line};
+ghost use Rattle.engines.specs.declared.fault.ToolFault.TheVariants.{No};
+ghost use Rattle.line_sim.specs.Fates.{entries_of};
+ghost use Rattle.stations.specs.CallerFields.{AreCallable};
+ghost use Rattle.std.specs.Io.KnownBytes.{Appends};
+ghost use Rattle.std.specs.Prelude.{◌≡◌, ◌+◌, ◌⊎◌, [], ◌∷◌, IfErr, IfOk, OnOk, length};
+
+use crate::bad_line::{next_step, patience_of, set_answerer};
+use crate::call::{answerer_caps, fault_of};
+use crate::losses::{BadLine, generator_of};
+use crate::options::CallOptions;
+use crate::tallies::Tally;
+use crate::transcript::end_word;
+use engines::{FAILED, NO_MEMORY, ToolFault};
+use line_sim::{DrivenCall, Ending, Entry, Event, Kind, Step};
+use rand_pcg::Lcg64Xsh32;
+use raster::laws::pbm_reads_exactly;
+use raster::{Document, read_pbm};
+use signals::Wish;
+use stations::End;
+use std::alloc::Global;
+use std::io::Write;
+
+/// What is counted of a call.
+#[derive(Clone, Copy, Debug, PartialEq, Eq)]
+pub(crate) struct CallCounts {
+    /// How many items came.
+    pub(crate) deliveries: u64,
+    /// How many items were lost.
+    pub(crate) lost: u64,
+    /// How many training checks were spoiled.
+    pub(crate) spoiled: u64,
+    /// How many FCDs were sent again, in answer to a PPR.
+    pub(crate) again: u64,
+}
+
+/// What has become of one call of many.
+#[derive(Clone, Copy, Debug, PartialEq, Eq)]
+pub(crate) struct OneCall {
+    /// The call's number.
+    pub(crate) number: u64,
+    /// Why it ended for the caller.
+    pub(crate) caller_end: Option<End>,
+    /// How many pages the caller counts as confirmed.
+    pub(crate) confirmed: u64,
+    /// Why it ended for the answerer.
+    pub(crate) answerer_end: Option<End>,
+    /// How many pages the answerer has stored.
+    pub(crate) pages: usize,
+    /// What was counted of it.
+    pub(crate) counts: CallCounts,
+}
+
+/// The sum of two numbers. Errs with 8 where it would be 2^64 or more.
+pub(crate) fn sum(one: u64, other: u64) -> Result<u64, ToolFault>
+    ensures sum { IfOk result (λ sum. sum ≡ one + other) }
+    ensures fault { IfErr result IsOutside }
+{
+    one.checked_add(other).ok_or(FAILED)
+}
+
+/// One, where something is so.
+fn one_if(so: bool) -> u64
+    ensures { result ≡ one_if so }
+{
+    if so { 1 } else { 0 }
+}
+
+/// Whether an item comes in an event.
+fn is_delivery(event: Event) -> bool
+    ensures { result ≡ is_delivery event }
+{
+    matches!(event, Event::DeliverToAnswerer | Event::DeliverToCaller)
+}
+
+/// Whether an item is lost in an event.
+fn is_loss(event: Event) -> bool
+    ensures { result ≡ is_loss event }
+{
+    matches!(event, Event::LoseToAnswerer | Event::LoseToCaller)
+}
+
+/// Whether a training check is spoiled in an event.
+fn is_spoiling(event: Event) -> bool
+    ensures { result ≡ is_spoiling event }
+{
+    matches!(event, Event::Spoil)
+}
+
+/// How many FCDs are sent again in answer to an item, of the number of those that are sent.
+fn frames_again(item: Option<Kind>, fcds: u16) -> u64
+    ensures { result ≡ frames_again item fcds }
+{
+    match item {
+        Some(Kind::Ppr) => u64::from(fcds),
+        _ => 0,
+    }
+}
+
+impl CallCounts {
+    /// Before the first event.
+    fn new() -> CallCounts
+        ensures { result ≡ counts_in [] }
+    {
+        CallCounts {
+            deliveries: 0,
+            lost: 0,
+            spoiled: 0,
+            again: 0,
+        }
+    }
+
+    /// The counts with an entry more. Errs with 8 where a number would be 2^64.
+    fn with_entry(self, entry: &Entry) -> Result<CallCounts, ToolFault>
+        ensures counts { IfOk result (λ counts. counts ≡ counts_with self (counts_in (entry.now ∷ []))) }
+        ensures fault { IfErr result IsOutside }
+    {
+        Ok(CallCounts {
+            deliveries: sum(self.deliveries, one_if(is_delivery(entry.event)))?,
+            lost: sum(self.lost, one_if(is_loss(entry.event)))?,
+            spoiled: sum(self.spoiled, one_if(is_spoiling(entry.event)))?,
+            again: sum(self.again, frames_again(entry.item, entry.fcds))?,
+        })
+    }
+
+    /// The counts with the entries of a step more. Errs with 8 where a number would be 2^64.
+    fn with_step(self, step: &Step) -> Result<CallCounts, ToolFault>
+        ensures counts { IfOk result (λ counts. counts ≡ counts_with self (counts_in (entries_of step.now))) }
+        ensures fault { IfErr result IsOutside }
+    {
+        let Some(before) = step.before else {
+            return self.with_entry(&step.entry);
+        };
+        let first = self.with_entry(&before)?;
+        first.with_entry(&step.entry)
+    }
+}
+
+/// Whether a growth was refused in an event, if there was one.
+fn is_marked(set: Option<Entry>) -> bool
+    ensures { result ≡ is_marked set }
+{
+    match set {
+        Some(entry) => entry.refused,
+        None => false,
+    }
+}
+
+/// Makes the steps of a call until it is over, by the words of the generator, and counts its events. Errs with 9 where a growth was
+/// refused, and with 8 where a number would be 2^64.
+fn count_fates(
+    call: &mut DrivenCall,
+    line: &BadLine,
+    generator: &mut Lcg64Xsh32,
+) -> Result<CallCounts, ToolFault>
+    ensures counted { IfOk result (λ counts. (first : Going) → Stands call.old line.now generator.old first →
+        CountsAll line.now first call.new counts) }
+    ensures fault { IfErr result IsOutside }
+{
+    let mut counts = CallCounts::new();
+    for _made in 0..u64::MAX {
+        let set = set_answerer(call, line, generator);
+        if is_marked(set) {
+            return Err(NO_MEMORY);
+        }
+        let Some(step) = next_step(call, line, generator) else {
+            return Ok(counts);
+        };
+        if step.entry.refused {
+            return Err(NO_MEMORY);
+        }
+        counts = counts.with_step(&step)?;
+    }
+    Err(FAILED)
+}
+
+/// How many pages are stored where a call has ended.
+fn stored(ending: &Ending) -> usize
+    ensures { result ≡ length ending.now.pages.items }
+{
+    ending.pages.len()
+}
+
+/// Runs the call of a number, of a document, over a bad line. Errs with 26 where the width of a page is none that a call can have, with
+/// 9, and with 8 where a number would be 2^64.
+fn run_call(
+    alloc: Global,
+    document: Document,
+    options: &CallOptions,
+    line: &BadLine,
+    number: u64,
+) -> Result<OneCall, ToolFault>
+    ensures is { IfOk result (IsCallOf options.now line.now number document) }
+    ensures refused { IfErr result (λ fault. IsOutside fault ⊎ (¬ AreCallable document × (fault ≡ No 26))) }
+{
+    let wish = Wish {
+        modems: options.modems,
+        coding: options.coding,
+        small: options.small,
+    };
+    let caps = answerer_caps(options.modems);
+    let patience = patience_of(line);
+    let mut call = match DrivenCall::new(alloc, document, wish, caps, patience) {
+        Ok(call) => call,
+        Err(fault) => return Err(fault_of(fault)),
+    };
+    let mut generator = generator_of(line, number);
+    let counts = count_fates(&mut call, line, &mut generator)?;
+    let ending = call.into_live().into_ending();
+    Ok(OneCall {
+        number,
+        caller_end: ending.caller_end,
+        confirmed: ending.confirmed,
+        answerer_end: ending.answerer_end,
+        pages: stored(&ending),
+        counts,
+    })
+}
+
+/// Reads images, and runs the call of a number, of their document. Errs as `drive_many` does.
+fn one_call(
+    alloc: Global,
+    images: &[u8],
+    options: &CallOptions,
+    line: &BadLine,
+    number: u64,
+) -> Result<OneCall, ToolFault>
+    ensures is { IfOk result (IsDrivenTo options.now line.now number images.now) }
+    ensures refused { IfErr result (RefusesDriven options.now.fine images.now) }
+{
+    let mut input = images;
+    let document = read_pbm(alloc, &mut input, options.fine)?;
+    run_call(alloc, document, options, line, number)
+}
+
+/// Writes a call's number and how it ended for both stations, without the end of the line. Errs with 8 where the writer
+/// fails, and with 9.
+fn write_ends<W: Write>(call: &OneCall, writer: &mut W) -> Result<(), ToolFault>
+    ensures words { OnOk result (Appends (W.contents writer.old) (W.contents writer.new) (ends_words call.now)) }
+    ensures fault { IfErr result IsOutside }
+{
+    let caller = end_word(call.caller_end);
+    write!(
+        writer,
+        "call {} caller {caller} confirmed {}",
+        call.number, call.confirmed
+    )?;
+    let answerer = end_word(call.answerer_end);
+    write!(writer, " answerer {answerer} pages {}", call.pages)?;
+    Ok(())
+}
+
+/// Writes what was counted of a call, after a space, and the end of its line. Errs with 8 where the writer fails, and with 9.
+fn write_counts<W: Write>(counts: &CallCounts, writer: &mut W) -> Result<(), ToolFault>
+    ensures words { OnOk result (Appends (W.contents writer.old) (W.contents writer.new) (counts_words counts.now)) }
+    ensures fault { IfErr result IsOutside }
+{
+    writeln!(
+        writer,
+        " deliveries {} lost {} spoiled {} again {}",
+        counts.deliveries, counts.lost, counts.spoiled, counts.again
+    )?;
+    Ok(())
+}
+
+/// Writes the line of a call. Errs with 8 where the writer fails, and with 9.
+fn write_call<W: Write>(call: &OneCall, writer: &mut W) -> Result<(), ToolFault>
+    ensures line { OnOk result (Appends (W.contents writer.old) (W.contents writer.new) (one_line call.now)) }
+    ensures fault { IfErr result IsOutside }
+{
+    write_ends(call, writer)?;
+    write_counts(&call.counts, writer)
+}
+
+/// Runs so many calls over a bad line, of the numbers from 0, one after the other, each between a caller that has the images' document
+/// and an answerer that can take it, as `drive_engine` runs the call of a number. Writes a line for each as it is over, with how it
+/// ended for both stations, how many items came and were lost, how many training checks were spoiled and how many FCDs were sent
+/// again; and then a table: how many calls ended how for the caller, how many bore at most two losses, and the sums. Keeps nothing of a
+/// call but numbers, so its memory doesn't grow with their count. Errs with the first fault of the images; with 26 where the width of
+/// a page is none that a call can have; with 8 where the writer fails or a sum would be 2^64; and with 9. With any fault but 8 and 9
+/// nothing is written.
+pub fn drive_many<W: Write>(
+    alloc: Global,
+    images: &[u8],
+    writer: &mut W,
+    options: &CallOptions,
+    line: &BadLine,
+    times: u64,
+) -> Result<(), ToolFault>
+    ensures told { OnOk result (TellsMany options.now line.now times images.now (W.contents writer.old) (W.contents writer.new)) }
+    ensures refused { IfErr result (RefusesDriven options.now.fine images.now) }
+    ensures unwritten { IfErr result (λ fault. IsOutside fault ⊎ (writer.new ≡ writer.old)) }
+{
+    pbm_reads_exactly();
+    let mut tally = Tally::new();
+    for number in 0..times {
+        let call = one_call(alloc, images, options, line, number)?;
+        write_call(&call, writer)?;
+        tally.add(&call)?;
+    }
+    tally.write(writer)?;
+    Ok(())
+}

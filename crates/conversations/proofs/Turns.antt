@@ -1,0 +1,66 @@
+-- The bursts of a turn, given and written one after the other.
+use Rattle.std.proofs.Common.{◌≡◌, ◌∙◌, ◌++◌, ◌∷◌, List, [], ap, refl, sym, subst, append_assoc}
+use Rattle.std.proofs.lemmas.List.{append-nil}
+use Rattle.std.proofs.KnownBytes.{Appends-trans}
+use Rattle.std.specs.Io.KnownBytes.{Appends}
+use Rattle.std.specs.Prelude.{ℕ, Bool, true, false, Option, Some, None, Result, Ok, flat_map}
+use Rattle.conversations.specs.Conversations.{ConversationFields, SendsIfBegun}
+use Rattle.conversations.specs.Talking.{GivesAll, GivesNext, IsOver, WritesTurn, answer_text}
+use Rattle.conversations.specs.Writing.{tx_line, word_line}
+use Rattle.signals.specs.declared.signal.Side.{Side}
+use Rattle.terminals.specs.Speaking.{BurstsOf}
+use Rattle.terminals.specs.declared.sending.SentBurst.{SentBurst}
+use Rattle.terminals.specs.declared.stopping.Shown.{Shown}
+
+-- some bursts were given and written: where the bursts that are left are given, all are
+pub record IsGiving {S : Type 0} (side : Side) (lends : BurstsOf S) (first now : ConversationFields S) (before here : Option (List ℕ)) :
+    Type 0 where
+  pub done : List SentBurst
+  pub written : Appends before here (flat_map tx_line done)
+  pub all : (rest : List SentBurst) (new : ConversationFields S) → GivesAll side lends now rest new →
+      GivesAll side lends first (done ++ rest) new
+
+-- what is given does not depend on how refusals are named
+pub given_next : {S : Type 0} (E : Type 0) (side : Side) (lends : BurstsOf S) (begun : Bool) (old new : ConversationFields S)
+    (sent : Option SentBurst) → SendsIfBegun {E = E} side lends begun old new (Ok sent) →
+    SendsIfBegun {E = Unit {0}} side lends begun old new (Ok sent)
+given_next E side lends false old new None is = (is.0, refl)
+given_next E side lends false old new (Some sent) is = let e = is.1 in cc
+given_next E side lends true old new None is = is
+given_next E side lends true old new (Some sent) is = is
+
+-- before the first burst
+pub begins_giving : {S : Type 0} (side : Side) (lends : BurstsOf S) (first : ConversationFields S) (before : Option (List ℕ)) →
+    Appends before before [] → IsGiving side lends first first before before
+begins_giving side lends first before nothing =
+    record { done = []; written = nothing; all = λ rest new is. is }
+
+flat_push : (xs : List SentBurst) (x : SentBurst) → flat_map tx_line (xs ++ x ∷ []) ≡ flat_map tx_line xs ++ tx_line x
+flat_push [] x = append-nil (tx_line x)
+flat_push (y ∷ xs) x = ap (λ (l : List ℕ). tx_line y ++ l) (flat_push xs x) ∙ sym (append_assoc (tx_line y) (flat_map tx_line xs) (tx_line x))
+
+-- one burst more is given and written
+pub one_given : {S : Type 0} (side : Side) (lends : BurstsOf S) (first now next : ConversationFields S)
+    (before here after : Option (List ℕ)) (burst : SentBurst) → IsGiving side lends first now before here →
+    GivesNext side lends now (Some burst) next → Appends here after (tx_line burst) → IsGiving side lends first next before after
+one_given side lends first now next before here after burst way gives line = record {
+  done = way.done ++ burst ∷ [];
+  written =
+      subst (λ (l : List ℕ). Appends before after l) (sym (flat_push way.done burst))
+      (Appends-trans before here after (flat_map tx_line way.done) (tx_line burst) way.written line);
+  all = λ rest new is.
+      subst (λ (l : List SentBurst). GivesAll side lends first l new) (sym (append_assoc way.done (burst ∷ []) rest))
+      (way.all (burst ∷ rest) new (next, gives, is));
+}
+
+-- no burst is left, and the word is written
+pub turn_written : {S : Type 0} (side : Side) (lends : BurstsOf S) (shows : S → Shown → Type 0) (first now new : ConversationFields S)
+    (before here after : Option (List ℕ)) (over : Bool) → IsGiving side lends first now before here →
+    GivesNext side lends now None new → IsOver shows new over → Appends here after (word_line over) →
+    WritesTurn S side lends shows first new before after over
+turn_written side lends shows first now new before here after over way none is_over word = record {
+  bursts = way.done;
+  gives = subst (λ (l : List SentBurst). GivesAll side lends first l new) (append-nil way.done) (way.all [] new none);
+  is_over = is_over;
+  writes = Appends-trans before here after (flat_map tx_line way.done) (word_line over) way.written word;
+}

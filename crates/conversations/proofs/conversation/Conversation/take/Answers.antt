@@ -1,0 +1,20 @@
+use Rattle.conversations.specs.Conversations.{behaviour}
+use Rattle.conversations.proofs.TakenLines.{line_taken}
+use Rattle.conversations.specs.Conversations.{plain_given}
+use Rattle.conversations.proofs.conversation.Conversation.take.Goals as goal
+
+pub returns : goal.returns
+returns g c =
+    rw (← c.self.view_is)
+    (line_taken
+    (behaviour g.S.Station.sends g.S.Station.steps g.S.Stoppable.shows g.S.Stoppable.cut_off g.S.Stoppable.stop_says)
+    (record {
+      terminal = c.self.inside.terminal;
+      clock = c.self.inside.clock;
+      durations = c.self.inside.durations;
+      begun = c.self.inside.begun;
+    })
+    c.args.line.now c.give.new.terminal c.at-clock.result c.heard.result c.asked-self-inside.result c.has_begun-self-inside.result
+    c.in_ok-brought.brought (plain_given c.line_gives-given.result) c.shown.result c.shown-2.result c.side-side.result
+    c.if-line-self.false c.shown.ensures c.side-side.ensures c.at-clock.ensures c.line_gives-given.ensures c.in_ok-brought.ensures.ok
+    c.shown-2.ensures c.heard.ensures c.asked-self-inside.ensures c.has_begun-self-inside.ensures)

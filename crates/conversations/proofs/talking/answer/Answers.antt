@@ -1,0 +1,14 @@
+-- What the check asks of `answer`.
+use Rattle.std.proofs.Common.{rules}
+use Rattle.conversations.proofs.talking.answer.Goals as goal
+
+pub returns-clause-ok : goal.returns-clause-ok
+returns-clause-ok g c = record {
+  timed = c.in-Ok.timed;
+  heard = c.take.new.self;
+  ready = c.keep-unkept.new.conversation;
+  says = search rules;
+  takes = search rules;
+  keeps_so = c.keep-unkept.ensures;
+  writes = c.in_ok-over.ensures.ok;
+}

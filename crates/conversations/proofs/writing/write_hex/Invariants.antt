@@ -1,0 +1,10 @@
+-- What holds in the loop of `write_hex`.
+use Rattle.std.proofs.Common.{length}
+use Rattle.conversations.proofs.HexPieces.{WroteSoFar}
+use Rattle.conversations.proofs.writing.write_hex.Given as goal
+
+abbrev pub invariant-loop-rest : goal.invariant-loop-rest
+invariant-loop-rest g l = WroteSoFar l.octets l.rest (g.W.Write.contents l.initial.writer) (g.W.Write.contents l.writer)
+
+abbrev pub decreases-loop-rest : goal.decreases-loop-rest
+decreases-loop-rest g l = length l.rest

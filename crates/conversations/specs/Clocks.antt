@@ -1,0 +1,124 @@
+-- The times that the waits of a station run from, and the wait that is over at a quiet line (T.30, 5.4.3.1).
+use Rattle.std.specs.Prelude.{ℕ, ◌≡◌, ◌≢◌, ◌⊎◌, ◌+◌, ◌≤◌, Bool, true, false, cond, nat_le, Option, Some, None}
+use Rattle.conversations.specs.declared.clock.Clock.{Clock}
+use Rattle.conversations.specs.declared.clock.Durations.{Durations}
+use Rattle.conversations.specs.declared.line.Said.{Said}
+use Rattle.conversations.specs.declared.line.Said.TheVariants.{Quiet, Busy, Received, NotReady, Ready, Stop, End}
+use Rattle.signals.specs.declared.signal.Side.{Side}
+use Rattle.signals.specs.declared.signal.Side.TheVariants.{Caller, Answerer}
+use Rattle.stations.specs.declared.waiting.Wait.{Wait}
+use Rattle.stations.specs.declared.waiting.Wait.TheVariants.{T1, T2, T4, T5}
+use Rattle.terminals.specs.declared.stopping.Shown.{Shown}
+
+-- how long each wait runs
+abbrev pub duration : Durations → Wait → ℕ
+duration d T1 = d.t1
+duration d T2 = d.t2
+duration d T4 = d.t4
+duration d T5 = d.t5
+
+-- a call that has just been set up
+abbrev pub new_clock : Clock
+new_clock = record { now = 0; calm = None; heard = 0; asked = None }
+
+-- the time that is kept, or this one where none is
+abbrev pub since_or : Option ℕ → ℕ → Option ℕ
+since_or None at = Some at
+since_or (Some since) at = Some since
+
+-- since when a line is calm: from the first quiet line on, and not while a carrier is on or has just ended
+abbrev pub calm_at : Option ℕ → Said → ℕ → Option ℕ
+calm_at calm Quiet at = since_or calm at
+calm_at calm Busy at = None
+calm_at calm (Received channel kind bits octets) at = None
+calm_at calm NotReady at = calm
+calm_at calm Ready at = calm
+calm_at calm Stop at = calm
+calm_at calm End at = calm
+
+-- the clock at a line
+abbrev pub clock_at : Clock → Said → ℕ → Clock
+clock_at c said at = record c { now = at; calm = calm_at c.calm said at }
+
+-- the clock where its line brought a good frame or the awaited training check, or brought neither
+abbrev pub heard_now : Bool → Clock → Clock
+heard_now brought c = cond brought (record c { heard = c.now }) c
+
+-- since when T5 runs, where it is the longer wait that runs after a line: from this line on, unless it ran before
+abbrev pub asked_by : Option Wait → Option ℕ → ℕ → Option ℕ
+asked_by (Some T5) asked now = since_or asked now
+asked_by (Some T1) asked now = None
+asked_by (Some T2) asked now = None
+asked_by (Some T4) asked now = None
+asked_by None asked now = None
+
+-- the clock after a line, by the longer wait that the station shows then
+abbrev pub asked_since : Option Wait → Clock → Clock
+asked_since longer c = record c { asked = asked_by longer c.asked c.now }
+
+-- a burst that is sent ends the calm
+abbrev pub after_burst : Clock → Clock
+after_burst c = record c { calm = None }
+
+-- since when the wait that a station shows runs: a caller's T1 from what was heard last, and an answerer's, which it shows while it takes
+-- blocks, from the calm on, as T2 and T4
+abbrev pub runs_from : Side → Clock → Wait → Option ℕ
+runs_from Caller c T1 = Some c.heard
+runs_from Answerer c T1 = c.calm
+runs_from side c T2 = c.calm
+runs_from side c T4 = c.calm
+runs_from side c T5 = c.asked
+
+-- since when the longer wait runs: an answerer's T1 from what was heard last, T5 from the first RNR of a block
+abbrev pub longer_runs_from : Clock → Wait → Option ℕ
+longer_runs_from c T1 = Some c.heard
+longer_runs_from c T2 = c.calm
+longer_runs_from c T4 = c.calm
+longer_runs_from c T5 = c.asked
+
+-- a duration has passed since a time
+abbrev pub is_past : ℕ → Option ℕ → ℕ → Bool
+is_past now None passed = false
+is_past now (Some since) passed = nat_le (since + passed) now
+
+-- the wait that a station shows, where it is over
+abbrev pub running_over : Side → Option Wait → Clock → Durations → Option Wait
+running_over side None c d = None
+running_over side (Some wait) c d = cond (is_past c.now (runs_from side c wait) (duration d wait)) (Some wait) None
+
+-- the longer one, where it is over
+abbrev pub longer_over : Option Wait → Clock → Durations → Option Wait
+longer_over None c d = None
+longer_over (Some wait) c d = cond (is_past c.now (longer_runs_from c wait) (duration d wait)) (Some wait) None
+
+-- of two waits the first that there is
+abbrev pub first_of : Option Wait → Option Wait → Option Wait
+first_of (Some wait) next = Some wait
+first_of None next = next
+
+-- the wait that is over, of those that a station shows: the longer one comes first
+abbrev pub wait_over : Side → Shown → Clock → Durations → Option Wait
+wait_over side shown c d = first_of (longer_over shown.longer c d) (running_over side shown.running c d)
+
+-- a duration has passed since a time that there is
+abbrev pub HasPassed : ℕ → Option ℕ → ℕ → Type 0
+HasPassed now since passed = (from : ℕ) × (since ≡ Some from) × (from + passed ≤ now)
+
+-- a wait is over only where the station shows it and its duration has passed since the time that it runs from
+abbrev pub WaitsPass : Type 0
+WaitsPass =
+    (side : Side) (shown : Shown) (c : Clock) (d : Durations) (wait : Wait) → wait_over side shown c d ≡ Some wait →
+    ((shown.longer ≡ Some wait) × HasPassed c.now (longer_runs_from c wait) (duration d wait)) ⊎
+    ((shown.running ≡ Some wait) × HasPassed c.now (runs_from side c wait) (duration d wait))
+
+-- T2 and T4 don't run while a carrier is on
+abbrev pub CarriersHold : Type 0
+CarriersHold =
+    (side : Side) (shown : Shown) (c : Clock) (d : Durations) → c.calm ≡ None →
+    (wait_over side shown c d ≢ Some T2) × (wait_over side shown c d ≢ Some T4)
+
+-- a carrier that is on, or has just ended, and a burst that was sent end the calm; the first quiet line after them begins it
+abbrev pub CalmIsQuiet : Type 0
+CalmIsQuiet =
+    (c : Clock) (at : ℕ) (later : ℕ) → ((clock_at c Busy at).calm ≡ None) × ((after_burst c).calm ≡ None) ×
+    ((clock_at (clock_at c Busy at) Quiet later).calm ≡ Some later) × ((clock_at (after_burst c) Quiet later).calm ≡ Some later)

@@ -1,0 +1,193 @@
+-- The conversation of a station as a process: what each line gives the station, and when its waits are over.
+use Rattle.std.specs.Prelude.{ℕ, ◌≡◌, ◌⊎◌, ◌<◌, ◌≤◌, ◌++◌, Bool, true, false, cond, nat_le, nat_lt, List, Option, Some, None, Result, Ok, Err}
+use Rattle.conversations.specs.Clocks.{after_burst, asked_since, clock_at, heard_now, new_clock, wait_over}
+use Rattle.conversations.specs.Hearing.{heard_as}
+use Rattle.conversations.specs.declared.clock.Clock.{Clock}
+use Rattle.conversations.specs.declared.clock.Durations.{Durations}
+use Rattle.conversations.specs.declared.conversation.TakeFault.{TakeFault}
+use Rattle.conversations.specs.declared.conversation.TakeFault.TheVariants.{Backwards, NoMemory}
+use Rattle.conversations.specs.declared.giving.Given.{Given}
+use Rattle.conversations.specs.declared.giving.Given.TheVariants.{Nothing as GivenNothing, Frames as GivenFrames, Check as GivenCheck}
+use Rattle.conversations.specs.declared.giving.Given.TheVariants.{Over as GivenOver, Busy as GivenBusy, Stop as GivenStop}
+use Rattle.conversations.specs.declared.giving.Given.TheVariants.{Loss as GivenLoss}
+use Rattle.conversations.specs.declared.hearing.Heard.{Heard}
+use Rattle.conversations.specs.declared.hearing.Heard.TheVariants.{Frames, Check, Nothing}
+use Rattle.conversations.specs.declared.line.Said.{Said}
+use Rattle.conversations.specs.declared.line.Said.TheVariants.{Quiet, Busy, Received, NotReady, Ready, Stop, End}
+use Rattle.conversations.specs.declared.line.TimedLine.{TimedLine}
+use Rattle.signals.specs.declared.signal.Side.{Side}
+use Rattle.stations.specs.declared.stopping.CallEnd.{CallEnd}
+use Rattle.stations.specs.declared.stopping.Cut.{Cut}
+use Rattle.stations.specs.declared.turn.Turn.{Turn}
+use Rattle.stations.specs.declared.waiting.Wait.{Wait}
+use Rattle.terminals.specs.Hearing.{HasHeard, PlainInput, check, said, over, busy, good_frames}
+use Rattle.terminals.specs.Runs.{Hears, TerminalFields}
+use Rattle.terminals.specs.Sending.{Sends}
+use Rattle.terminals.specs.Speaking.{BurstsOf, StepOf, Takes}
+use Rattle.stations.specs.Limiting.{LimitedFields}
+use Rattle.terminals.specs.Stopping.{hung_up, silenced, stopped}
+use Rattle.terminals.specs.Stopping.{with_pages_taken as without_its_pages}
+use Rattle.terminals.specs.declared.fault.HearFault.TheVariants.{FrameLost}
+use Rattle.terminals.specs.declared.sending.SentBurst.{SentBurst}
+use Rattle.terminals.specs.declared.stopping.Shown.{Shown}
+
+-- what a line gives a station: nothing, octets of frames, an input, or that its call is to be stopped or has lost its line
+pub data PlainGiven : Type 0 where
+  nothing stopping losing : PlainGiven
+  frames : List ℕ → PlainGiven
+  input : PlainInput → PlainGiven
+
+-- the plain value of what is given
+abbrev pub plain_given : Given → PlainGiven
+plain_given GivenNothing = nothing
+plain_given (GivenFrames octets) = frames octets.now
+plain_given (GivenCheck octets) = input (check octets.now)
+plain_given (GivenOver wait) = input (over wait)
+plain_given (GivenBusy is) = input (busy is)
+plain_given GivenStop = stopping
+plain_given GivenLoss = losing
+
+-- a wait that is over is given
+abbrev pub over_given : Option Wait → PlainGiven
+over_given None = nothing
+over_given (Some wait) = input (over wait)
+
+-- what is heard of octets is given
+abbrev pub heard_given : Heard → List ℕ → PlainGiven
+heard_given Frames octets = frames octets
+heard_given Check octets = input (check octets)
+heard_given Nothing octets = nothing
+
+-- what a line gives a station that has begun, or hasn't: until then nothing is heard and no wait is over
+abbrev pub line_gives : Bool → Side → Shown → Clock → Durations → Said → PlainGiven
+line_gives begun side shown c d Quiet = cond begun (over_given (wait_over side shown c d)) nothing
+line_gives begun side shown c d Busy = nothing
+line_gives begun side shown c d (Received channel kind bits octets) =
+    cond begun (heard_given (heard_as shown.listens channel kind) octets.items) nothing
+line_gives begun side shown c d NotReady = input (busy true)
+line_gives begun side shown c d Ready = input (busy false)
+line_gives begun side shown c d Stop = stopping
+line_gives begun side shown c d End = losing
+
+-- a station begins at the first quiet line from a second on, and where it is stopped
+abbrev pub begins : Said → ℕ → Bool
+begins Quiet at = nat_le 1000 at
+begins Busy at = false
+begins (Received channel kind bits octets) at = false
+begins NotReady at = false
+begins Ready at = false
+begins Stop at = true
+begins End at = false
+
+-- octets that come after those before have a good frame
+abbrev pub brings_frame : List ℕ → List ℕ → Bool
+brings_frame before octets = nat_lt (good_frames before) (good_frames (before ++ octets))
+
+-- an input is a training check, which is given only where it is awaited
+abbrev pub is_check : PlainInput → Bool
+is_check (said signal) = false
+is_check (check octets) = true
+is_check (over wait) = false
+is_check (busy is) = false
+
+-- a station as a conversation knows it: which one it is, its steps, what it shows, and how its call is cut off
+pub record Behaviour (S : Type 0) : Type 1 where
+  pub side : Side
+  pub steps : StepOf S
+  pub shows : S → Shown → Type 0
+  pub cut_off : Cut → S → S
+  pub stop_says : S → Turn
+
+-- a station of this side, with these steps, that shows this and is cut off so
+abbrev pub behaviour :
+    {S : Type 0} → Side → StepOf S → (S → Shown → Type 0) → (Cut → S → S) → (S → Turn) → Behaviour S
+behaviour side steps shows cut_off stop_says =
+    record { side = side; steps = steps; shows = shows; cut_off = cut_off; stop_says = stop_says }
+
+-- a terminal was given this, and it brought a good frame or the awaited training check, or neither
+abbrev pub Gives : {S : Type 0} → Behaviour S → TerminalFields S → PlainGiven → TerminalFields S → Bool → Type 0
+Gives b old nothing new brought = (new ≡ old) × (brought ≡ false)
+Gives b old stopping new brought =
+    (new.framing ≡ old.framing) × (new.speaking ≡ stopped b.cut_off b.stop_says old.speaking) × (brought ≡ false)
+Gives b old losing new brought = (new.framing ≡ old.framing) × (new.speaking ≡ silenced b.cut_off old.speaking) × (brought ≡ false)
+Gives b old (frames octets) new brought =
+    Hears b.steps old octets new (Ok tt) × ((before : List ℕ) → HasHeard old.framing before → brought ≡ brings_frame before octets)
+Gives {S} b old (input x) new brought =
+    (new.framing ≡ old.framing) × Takes S b.steps old.speaking x new.speaking × (brought ≡ is_check x)
+
+-- octets were heard, but frames among them were lost, since memory was refused
+abbrev pub LosesFrames : {S : Type 0} → Behaviour S → TerminalFields S → PlainGiven → TerminalFields S → Type 0
+LosesFrames b old (frames octets) new = Hears b.steps old octets new (Err FrameLost)
+LosesFrames b old given new = ⊥
+
+-- memory was refused: nothing has changed, or octets were heard but frames among them were lost
+abbrev pub IsRefused : {S : Type 0} → Behaviour S → TerminalFields S → PlainGiven → TerminalFields S → Type 0
+IsRefused b old given new = (new ≡ old) ⊎ LosesFrames b old given new
+
+-- a conversation: its terminal, its clock, how long its waits run, and whether it has begun
+pub record ConversationFields (S : Type 0) : Type 0 where
+  pub terminal : TerminalFields S
+  pub clock : Clock
+  pub durations : Durations
+  pub begun : Bool
+
+-- a new conversation of a station
+abbrev pub IsNew : {S : Type 0} → TerminalFields S → Durations → Bool → ConversationFields S → Type 0
+IsNew terminal durations begun new = new ≡ record { terminal = terminal; clock = new_clock; durations = durations; begun = begun }
+
+-- what a line gives the station of a conversation, by what the station shows
+abbrev pub gives : {S : Type 0} → Behaviour S → ConversationFields S → Shown → TimedLine → PlainGiven
+gives b old shown line = line_gives old.begun b.side shown (clock_at old.clock line.said line.at) old.durations line.said
+
+-- a line was taken
+pub record TakesLine (S : Type 0) (b : Behaviour S) (old : ConversationFields S) (line : TimedLine) (new : ConversationFields S) :
+    Type 0 where
+  pub shown : Shown
+  pub later : Shown
+  pub brought : Bool
+  pub in_time : old.clock.now ≤ line.at
+  pub shows : b.shows old.terminal.speaking.station shown
+  pub given : Gives b old.terminal (gives b old shown line) new.terminal brought
+  pub shows_later : b.shows new.terminal.speaking.station later
+  pub clock : new.clock ≡ asked_since later.longer (heard_now brought (clock_at old.clock line.said line.at))
+  pub begun : new.begun ≡ cond old.begun true (begins line.said line.at)
+  pub durations : new.durations ≡ old.durations
+
+-- memory was refused at a line
+pub record RefusesLine (S : Type 0) (b : Behaviour S) (old : ConversationFields S) (line : TimedLine) (new : ConversationFields S) :
+    Type 0 where
+  pub shown : Shown
+  pub in_time : old.clock.now ≤ line.at
+  pub shows : b.shows old.terminal.speaking.station shown
+  pub given : IsRefused b old.terminal (gives b old shown line) new.terminal
+  pub rest : new ≡ record old { terminal = new.terminal }
+
+-- a line was taken; or its time is before that of the line before it, and nothing has changed; or memory was refused
+abbrev pub TakesOrRefuses :
+    {S : Type 0} → Behaviour S → ConversationFields S → TimedLine → ConversationFields S → Result (Unit {0}) TakeFault → Type 0
+TakesOrRefuses {S} b old line new (Ok done) = TakesLine S b old line new
+TakesOrRefuses b old line new (Err Backwards) = (line.at < old.clock.now) × (new ≡ old)
+TakesOrRefuses {S} b old line new (Err NoMemory) = RefusesLine S b old line new
+
+-- the clock after a burst was given, or none was
+abbrev pub clock_sent : {E : Type 0} → Result (Option SentBurst) E → Clock → Clock
+clock_sent (Ok (Some sent)) c = after_burst c
+clock_sent (Ok None) c = c
+clock_sent (Err refused) c = c
+
+-- the next burst is given; none before a station has begun
+abbrev pub SendsIfBegun :
+    {S E : Type 0} → Side → BurstsOf S → Bool → ConversationFields S → ConversationFields S → Result (Option SentBurst) E → Type 0
+SendsIfBegun side lends false old new result = (new ≡ old) × (result ≡ Ok None)
+SendsIfBegun side lends true old new result =
+    Sends side lends old.terminal.speaking new.terminal.speaking result × (new.terminal.framing ≡ old.terminal.framing) ×
+    (new ≡ record old { terminal = new.terminal; clock = clock_sent result old.clock })
+
+-- a conversation of an answerer with limits whose pages were taken
+abbrev pub with_pages_taken : ConversationFields LimitedFields → ConversationFields LimitedFields
+with_pages_taken old = record old { terminal = record old.terminal { speaking = without_its_pages old.terminal.speaking } }
+
+-- a call that is stopped, with DCN to be sent in place of the turn that is kept
+abbrev pub hung_up_so : {S : Type 0} → (Cut → S → S) → ConversationFields S → ConversationFields S
+hung_up_so cut_off old =
+    record old { terminal = record old.terminal { speaking = hung_up cut_off old.terminal.speaking }; begun = true }

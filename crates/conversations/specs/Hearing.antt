@@ -1,0 +1,47 @@
+-- What a station hears of a carrier of the other side (T.30, 5.3 and Annex A).
+use Rattle.std.specs.Prelude.{ℕ, Bool, cond, nat_eq}
+use Rattle.conversations.specs.declared.carrier.Channel.{Channel}
+use Rattle.conversations.specs.declared.carrier.Channel.TheVariants.{V21 as ByV21, Message}
+use Rattle.conversations.specs.declared.carrier.Kind.{Kind}
+use Rattle.conversations.specs.declared.carrier.Kind.TheVariants.{Frames, Check}
+use Rattle.conversations.specs.declared.hearing.Heard.{Heard}
+use Rattle.conversations.specs.declared.hearing.Heard.TheVariants.{Frames as HeardFrames, Check as HeardCheck, Nothing}
+use Rattle.signals.specs.declared.params.Speed.{Speed}
+use Rattle.signals.specs.declared.params.Speed.TheVariants.{V27At2400, V27At4800, V29At7200, V29At9600, V17At7200, V17At9600, V17At12000}
+use Rattle.signals.specs.declared.params.Speed.TheVariants.{V17At14400}
+use Rattle.stations.specs.declared.listening.Listening.{Listening}
+use Rattle.stations.specs.declared.listening.Listening.TheVariants.{V21, Training, V21OrPage}
+
+-- a speed's place among the eight
+abbrev pub place_of : Speed → ℕ
+place_of V27At2400 = 0
+place_of V27At4800 = 1
+place_of V29At7200 = 2
+place_of V29At9600 = 3
+place_of V17At7200 = 4
+place_of V17At9600 = 5
+place_of V17At12000 = 6
+place_of V17At14400 = 7
+
+-- two speeds are the same
+abbrev pub same_speed : Speed → Speed → Bool
+same_speed speed other = nat_eq (place_of speed) (place_of other)
+
+-- a training check is heard where one at its speed is awaited
+abbrev pub check_heard : Listening → Speed → Heard
+check_heard V21 speed = Nothing
+check_heard (Training agreed) speed = cond (same_speed speed agreed) HeardCheck Nothing
+check_heard (V21OrPage agreed) speed = Nothing
+
+-- frames at a message speed are heard where a page at that speed is awaited
+abbrev pub page_heard : Listening → Speed → Heard
+page_heard V21 speed = Nothing
+page_heard (Training agreed) speed = Nothing
+page_heard (V21OrPage agreed) speed = cond (same_speed speed agreed) HeardFrames Nothing
+
+-- what is heard of bits of a kind by a carrier: frames by V.21 always, a training check and the frames of a page where they are awaited
+abbrev pub heard_as : Listening → Channel → Kind → Heard
+heard_as listens ByV21 Frames = HeardFrames
+heard_as listens ByV21 Check = Nothing
+heard_as listens (Message speed) Frames = page_heard listens speed
+heard_as listens (Message speed) Check = check_heard listens speed

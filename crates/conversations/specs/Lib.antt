@@ -1,0 +1,9 @@
+pub mod Answering
+pub mod Clocks
+pub mod Conversations
+pub mod Hearing
+pub mod Led
+pub mod Lines
+pub mod Reading
+pub mod Talking
+pub mod Writing

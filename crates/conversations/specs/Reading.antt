@@ -1,0 +1,30 @@
+-- What is taken from a reader, line by line.
+use Rattle.std.specs.Prelude.{◌≡◌, ◌≢◌, ◌⊎◌, ◌<◌, ◌≤◌, ◌++◌, ◌∷◌, [], ⊤, ℕ, Bool, true, false, List, Option, Result, Ok, Err, length, slice_index}
+use Rattle.std.specs.Io.KnownBytes.{Consumes, IsAtEnd}
+use Rattle.conversations.specs.declared.reading.ReadFault.{ReadFault}
+use Rattle.conversations.specs.declared.reading.ReadFault.TheVariants.{NoMemory, TooLong, Failed}
+
+-- no octet is LF
+abbrev pub HasNoFeed : List ℕ → Type 0
+HasNoFeed octets = (k : ℕ) → k < length octets → slice_index octets k ≢ 10
+
+-- a line of at most 400,000 octets was taken with its LF, or as the last one, which isn't empty, without
+pub record TakesLine (old new : Option (List ℕ)) (line : List ℕ) : Type 0 where
+  pub one : HasNoFeed line
+  pub most : length line ≤ 400000
+  pub taken : Consumes old new (line ++ 10 ∷ []) ⊎ ((0 < length line) × Consumes old new line × IsAtEnd new)
+
+-- more octets than a line has were taken, one more, and no LF is among them
+pub record TakesTooMany (old new : Option (List ℕ)) (line : List ℕ) : Type 0 where
+  pub octet : ℕ
+  pub one : HasNoFeed (line ++ octet ∷ [])
+  pub all : length line ≡ 400000
+  pub taken : Consumes old new (line ++ octet ∷ [])
+
+-- what is taken where the next line is read: that line; nothing at the end; or more octets than a line has
+abbrev pub TakesNext : Option (List ℕ) → Option (List ℕ) → List ℕ → Result Bool ReadFault → Type 0
+TakesNext old new line (Ok true) = TakesLine old new line
+TakesNext old new line (Ok false) = Consumes old new [] × IsAtEnd new
+TakesNext old new line (Err TooLong) = TakesTooMany old new line
+TakesNext old new line (Err NoMemory) = ⊤
+TakesNext old new line (Err (Failed kind)) = ⊤

@@ -1,0 +1,70 @@
+-- The answer to a line: what the station makes of it, and the lines that are written.
+use Rattle.std.specs.Prelude.{ℕ, ◌≡◌, ◌<◌, ◌++◌, ◌∷◌, [], ◌↔◌, ⊤, Bool, IsTrue, IsSome, List, Option, Some, None, Result, Ok, flat_map}
+use Rattle.std.specs.Io.KnownBytes.{Appends}
+use Rattle.conversations.specs.Conversations.{Behaviour, ConversationFields, SendsIfBegun, TakesLine}
+use Rattle.conversations.specs.Lines.{Says, SaysNothing}
+use Rattle.conversations.specs.Writing.{tx_line, word_line}
+use Rattle.conversations.specs.declared.line.TimedLine.{TimedLine}
+use Rattle.conversations.specs.declared.talking.AnswerFault.{AnswerFault}
+use Rattle.conversations.specs.declared.talking.AnswerFault.TheVariants.{NoLine, Backwards}
+use Rattle.signals.specs.declared.signal.Side.{Side}
+use Rattle.terminals.specs.Speaking.{BurstsOf}
+use Rattle.terminals.specs.declared.sending.SentBurst.{SentBurst}
+use Rattle.terminals.specs.declared.stopping.Shown.{Shown}
+
+-- the next burst is given, or none is left
+abbrev pub GivesNext : {S : Type 0} → Side → BurstsOf S → ConversationFields S → Option SentBurst → ConversationFields S → Type 0
+GivesNext {S} side lends old sent new = SendsIfBegun {E = Unit {0}} side lends old.begun old new (Ok sent)
+
+-- bursts are given one after the other, and then none is left
+abbrev pub GivesAll : {S : Type 0} → Side → BurstsOf S → ConversationFields S → List SentBurst → ConversationFields S → Type 0
+GivesAll side lends old [] new = GivesNext side lends old None new
+GivesAll {S} side lends old (burst ∷ bursts) new =
+    (mid : ConversationFields S) × GivesNext side lends old (Some burst) mid × GivesAll side lends mid bursts new
+
+-- the call of a conversation is over, or isn't
+abbrev pub IsOver : {S : Type 0} → (S → Shown → Type 0) → ConversationFields S → Bool → Type 0
+IsOver shows c over = (shown : Shown) × shows c.terminal.speaking.station shown × (IsTrue over ↔ IsSome shown.end)
+
+-- the lines of an answer: one for each burst, and a word that says whether the call is over
+abbrev pub answer_text : List SentBurst → Bool → List ℕ
+answer_text bursts over = flat_map tx_line bursts ++ word_line over
+
+-- all bursts that are left are given, and the lines of the answer are written
+pub record WritesTurn (S : Type 0) (side : Side) (lends : BurstsOf S) (shows : S → Shown → Type 0) (old new : ConversationFields S)
+    (before after : Option (List ℕ)) (over : Bool) : Type 0 where
+  pub bursts : List SentBurst
+  pub gives : GivesAll side lends old bursts new
+  pub is_over : IsOver shows new over
+  pub writes : Appends before after (answer_text bursts over)
+
+-- what it is to keep what there is after a line
+abbrev pub KeepsOf : Type 0 → Type 0 → Type 1
+KeepsOf S K = K → ConversationFields S → K → ConversationFields S → Bool → Type 0
+
+-- a line is answered: it is taken, what it brought is kept, and then the answer is written
+pub record Answers (S K : Type 0) (b : Behaviour S) (keeps : KeepsOf S K) (lends : BurstsOf S) (line : List ℕ)
+    (old new : ConversationFields S) (keeper kept_in : K) (before after : Option (List ℕ)) (kept over : Bool) : Type 0 where
+  pub timed : TimedLine
+  pub heard : ConversationFields S
+  pub ready : ConversationFields S
+  pub says : Says line timed
+  pub takes : TakesLine S b old timed heard
+  pub keeps_so : keeps keeper heard kept_in ready kept
+  pub writes : WritesTurn S b.side lends b.shows ready new before after over
+
+-- octets that aren't answered: they are none of a station's lines, or the time of theirs runs back
+abbrev pub IsNoAnswer : {S F : Type 0} → ConversationFields S → List ℕ → AnswerFault F → Type 0
+IsNoAnswer old line NoLine = SaysNothing line
+IsNoAnswer old line Backwards = (timed : TimedLine) × Says line timed × (timed.at < old.clock.now)
+IsNoAnswer old line fault = ⊤
+
+-- this holds where octets were refused before anything was done
+abbrev pub IfRefused : {F : Type 0} → AnswerFault F → Type 0 → Type 0
+IfRefused NoLine A = A
+IfRefused Backwards A = A
+IfRefused fault A = ⊤
+
+-- a fault after the line was taken, or one that says nothing of it
+abbrev pub IsLate : {F : Type 0} → AnswerFault F → Type 0
+IsLate fault = IfRefused fault ⊥

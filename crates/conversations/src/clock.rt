@@ -1,0 +1,191 @@
+//! The times that the waits of a station run from.
+
+ghost use Rattle.conversations.specs.Clocks.{after_burst, asked_since, clock_at, duration, heard_now, is_past, longer_over, longer_runs_from};
+ghost use Rattle.conversations.specs.Clocks.{new_clock, running_over, runs_from, since_or, wait_over};
+ghost use Rattle.conversations.specs.declared.line.Said.{Said as AnySaid};
+ghost use Rattle.std.specs.Prelude.{◌≡◌};
+ghost use Rattle.stations.specs.declared.waiting.Wait.{Wait as AnyWait};
+ghost use Rattle.terminals.specs.Timing.{wait_millis};
+
+use crate::line::Said;
+use signals::Side;
+use stations::Wait;
+use terminals::{Shown, wait_millis};
+
+/// How long each wait runs, in milliseconds (T.30, 5.4.3.1).
+#[derive(Clone, Copy, Debug, PartialEq, Eq)]
+pub struct Durations {
+    /// For the other station to appear: T.30 has 35 s.
+    pub t1: u32,
+    /// Of an answerer, for a command: T.30 has 6 s.
+    pub t2: u32,
+    /// Of a caller, for an answer: T.30 has 3 s.
+    pub t4: u32,
+    /// Of a caller, for a busy answerer: T.30 has 60 s.
+    pub t5: u32,
+}
+
+impl Durations {
+    /// Those of T.30.
+    pub fn of_t30() -> Durations
+        ensures { (wait : AnyWait) → duration result wait ≡ wait_millis wait }
+    {
+        Durations {
+            t1: wait_millis(Wait::T1),
+            t2: wait_millis(Wait::T2),
+            t4: wait_millis(Wait::T4),
+            t5: wait_millis(Wait::T5),
+        }
+    }
+
+    /// How long a wait runs, in milliseconds.
+    pub fn of(self, wait: Wait) -> u32
+        ensures { result ≡ duration self wait }
+    {
+        match wait {
+            Wait::T1 => self.t1,
+            Wait::T2 => self.t2,
+            Wait::T4 => self.t4,
+            Wait::T5 => self.t5,
+        }
+    }
+}
+
+/// The times that waits run from, in milliseconds since the call was set up.
+#[derive(Clone, Copy, Debug, PartialEq, Eq)]
+pub struct Clock {
+    /// The time of the last line.
+    pub now: u64,
+    /// The first quiet line since the last carrier of either side; none where there was none since then.
+    pub calm: Option<u64>,
+    /// The last line that brought a good frame, or the training check that was awaited; 0 before the first one.
+    pub heard: u64,
+    /// The line since which T5 runs, where it does.
+    pub asked: Option<u64>,
+}
+
+impl Clock {
+    /// The clock of a call that has just been set up.
+    pub fn new() -> Clock
+        ensures { result ≡ new_clock }
+    {
+        Clock {
+            now: 0,
+            calm: None,
+            heard: 0,
+            asked: None,
+        }
+    }
+
+    /// The clock at a line: a quiet one is calm from the first one on, and no line is calm while a carrier is on.
+    pub fn at(self, said: &Said, at: u64) -> Clock
+        ensures { result ≡ clock_at self said.now at }
+    {
+        let calm = match said {
+            Said::Quiet => Some(self.calm.unwrap_or(at)),
+            Said::Busy | Said::Received { .. } => None,
+            Said::NotReady | Said::Ready | Said::Stop | Said::End => self.calm,
+        };
+        Clock {
+            now: at,
+            calm,
+            ..self
+        }
+    }
+
+    /// The clock where its line brought a good frame or the awaited training check, or brought neither.
+    pub fn heard(self, brought: bool) -> Clock
+        ensures { result ≡ heard_now brought self }
+    {
+        if brought {
+            return Clock {
+                heard: self.now,
+                ..self
+            };
+        }
+        self
+    }
+
+    /// The clock where this longer wait runs after its line: T5 from this line on, unless it ran before.
+    pub fn asked(self, longer: Option<Wait>) -> Clock
+        ensures { result ≡ asked_since longer self }
+    {
+        let asked = match longer {
+            Some(Wait::T5) => Some(self.asked.unwrap_or(self.now)),
+            _ => None,
+        };
+        Clock { asked, ..self }
+    }
+
+    /// The clock after a burst was sent.
+    pub fn sent(self) -> Clock
+        ensures { result ≡ after_burst self }
+    {
+        Clock { calm: None, ..self }
+    }
+
+    /// The wait that is over now, of those that a station shows: the longer one first.
+    pub fn wait_over(self, side: Side, shown: Shown, durations: Durations) -> Option<Wait>
+        ensures { result ≡ wait_over side shown self durations }
+    {
+        match self.longer_over(shown.longer, durations) {
+            Some(wait) => Some(wait),
+            None => self.running_over(side, shown.running, durations),
+        }
+    }
+
+    /// The longer wait, where it is over now.
+    fn longer_over(self, longer: Option<Wait>, durations: Durations) -> Option<Wait>
+        ensures { result ≡ longer_over longer self durations }
+    {
+        match longer {
+            Some(wait) if self.is_past(self.longer_from(wait), durations.of(wait)) => Some(wait),
+            _ => None,
+        }
+    }
+
+    /// The wait that runs, where it is over now.
+    fn running_over(self, side: Side, running: Option<Wait>, durations: Durations) -> Option<Wait>
+        ensures { result ≡ running_over side running self durations }
+    {
+        match running {
+            Some(wait) if self.is_past(self.from(side, wait), durations.of(wait)) => Some(wait),
+            _ => None,
+        }
+    }
+
+    /// Since when the wait that a station shows runs.
+    fn from(self, side: Side, wait: Wait) -> Option<u64>
+        ensures { result ≡ runs_from side self wait }
+    {
+        match (wait, side) {
+            (Wait::T1, Side::Caller) => Some(self.heard),
+            (Wait::T1, Side::Answerer) => self.calm,
+            (Wait::T2, _) => self.calm,
+            (Wait::T4, _) => self.calm,
+            (Wait::T5, _) => self.asked,
+        }
+    }
+
+    /// Since when the longer wait that a station shows runs.
+    fn longer_from(self, wait: Wait) -> Option<u64>
+        ensures { result ≡ longer_runs_from self wait }
+    {
+        match wait {
+            Wait::T1 => Some(self.heard),
+            Wait::T2 => self.calm,
+            Wait::T4 => self.calm,
+            Wait::T5 => self.asked,
+        }
+    }
+
+    /// Whether a duration has passed since a time.
+    fn is_past(self, since: Option<u64>, duration: u32) -> bool
+        ensures { result ≡ is_past self.now since duration }
+    {
+        match since {
+            Some(since) => since as u128 + duration as u128 <= self.now as u128,
+            None => false,
+        }
+    }
+}

@@ -1,0 +1,182 @@
+//! The conversation of a station as a process: lines that are taken, and bursts that are given.
+
+ghost use Rattle.conversations.specs.Conversations.{IsNew, SendsIfBegun, TakesOrRefuses, behaviour, with_pages_taken, hung_up_so};
+ghost use Rattle.std.specs.Prelude.{◌≡◌, ◌↔◌, IsTrue, IsSome, true, false};
+ghost use Rattle.terminals.specs.declared.stopping.Shown.{Shown as AnyShown};
+
+use crate::clock::{Clock, Durations};
+use crate::giving::{give, has_begun, line_gives};
+use crate::line::TimedLine;
+use raster::Page;
+use stations::{CallEnd, LimitedAnswerer, StoppableCaller};
+use std::alloc::AllocError;
+use std::marker::Model;
+use terminals::{SentBurst, Station, Stoppable, Terminal};
+use thiserror::Error;
+
+/// Why a line wasn't taken.
+#[derive(Clone, Copy, Debug, PartialEq, Eq, Drop, Error)]
+pub enum TakeFault {
+    /// Its time is before that of the line before it. Nothing has changed.
+    #[error("time runs back")]
+    Backwards,
+    /// Memory was refused. Nothing has changed, or frames that the line brought are lost.
+    #[error("no memory")]
+    NoMemory,
+}
+
+impl From<AllocError> for TakeFault {
+    ghost use Rattle.conversations.specs.declared.conversation.TakeFault.TheVariants.{NoMemory};
+    ghost use Rattle.std.specs.Prelude.{◌≡◌};
+
+    ghost from_gives = { λ _ e. e ≡ NoMemory };
+
+    fn from(_refused: AllocError) -> TakeFault {
+        TakeFault::NoMemory
+    }
+}
+
+/// A station over lines that say what is on the line of a call, and when.
+#[derive(Debug, Drop)]
+pub struct Conversation<S: Stoppable> {
+    terminal: Terminal<S>,
+    clock: Clock,
+    durations: Durations,
+    begun: bool,
+}
+
+impl<S: Stoppable> Model for Conversation<S> {
+    ghost use Rattle.conversations.specs.Conversations.{ConversationFields};
+
+    ghost Value = { ConversationFields S };
+
+    ghost view = { λ c. record { terminal = c.terminal; clock = c.clock; durations = c.durations; begun = c.begun } };
+}
+
+impl Conversation<StoppableCaller> {
+    /// The conversation of a caller's terminal, which hears from the first line on.
+    pub fn new_caller(
+        terminal: Terminal<StoppableCaller>,
+        durations: Durations,
+    ) -> Conversation<StoppableCaller>
+        ensures { IsNew terminal durations true result }
+    {
+        Conversation {
+            terminal,
+            clock: Clock::new(),
+            durations,
+            begun: true,
+        }
+    }
+}
+
+impl Conversation<LimitedAnswerer> {
+    /// The conversation of an answerer's terminal, whose first turn is DIS: it begins at the first quiet line from 1,000 ms on.
+    pub fn new_answerer(
+        terminal: Terminal<LimitedAnswerer>,
+        durations: Durations,
+    ) -> Conversation<LimitedAnswerer>
+        ensures { IsNew terminal durations false result }
+    {
+        Conversation {
+            terminal,
+            clock: Clock::new(),
+            durations,
+            begun: false,
+        }
+    }
+
+    /// The pages stored so far, in the order in which they came; none is stored then, and the answerer is as busy as it was told. Takes
+    /// no memory.
+    pub fn take_pages(&mut self) -> Vec<Page>
+        ensures pages { result.items ≡ self.old.terminal.speaking.station.station.pages }
+        ensures left { self.new ≡ with_pages_taken self.old }
+    {
+        self.terminal.take_pages()
+    }
+}
+
+impl<S: Stoppable> Conversation<S> {
+    /// Takes a line. Errs with `Backwards` where its time is before that of the line before it, and with `NoMemory` where memory is
+    /// refused.
+    pub fn take(&mut self, line: &TimedLine) -> Result<(), TakeFault>
+        ensures { TakesOrRefuses (behaviour S.sends S.steps S.shows S.cut_off S.stop_says) self.old line.now self.new result }
+    {
+        if line.at < self.clock.now {
+            return Err(TakeFault::Backwards);
+        }
+        let clock = self.clock.at(&line.said, line.at);
+        let side = self.terminal.station().side();
+        let given = line_gives(
+            self.begun,
+            side,
+            self.terminal.shown(),
+            clock,
+            self.durations,
+            &line.said,
+        );
+        let brought = give(&mut self.terminal, given)?;
+        self.clock = clock.heard(brought).asked(self.terminal.shown().longer);
+        self.begun = has_begun(self.begun, &line.said, line.at);
+        Ok(())
+    }
+
+    /// The next burst of the turn that is kept; none where all were given, nor before an answerer has begun. Errs where memory is
+    /// refused, which changes nothing.
+    pub fn next_burst(&mut self) -> Result<Option<SentBurst>, AllocError>
+        ensures { SendsIfBegun S.sends S.lends self.old.begun self.old self.new result }
+    {
+        if !self.begun {
+            return Ok(None);
+        }
+        let sent = self.terminal.next_burst()?;
+        if sent.is_some() {
+            self.clock = self.clock.sent();
+        }
+        Ok(sent)
+    }
+
+    /// Stops the call, and has DCN to be sent in place of the turn that is kept, also where the call has ended: what that turn says is
+    /// not to be said.
+    pub fn hang_up(&mut self)
+        ensures { self.new ≡ hung_up_so S.cut_off self.old }
+    {
+        self.terminal.hang_up();
+        self.begun = true;
+    }
+
+    /// Whether the station hears what is on the line: a caller from the first line on, an answerer once it has sent its first DIS.
+    pub fn has_begun(&self) -> bool
+        ensures { result ≡ self.now.begun }
+    {
+        self.begun
+    }
+
+    /// Why the call ended, if it has.
+    pub fn end(&self) -> Option<CallEnd>
+        ensures { (shown : AnyShown) × S.shows self.now.terminal.speaking.station shown × (result ≡ shown.end) }
+    {
+        self.terminal.shown().end
+    }
+
+    /// Whether the call has ended: nothing more is taken or sent after the bursts of the last line.
+    pub fn is_over(&self) -> bool
+        ensures { (shown : AnyShown) × S.shows self.now.terminal.speaking.station shown × (IsTrue result ↔ IsSome shown.end) }
+    {
+        self.end().is_some()
+    }
+
+    /// The terminal: its station, with its pages confirmed or stored.
+    pub fn terminal(&self) -> &Terminal<S>
+        ensures { result.now ≡ self.now.terminal }
+    {
+        &self.terminal
+    }
+
+    /// The clock of the last line.
+    pub fn clock(&self) -> Clock
+        ensures { result ≡ self.now.clock }
+    {
+        self.clock
+    }
+}

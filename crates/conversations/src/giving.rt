@@ -1,0 +1,149 @@
+//! What a line gives a station.
+
+ghost use Rattle.conversations.specs.Conversations.{begins, heard_given, line_gives, over_given, plain_given};
+ghost use Rattle.conversations.specs.Conversations.{Gives, IsRefused, behaviour, frames, nothing};
+ghost use Rattle.std.specs.Prelude.{◌≡◌, cond, true, IfOk, OnErr};
+
+use crate::clock::{Clock, Durations};
+use crate::hearing::{Heard, heard_as};
+use crate::line::Said;
+use signals::Side;
+use stations::Wait;
+use std::alloc::AllocError;
+use terminals::{Shown, Stoppable, Terminal};
+
+/// What a line gives a station.
+#[derive(Clone, Copy, Debug, PartialEq, Eq)]
+pub enum Given<'a> {
+    /// Nothing.
+    Nothing,
+    /// The octets of frames.
+    Frames(&'a [u8]),
+    /// The octets of the training check that is awaited.
+    Check(&'a [u8]),
+    /// That a wait is over.
+    Over(Wait),
+    /// Whether pages can't be taken for now.
+    Busy(bool),
+    /// That its call is to be stopped.
+    Stop,
+    /// That its line is gone.
+    Loss,
+}
+
+/// What a line gives a station that has begun, or hasn't; the clock is that of the line.
+pub(crate) fn line_gives<'a>(
+    begun: bool,
+    side: Side,
+    shown: Shown,
+    clock: Clock,
+    durations: Durations,
+    said: &'a Said,
+) -> Given<'a>
+    ensures { plain_given result ≡ line_gives begun side shown clock durations said.now }
+{
+    match said {
+        Said::Quiet => over_given(begun, clock.wait_over(side, shown, durations)),
+        Said::Received {
+            channel,
+            kind,
+            octets,
+            ..
+        } => heard_given(begun, heard_as(shown.listens, *channel, *kind), octets),
+        Said::Busy => Given::Nothing,
+        Said::NotReady => Given::Busy(true),
+        Said::Ready => Given::Busy(false),
+        Said::Stop => Given::Stop,
+        Said::End => Given::Loss,
+    }
+}
+
+/// A wait that is over, where the station has begun.
+fn over_given<'a>(begun: bool, over: Option<Wait>) -> Given<'a>
+    ensures { plain_given result ≡ cond begun (over_given over) nothing }
+{
+    match over {
+        Some(wait) if begun => Given::Over(wait),
+        _ => Given::Nothing,
+    }
+}
+
+/// What is heard of octets, where the station has begun.
+fn heard_given(begun: bool, heard: Heard, octets: &[u8]) -> Given<'_>
+    ensures { plain_given result ≡ cond begun (heard_given heard octets.now) nothing }
+{
+    match heard {
+        Heard::Frames if begun => Given::Frames(octets),
+        Heard::Check if begun => Given::Check(octets),
+        _ => Given::Nothing,
+    }
+}
+
+/// Whether a station has begun after a line that says this: an answerer begins at the first quiet line from 1,000 ms on.
+pub(crate) fn has_begun(begun: bool, said: &Said, at: u64) -> bool
+    ensures { result ≡ cond begun true (begins said.now at) }
+{
+    begun || begins(said, at)
+}
+
+/// Whether a station begins at a line that says this.
+fn begins(said: &Said, at: u64) -> bool
+    ensures { result ≡ begins said.now at }
+{
+    match said {
+        Said::Quiet => at >= 1000,
+        Said::Stop => true,
+        Said::Busy | Said::Received { .. } | Said::NotReady | Said::Ready | Said::End => false,
+    }
+}
+
+/// The terminal is given what a line gives. Answers whether it brought a good frame, or the training check that was awaited. Errs
+/// where memory is refused.
+pub(crate) fn give<S: Stoppable>(
+    terminal: &mut Terminal<S>,
+    given: Given<'_>,
+) -> Result<bool, AllocError>
+    ensures ok { IfOk result (λ brought.
+        Gives (behaviour S.sends S.steps S.shows S.cut_off S.stop_says) terminal.old (plain_given given.entry) terminal.new brought) }
+    ensures err { OnErr result (
+        IsRefused (behaviour S.sends S.steps S.shows S.cut_off S.stop_says) terminal.old (plain_given given.entry) terminal.new) }
+{
+    match given {
+        Given::Nothing => Ok(false),
+        Given::Frames(octets) => hear(terminal, octets),
+        Given::Check(octets) => {
+            terminal.hear_training(octets)?;
+            Ok(true)
+        }
+        Given::Over(wait) => {
+            terminal.wait_over(wait)?;
+            Ok(false)
+        }
+        Given::Busy(is) => {
+            terminal.set_busy(is)?;
+            Ok(false)
+        }
+        Given::Stop => {
+            terminal.stop();
+            Ok(false)
+        }
+        Given::Loss => {
+            terminal.lost();
+            Ok(false)
+        }
+    }
+}
+
+/// The terminal hears octets of frames. Answers whether they brought a good frame. Errs where memory is refused.
+fn hear<S: Stoppable>(terminal: &mut Terminal<S>, octets: &[u8]) -> Result<bool, AllocError>
+    ensures ok { IfOk result (λ brought.
+        Gives (behaviour S.sends S.steps S.shows S.cut_off S.stop_says) terminal.old (frames octets.now) terminal.new brought) }
+    ensures err { OnErr result (
+        IsRefused (behaviour S.sends S.steps S.shows S.cut_off S.stop_says) terminal.old (frames octets.now) terminal.new) }
+{
+    let before = terminal.good_frames();
+    match terminal.hear(octets) {
+        Ok(()) => Ok(before < terminal.good_frames()),
+        Err(_) => Err(AllocError),
+    }
+}

@@ -1,0 +1,24 @@
+//! A station as a process: lines of text that say what is on a line and when, and lines that say what is sent.
+#![tactic(auto)]
+
+mod answering;
+mod carrier;
+mod clock;
+mod conversation;
+mod giving;
+mod hearing;
+pub mod laws;
+mod line;
+mod reading;
+mod talking;
+mod writing;
+
+pub use crate::answering::{PageStore, answer_line, keep_pages, store_pages};
+pub use crate::carrier::{Channel, Kind};
+pub use crate::clock::{Clock, Durations};
+pub use crate::conversation::{Conversation, TakeFault};
+pub use crate::hearing::{Heard, heard_as};
+pub use crate::line::{LineRefused, MOST_OCTETS, Said, TimedLine, read_line};
+pub use crate::reading::{ReadFault, next_line};
+pub use crate::talking::{AnswerFault, Answered, Follower, Keeper, answer, write_turn};
+pub use crate::writing::{write_burst, write_word};

@@ -1,0 +1,248 @@
+//! A line that says what is on the line of a call, and when.
+
+ghost use Rattle.conversations.specs.Lines.{AreBits, IsBurst, IsNumber, ReceivedAfter, IsWordOf, HasNoSpace, Says, SaysNothing};
+ghost use Rattle.conversations.specs.declared.carrier.Channel.{Channel as ChannelValue};
+ghost use Rattle.conversations.specs.declared.carrier.Kind.{Kind as KindValue};
+ghost use Rattle.conversations.specs.declared.line.LineRefused.TheVariants.{NoLine};
+ghost use Rattle.conversations.specs.declared.line.Said.{Said as SaidValue};
+ghost use Rattle.conversations.specs.declared.line.TimedLine.{TimedLine as TimedValue};
+ghost use Rattle.std.specs.Prelude.{◌≡◌, ◌↔◌, ◌≤◌, ◌++◌, ◌∷◌, ℕ, IsTrue, List, MatchOption, MatchResult, codes};
+
+use crate::carrier::{Channel, Kind};
+use hex::FromHexError;
+use std::alloc::Global;
+use thiserror::Error;
+
+/// The most octets of a line, without its LF.
+pub const MOST_OCTETS: usize = 400_000;
+
+/// The most digits of a time.
+const TIME_DIGITS: usize = 15;
+
+/// The most digits of a number of bits.
+const BITS_DIGITS: usize = 7;
+
+/// What a line says.
+#[derive(Debug, PartialEq, Eq, Drop)]
+pub enum Said {
+    /// Nothing is on the line.
+    Quiet,
+    /// A carrier of the other side has begun.
+    Busy,
+    /// It has ended.
+    Received {
+        /// What it was.
+        channel: Channel,
+        /// What its bits are.
+        kind: Kind,
+        /// How many bits it has.
+        bits: u64,
+        /// The octets that hold the bits, the least significant bit of each first.
+        octets: Vec<u8>,
+    },
+    /// The receiver can't take pages for now.
+    NotReady,
+    /// It can again.
+    Ready,
+    /// The call is to be ended in order.
+    Stop,
+    /// The line has dropped.
+    End,
+}
+
+/// What a line says, and when.
+#[derive(Debug, PartialEq, Eq, Drop)]
+pub struct TimedLine {
+    /// Milliseconds since the call was set up.
+    pub at: u64,
+    /// What it says.
+    pub said: Said,
+}
+
+/// Why a line wasn't read.
+#[derive(Clone, Copy, Debug, PartialEq, Eq, Drop, Error)]
+pub enum LineRefused {
+    /// Memory was refused.
+    #[error("no memory")]
+    NoMemory,
+    /// It is no line of a station as a process.
+    #[error("no such line")]
+    NoLine,
+}
+
+/// A burst, as words say it.
+#[derive(Drop)]
+struct Burst {
+    /// What it goes by.
+    channel: Channel,
+    /// What its bits are.
+    kind: Kind,
+    /// Its bits.
+    content: Bits,
+}
+
+/// Bits in octets.
+#[derive(Drop)]
+struct Bits {
+    /// How many bits.
+    count: u64,
+    /// The octets that hold them.
+    octets: Vec<u8>,
+}
+
+/// The word that a text begins with, and what follows the space after it. A text with no space answers `None`.
+fn split_word(text: &[u8]) -> Option<(&[u8], &[u8])>
+    ensures { MatchOption result (HasNoSpace text.now)
+        (λ parts. HasNoSpace parts.0.now × (text.now ≡ parts.0.now ++ 32 ∷ parts.1.now)) }
+{
+    for place in 0..text.len() {
+        if text[place] == b' ' {
+            return Some((&text[..place], &text[place + 1..]));
+        }
+    }
+    None
+}
+
+/// The number that decimal digits write, of which there are one to `most`.
+fn number_in(digits: &[u8], most: usize) -> Option<u64>
+    requires { most ≤ 15 }
+    ensures { MatchOption result ((number : ℕ) → IsNumber most digits.now number → ⊥) (IsNumber most digits.now) }
+{
+    if digits.len() > most {
+        return None;
+    }
+    let Ok(text) = str::from_utf8(digits) else {
+        return None;
+    };
+    if text.starts_with('+') {
+        return None;
+    }
+    match text.parse::<u64>() {
+        Ok(number) => Some(number),
+        Err(_) => None,
+    }
+}
+
+/// BITS HEX.
+fn read_bits(alloc: Global, text: &[u8]) -> Result<Bits, LineRefused>
+    ensures { MatchResult result (λ bits. AreBits text.now bits.count bits.octets.items)
+        (λ refused. refused ≡ NoLine → (count : ℕ) → (octets : List ℕ) → AreBits text.now count octets → ⊥) }
+{
+    let Some((digits, hex)) = split_word(text) else {
+        return Err(LineRefused::NoLine);
+    };
+    let Some(count) = number_in(digits, BITS_DIGITS) else {
+        return Err(LineRefused::NoLine);
+    };
+    if hex.len() as u64 != 2 * count.div_ceil(8) {
+        return Err(LineRefused::NoLine);
+    }
+    match hex::decode(alloc, hex) {
+        Ok(octets) => Ok(Bits { count, octets }),
+        Err(FromHexError::OutOfMemory) => Err(LineRefused::NoMemory),
+        Err(_) => Err(LineRefused::NoLine),
+    }
+}
+
+/// CARRIER KIND BITS HEX.
+fn read_burst(alloc: Global, text: &[u8]) -> Result<Burst, LineRefused>
+    ensures { MatchResult result (λ burst. IsBurst text.now burst.channel burst.kind burst.content.count burst.content.octets.items)
+        (λ refused. refused ≡ NoLine → (channel : ChannelValue) → (kind : KindValue) → (count : ℕ) → (octets : List ℕ)
+        → IsBurst text.now channel kind count octets → ⊥) }
+{
+    let Some((carrier, rest)) = split_word(text) else {
+        return Err(LineRefused::NoLine);
+    };
+    let Some(channel) = Channel::named(carrier) else {
+        return Err(LineRefused::NoLine);
+    };
+    let Some((name, rest)) = split_word(rest) else {
+        return Err(LineRefused::NoLine);
+    };
+    let Some(kind) = Kind::named(name) else {
+        return Err(LineRefused::NoLine);
+    };
+    let content = read_bits(alloc, rest)?;
+    Ok(Burst {
+        channel,
+        kind,
+        content,
+    })
+}
+
+/// What a word says that is followed by the time alone.
+fn said_by(word: &[u8]) -> Option<Said>
+    ensures { MatchOption result ((said : SaidValue) → IsWordOf word.now said → ⊥) (IsWordOf word.now) }
+{
+    match word {
+        b"quiet" => Some(Said::Quiet),
+        b"busy" => Some(Said::Busy),
+        b"not-ready" => Some(Said::NotReady),
+        b"ready" => Some(Said::Ready),
+        b"stop" => Some(Said::Stop),
+        b"end" => Some(Said::End),
+        _ => None,
+    }
+}
+
+/// Whether a word is `rx`, which says that a burst was received.
+fn is_rx(word: &[u8]) -> bool
+    ensures { IsTrue result ↔ (word.now ≡ codes "rx") }
+{
+    match word {
+        b"rx" => true,
+        _ => false,
+    }
+}
+
+/// T, and a burst: what was received, and when.
+fn read_received(alloc: Global, text: &[u8]) -> Result<TimedLine, LineRefused>
+    ensures { MatchResult result (ReceivedAfter text.now) (λ refused. refused ≡ NoLine → (timed : TimedValue)
+        → ReceivedAfter text.now timed → ⊥) }
+{
+    let Some((digits, rest)) = split_word(text) else {
+        return Err(LineRefused::NoLine);
+    };
+    let Some(at) = number_in(digits, TIME_DIGITS) else {
+        return Err(LineRefused::NoLine);
+    };
+    let Burst {
+        channel,
+        kind,
+        content,
+    } = read_burst(alloc, rest)?;
+    let Bits {
+        count: bits,
+        octets,
+    } = content;
+    let said = Said::Received {
+        channel,
+        kind,
+        bits,
+        octets,
+    };
+    Ok(TimedLine { at, said })
+}
+
+/// What a line says, which comes without its LF, and when. Errs where it is no line of a station as a process, with `NoLine`, and
+/// where memory is refused.
+pub fn read_line(alloc: Global, line: &[u8]) -> Result<TimedLine, LineRefused>
+    ensures { MatchResult result (Says line.now) (λ refused. refused ≡ NoLine → SaysNothing line.now) }
+{
+    if line.len() > MOST_OCTETS {
+        return Err(LineRefused::NoLine);
+    }
+    let Some((word, rest)) = split_word(line) else {
+        return Err(LineRefused::NoLine);
+    };
+    if is_rx(word) {
+        return read_received(alloc, rest);
+    }
+    let Some(said) = said_by(word) else {
+        return Err(LineRefused::NoLine);
+    };
+    let Some(at) = number_in(rest, TIME_DIGITS) else {
+        return Err(LineRefused::NoLine);
+    };
+    Ok(TimedLine { at, said })
+}

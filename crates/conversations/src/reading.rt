@@ -1,0 +1,70 @@
+//! Lines out of any reader.
+
+ghost use Rattle.conversations.specs.Reading.{HasNoFeed, TakesNext};
+ghost use Rattle.conversations.specs.declared.reading.ReadFault.TheVariants.{TooLong};
+ghost use Rattle.std.specs.Io.KnownBytes.{Consumes, IsAtEnd};
+ghost use Rattle.std.specs.Prelude.{◌≡◌, ◌≢◌, Err, IfOk, None, Ok, option_to_list};
+
+use crate::line::MOST_OCTETS;
+use std::io::{ErrorKind, Read};
+use thiserror::Error;
+
+/// Why the next line wasn't read.
+#[derive(Clone, Copy, Debug, PartialEq, Eq, Drop, Error)]
+pub enum ReadFault {
+    /// Memory was refused.
+    #[error("no memory")]
+    NoMemory,
+    /// The line has more than 400,000 octets.
+    #[error("a line of more than 400000 octets")]
+    TooLong,
+    /// The reader failed.
+    #[error("the reader failed")]
+    Failed(ErrorKind),
+}
+
+/// The next octet, or `None` at the end. Reads again where the reader is interrupted.
+fn next_octet<R: Read>(reader: &mut R) -> Result<Option<u8>, ReadFault>
+    ensures taken { IfOk result (λ octet. Consumes (R.remaining reader.old) (R.remaining reader.new) (option_to_list octet)) }
+    ensures end { result ≡ Ok None → IsAtEnd (R.remaining reader.new) }
+    ensures fault { result ≢ Err TooLong }
+{
+    let mut octet = [0];
+    for _try in 0..u64::MAX {
+        match reader.read(&mut octet) {
+            Ok(0) => return Ok(None),
+            Ok(_) => return Ok(Some(octet[0])),
+            Err(error) => {
+                if error.kind() != ErrorKind::Interrupted {
+                    return Err(ReadFault::Failed(error.kind()));
+                }
+            }
+        }
+    }
+    Err(ReadFault::Failed(ErrorKind::Interrupted))
+}
+
+/// Reads the next line into a list in place of what is there, without its LF, and answers whether there was one. What follows the last
+/// LF is a line too, unless it is empty. It takes an octet at a time, so the reader is best one with a buffer, and never holds more than
+/// 400,000 of them. Errs where the line is longer, where memory is refused and where the reader fails.
+pub fn next_line<R: Read>(reader: &mut R, line: &mut Vec<u8>) -> Result<bool, ReadFault>
+    ensures { TakesNext (R.remaining reader.old) (R.remaining reader.new) line.new.items result }
+{
+    line.clear();
+    for _place in 0..MOST_OCTETS {
+        match next_octet(reader)? {
+            None => return Ok(!line.is_empty()),
+            Some(b'\n') => return Ok(true),
+            Some(octet) => {
+                if line.push(octet).is_err() {
+                    return Err(ReadFault::NoMemory);
+                }
+            }
+        }
+    }
+    match next_octet(reader)? {
+        None => Ok(true),
+        Some(b'\n') => Ok(true),
+        Some(_octet) => Err(ReadFault::TooLong),
+    }
+}

@@ -1,0 +1,155 @@
+//! A station that talks: it takes a line of text, keeps what that brings, and writes the bursts of its turn and a word.
+
+ghost use Rattle.conversations.specs.Conversations.{ConversationFields, behaviour};
+ghost use Rattle.conversations.specs.Talking.{Answers, IfRefused, IsLate, IsNoAnswer, WritesTurn};
+ghost use Rattle.std.specs.Prelude.{◌≡◌, Bool, IfErr, IfOk, is_none};
+
+use crate::conversation::{Conversation, TakeFault};
+use crate::line::{LineRefused, TimedLine, read_line};
+use crate::writing::{write_burst, write_word};
+use stations::Listening;
+use std::alloc::{AllocError, Global};
+use std::io;
+use std::io::{ErrorKind, Write};
+use terminals::{SentBurst, Stoppable};
+
+/// The most bursts that are written of a turn; a turn has two.
+const MOST_BURSTS: u32 = 255;
+
+/// Where what a station has stored goes, before anything is said.
+pub trait Keeper<S: Stoppable> {
+    // What it is to keep what there is after a line: the keeper and the conversation before, both after, and whether all was kept.
+    ghost keeps: { Self → ConversationFields S → Self → ConversationFields S → Bool → Type 0 };
+
+    /// Why something can't be kept.
+    type Refused: Drop;
+
+    /// Keeps what there is. Answers why that can't be done, if it is so.
+    fn keep(&mut self, conversation: &mut Conversation<S>) -> Option<Self::Refused>
+        ensures { keeps self.old conversation.old self.new conversation.new (is_none result) };
+}
+
+/// Who follows a conversation, as one who writes a trace of it.
+pub trait Follower {
+    /// Why it can't follow any further.
+    type Failed: Drop;
+
+    /// A line is taken by a station that listens so.
+    fn heard(&mut self, listens: Listening, line: &TimedLine) -> Result<(), Self::Failed>;
+
+    /// A burst is given, in answer to the line of this time, in milliseconds.
+    fn said(&mut self, at: u64, burst: &SentBurst) -> Result<(), Self::Failed>;
+}
+
+/// Why a line wasn't answered.
+#[derive(Clone, Copy, Debug, PartialEq, Eq, Drop)]
+pub enum AnswerFault<F> {
+    /// The octets are none of a station's lines. Nothing has changed.
+    NoLine,
+    /// The line's time is before that of the line before it. Nothing has changed.
+    Backwards,
+    /// Memory was refused.
+    NoMemory,
+    /// The writer failed.
+    Writer(ErrorKind),
+    /// Who follows can't go on.
+    Follower(F),
+}
+
+impl<F> From<AllocError> for AnswerFault<F> {
+    ghost use Rattle.conversations.specs.declared.talking.AnswerFault.TheVariants.{NoMemory};
+    ghost use Rattle.std.specs.Prelude.{◌≡◌};
+
+    ghost from_gives = { λ _ fault. fault ≡ NoMemory };
+
+    fn from(_refused: AllocError) -> AnswerFault<F> {
+        AnswerFault::NoMemory
+    }
+}
+
+impl<F> From<io::Error> for AnswerFault<F> {
+    ghost use Rattle.conversations.specs.declared.talking.AnswerFault.TheVariants.{Writer};
+    ghost use Rattle.std.specs.IoError.{error_kind};
+    ghost use Rattle.std.specs.Prelude.{◌≡◌};
+
+    ghost from_gives = { λ error fault. fault ≡ Writer (error_kind error) };
+
+    fn from(error: io::Error) -> AnswerFault<F> {
+        AnswerFault::Writer(error.kind())
+    }
+}
+
+/// What was answered to a line.
+#[derive(Debug, Drop)]
+pub struct Answered<E> {
+    /// Whether the call is over.
+    pub over: bool,
+    /// Why something that the line brought can't be kept, if that is so. The station hangs up then.
+    pub unkept: Option<E>,
+}
+
+/// Writes the bursts that are left of the turn, in order, a line each, and then a word that says whether the call is over, which is
+/// answered. `at` is the time of the line that is answered, in milliseconds. Errs where the writer fails, where memory is refused and
+/// where who follows can't go on; then a part of the answer may be written.
+pub fn write_turn<S: Stoppable, W: Write, F: Follower>(
+    alloc: Global,
+    conversation: &mut Conversation<S>,
+    at: u64,
+    writer: &mut W,
+    follower: &mut F,
+) -> Result<bool, AnswerFault<F::Failed>>
+    ensures ok { IfOk result (λ over.
+        WritesTurn S S.sends S.lends S.shows conversation.old conversation.new (W.contents writer.old) (W.contents writer.new) over) }
+    ensures late { IfErr result IsLate }
+{
+    for _burst in 0..MOST_BURSTS {
+        let Some(burst) = conversation.next_burst()? else {
+            let over = conversation.is_over();
+            write_word(writer, over)?;
+            return Ok(over);
+        };
+        follower.said(at, &burst).map_err(AnswerFault::Follower)?;
+        write_burst(alloc, &burst, writer)?;
+    }
+    Err(AnswerFault::NoMemory)
+}
+
+/// Answers a line, which comes without its LF: it is taken, what it brought is kept, and only then the bursts of the turn are written, and
+/// a word. Where something can't be kept, what is written is what the conversation says after that. Errs where the octets are none of a
+/// station's lines or their time runs back, and nothing has changed then; where memory is refused, where the writer fails, and where who
+/// follows can't go on.
+pub fn answer<S: Stoppable, K: Keeper<S>, W: Write, F: Follower>(
+    alloc: Global,
+    line: &[u8],
+    conversation: &mut Conversation<S>,
+    keeper: &mut K,
+    writer: &mut W,
+    follower: &mut F,
+) -> Result<Answered<K::Refused>, AnswerFault<F::Failed>>
+    ensures ok { IfOk result (λ answer.
+        Answers S K (behaviour S.sends S.steps S.shows S.cut_off S.stop_says) K.keeps S.lends line.now conversation.old conversation.new
+        keeper.old keeper.new (W.contents writer.old) (W.contents writer.new) (is_none answer.unkept) answer.over) }
+    ensures none { IfErr result (λ fault. IsNoAnswer conversation.old line.now fault) }
+    ensures unchanged { IfErr result (λ fault. IfRefused fault
+        ((conversation.new ≡ conversation.old) × (keeper.new ≡ keeper.old) × (writer.new ≡ writer.old))) }
+{
+    let timed = match read_line(alloc, line) {
+        Ok(timed) => timed,
+        Err(LineRefused::NoLine) => return Err(AnswerFault::NoLine),
+        Err(LineRefused::NoMemory) => return Err(AnswerFault::NoMemory),
+    };
+    if conversation.has_begun() {
+        let listens = conversation.terminal().shown().listens;
+        follower
+            .heard(listens, &timed)
+            .map_err(AnswerFault::Follower)?;
+    }
+    match conversation.take(&timed) {
+        Ok(()) => {}
+        Err(TakeFault::Backwards) => return Err(AnswerFault::Backwards),
+        Err(TakeFault::NoMemory) => return Err(AnswerFault::NoMemory),
+    }
+    let unkept = keeper.keep(conversation);
+    let over = write_turn(alloc, conversation, timed.at, writer, follower)?;
+    Ok(Answered { over, unkept })
+}

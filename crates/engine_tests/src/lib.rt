@@ -1,0 +1,11 @@
+//! What no clause of `engines` and `calls` says: readers that give octets one by one, and readers and writers that fail.
+#![tactic(auto)]
+
+#[cfg(test)]
+mod call;
+#[cfg(test)]
+mod frames;
+#[cfg(test)]
+mod pages;
+#[cfg(test)]
+mod streams;

@@ -1,0 +1,56 @@
+-- What `decode` gives of octets: an image, what is told of it, and whether all is there that is asked for.
+use Rattle.std.specs.Prelude.{ℕ, ◌≡◌, ◌-◌, ◌↔◌, Bool, true, not, ◌||◌, List, [], ◌++◌, length, Result, Ok, Err, IsTrue, codes, cond, nat_eq}
+use Rattle.std.specs.Fmt.{decimal}
+use Rattle.std.specs.Int.{div_ceil}
+use Rattle.engines.specs.Decodings.{GivesPage, broken_asked}
+use Rattle.engines.specs.PageEnds.{HasItsEnd}
+use Rattle.engines.specs.declared.decoding.ReadTo.{ReadTo}
+use Rattle.engines.specs.declared.decoding.ReadTo.TheVariants.{End, Fault, Lines}
+use Rattle.engines.specs.declared.fault.ToolFault.{ToolFault}
+use Rattle.engines.specs.declared.options.DecodeOptions.{DecodeOptions}
+use Rattle.engines.specs.declared.options.PageForm.{PageForm}
+
+-- the line of a page's rows and of the bits of its code
+abbrev pub page_line : ℕ → ℕ → List ℕ
+page_line rows bits = codes "rows " ++ (decimal rows ++ (codes " bits " ++ (decimal bits ++ codes "\n")))
+
+-- the line of the octets after a page, where there are any
+abbrev pub after_line : ℕ → List ℕ
+after_line count = cond (nat_eq count 0) [] (codes "octets after the page " ++ (decimal count ++ codes "\n"))
+
+-- the line of a page's rows alone
+abbrev pub rows_line : ℕ → List ℕ
+rows_line rows = codes "rows " ++ (decimal rows ++ codes "\n")
+
+-- the line of a page of T.4 without its RTC
+abbrev pub no_rtc_line : ℕ → List ℕ
+no_rtc_line rows = codes "the page ends without its RTC after " ++ (decimal rows ++ codes " rows\n")
+
+-- how many octets come after those of a page's code
+abbrev pub octets_after : List ℕ → ℕ → ℕ
+octets_after octets bits = length octets - div_ceil bits 8
+
+-- what is told of a page that was read to the end of its code: its counts, where they are asked for, and that RTC is missing
+abbrev pub end_text : Bool → ℕ → ℕ → ℕ → Bool → List ℕ
+end_text verbose rows bits after has_end =
+    cond verbose (page_line rows bits ++ after_line after) [] ++ cond has_end [] (no_rtc_line rows)
+
+-- What is told of a page, and whether all is there. Of one that was read to the end of its code, all is there, but for RTC where it is
+-- asked for. Of one that was read line by line, the lines of its repaired rows, and its rows where they are asked for. Where the rest
+-- is refused, nothing is told, and that is the fault.
+abbrev pub TellsPage : PageForm → DecodeOptions → List ℕ → ReadTo → ℕ → List ℕ → List ℕ → Result Bool ToolFault → Type 0
+TellsPage form options octets (End bits) rows lines told end =
+    (has_end : Bool) × (IsTrue has_end ↔ HasItsEnd form.coding form.order octets bits)
+    × (told ≡ end_text options.verbose rows bits (octets_after octets bits) has_end) × (end ≡ Ok (has_end || not options.whole))
+TellsPage form options octets (Lines count) rows lines told end =
+    (told ≡ lines ++ cond options.verbose (rows_line rows) []) × (end ≡ Ok true)
+TellsPage form options octets (Fault fault) rows lines told end = (told ≡ []) × (end ≡ Err fault)
+
+-- a page is decoded in the way that the options ask for, and this is told of it
+pub record AnswersDecode (form : PageForm) (options : DecodeOptions) (octets image told : List ℕ) (end : Result Bool ToolFault)
+    : Type 0 where
+  pub read_to : ReadTo
+  pub rows : ℕ
+  pub lines : List ℕ
+  pub gives : GivesPage (broken_asked options.salvage options.repair) form octets read_to rows image lines
+  pub tells : TellsPage form options octets read_to rows lines told end

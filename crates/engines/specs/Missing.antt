@@ -1,0 +1,26 @@
+-- What is missing of the pages in a capture, in words.
+use Rattle.std.specs.Prelude.{ℕ, List, [], ◌++◌, codes}
+use Rattle.std.specs.Fmt.{decimal}
+use Rattle.run_tables.specs.Faults.{number_of}
+use Rattle.engines.specs.PageNumbers.{page_missing}
+use Rattle.engines.specs.declared.captured.Captured.{Captured}
+use Rattle.engines.specs.declared.captured.Captured.TheVariants.{Page, Unread, Lacks, Skipped, Unended, NoDcs}
+
+-- a page by its number from 1
+abbrev pub page_words : ℕ → List ℕ
+page_words page = codes "page " ++ decimal page
+
+-- a block by its page's number, and its own from 0
+abbrev pub block_words : ℕ → ℕ → List ℕ
+block_words page block = page_words page ++ (codes " block " ++ decimal block)
+
+-- what is missing, in words
+abbrev pub missing_text : Captured → List ℕ
+missing_text (Page page) = []
+missing_text (Unread mark fault) = page_words (page_missing (Unread mark fault))
+    ++ (codes ": can't be read, fault " ++ (decimal (number_of fault.kind) ++ (codes " at bit " ++ decimal fault.place)))
+missing_text (Lacks mark frame) = block_words (page_missing (Lacks mark frame)) mark.block
+    ++ (codes ": frame " ++ (decimal frame ++ codes " is missing"))
+missing_text (Skipped mark) = block_words (page_missing (Skipped mark)) mark.block ++ codes ": the blocks before it are missing"
+missing_text Unended = codes "a page has no end"
+missing_text (NoDcs mark) = block_words (page_missing (NoDcs mark)) mark.block ++ codes ": no DCS before it"

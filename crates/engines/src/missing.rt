@@ -1,0 +1,75 @@
+//! What is missing of the pages in a capture, in words.
+
+ghost use Rattle.std.specs.Prelude.{◌≡◌};
+
+use crate::captured::Captured;
+use crate::numbers::missing_page;
+use stations::Mark;
+use std::fmt;
+
+/// A block by the number of its page, from 1, and its own.
+#[derive(Clone, Copy, Drop)]
+struct BlockText {
+    page: u64,
+    block: u8,
+}
+
+impl BlockText {
+    /// The block of a mark.
+    fn of(page: u64, mark: &Mark) -> BlockText
+        ensures { result ≡ record { page = page; block = mark.now.block } }
+    {
+        BlockText {
+            page,
+            block: mark.block,
+        }
+    }
+}
+
+impl fmt::Display for BlockText {
+    ghost use Rattle.std.specs.Prelude.{Some};
+    ghost use Rattle.engines.specs.Missing.{block_words};
+
+    ghost output = { λ text. Some (block_words text.page text.block) };
+
+    fn fmt<W: fmt::Write>(&self, f: &mut fmt::Formatter<W>) -> fmt::Result {
+        write!(f, "page {} block {}", self.page, self.block)
+    }
+}
+
+/// What is missing of a page in a capture, in a line with no LF: the page's number from 1, and the numbers of block and frame as
+/// PPS and FCD have them, from 0. Of a page that is there, nothing.
+#[derive(Clone, Copy, Drop)]
+pub struct Missing<'a>(pub &'a Captured);
+
+impl fmt::Display for Missing<'_> {
+    ghost use Rattle.std.specs.Prelude.{Some};
+    ghost use Rattle.engines.specs.Missing.{missing_text};
+
+    ghost output = { λ text. Some (missing_text text.0.now) };
+
+    fn fmt<W: fmt::Write>(&self, f: &mut fmt::Formatter<W>) -> fmt::Result {
+        let page = missing_page(self.0);
+        match self.0 {
+            Captured::Page(_) => Ok(()),
+            Captured::Unread { mark: _, fault } => write!(
+                f,
+                "page {page}: can't be read, fault {} at bit {}",
+                fault.kind.number(),
+                fault.place,
+            ),
+            Captured::Lacks { mark, frame } => {
+                write!(f, "{}: frame {frame} is missing", BlockText::of(page, mark))
+            }
+            Captured::Skipped(mark) => write!(
+                f,
+                "{}: the blocks before it are missing",
+                BlockText::of(page, mark),
+            ),
+            Captured::Unended => write!(f, "a page has no end"),
+            Captured::NoDcs(mark) => {
+                write!(f, "{}: no DCS before it", BlockText::of(page, mark))
+            }
+        }
+    }
+}

@@ -1,0 +1,57 @@
+//! The command `call` with a script, and what each call leaves.
+
+ghost use Rattle.calls.specs.Calls.{HaveRows};
+ghost use Rattle.engines.specs.Faults.{IsOutside};
+ghost use Rattle.std.specs.Prelude.{IfErr};
+
+use crate::bits::{self, CallFiles};
+use crate::files::{read_file, read_input};
+use crate::notes::{Notes, Part};
+use crate::outputs;
+use calls::{CallOptions, call_engine, read_script};
+use engines::{NO_MEMORY, ToolFault};
+use raster::{Page, write_pbm};
+
+/// Runs a call by a script's file, and prints what has become of it. The file of the stored pages is
+/// opened last, and only where there are any.
+pub fn call_file(
+    rt: &HostRuntime,
+    script: &str,
+    options: &CallOptions,
+    files: CallFiles<'_>,
+    notes: &mut Notes,
+) -> Result<(), ToolFault> {
+    notes.script = read_file(rt, script, Part::Script, notes)?;
+    // a script that is refused is so before anything waits for images
+    let _commands = read_script(rt.alloc(), notes.script.as_slice())?;
+    read_input(rt, files.input, notes)?;
+    let mut writer = bits::open(rt, files.bits, notes)?;
+    let mut script = notes.script.as_slice();
+    let mut images = notes.octets.as_slice();
+    let called = call_engine(rt.alloc(), &mut script, &mut images, &mut writer, options);
+    let ended = bits::close(rt, writer, called.is_ok(), notes);
+    let pages = called?;
+    ended?;
+    write_pages(rt, files.out, &pages, notes)
+}
+
+/// Writes the pages that a call has stored into a file, one after the other, where one is named and there are any.
+pub fn write_pages(
+    rt: &HostRuntime,
+    out: Option<&str>,
+    pages: &[Page],
+    notes: &mut Notes,
+) -> Result<(), ToolFault>
+    requires { HaveRows pages.now }
+    ensures { IfErr result IsOutside }
+{
+    let Some(name) = out else {
+        return Ok(());
+    };
+    if pages.is_empty() {
+        return Ok(());
+    }
+    let mut octets = Vec::new(rt.alloc());
+    write_pbm(pages, &mut octets).map_err(|_fault| NO_MEMORY)?;
+    outputs::write(rt, name, octets.as_slice(), notes)
+}

@@ -1,0 +1,164 @@
+//! How a fault is shown: a line, and one of words where they are asked for.
+
+ghost use Rattle.faxtool.specs.Jobs.{HasWidth};
+ghost use Rattle.raster.specs.Pixels.{IsWidth};
+ghost use Rattle.std.specs.Prelude.{IfSome};
+
+use crate::names::file_of;
+use crate::notes::{Notes, Part};
+use crate::words::{Job, Outcome};
+use calls::line_fault_at;
+use clap::Error;
+use engines::{Expected, Explained, Known, LineFault, ToolFault, is_shown, refused_at};
+use page_code::Coding;
+use run_tables::Order;
+use std::env::{self, Env, FillError};
+use std::io;
+use std::io::IsTerminal;
+
+/// Shows what is wrong with words that are not a command, or the help that they ask for. Where a word has a control
+/// character, which would be shown as it is, that alone.
+pub fn refuse_words(rt: &HostRuntime, texts: &[&str], error: &Error) {
+    if texts.iter().all(|text| is_shown(text)) {
+        let _shown = rt.eprint(error);
+    } else {
+        let _shown = eprintln!(rt;
+            "error: the words are not a command, and one of them has a control character\n\nFor more information, try '--help'."
+        );
+    }
+}
+
+/// A fault before any file was named: its line, and on a terminal its words.
+pub fn refused(
+    rt: &HostRuntime,
+    fault: ToolFault,
+    file: &str,
+    reason: Option<io::ErrorKind>,
+) -> Outcome {
+    let _shown = eprintln!(rt; "{fault}");
+    if is_explained(rt) || is_asked(rt) {
+        let known = Known {
+            file,
+            reason,
+            begins: &[],
+            row: None,
+            expected: None,
+            read_as: None,
+            line: None,
+        };
+        let words = Explained { fault, known };
+        let _explained = eprintln!(rt; "{words}");
+    }
+    Outcome::Fault(fault)
+}
+
+/// Whether one of the command's words is `--explain`, also where another one isn't UTF-8.
+fn is_asked(rt: &HostRuntime) -> bool {
+    let mut word = [0u8; 16];
+    for number in 1..usize::MAX {
+        match rt.arg(number, &mut word) {
+            Ok(size) => {
+                if word.get(..size) == Some(b"--explain") {
+                    return true;
+                }
+            }
+            Err(FillError::TooLong) => {}
+            Err(FillError::NotPresent) => return false,
+        }
+    }
+    false
+}
+
+/// Whether faults are explained in words unasked: on a terminal, and where the environment says so.
+pub fn is_explained(rt: &HostRuntime) -> bool {
+    if rt.stderr().is_terminal() {
+        return true;
+    }
+    match env::var(rt, "FAXTOOL_EXPLAIN") {
+        Ok(value) => value.as_str() == "1",
+        Err(_) => false,
+    }
+}
+
+/// Shows the fault of a job: a line, and one of words where that is asked for.
+pub fn show_fault(rt: &HostRuntime, job: &Job, fault: ToolFault, notes: &Notes, explains: bool)
+    requires { HasWidth job.now }
+{
+    let _shown = eprintln!(rt; "{fault}");
+    if explains {
+        explain(rt, job, fault, notes);
+    }
+}
+
+/// Explains a fault of a job in words on standard error.
+pub fn explain<'a>(rt: &HostRuntime, job: &'a Job, fault: ToolFault, notes: &'a Notes)
+    requires { HasWidth job.now }
+{
+    let (row, expected) = refused_place(rt, job, fault, notes);
+    let known = Known {
+        file: file_of(job, part_of(fault, notes)),
+        reason: notes.failed.map(|failed| failed.1),
+        begins: notes.octets.as_slice(),
+        row,
+        expected,
+        read_as: page_of(job).map(|page| (page.0, page.1)),
+        line: refused_line(fault, notes),
+    };
+    let words = Explained { fault, known };
+    let _explained = eprintln!(rt; "{words}");
+}
+
+/// What is wrong with the line of a script that is refused.
+fn refused_line(fault: ToolFault, notes: &Notes) -> Option<LineFault> {
+    match fault {
+        ToolFault::AtLine(line) => line_fault_at(notes.script.as_slice(), line),
+        ToolFault::No(_) | ToolFault::AtBit { .. } => None,
+    }
+}
+
+/// The row, counted from 1, in which the page that a job reads is refused, and what is expected there, as far as they are
+/// known.
+pub fn refused_place(
+    rt: &HostRuntime,
+    job: &Job,
+    fault: ToolFault,
+    notes: &Notes,
+) -> (Option<usize>, Option<Expected>)
+    requires { HasWidth job.now }
+{
+    let ToolFault::AtBit { no: _, place } = fault else {
+        return (None, None);
+    };
+    let Some((coding, order, width)) = page_of(job) else {
+        return (None, None);
+    };
+    let octets = notes.octets.as_slice();
+    refused_at(rt.alloc(), octets, coding, order, width, place)
+}
+
+/// The code, the order of bits and the width of the page that a job reads.
+pub fn page_of(job: &Job) -> Option<(Coding, Order, u32)>
+    requires { HasWidth job.now }
+    ensures { IfSome result (λ page. IsWidth page.2) }
+{
+    match job {
+        Job::Show {
+            coding,
+            order,
+            width,
+            ..
+        } => Some((*coding, *order, *width)),
+        Job::Decode { form, .. } => Some((form.coding, form.order, form.width)),
+        _ => None,
+    }
+}
+
+/// Which file of a job a fault is about.
+fn part_of(fault: ToolFault, notes: &Notes) -> Part {
+    match (fault, notes.failed) {
+        (ToolFault::AtLine(_), _) => Part::Script,
+        (ToolFault::No(8), Some((part, _kind))) => part,
+        (ToolFault::No(9), _) => notes.unread.unwrap_or(Part::Input),
+        _ => Part::Input,
+    }
+}

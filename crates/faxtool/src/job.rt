@@ -1,0 +1,159 @@
+//! What is done for a job: its outputs are looked at, its command runs, and its fault is shown.
+
+ghost use Rattle.engines.specs.Faults.{IsOutside};
+ghost use Rattle.faxtool.specs.Jobs.{HasWidth};
+ghost use Rattle.std.specs.Prelude.{IfErr};
+
+use crate::bits::CallFiles;
+use crate::call::call_file;
+use crate::code::code_file;
+use crate::decode::decode_file;
+use crate::explain::{is_explained, show_fault};
+use crate::files::InAndOut;
+use crate::frames::frames_file;
+use crate::names::{bits_of, output_of};
+use crate::notes::{Notes, Part};
+use crate::show::show_file;
+use crate::station_run::{end_station, run_station};
+use crate::version::print_version;
+use crate::words::{Job, Outcome, Request};
+use crate::{drives, outputs};
+use engines::ToolFault;
+
+/// Does a job, and shows its fault: a line, and on a terminal or where that is asked for, one of words.
+pub fn run_request(rt: &HostRuntime, request: &Request) -> Outcome
+    requires { HasWidth request.now.job }
+{
+    let explains = request.explain || is_explained(rt);
+    let image = takes_image(&request.job);
+    let mut notes = Notes::new(rt.alloc(), is_long(&request.job), image);
+    match run_job(rt, &request.job, &mut notes, explains) {
+        Ok(outcome) => outcome,
+        Err(fault) => {
+            show_fault(rt, &request.job, fault, &notes, explains);
+            Outcome::Fault(fault)
+        }
+    }
+}
+
+/// Whether a job reads images.
+fn takes_image(job: &Job) -> bool {
+    match job {
+        Job::Code { .. } | Job::Call { .. } | Job::Drive { .. } | Job::Dial { .. } => true,
+        _ => false,
+    }
+}
+
+/// Whether a job may be long and prints nothing while it reads.
+fn is_long(job: &Job) -> bool {
+    match job {
+        Job::Code { .. } | Job::Decode { .. } | Job::Call { .. } | Job::Drive { .. } => true,
+        Job::Show { .. } | Job::Frames { .. } | Job::Version => false,
+        Job::Answer { .. } | Job::Dial { .. } => false,
+    }
+}
+
+/// Errs with 8 where the folder of a call's bits isn't there.
+fn check_bits(rt: &HostRuntime, job: &Job, notes: &mut Notes) -> Result<(), ToolFault>
+    ensures { IfErr result IsOutside }
+{
+    match bits_of(job) {
+        Some(name) => outputs::check_folder(rt, name, Part::Bits, notes),
+        None => Ok(()),
+    }
+}
+
+/// Errs with 8 where a job's output can't be written: octets on a terminal, or pages into a folder that isn't there.
+fn check_output(rt: &HostRuntime, job: &Job, notes: &mut Notes) -> Result<(), ToolFault>
+    ensures { IfErr result IsOutside }
+{
+    let Some(name) = output_of(job) else {
+        return Ok(());
+    };
+    match job {
+        Job::Frames { .. } | Job::Answer { .. } => {
+            outputs::check_folder(rt, name, Part::Output, notes)
+        }
+        _ => outputs::check_terminal(rt, name, notes),
+    }
+}
+
+/// Does a job, and answers whether all is there that it wants.
+pub fn run_job(
+    rt: &HostRuntime,
+    job: &Job,
+    notes: &mut Notes,
+    explains: bool,
+) -> Result<Outcome, ToolFault>
+    requires { HasWidth job.now }
+{
+    check_output(rt, job, notes)?;
+    check_bits(rt, job, notes)?;
+    if let Some(talked) = run_station(rt, job, notes) {
+        return Ok(end_station(rt, job, &talked?, notes, explains));
+    }
+    let is_complete = match job {
+        Job::Decode {
+            form,
+            options,
+            input,
+            output,
+        } => decode_file(rt, *form, *options, InAndOut { input, output }, notes)?,
+        Job::Frames { most, pages, input } => {
+            frames_file(rt, *most, pages.as_deref(), input, notes)?
+        }
+        _ => {
+            do_whole(rt, job, notes)?;
+            true
+        }
+    };
+    Ok(if is_complete {
+        Outcome::Done
+    } else {
+        Outcome::Incomplete
+    })
+}
+
+/// Does a job that either is done whole or fails; not one that decodes a page or lists frames.
+pub fn do_whole(rt: &HostRuntime, job: &Job, notes: &mut Notes) -> Result<(), ToolFault>
+    requires { HasWidth job.now }
+{
+    match job {
+        Job::Code {
+            coding,
+            order,
+            input,
+            output,
+        } => code_file(rt, *coding, *order, InAndOut { input, output }, notes),
+        Job::Show {
+            coding,
+            order,
+            width,
+            input,
+        } => show_file(rt, *coding, *order, *width, input, notes),
+        Job::Call {
+            script,
+            options,
+            out,
+            bits,
+            input,
+        } => call_file(rt, script, options, CallFiles::of(out, bits, input), notes),
+        Job::Drive {
+            line,
+            times,
+            options,
+            out,
+            bits,
+            input,
+        } => drives::drive(
+            rt,
+            line,
+            *times,
+            options,
+            CallFiles::of(out, bits, input),
+            notes,
+        ),
+        Job::Version => print_version(rt, notes),
+        Job::Decode { .. } | Job::Frames { .. } | Job::Answer { .. } | Job::Dial { .. } => Ok(()),
+    }
+}

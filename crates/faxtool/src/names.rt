@@ -1,0 +1,76 @@
+//! The names of the files of a job.
+
+use crate::files::STANDARD;
+use crate::notes::Part;
+use crate::words::Job;
+
+/// The name of the file, or of the folder, that a job writes.
+pub fn output_of<'a>(job: &'a Job) -> Option<&'a str> {
+    match job {
+        Job::Code { output, .. } | Job::Decode { output, .. } => Some(output.as_str()),
+        Job::Call { out, .. } | Job::Drive { out, .. } => out.as_deref(),
+        Job::Frames { pages, .. } => pages.as_deref(),
+        Job::Answer { out, .. } => Some(out.as_str()),
+        Job::Show { .. } | Job::Dial { .. } | Job::Version => None,
+    }
+}
+
+/// The name of the folder that the octets on the line of a job go to, where one is given.
+pub fn bits_of<'a>(job: &'a Job) -> Option<&'a str> {
+    match job {
+        Job::Call { bits, .. } | Job::Drive { bits, .. } => bits.as_deref(),
+        _ => None,
+    }
+}
+
+/// The name of the file of a job's script.
+fn script_of<'a>(job: &'a Job) -> Option<&'a str> {
+    match job {
+        Job::Call { script, .. } => Some(script.as_str()),
+        _ => None,
+    }
+}
+
+/// The name of the file that a job's trace goes to, where one is given.
+fn trace_of<'a>(job: &'a Job) -> Option<&'a str> {
+    match job {
+        Job::Answer { trace, .. } | Job::Dial { trace, .. } => trace.as_deref(),
+        _ => None,
+    }
+}
+
+/// The name of the file that a job reads; of one that reads the lines of a station alone, or none, it is standard input's.
+fn input_of<'a>(job: &'a Job) -> &'a str {
+    match job {
+        Job::Code { input, .. }
+        | Job::Show { input, .. }
+        | Job::Decode { input, .. }
+        | Job::Frames { input, .. }
+        | Job::Call { input, .. }
+        | Job::Drive { input, .. }
+        | Job::Dial { input, .. } => input.as_str(),
+        Job::Answer { .. } | Job::Version => STANDARD,
+    }
+}
+
+/// The name of a file of a job, as messages have it. Where the job has no such file, it is that of its input.
+pub fn file_of<'a>(job: &'a Job, part: Part) -> &'a str {
+    let named = match part {
+        Part::Printed => Some(STANDARD),
+        Part::Output => output_of(job),
+        Part::Script => script_of(job),
+        Part::Bits => bits_of(job),
+        Part::Trace => trace_of(job),
+        Part::Input => None,
+    };
+    shown_name(named.unwrap_or(input_of(job)), part)
+}
+
+/// A name as messages have it.
+fn shown_name<'a>(named: &'a str, part: Part) -> &'a str {
+    match part {
+        Part::Output | Part::Printed if named == STANDARD => "standard output",
+        _ if named == STANDARD => "standard input",
+        _ => named,
+    }
+}

@@ -1,0 +1,363 @@
+//! One end of a call, by lines of text on standard input and output.
+
+ghost use Rattle.engines.specs.Faults.{IsOutside};
+ghost use Rattle.std.specs.Prelude.{IfErr};
+
+use crate::files::{Printed, read_input};
+use crate::notes::{Notes, Part};
+use crate::station_words::GivenWaits;
+use crate::trace::Trace;
+use crate::{files, outputs};
+use calls::{CallOptions, end_word};
+use conversations::{
+    AnswerFault, Answered, Conversation, Durations, Keeper, PageStore, ReadFault, Said, TakeFault,
+    TimedLine, answer, keep_pages, next_line,
+};
+use engines::{FAILED, NO_MEMORY, ToolFault};
+use raster::{Page, read_pbm, write_pbm};
+use signals::{Caps, Wish};
+use stations::{CallEnd, Caller, LimitedAnswerer, Limits, StoppableCaller, Turn};
+use std::alloc::AllocError;
+use std::io;
+use std::io::{BufReader, BufWriter, ErrorKind, Read};
+use terminals::{Stoppable, Terminal};
+
+/// How many octets of standard input are read at a time.
+const READ_AT_ONCE: usize = 65536;
+
+/// Why the lines of a station went no further.
+#[derive(Clone, Copy, Drop)]
+pub(crate) enum Halted {
+    /// The line of this number, from 1, is none of a station, or its time runs back.
+    Line(u64),
+    /// A file, standard input or output failed, or memory was refused.
+    Fault(ToolFault),
+}
+
+impl From<io::Error> for Halted {
+    fn from(error: io::Error) -> Halted {
+        Halted::Fault(ToolFault::from(error))
+    }
+}
+
+impl From<AllocError> for Halted {
+    fn from(error: AllocError) -> Halted {
+        Halted::Fault(ToolFault::from(error))
+    }
+}
+
+/// What came of the lines of a station.
+#[derive(Drop)]
+pub(crate) struct Talked {
+    /// Why its call ended, if it has.
+    pub(crate) end: Option<CallEnd>,
+    /// How many pages are confirmed, of a caller, or on disk, of an answerer.
+    pub(crate) pages: u64,
+    /// Why its lines went no further, if that is so.
+    pub(crate) halted: Option<Halted>,
+}
+
+/// The word of why a call ended, or that it goes on.
+pub(crate) fn word_of(end: Option<CallEnd>) -> &'static str {
+    match end {
+        Some(CallEnd::By(end)) => end_word(Some(end)),
+        Some(CallEnd::Stopped) => "stopped",
+        Some(CallEnd::LineLost) => "line-lost",
+        None => end_word(None),
+    }
+}
+
+/// How long the waits of a station run.
+fn durations(given: GivenWaits) -> Durations {
+    let usual = Durations::of_t30();
+    Durations {
+        t1: given.t1.unwrap_or(usual.t1),
+        t2: given.t2.unwrap_or(usual.t2),
+        t4: given.t4.unwrap_or(usual.t4),
+        t5: given.t5.unwrap_or(usual.t5),
+    }
+}
+
+/// A caller keeps no pages.
+#[derive(Drop)]
+struct NoPages;
+
+impl Keeper<StoppableCaller> for NoPages {
+    ghost use Rattle.std.specs.Prelude.{◌≡◌, true};
+
+    ghost keeps = { λ old c new after kept. (new ≡ old) × (after ≡ c) × (kept ≡ true) };
+
+    type Refused = ToolFault;
+
+    fn keep(&mut self, _conversation: &mut Conversation<StoppableCaller>) -> Option<ToolFault> {
+        None
+    }
+}
+
+/// The folder that the pages of an answerer go to.
+#[derive(Drop)]
+struct Folder<'a> {
+    rt: &'a HostRuntime,
+    name: &'a str,
+    stored: u64,
+    next: u64,
+    failed: Option<io::ErrorKind>,
+}
+
+impl PageStore for Folder<'_> {
+    ghost use Rattle.std.specs.Prelude.{◌≡◌, ◌+◌};
+
+    ghost stores = { λ old page new. new.stored ≡ old.stored + 1 };
+
+    ghost refuses = { λ old page new. new.stored ≡ old.stored };
+
+    type Refused = ToolFault;
+
+    // The file is on disk then. Standard error says so where it has another number than the page.
+    fn store(&mut self, page: Page) -> Result<(), ToolFault> {
+        let Some(number) = self.stored.checked_add(1) else {
+            return Err(FAILED);
+        };
+        let octets = image_of(self.rt, page)?;
+        match outputs::store_page(self.rt, self.name, self.next, octets.as_slice()) {
+            Ok(written) => {
+                self.stored = number;
+                self.next = written.saturating_add(1);
+                if written != number {
+                    let _shown = eprintln!(self.rt; "page {number} written as page-{written}.pbm");
+                }
+                Ok(())
+            }
+            Err(error) => {
+                self.failed = Some(error.kind());
+                Err(ToolFault::from(error))
+            }
+        }
+    }
+}
+
+/// A page as a PBM image.
+fn image_of(rt: &HostRuntime, page: Page) -> Result<Vec<u8>, ToolFault>
+    ensures { IfErr result IsOutside }
+{
+    let mut octets = Vec::new(rt.alloc());
+    if page.rows().is_empty() {
+        // no station stores such a page
+        return Err(FAILED);
+    }
+    match write_pbm(&[page], &mut octets) {
+        Ok(()) => Ok(octets),
+        Err(_) => Err(NO_MEMORY),
+    }
+}
+
+impl Keeper<LimitedAnswerer> for Folder<'_> {
+    ghost use Rattle.conversations.specs.Answering.{StoresAll};
+    ghost use Rattle.std.specs.Prelude.{◌≡◌, ◌+◌};
+
+    ghost keeps = { λ old c new after kept.
+        StoresAll (λ first page then. then.stored ≡ first.stored + 1) (λ first page then. then.stored ≡ first.stored) c after old new kept };
+
+    type Refused = ToolFault;
+
+    fn keep(&mut self, conversation: &mut Conversation<LimitedAnswerer>) -> Option<ToolFault> {
+        keep_pages(conversation, self)
+    }
+}
+
+/// Where the answers of a station go.
+#[derive(Drop)]
+struct Answers<'a> {
+    rt: &'a HostRuntime,
+    writer: BufWriter<Printed<'a>>,
+    trace: Trace,
+}
+
+/// Why the lines go no further where the one of a number wasn't answered.
+fn halted_by(fault: AnswerFault<ToolFault>, number: u64) -> Halted {
+    match fault {
+        AnswerFault::NoLine | AnswerFault::Backwards => Halted::Line(number),
+        AnswerFault::NoMemory | AnswerFault::Writer(ErrorKind::OutOfMemory) => {
+            Halted::Fault(NO_MEMORY)
+        }
+        AnswerFault::Writer(_) => Halted::Fault(FAILED),
+        AnswerFault::Follower(fault) => Halted::Fault(fault),
+    }
+}
+
+/// Takes that the line is lost, where the lines end before the call.
+fn lose<S: Stoppable>(conversation: &mut Conversation<S>, number: u64) -> Result<(), Halted> {
+    let at = conversation.clock().now;
+    let lost = TimedLine {
+        at,
+        said: Said::End,
+    };
+    match conversation.take(&lost) {
+        Ok(()) => Ok(()),
+        Err(TakeFault::Backwards) => Err(Halted::Line(number)),
+        Err(TakeFault::NoMemory) => Err(Halted::Fault(NO_MEMORY)),
+    }
+}
+
+/// Reads the line of a number, if there is one. Why it can't be read is noted.
+fn read<R: Read>(
+    reader: &mut R,
+    line: &mut Vec<u8>,
+    number: u64,
+    notes: &mut Notes,
+) -> Result<bool, Halted> {
+    match next_line(reader, line) {
+        Ok(is_there) => Ok(is_there),
+        Err(ReadFault::NoMemory) => Err(Halted::Fault(NO_MEMORY)),
+        Err(ReadFault::TooLong) => Err(Halted::Line(number)),
+        Err(ReadFault::Failed(kind)) => {
+            notes.blame(Part::Input, kind);
+            Err(Halted::Fault(FAILED))
+        }
+    }
+}
+
+/// Takes the lines of standard input until the call is over, and writes the answer to each. Where the input ends before, the line is
+/// lost.
+fn talk<S: Stoppable, K: Keeper<S, Refused = ToolFault>>(
+    conversation: &mut Conversation<S>,
+    keeper: &mut K,
+    answers: &mut Answers<'_>,
+    notes: &mut Notes,
+) -> Result<(), Halted> {
+    let rt = answers.rt;
+    let mut reader = BufReader::with_capacity(rt.alloc(), READ_AT_ONCE, rt.reader())?;
+    let mut line = Vec::new(rt.alloc());
+    for number in 1..u64::MAX {
+        if !read(&mut reader, &mut line, number, notes)? {
+            return lose(conversation, number);
+        }
+        let Answers { writer, trace, .. } = answers;
+        match answer(rt.alloc(), &line, conversation, keeper, writer, trace) {
+            Err(fault) => return Err(halted_by(fault, number)),
+            Ok(
+                Answered {
+                    unkept: Some(fault),
+                    ..
+                },
+            ) => return Err(Halted::Fault(fault)),
+            Ok(Answered { over: true, .. }) => return Ok(()),
+            Ok(_) => {}
+        }
+    }
+    Err(Halted::Fault(FAILED))
+}
+
+/// Talks, and notes why standard output failed.
+fn talk_out<S: Stoppable, K: Keeper<S, Refused = ToolFault>>(
+    rt: &HostRuntime,
+    conversation: &mut Conversation<S>,
+    keeper: &mut K,
+    trace: Option<&str>,
+    notes: &mut Notes,
+) -> Result<Option<Halted>, ToolFault> {
+    let trace = Trace::open(rt, trace, notes)?;
+    let writer = files::print(rt)?;
+    let mut answers = Answers { rt, writer, trace };
+    let talked = talk(conversation, keeper, &mut answers, notes);
+    if let Some(kind) = answers.writer.get_ref().failed() {
+        notes.blame(Part::Printed, kind);
+    }
+    Ok(talked.err())
+}
+
+/// An answerer by lines.
+#[derive(Clone, Copy)]
+pub(crate) struct Answering<'a> {
+    /// What it can do.
+    pub(crate) caps: Caps,
+    /// How many pages wait in memory at most.
+    pub(crate) limit: u32,
+    /// How long its waits run.
+    pub(crate) waits: GivenWaits,
+    /// The name of the folder of its pages.
+    pub(crate) out: &'a str,
+    /// The name of the file of its trace, where one is asked for.
+    pub(crate) trace: Option<&'a str>,
+}
+
+impl Answering<'_> {
+    /// Runs it. Errs with 8 where a file can't be opened, which is noted, and with 9.
+    pub(crate) fn run(&self, rt: &HostRuntime, notes: &mut Notes) -> Result<Talked, ToolFault> {
+        let caps = Caps {
+            receiver: true,
+            ecm: true,
+            ..self.caps
+        };
+        let limits = Limits {
+            pages: u64::from(self.limit).max(1),
+            octets: u64::MAX,
+        };
+        let (station, first) = LimitedAnswerer::new(rt.alloc(), caps, limits);
+        let terminal = Terminal::new(rt.alloc(), station, first);
+        let mut conversation = Conversation::new_answerer(terminal, durations(self.waits));
+        let mut folder = Folder {
+            rt,
+            name: self.out,
+            stored: 0,
+            next: 1,
+            failed: None,
+        };
+        let halted = talk_out(rt, &mut conversation, &mut folder, self.trace, notes)?;
+        if let Some(kind) = folder.failed {
+            notes.blame(Part::Output, kind);
+        }
+        Ok(Talked {
+            end: conversation.end(),
+            pages: folder.stored,
+            halted,
+        })
+    }
+}
+
+/// A caller by lines.
+#[derive(Clone, Copy)]
+pub(crate) struct Dialling<'a> {
+    /// What it is run with.
+    pub(crate) options: &'a CallOptions,
+    /// How long its waits run.
+    pub(crate) waits: GivenWaits,
+    /// The name of the file of its trace, where one is asked for.
+    pub(crate) trace: Option<&'a str>,
+    /// The name of the document's file.
+    pub(crate) input: &'a str,
+}
+
+impl Dialling<'_> {
+    /// The caller, with the document of its file. Errs with the first fault of the file, with 26 where the width of a page is none that
+    /// a call can have, with 8 where the file can't be read, which is noted, and with 9.
+    fn caller(&self, rt: &HostRuntime, notes: &mut Notes) -> Result<Caller, ToolFault> {
+        read_input(rt, self.input, notes)?;
+        let mut images = notes.octets.as_slice();
+        let document = read_pbm(rt.alloc(), &mut images, self.options.fine)?;
+        let wish = Wish {
+            modems: self.options.modems,
+            coding: self.options.coding,
+            small: self.options.small,
+        };
+        match Caller::new(rt.alloc(), document, wish) {
+            Ok(caller) => Ok(caller),
+            Err(fault) => Err(ToolFault::No(fault.number())),
+        }
+    }
+
+    /// Runs it. Errs as `caller` does, and with 8 where the trace can't be opened, which is noted.
+    pub(crate) fn run(&self, rt: &HostRuntime, notes: &mut Notes) -> Result<Talked, ToolFault> {
+        let caller = self.caller(rt, notes)?;
+        let station = StoppableCaller::new(caller);
+        let terminal = Terminal::new(rt.alloc(), station, Turn::Silent);
+        let mut conversation = Conversation::new_caller(terminal, durations(self.waits));
+        let halted = talk_out(rt, &mut conversation, &mut NoPages, self.trace, notes)?;
+        let caller = conversation.terminal().station().station();
+        Ok(Talked {
+            end: conversation.end(),
+            pages: caller.confirmed(),
+            halted,
+        })
+    }
+}

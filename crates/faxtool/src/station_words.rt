@@ -1,0 +1,200 @@
+//! The words of the command `station`.
+ghost use Rattle.std.specs.Prelude.{◌≡◌, IfOk, MatchOption, Some, codes, false, option_map, true};
+ghost use Rattle.std.specs.Str.{bytes_eq};
+ghost use Rattle.clap.specs.Words.{first_of, found_of, rows_of};
+ghost use Rattle.faxtool.specs.Jobs.{AreWaitsIn, HasNoJob, IsJobOf, caps_in, has_answerer, has_caller, limit_of, is_named, takes_t6, widest_named};
+
+use crate::words::{
+    Job, coding_in, copy_of, is_named, modems_named, number_in, options_in, text_in,
+};
+use clap::ArgMatches;
+use page_code::Coding;
+use signals::{Caps, PageWidth};
+use std::alloc::{AllocError, Global};
+
+/// How long the waits run in milliseconds, where that is said.
+#[derive(Clone, Copy, Debug, PartialEq, Eq)]
+pub struct GivenWaits {
+    /// T1.
+    pub t1: Option<u32>,
+    /// T2.
+    pub t2: Option<u32>,
+    /// T4.
+    pub t4: Option<u32>,
+    /// T5.
+    pub t5: Option<u32>,
+}
+
+/// The job of one station, where no value of it is missing and its options go together.
+pub(crate) fn station_job(
+    alloc: Global,
+    matches: &ArgMatches<'_>,
+) -> Result<Option<Job>, AllocError>
+    ensures { let met = Some (codes "station", rows_of (found_of matches.now)) in
+        IfOk result (λ job. MatchOption job (HasNoJob met) (IsJobOf met)) }
+{
+    let answers = is_named(text_in(matches, "answer"), "true");
+    let calls = is_named(text_in(matches, "call"), "true");
+    if answers && !calls {
+        return answer_job(alloc, matches);
+    }
+    if calls && !answers {
+        return dial_job(alloc, matches);
+    }
+    Ok(None)
+}
+
+// The job of an answerer.
+fn answer_job(alloc: Global, matches: &ArgMatches<'_>) -> Result<Option<Job>, AllocError>
+    requires answers { is_named (codes "true") (first_of (codes "answer") (rows_of (found_of matches.now))) ≡ true }
+    requires calls { is_named (codes "true") (first_of (codes "call") (rows_of (found_of matches.now))) ≡ false }
+    ensures { let met = Some (codes "station", rows_of (found_of matches.now)) in
+        IfOk result (λ job. MatchOption job (HasNoJob met) (IsJobOf met)) }
+{
+    if has_caller(matches) {
+        return Ok(None);
+    }
+    let Some(coding) = coding_in(matches) else {
+        return Ok(None);
+    };
+    let Some(out) = text_in(matches, "out") else {
+        return Ok(None);
+    };
+    Ok(Some(Job::Answer {
+        caps: caps_in(matches, coding),
+        limit: limit_of(number_in(matches, "limit")),
+        waits: waits_in(matches),
+        out: String::from_str(alloc, out)?,
+        trace: copy_of(alloc, text_in(matches, "trace"))?,
+    }))
+}
+
+// The job of a caller.
+fn dial_job(alloc: Global, matches: &ArgMatches<'_>) -> Result<Option<Job>, AllocError>
+    requires calls { is_named (codes "true") (first_of (codes "call") (rows_of (found_of matches.now))) ≡ true }
+    requires answers { is_named (codes "true") (first_of (codes "answer") (rows_of (found_of matches.now))) ≡ false }
+    ensures { let met = Some (codes "station", rows_of (found_of matches.now)) in
+        IfOk result (λ job. MatchOption job (HasNoJob met) (IsJobOf met)) }
+{
+    if has_answerer(matches) {
+        return Ok(None);
+    }
+    let Some(options) = options_in(matches) else {
+        return Ok(None);
+    };
+    let Some(input) = text_in(matches, "in") else {
+        return Ok(None);
+    };
+    if is_standard(input) {
+        return Ok(None);
+    }
+    Ok(Some(Job::Dial {
+        options,
+        waits: waits_in(matches),
+        trace: copy_of(alloc, text_in(matches, "trace"))?,
+        input: String::from_str(alloc, input)?,
+    }))
+}
+
+// Whether a file is standard input.
+fn is_standard(input: &str) -> bool
+    ensures { result ≡ bytes_eq input.now (codes "-") }
+{
+    input == "-"
+}
+
+// Whether a value is of an answerer alone.
+fn has_answerer(matches: &ArgMatches<'_>) -> bool
+    ensures { result ≡ has_answerer (rows_of (found_of matches.now)) }
+{
+    text_in(matches, "out").is_some()
+        || is_named(text_in(matches, "standard"), "true")
+        || text_in(matches, "widest").is_some()
+        || text_in(matches, "limit").is_some()
+}
+
+// Whether a value is of a caller alone.
+fn has_caller(matches: &ArgMatches<'_>) -> bool
+    ensures { result ≡ has_caller (rows_of (found_of matches.now)) }
+{
+    text_in(matches, "frame").is_some()
+        || is_named(text_in(matches, "fine"), "true")
+        || text_in(matches, "in").is_some()
+}
+
+// How many pages wait in memory at most.
+fn limit_of(given: Option<u32>) -> u32
+    ensures { result ≡ limit_of given }
+{
+    match given {
+        Some(limit) => limit,
+        None => 2,
+    }
+}
+
+// How long the waits run.
+fn waits_in(matches: &ArgMatches<'_>) -> GivenWaits
+    ensures { AreWaitsIn (rows_of (found_of matches.now)) result }
+{
+    GivenWaits {
+        t1: number_in(matches, "t1"),
+        t2: number_in(matches, "t2"),
+        t4: number_in(matches, "t4"),
+        t5: number_in(matches, "t5"),
+    }
+}
+
+// What an answerer can do.
+fn caps_in(matches: &ArgMatches<'_>, coding: Coding) -> Caps
+    ensures { result ≡ caps_in (rows_of (found_of matches.now)) coding }
+{
+    Caps {
+        receiver: true,
+        modems: modems_named(text_in(matches, "modems")),
+        fine: !is_named(text_in(matches, "standard"), "true"),
+        widest: widest_named(text_in(matches, "widest")),
+        t6: takes_t6(coding),
+        ecm: true,
+    }
+}
+
+fn takes_t6(coding: Coding) -> bool
+    ensures { result ≡ takes_t6 coding }
+{
+    match coding {
+        Coding::OneDim => false,
+        Coding::T6 => true,
+    }
+}
+
+fn widest_named(name: Option<&str>) -> PageWidth
+    ensures { result ≡ widest_named (option_map (λ name. name.now) name.entry) }
+{
+    match name {
+        Some(name) if name == "1728" => PageWidth::W1728,
+        Some(name) if name == "2048" => PageWidth::W2048,
+        _ => PageWidth::W2432,
+    }
+}
+
+// What is wrong with the words of a station.
+pub(crate) fn unfit_station(matches: &ArgMatches<'_>) -> &'static str {
+    let answers = is_named(text_in(matches, "answer"), "true");
+    let calls = is_named(text_in(matches, "call"), "true");
+    if answers == calls {
+        return "a station answers or calls: either --answer or --call is needed";
+    }
+    if answers && has_caller(matches) {
+        return "--frame, --fine and IN are for a station with --call";
+    }
+    if answers {
+        return "--answer needs --out, the folder of the pages";
+    }
+    if has_answerer(matches) {
+        return "--out, --standard, --widest and --limit are for a station with --answer";
+    }
+    if text_in(matches, "in").is_none() {
+        return "--call needs IN, the file of the document";
+    }
+    "IN can't be standard input, where the lines come"
+}

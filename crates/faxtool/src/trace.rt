@@ -1,0 +1,122 @@
+//! What a station heard and said, as text with its time.
+
+ghost use Rattle.engines.specs.Faults.{IsOutside};
+ghost use Rattle.std.specs.Prelude.{IfErr};
+
+use crate::notes::{Notes, Part};
+use conversations::{Follower, Heard, Kind, Said, TimedLine, heard_as};
+use engines::{ContentText, ToolFault};
+use hdlc::Deframer;
+use stations::Listening;
+use std::fs::{File, OpenOptions};
+use std::io::{BufWriter, Write};
+use terminals::SentBurst;
+
+/// The trace of a station, where one is asked for.
+#[derive(Drop)]
+pub(crate) struct Trace(Option<TraceFile>);
+
+/// The file of a trace, and what was heard and said so far of frames that are not whole.
+#[derive(Drop)]
+struct TraceFile {
+    writer: BufWriter<File>,
+    heard: Deframer,
+    said: Deframer,
+}
+
+impl Follower for Trace {
+    type Failed = ToolFault;
+
+    fn heard(&mut self, listens: Listening, line: &TimedLine) -> Result<(), ToolFault> {
+        self.write_heard(listens, line)
+    }
+
+    fn said(&mut self, at: u64, burst: &SentBurst) -> Result<(), ToolFault> {
+        self.write_said(at, burst)
+    }
+}
+
+impl Trace {
+    /// The trace that goes to a file, after what is there; or none. Errs with 8 where the file can't be opened, which is noted, and with 9.
+    pub(crate) fn open(
+        rt: &HostRuntime,
+        name: Option<&str>,
+        notes: &mut Notes,
+    ) -> Result<Trace, ToolFault>
+        ensures { IfErr result IsOutside }
+    {
+        let Some(name) = name else {
+            return Ok(Trace(None));
+        };
+        let opened = OpenOptions::new().append(true).create(true).open(rt, name);
+        if let Err(error) = &opened {
+            notes.blame(Part::Trace, error.kind());
+        }
+        Ok(Trace(Some(TraceFile {
+            writer: BufWriter::new(rt.alloc(), opened?)?,
+            heard: Deframer::new(rt.alloc()),
+            said: Deframer::new(rt.alloc()),
+        })))
+    }
+
+    /// Writes what a line brings to a station that listens so. Errs with 8 where the file fails, and with 9.
+    fn write_heard(&mut self, listens: Listening, line: &TimedLine) -> Result<(), ToolFault>
+        ensures { IfErr result IsOutside }
+    {
+        let (
+            Some(file),
+            Said::Received {
+                channel,
+                kind,
+                octets,
+                ..
+            },
+        ) = (&mut self.0, &line.said)
+        else {
+            return Ok(());
+        };
+        match heard_as(listens, *channel, *kind) {
+            Heard::Frames => {
+                file.heard.feed(octets)?;
+                write_contents(&mut file.heard, line.at, "heard", &mut file.writer)?;
+            }
+            Heard::Check => writeln!(file.writer, "{} heard TRAINING", line.at)?,
+            Heard::Nothing => {}
+        }
+        file.writer.flush()?;
+        Ok(())
+    }
+
+    /// Writes what a burst says. Errs with 8 where the file fails, and with 9.
+    fn write_said(&mut self, at: u64, burst: &SentBurst) -> Result<(), ToolFault>
+        ensures { IfErr result IsOutside }
+    {
+        let Some(file) = &mut self.0 else {
+            return Ok(());
+        };
+        match Kind::of(burst.carrier) {
+            Kind::Frames => {
+                file.said.feed(&burst.octets)?;
+                write_contents(&mut file.said, at, "said", &mut file.writer)?;
+            }
+            Kind::Check => writeln!(file.writer, "{at} said TRAINING")?,
+        }
+        file.writer.flush()?;
+        Ok(())
+    }
+}
+
+/// Writes a line for each content that waits: the time, a word, and what the content says. Errs with 8 where the writer fails, and with 9.
+fn write_contents<W: Write>(
+    deframer: &mut Deframer,
+    at: u64,
+    word: &str,
+    writer: &mut W,
+) -> Result<(), ToolFault>
+    ensures fault { IfErr result IsOutside }
+{
+    while let Some(content) = deframer.next() {
+        writeln!(writer, "{at} {word} {}", ContentText(content))?;
+    }
+    Ok(())
+}

@@ -1,0 +1,66 @@
+-- What calls answer that code pages and read coded pages.
+use Rattle.std.specs.Prelude.{ℕ, ◌≡◌, ◌≢◌, ◌<◌, ◌^◌, ◌⊎◌, [], Bool, List, Result, Ok, Err, IfSome, length, if◌then◌else◌, nat_eq}
+use Rattle.std.specs.declared.option.Option.{Option}
+use Rattle.std.specs.declared.option.Option.TheVariants.{None, Some}
+use Rattle.raster.specs.Packed.{bits_of}
+use Rattle.raster.specs.Pages.{PagePixels}
+use Rattle.raster.specs.Pixels.{IsWidth}
+use Rattle.raster.specs.declared.packed.Order.{Order}
+use Rattle.raster.specs.declared.packed.Order.TheVariants.{LsbFirst, MsbFirst}
+use Rattle.raster.specs.declared.row.Color.{Color}
+use Rattle.run_tables.specs.Faults.{number_of}
+use Rattle.run_tables.specs.declared.fault.CodeFaultKind.{CodeFaultKind}
+use Rattle.page_code.specs.Codings.{code_of}
+use Rattle.page_code.specs.PageCodes.{AppendsCode}
+use Rattle.page_code.specs.RowsSoFar.{AreWholeRows}
+use Rattle.page_code.specs.declared.coding.Coding.{Coding}
+use Rattle.page_code.specs.declared.coding.Coding.TheVariants.{OneDim, T6}
+use Rattle.g3fax.specs.Handles.{Fills, HasOctets, HasPage}
+use Rattle.g3fax.specs.Pages.{bad_width, is_set}
+use Rattle.g3fax.specs.Statuses.{ok, no_memory, bad_choice}
+use Rattle.g3fax.specs.declared.codes.G3Code.{G3Code}
+use Rattle.g3fax.specs.declared.handle.Kept.{Kept}
+
+-- the codes by their numbers: 1 is T.4 in one dimension, 2 is T.6
+abbrev pub coding_of : ℕ → Option Coding
+coding_of number = if nat_eq number 1 then Some OneDim else (if nat_eq number 2 then Some T6 else None)
+
+-- the orders of bits in octets by their numbers: 0 most significant first, 1 least significant first
+abbrev pub order_of : ℕ → Option Order
+order_of number = if nat_eq number 0 then Some MsbFirst else (if nat_eq number 1 then Some LsbFirst else None)
+
+-- a number of bits is told, where it is one of 64 bits
+abbrev pub Tells : ℕ → ℕ → Type 0
+Tells bits told = bits < 2 ^ 64 → told ≡ bits
+
+-- an empty handle is filled with the code of a page; a page of no rows is answered by 4
+pub record CodesPage (coding : Option Coding) (order : Option Order) (page : PagePixels) (old : Option Kept) (status : ℕ) (new : Option Kept) : Type 0 where
+  pub fills : Fills (HasOctets (λ octets. IfSome coding (λ c. IfSome order (λ o.
+      AppendsCode o (code_of c page.width page.rows) [] octets)))) old status new
+  pub no_coding : old ≡ None → coding ≡ None → status ≡ bad_choice
+  pub no_order : old ≡ None → order ≡ None → status ≡ bad_choice
+  pub no_rows : old ≡ None → coding ≢ None → order ≢ None → length page.rows ≡ 0 → status ≡ 4
+  pub only : old ≡ None → coding ≢ None → order ≢ None → 0 < length page.rows → (status ≡ ok) ⊎ (status ≡ no_memory)
+
+-- the page that was read fills the handle and the bits used are told; or the refusal is answered, and its bit is told
+abbrev pub GivesRead : ℕ → Bool → Result (List (List Color) × ℕ) (ℕ × CodeFaultKind) → ℕ → ℕ → Option Kept → Type 0
+GivesRead width fine (Ok read) status place new = (status ≡ ok) × Tells read.1 place
+    × HasPage (λ page. (page.width ≡ width) × (page.fine ≡ fine) × (page.rows ≡ read.0)) new
+GivesRead width fine (Err refused) status place new = (status ≡ number_of refused.1) × Tells refused.0 place
+
+-- what is answered of octets that are read as a page, where the handle is empty and the form is one
+abbrev pub Answers : G3Code → (Coding → Order → Type 0) → Option Kept → ℕ → Type 0
+Answers code Gives old status = IfSome (coding_of code.coding) (λ coding. IfSome (order_of code.order) (λ order.
+    old ≡ None → IsWidth code.width → status ≢ no_memory → Gives coding order))
+
+-- an empty handle is filled with a page that is read of octets in this form; a form that is none is answered by 104, or by 1 for its width
+pub record ReadsForm (code : G3Code) (Holds : PagePixels → Type 0) (old : Option Kept) (status : ℕ) (new : Option Kept) : Type 0 where
+  pub fills : Fills (HasPage (λ page. (page.width ≡ code.width) × (page.fine ≡ is_set code.fine) × Holds page)) old status new
+  pub no_coding : old ≡ None → coding_of code.coding ≡ None → status ≡ bad_choice
+  pub no_order : old ≡ None → order_of code.order ≡ None → status ≡ bad_choice
+  pub no_width : old ≡ None → coding_of code.coding ≢ None → order_of code.order ≢ None → ¬ IsWidth code.width → status ≡ bad_width
+
+-- the whole rows at the beginning of the bits
+abbrev pub HasWholeRows : G3Code → List ℕ → PagePixels → Type 0
+HasWholeRows code octets page = IfSome (coding_of code.coding) (λ coding. IfSome (order_of code.order) (λ order.
+    AreWholeRows coding code.width (bits_of order octets) page.rows))

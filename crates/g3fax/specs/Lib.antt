@@ -1,0 +1,9 @@
+pub mod Codes
+pub mod Frames
+pub mod Handles
+pub mod Images
+pub mod Owned
+pub mod Pages
+pub mod Rasters
+pub mod Repairs
+pub mod Statuses

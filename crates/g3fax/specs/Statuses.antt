@@ -1,0 +1,38 @@
+-- The numbers of the statuses that aren't faults of rows, pages, images or codes.
+use Rattle.std.specs.Prelude.{ℕ}
+
+-- it is done
+abbrev pub ok : ℕ
+ok = 0
+
+-- memory was refused
+abbrev pub no_memory : ℕ
+no_memory = 9
+
+-- the handle has nothing
+abbrev pub empty_handle : ℕ
+empty_handle = 100
+
+-- the handle has something of another kind
+abbrev pub other_handle : ℕ
+other_handle = 101
+
+-- the handle that is to be filled has something
+abbrev pub full_handle : ℕ
+full_handle = 102
+
+-- the buffer has too little room
+abbrev pub no_room : ℕ
+no_room = 103
+
+-- a number that stands for no choice
+abbrev pub bad_choice : ℕ
+bad_choice = 104
+
+-- a length that isn't allowed
+abbrev pub bad_length : ℕ
+bad_length = 105
+
+-- nothing is there: no such row, no frame that waits
+abbrev pub nothing_there : ℕ
+nothing_there = 106

@@ -1,0 +1,169 @@
+//! What C holds: a handle, which is empty or has one value.
+
+ghost use Rattle.g3fax.specs.declared.handle.Kept.{Kept};
+ghost use Rattle.std.specs.Prelude.{◌≡◌, ◌≢◌, ◌↔◌, ◌⊎◌, IfNone, IfSome, IsTrue, None, Some};
+ghost use Rattle.std.specs.declared.option.Option.{Option};
+
+use crate::loose::Loose;
+use crate::status::{FULL_HANDLE, NO_MEMORY, OK};
+use hdlc::Deframer;
+use raster::Page;
+use std::alloc::Global;
+use std::marker::Model;
+use std::{mem, ptr};
+
+/// A value of a handle.
+#[derive(Drop)]
+pub enum Kept {
+    /// Octets that a call has made.
+    Octets(Vec<u8>),
+    /// A page.
+    Page(Page),
+    /// A deframer.
+    Deframer(Deframer),
+}
+
+/// A handle: null, or the place of a value that the handle owns. C begins it as null.
+#[repr(C)]
+#[derive(Drop)]
+pub struct G3Handle {
+    at: *mut u8,
+    alloc: Global,
+    ghost value: { Option Kept },
+}
+
+impl Model for G3Handle {
+    ghost use Rattle.std.specs.declared.option.Option.{Option};
+    ghost use Rattle.std.specs.contracts.impls.GlobalAllocator.TheImpl.{ghosts};
+    ghost use Rattle.g3fax.specs.declared.handle.Kept.{Kept};
+    ghost use Rattle.g3fax.specs.contracts.handle.Kept.{the_row};
+    ghost use Rattle.g3fax.specs.Owned.{owned};
+
+    ghost also_owns = { λ h. owned (ghosts.dealloc_token h.alloc) the_row h.at h.value };
+}
+
+// The three functions that reach the pointer: each is proved by hand, and no other one is.
+impl G3Handle {
+    /// A handle with nothing.
+    pub(crate) fn empty(alloc: Global) -> G3Handle
+        ensures { result.value ≡ None }
+    {
+        G3Handle {
+            at: ptr::null_mut(),
+            alloc,
+        }
+    }
+
+    /// The handle of a box's pointer.
+    pub(crate) fn of(loose: Loose<Kept, Global>) -> G3Handle
+        ensures { result.value ≡ Some loose.value }
+    {
+        let Loose { at, alloc } = loose;
+        G3Handle {
+            at: at as *mut u8,
+            alloc,
+        }
+    }
+
+    /// The pointer, unless it is null.
+    pub(crate) fn into_loose(self) -> Option<Loose<Kept, Global>>
+        ensures some { IfSome result (λ loose. self.value ≡ Some loose.value) }
+        ensures none { IfNone result (self.value ≡ None) }
+    {
+        let G3Handle { at, alloc } = self;
+        if at.is_null() {
+            None
+        } else {
+            Some(Loose {
+                at: at as *mut Kept,
+                alloc,
+            })
+        }
+    }
+}
+
+impl G3Handle {
+    /// The value, unless there is none.
+    fn into_box(self) -> Option<Box<Kept>>
+        ensures some { IfSome result (λ boxed. self.value ≡ Some boxed.value) }
+        ensures none { IfNone result (self.value ≡ None) }
+    {
+        let loose = self.into_loose()?;
+        Some(loose.into_box())
+    }
+
+    /// Gives its value up, and is empty then.
+    pub(crate) fn take(&mut self, alloc: Global) -> Option<Box<Kept>>
+        ensures some { IfSome result (λ boxed. self.old.value ≡ Some boxed.value) }
+        ensures none { IfNone result (self.old.value ≡ None) }
+        ensures empty { self.new.value ≡ None }
+    {
+        mem::replace(self, G3Handle::empty(alloc)).into_box()
+    }
+
+    /// Takes a value. What was there is forgotten, so it is called of an empty handle.
+    pub(crate) fn put(&mut self, boxed: Box<Kept>)
+        ensures { self.new.value ≡ Some boxed.value }
+    {
+        *self = G3Handle::of(Loose::of(boxed));
+    }
+
+    /// Whether it has a value.
+    pub(crate) fn is_full(&mut self, alloc: Global) -> bool
+        ensures kept { self.new.value ≡ self.old.value }
+        ensures full { IsTrue result ↔ (self.old.value ≢ None) }
+    {
+        match self.take(alloc) {
+            Some(boxed) => {
+                self.put(boxed);
+                true
+            }
+            None => false,
+        }
+    }
+
+    /// Takes a value, where it is empty. Answers 102 where it has one, and 9 where memory is refused.
+    pub(crate) fn fill(&mut self, alloc: Global, kept: Kept) -> u32
+        ensures done { result ≡ 0 → (self.old.value ≡ None) × (self.new.value ≡ Some kept) }
+        ensures kept { result ≢ 0 → self.new.value ≡ self.old.value }
+        ensures full { self.old.value ≢ None → result ≡ 102 }
+        ensures only { self.old.value ≡ None → (result ≡ 0) ⊎ (result ≡ 9) }
+    {
+        if self.is_full(alloc) {
+            return FULL_HANDLE;
+        }
+        let Ok(boxed) = Box::new(alloc, kept) else {
+            return NO_MEMORY;
+        };
+        self.put(boxed);
+        OK
+    }
+}
+
+/// Works on the value of a handle, if it is of a kind: the value is taken out and put back, so that nothing here
+/// reaches through the pointer.
+macro_rules! opened {
+    ($alloc:expr, $handle:expr, $kind:ident, $name:ident => $work:expr) => {
+        match $handle.take($alloc) {
+            None => crate::status::EMPTY_HANDLE,
+            Some(mut kept) => {
+                let status = match &mut *kept {
+                    crate::handle::Kept::$kind($name) => $work,
+                    _ => crate::status::OTHER_HANDLE,
+                };
+                $handle.put(kept);
+                status
+            }
+        }
+    };
+}
+
+pub(crate) use opened;
+
+/// Frees what a handle has; an empty one stays empty.
+#[unsafe(no_mangle)]
+pub extern "C" fn g3_core_free(alloc: Global, handle: &mut G3Handle)
+    ensures { handle.new.value ≡ None }
+{
+    let _gone = handle.take(alloc);
+}

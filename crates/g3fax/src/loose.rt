@@ -1,0 +1,36 @@
+//! A box as the pointer that it owns.
+
+ghost use Rattle.std.specs.Box.Ownership.{box_owns};
+ghost use Rattle.std.specs.Prelude.{◌≡◌};
+
+use std::alloc::Allocator;
+use std::marker::Model;
+
+/// The pointer of a box with its allocator; the value is the one that lies there.
+pub struct Loose<T, A: Allocator> {
+    pub(crate) at: *mut T,
+    pub(crate) alloc: A,
+    pub(crate) ghost value: { T },
+}
+
+impl<T, A: Allocator> Model for Loose<T, A> {
+    ghost also_owns = { λ l. box_owns (A.dealloc_token l.alloc) T.row l.at l.value };
+}
+
+impl<T: Drop, A: Allocator> Loose<T, A> {
+    /// The pointer of a box.
+    pub(crate) fn of(boxed: Box<T, A>) -> Loose<T, A>
+        ensures { result.value ≡ boxed.value }
+    {
+        let (at, alloc) = Box::into_raw_with_allocator(boxed);
+        Loose { at, alloc }
+    }
+
+    /// The box again.
+    pub(crate) fn into_box(self) -> Box<T, A>
+        ensures { result.value ≡ self.value }
+    {
+        let Loose { at, alloc } = self;
+        unsafe { Box::from_raw(alloc, at) }
+    }
+}

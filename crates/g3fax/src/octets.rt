@@ -1,0 +1,49 @@
+//! Octets that calls have made, for C.
+
+ghost use Rattle.g3fax.specs.Handles.{Copies, OfOctets};
+ghost use Rattle.std.specs.Prelude.{◌≡◌, ◌≢◌, length};
+
+use crate::handle::{G3Handle, opened};
+use crate::status::{NO_ROOM, OK};
+use std::alloc::Global;
+
+/// Copies octets to the beginning of a buffer, and tells how many they are. Answers 103 where the buffer has too little room.
+pub(crate) fn copy_out(octets: &[u8], buffer: &mut [u8], count: &mut u64) -> u32
+    ensures { Copies octets.now buffer.old buffer.new count.new result }
+{
+    *count = octets.len() as u64;
+    if octets.len() > buffer.len() {
+        return NO_ROOM;
+    }
+    buffer[..octets.len()].copy_from_slice(octets);
+    OK
+}
+
+/// How many octets a handle has.
+#[unsafe(no_mangle)]
+pub extern "C" fn g3_core_octets_len(alloc: Global, octets: &mut G3Handle, count: &mut u64) -> u32
+    ensures answers { OfOctets (λ octets. (result ≡ 0) × (count.new ≡ length octets)) octets.old.value result }
+    ensures kept { octets.new.value ≡ octets.old.value }
+    ensures untold { result ≢ 0 → count.new ≡ count.old }
+{
+    opened!(alloc, octets, Octets, octets => {
+            *count = octets.len() as u64;
+            OK
+        })
+}
+
+/// Copies the octets of a handle to the beginning of a buffer, and tells how many they are. Answers 103 where the
+/// buffer has too little room.
+#[unsafe(no_mangle)]
+pub extern "C" fn g3_core_octets_copy(
+    alloc: Global,
+    octets: &mut G3Handle,
+    buffer: &mut [u8],
+    count: &mut u64,
+) -> u32
+    ensures answers { OfOctets (λ octets. Copies octets buffer.old buffer.new count.new result) octets.old.value result }
+    ensures kept { octets.new.value ≡ octets.old.value }
+    ensures buffer { result ≢ 0 → buffer.new ≡ buffer.old }
+{
+    opened!(alloc, octets, Octets, octets => copy_out(octets, buffer, count))
+}

@@ -1,0 +1,121 @@
+//! Pages, for C: rows of 1 to 2,432 pixels, eight an octet, the leftmost in the highest bit, 1 black.
+
+ghost use Rattle.g3fax.specs.Handles.{OfPage, OnPage};
+ghost use Rattle.g3fax.specs.Pages.{CopiesRow, MakesPage, PushesOctets, TellsSize};
+ghost use Rattle.std.specs.Prelude.{◌≡◌, ◌≢◌, slice_get};
+
+use crate::handle::{G3Handle, Kept, opened};
+use crate::octets::copy_out;
+use crate::status::{BAD_LENGTH, FULL_HANDLE, NOTHING, OK, TOO_MANY_ROWS};
+use raster::{MAX_ROWS, Page, Row};
+use std::alloc::Global;
+
+/// How wide a page is in pixels, how many rows it has, and whether its lines are fine: 1, or 0.
+#[repr(C)]
+#[derive(Clone, Copy)]
+pub struct G3Size {
+    /// The width in pixels.
+    pub width: u32,
+    /// The number of rows.
+    pub rows: u32,
+    /// 1 where the lines are fine (7.7 a millimeter), and 0 where they aren't.
+    pub fine: u32,
+}
+
+/// Makes a page with no rows in an empty handle. Answers 102, 1 where the width isn't 1 to 2,432 pixels, and 9.
+#[unsafe(no_mangle)]
+pub extern "C" fn g3_core_page_new(alloc: Global, out: &mut G3Handle, width: u32, fine: u32) -> u32
+    ensures { MakesPage width fine out.old.value result out.new.value }
+{
+    if out.is_full(alloc) {
+        return FULL_HANDLE;
+    }
+    match Page::new(alloc, width, fine != 0) {
+        Ok(page) => out.fill(alloc, Kept::Page(page)),
+        Err(fault) => fault.number() as u32,
+    }
+}
+
+/// Appends the row of the first bits of octets.
+#[tactic(auto, using(raster::proofs::RowLemmas::lengths, raster::proofs::PackedLemmas::views))]
+pub(crate) fn push_octets(alloc: Global, page: &mut Page, octets: &[u8]) -> u32
+    ensures { PushesOctets octets.now page.old page.new result }
+{
+    let width = page.width();
+    let rows = page.rows();
+    let full = rows.len() >= MAX_ROWS;
+    if (octets.len() as u128) * 8 < width as u128 {
+        return BAD_LENGTH;
+    }
+    if full {
+        return TOO_MANY_ROWS;
+    }
+    let row = match Row::from_octets(alloc, octets, width) {
+        Ok(row) => row,
+        Err(fault) => return fault.number() as u32,
+    };
+    match page.push_row(row) {
+        Ok(()) => OK,
+        Err(fault) => fault.number() as u32,
+    }
+}
+
+/// Appends a row to a page, of the first bits of octets; later bits are ignored. Answers 105 where there are too few
+/// octets, 3 where the page has 20,000 rows, and 9.
+#[unsafe(no_mangle)]
+pub extern "C" fn g3_core_page_push_row(alloc: Global, page: &mut G3Handle, octets: &[u8]) -> u32
+    ensures { OnPage (λ old new. PushesOctets octets.now old new result) page.old.value page.new.value result }
+{
+    opened!(alloc, page, Page, page => push_octets(alloc, page, octets))
+}
+
+/// Tells the size of a page.
+fn tell_size(page: &Page, size: &mut G3Size) -> u32
+    ensures { TellsSize page.now size.new result }
+{
+    let rows = page.rows();
+    *size = G3Size {
+        width: page.width(),
+        rows: rows.len() as u32,
+        fine: page.fine() as u32,
+    };
+    OK
+}
+
+/// Tells the size of a page.
+#[unsafe(no_mangle)]
+pub extern "C" fn g3_core_page_size(alloc: Global, page: &mut G3Handle, size: &mut G3Size) -> u32
+    ensures answers { OfPage (λ page. TellsSize page size.new result) page.old.value result }
+    ensures kept { page.new.value ≡ page.old.value }
+    ensures untold { result ≢ 0 → size.new ≡ size.old }
+{
+    opened!(alloc, page, Page, page => tell_size(page, size))
+}
+
+/// Copies the octets of a row to the beginning of a buffer.
+fn copy_row(page: &Page, number: u32, buffer: &mut [u8], count: &mut u64) -> u32
+    ensures { CopiesRow (slice_get page.now.rows number) buffer.old buffer.new count.old count.new result }
+{
+    match page.rows().get(number as usize) {
+        Some(row) => copy_out(row.octets(), buffer, count),
+        None => NOTHING,
+    }
+}
+
+/// Copies the octets of a row, from 0 at the top, to the beginning of a buffer, and tells how many they are. Answers
+/// 106 where there is no such row, and 103 where the buffer has too little room.
+#[unsafe(no_mangle)]
+pub extern "C" fn g3_core_page_row(
+    alloc: Global,
+    page: &mut G3Handle,
+    number: u32,
+    buffer: &mut [u8],
+    count: &mut u64,
+) -> u32
+    ensures answers { OfPage (λ page. CopiesRow (slice_get page.rows number) buffer.old buffer.new count.old count.new result)
+        page.old.value result }
+    ensures kept { page.new.value ≡ page.old.value }
+    ensures buffer { result ≢ 0 → buffer.new ≡ buffer.old }
+{
+    opened!(alloc, page, Page, page => copy_row(page, number, buffer, count))
+}

@@ -1,0 +1,66 @@
+#!/usr/bin/env python3
+"""Joins a caller and an answerer of `faxtool station` by a simulated line, and prints what goes over it.
+
+    join.py [--lose RATE] [--seed N] [--caller-command COMMAND] [--answerer-command COMMAND] IN.pbm DIR
+
+RATE is the share of bursts that are lost, as 0.1. One station sends at a time. The clock is simulated: a burst lasts as long as its
+bits take, 75 ms of silence come after it, and a quiet line says so every 20 ms. So a call of a minute takes a second."""
+
+import argparse
+import random
+import shlex
+import subprocess
+
+parser = argparse.ArgumentParser(description=__doc__, formatter_class=argparse.RawDescriptionHelpFormatter)
+parser.add_argument("--lose", type=float, default=0.0)
+parser.add_argument("--seed", type=int, default=1)
+parser.add_argument("--caller-command", default="faxtool station --call", help="IN.pbm is put after it")
+parser.add_argument("--answerer-command", default="faxtool station --answer", help="--out DIR is put after it")
+parser.add_argument("document", metavar="IN.pbm")
+parser.add_argument("folder", metavar="DIR")
+asked = parser.parse_args()
+
+
+class Station:
+    """A process that answers each line."""
+
+    def __init__(self, name, command):
+        self.name, self.runs = name, True
+        self.process = subprocess.Popen(command, stdin=subprocess.PIPE, stdout=subprocess.PIPE, stderr=subprocess.PIPE, text=True)
+
+    def tell(self, line):
+        """Writes a line, and answers the bursts that the station sends then."""
+        bursts = []
+        if self.runs:
+            self.process.stdin.write(line + "\n")
+            self.process.stdin.flush()
+            while (answer := self.process.stdout.readline().strip()).startswith("tx "):
+                bursts.append((self, answer[3:]))
+            self.runs = answer == "wait"
+        return bursts
+
+    def end(self):
+        """The last line on its standard error, and its exit status."""
+        errors = self.process.communicate()[1].strip().splitlines()
+        return f"{self.name}: {errors[-1] if errors else 'nothing said'}, status {self.process.returncode}"
+
+
+caller = Station("caller", shlex.split(asked.caller_command) + [asked.document])
+answerer = Station("answerer", shlex.split(asked.answerer_command) + ["--out", asked.folder])
+chance, clock, to_send = random.Random(asked.seed), 0, []
+while caller.runs or answerer.runs or to_send:
+    if not to_send:
+        clock += 20
+        to_send += caller.tell(f"quiet {clock}") + answerer.tell(f"quiet {clock}")
+        continue
+    sender, burst = to_send.pop(0)
+    receiver = answerer if sender is caller else caller
+    carrier, kind, bits, _octets = burst.split(" ")
+    is_lost = chance.random() < asked.lose
+    print(f"{clock:7} {sender.name:8} {carrier} {kind} {bits}{' lost' if is_lost else ''}")
+    heard = [] if is_lost else receiver.tell(f"busy {clock}")
+    clock += int(bits) * 1000 // (300 if carrier == "v21" else int(carrier.split("-")[1]))
+    heard += [] if is_lost else receiver.tell(f"rx {clock} {burst}")
+    to_send += heard
+    clock += 75
+print(caller.end(), answerer.end(), sep="\n")
