@@ -1,10 +1,10 @@
 #!/usr/bin/env python3
-"""Holds each must-fail edit against its crate, and each source against the formatter, before the gate spends an hour:
+"""Holds each must-fail edit against its crate, each source against the formatter and each module's name, before the gate spends an hour:
 
     .ci/edits.py
 
-Each `old:` text of crates/*/must-fail/*.edit stands exactly once in the file that the edit names, after the pairs before it; and each .rt
-and .antt file is as the kit's formatter writes it. Prints what is wrong and ends with status 1, or prints one line of counts. It needs
+Each `old:` text of crates/*/must-fail/*.edit stands exactly once in the file that the edit names, after the pairs before it; each .rt and
+.antt file is as the kit's formatter writes it; and no module has the name of a library that its crate uses. Prints what is wrong and ends with status 1, or prints one line of counts. It needs
 Python's standard library and the kit's `rattle`."""
 
 import os
@@ -46,12 +46,22 @@ def unformatted(crate):
     return [] if ran.returncode == 0 else [f"{crate.name}: run rt fmt in the crate's folder"]
 
 
+def shadowed(line):
+    """The modules of a crate of crates.txt that have the name of a library that it uses, which the gate refuses."""
+    crate, _, libraries = line.partition(":")
+    name = crate.split()[0]
+    modules = {file.stem for file in (TOP / "crates" / name / "src").rglob("*.rt")}
+    return [f"{name}: the module {it} has the name of a library" for it in libraries.split() if it in modules]
+
+
 def main():
     crates = sorted(path for path in (TOP / "crates").iterdir() if path.is_dir())
     edits = [(edit, crate) for crate in crates for edit in sorted((crate / "must-fail").glob("*.edit"))]
     wrong = [f"{crate.name}/{edit.name}: {fault}" for edit, crate in edits for fault in faults_of(edit, crate)]
     for crate in crates:
         wrong += unformatted(crate)
+    for line in (TOP / "crates.txt").read_text().splitlines():
+        wrong += shadowed(line)
     for fault in wrong:
         print(f"edits: {fault}")
     if not wrong:

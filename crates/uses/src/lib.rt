@@ -1,7 +1,7 @@
 //! Programs of an embedder, one for each crate: the examples of the crates' READMEs, word for word.
 #![tactic(auto)]
 
-pub mod calls;
+pub mod calling;
 pub mod frames;
 pub mod pages;
 #[cfg(test)]

@@ -2,7 +2,7 @@
 
 ghost use Rattle.std.specs.Prelude.{};
 
-use crate::calls::{answer, call_text, hears, send};
+use crate::calling::{answer, call_text, hears, send};
 use crate::frames::{asks_again, confirmation, list_frames, lose_a_frame};
 use crate::pages::{code_image, code_rows, copy_images, decode_rows, read_in_two, recode};
 use hdlc::write_frame;
