@@ -1,7 +1,7 @@
 -- The wait that is over at a quiet line.
-use Rattle.std.proofs.Common.{◌≡◌, ◌≢◌, ◌≤◌, ◌+◌, ◌⊎◌, ◌∙◌, ℕ, Bool, true, false, refl, subst, sym, inl, inr}
+use Rattle.std.proofs.Common.{◌≡◌, ◌≢◌, ◌+◌, ◌⊎◌, ◌∙◌, ℕ, true, refl, subst, sym, inl, inr}
 use Rattle.std.proofs.lemmas.Bool.{cases_Bool, leb-true}
-use Rattle.std.specs.Prelude.{Option, Some, None, cond, nat_le}
+use Rattle.std.specs.Prelude.{Option, Some, None, cond}
 use Rattle.conversations.specs.Clocks.{duration, first_of, is_past, longer_over, longer_runs_from, running_over, runs_from, wait_over}
 use Rattle.conversations.specs.Clocks.{CalmIsQuiet, CarriersHold, HasPassed, WaitsPass}
 use Rattle.conversations.specs.declared.clock.Clock.{Clock}
@@ -9,7 +9,7 @@ use Rattle.conversations.specs.declared.clock.Durations.{Durations}
 use Rattle.signals.specs.declared.signal.Side.{Side}
 use Rattle.signals.specs.declared.signal.Side.TheVariants.{Caller, Answerer}
 use Rattle.stations.specs.declared.waiting.Wait.{Wait}
-use Rattle.stations.specs.declared.waiting.Wait.TheVariants.{T1, T2, T4, T5}
+use Rattle.stations.specs.declared.waiting.Wait.TheVariants.{T2, T4}
 use Rattle.terminals.specs.declared.stopping.Shown.{Shown}
 
 passed : (now : ℕ) (since : Option ℕ) (length : ℕ) → is_past now since length ≡ true → HasPassed now since length

@@ -2,19 +2,16 @@
 use Rattle.std.proofs.Common.{◌≡◌, ◌∙◌, ℕ, Bool, true, false, List, [], ◌∷◌, ap, refl, subst, sym}
 use Rattle.std.specs.Prelude.{Option, Some, None, cond}
 use Rattle.conversations.specs.Answering.{limited_behaviour}
-use Rattle.conversations.specs.Conversations.{ConversationFields, Gives, PlainGiven, TakesLine, gives}
+use Rattle.conversations.specs.Conversations.{Gives, PlainGiven, gives}
 use Rattle.conversations.specs.Conversations.{nothing, stopping, losing, frames, input}
 use Rattle.conversations.specs.Led.{AnswerersAreLed, CallersAreLed, caller_behaviour, inputs_given, limited_led}
-use Rattle.stations.specs.AnswererStep.{Answerer}
 use Rattle.stations.specs.CallerFields.{Represents}
 use Rattle.stations.specs.CallerStep.{Caller}
 use Rattle.stations.specs.Limiting.{LimitedFields}
 use Rattle.stations.specs.Stopping.{StoppableCallerFields}
-use Rattle.stations.specs.declared.limiting.Limits.{Limits}
 use Rattle.stations.specs.declared.stopping.Cut.{Cut}
 use Rattle.stations.specs.declared.stopping.Cut.TheVariants.{Stop}
 use Rattle.stations.specs.declared.turn.Turn.{Turn}
-use Rattle.stations.specs.declared.turn.Turn.TheVariants.{Silent}
 use Rattle.terminals.specs.Hearing.{HasHeard, PlainInput}
 use Rattle.terminals.specs.Runs.{TakesAll, TerminalFields}
 use Rattle.terminals.specs.Speaking.{Speaking, StepOf, Takes, is_silent, spoken}
@@ -28,12 +25,12 @@ either : {S : Type 0} (silent : Bool) (one two : Speaking S) (station : S) → o
 either true one two station p q = p
 either false one two station p q = q
 
-spoken_by : {S : Type 0} (old : Speaking S) (station : S) (turn : Turn) → (spoken old station turn).station ≡ station
+pub spoken_by : {S : Type 0} (old : Speaking S) (station : S) (turn : Turn) → (spoken old station turn).station ≡ station
 spoken_by old station turn =
     either (is_silent turn) (record { station = station; turn = old.turn; taken = old.taken })
     (record { station = station; turn = turn; taken = 0 }) station refl refl
 
-taken_by : {S : Type 0} (steps : StepOf S) (old : Speaking S) (x : PlainInput) (new : Speaking S) (h : Takes S steps old x new) →
+pub taken_by : {S : Type 0} (steps : StepOf S) (old : Speaking S) (x : PlainInput) (new : Speaking S) (h : Takes S steps old x new) →
     new.station ≡ h.station
 taken_by steps old x new h = ap (λ s. s.station) h.is ∙ spoken_by old h.station h.turn
 

@@ -1,8 +1,11 @@
 pub mod Clocks
+pub mod TalkedLines
 mod HexPieces
 pub mod Led
 mod LineOctets
+mod ServedLines
 pub mod Stored
+pub mod StoredLines
 pub mod TakenLines
 pub mod Turns
 mod Words

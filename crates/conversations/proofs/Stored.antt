@@ -1,10 +1,9 @@
 -- Pages that are stored one after the other, and none that are left.
-use Rattle.std.proofs.Common.{◌≡◌, ◌++◌, ◌∷◌, List, [], length, ap, arith, refl}
+use Rattle.std.proofs.Common.{◌≡◌, ◌∷◌, List, [], length, ap, arith, refl}
 use Rattle.conversations.specs.Answering.{NoneAreLeft, StoreStep, StoresEach, StoresSome}
-use Rattle.conversations.specs.Conversations.{ConversationFields}
 use Rattle.raster.specs.Pages.{PagePixels}
 use Rattle.stations.specs.AnswererStep.{Answerer}
-use Rattle.stations.specs.Limiting.{LimitedFields, freed}
+use Rattle.stations.specs.Limiting.{freed}
 use Rattle.stations.specs.declared.turn.End.{End}
 use Rattle.std.proofs.lemmas.Bool.{false≢true}
 use Rattle.std.specs.Prelude.{Bool, Option, Some, None, Result, Ok, Err, IsErr, OnErr}

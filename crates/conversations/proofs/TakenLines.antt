@@ -2,7 +2,7 @@
 use Rattle.std.proofs.Common.{◌≡◌, ◌≤◌, ◌∙◌, Bool, true, ap, refl, subst}
 use Rattle.std.specs.Prelude.{cond}
 use Rattle.conversations.specs.Clocks.{asked_since, clock_at, heard_now}
-use Rattle.conversations.specs.Conversations.{Behaviour, ConversationFields, Gives, PlainGiven, TakesLine, begins, gives, line_gives}
+use Rattle.conversations.specs.Conversations.{Behaviour, ConversationFields, Gives, PlainGiven, TakesLine, begins, line_gives}
 use Rattle.conversations.specs.declared.clock.Clock.{Clock}
 use Rattle.conversations.specs.declared.line.TimedLine.{TimedLine}
 use Rattle.signals.specs.declared.signal.Side.{Side}

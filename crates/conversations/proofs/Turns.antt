@@ -3,9 +3,9 @@ use Rattle.std.proofs.Common.{◌≡◌, ◌∙◌, ◌++◌, ◌∷◌, List, [
 use Rattle.std.proofs.lemmas.List.{append-nil}
 use Rattle.std.proofs.KnownBytes.{Appends-trans}
 use Rattle.std.specs.Io.KnownBytes.{Appends}
-use Rattle.std.specs.Prelude.{ℕ, Bool, true, false, Option, Some, None, Result, Ok, flat_map}
+use Rattle.std.specs.Prelude.{ℕ, Bool, true, false, Option, Some, None, Ok, flat_map}
 use Rattle.conversations.specs.Conversations.{ConversationFields, SendsIfBegun}
-use Rattle.conversations.specs.Talking.{GivesAll, GivesNext, IsOver, WritesTurn, answer_text}
+use Rattle.conversations.specs.Talking.{GivesAll, GivesNext, IsOver, WritesTurn}
 use Rattle.conversations.specs.Writing.{tx_line, word_line}
 use Rattle.signals.specs.declared.signal.Side.{Side}
 use Rattle.terminals.specs.Speaking.{BurstsOf}

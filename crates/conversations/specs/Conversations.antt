@@ -16,7 +16,6 @@ use Rattle.conversations.specs.declared.line.Said.{Said}
 use Rattle.conversations.specs.declared.line.Said.TheVariants.{Quiet, Busy, Received, NotReady, Ready, Stop, End}
 use Rattle.conversations.specs.declared.line.TimedLine.{TimedLine}
 use Rattle.signals.specs.declared.signal.Side.{Side}
-use Rattle.stations.specs.declared.stopping.CallEnd.{CallEnd}
 use Rattle.stations.specs.declared.stopping.Cut.{Cut}
 use Rattle.stations.specs.declared.turn.Turn.{Turn}
 use Rattle.stations.specs.declared.waiting.Wait.{Wait}

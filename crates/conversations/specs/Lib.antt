@@ -1,9 +1,11 @@
 pub mod Answering
 pub mod Clocks
 pub mod Conversations
+pub mod Conversing
 pub mod Hearing
 pub mod Led
 pub mod Lines
 pub mod Reading
 pub mod Talking
+pub mod StoredLines
 pub mod Writing

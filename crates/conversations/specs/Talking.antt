@@ -1,5 +1,5 @@
 -- The answer to a line: what the station makes of it, and the lines that are written.
-use Rattle.std.specs.Prelude.{ℕ, ◌≡◌, ◌<◌, ◌++◌, ◌∷◌, [], ◌↔◌, ⊤, Bool, IsTrue, IsSome, List, Option, Some, None, Result, Ok, flat_map}
+use Rattle.std.specs.Prelude.{ℕ, ◌<◌, ◌++◌, ◌∷◌, [], ◌↔◌, ⊤, Bool, IsTrue, IsSome, List, Option, Some, None, Ok, flat_map}
 use Rattle.std.specs.Io.KnownBytes.{Appends}
 use Rattle.conversations.specs.Conversations.{Behaviour, ConversationFields, SendsIfBegun, TakesLine}
 use Rattle.conversations.specs.Lines.{Says, SaysNothing}

@@ -1,8 +1,11 @@
-//! Laws of the waits of a conversation, and of where its station stands. Nothing runs.
+//! Laws of the waits of a conversation, of where its station stands, and of what an answerer stores. Nothing runs.
 
 ghost use Rattle.conversations.specs.Answering.{NoneAreLeft};
 ghost use Rattle.conversations.specs.Clocks.{CalmIsQuiet, CarriersHold, WaitsPass};
 ghost use Rattle.conversations.specs.Led.{AnswerersAreLed, CallersAreLed};
+ghost use Rattle.conversations.specs.StoredLines.{LastIsSaid, RefusedIsLast, StoredIsSaid};
+
+use crate::answering::PageStore;
 
 /// A wait is over only where the station shows it, and its duration has passed since the time that it runs from.
 pub fn waits_pass()
@@ -26,3 +29,17 @@ pub fn stations_are_led()
 pub fn none_are_left()
     ensures { NoneAreLeft }
 {}
+
+/// Whoever is on the line, the pages that an answerer of lines has stored are stored in order, and each one is the reading, by the grammar of
+/// its code, of data fields of FCDs, joined, by the parameters of a DCS that the answerer allows; and these FCDs and the DCS are in good
+/// frames among the octets that the lines bring. So it is after each line, after the last one, and where a page was refused.
+pub fn stored_is_said<P: PageStore>()
+    ensures lines { StoredIsSaid P P.stores P.refuses }
+    ensures last { LastIsSaid P P.stores P.refuses }
+    ensures refused { RefusedIsLast P P.stores P.refuses }
+{
+    terminals::laws::cuts_change_nothing();
+    stations::laws::stored_is_read();
+    stations::laws::taken_and_there();
+    stations::laws::limited_serves();
+}

@@ -10,8 +10,7 @@ use crate::trace::Trace;
 use crate::{files, outputs};
 use calls::{CallOptions, end_word};
 use conversations::{
-    AnswerFault, Answered, Conversation, Durations, Keeper, PageStore, ReadFault, Said, TakeFault,
-    TimedLine, answer, keep_pages, next_line,
+    Conversation, ConverseFault, Durations, Ending, Keeper, PageStore, converse, keep_pages,
 };
 use engines::{FAILED, NO_MEMORY, ToolFault};
 use raster::{Page, read_pbm, write_pbm};
@@ -19,7 +18,7 @@ use signals::{Caps, Wish};
 use stations::{CallEnd, Caller, LimitedAnswerer, Limits, StoppableCaller, Turn};
 use std::alloc::AllocError;
 use std::io;
-use std::io::{BufReader, BufWriter, ErrorKind, Read};
+use std::io::{BufReader, BufWriter, ErrorKind};
 use terminals::{Stoppable, Terminal};
 
 /// How many octets of standard input are read at a time.
@@ -173,47 +172,19 @@ struct Answers<'a> {
     trace: Trace,
 }
 
-/// Why the lines go no further where the one of a number wasn't answered.
-fn halted_by(fault: AnswerFault<ToolFault>, number: u64) -> Halted {
+/// Why the lines go no further. Why they can't be read is noted.
+fn halted_by(fault: ConverseFault<ToolFault>, notes: &mut Notes) -> Halted {
     match fault {
-        AnswerFault::NoLine | AnswerFault::Backwards => Halted::Line(number),
-        AnswerFault::NoMemory | AnswerFault::Writer(ErrorKind::OutOfMemory) => {
+        ConverseFault::Line(number) => Halted::Line(number),
+        ConverseFault::NoMemory | ConverseFault::Writer(ErrorKind::OutOfMemory) => {
             Halted::Fault(NO_MEMORY)
         }
-        AnswerFault::Writer(_) => Halted::Fault(FAILED),
-        AnswerFault::Follower(fault) => Halted::Fault(fault),
-    }
-}
-
-/// Takes that the line is lost, where the lines end before the call.
-fn lose<S: Stoppable>(conversation: &mut Conversation<S>, number: u64) -> Result<(), Halted> {
-    let at = conversation.clock().now;
-    let lost = TimedLine {
-        at,
-        said: Said::End,
-    };
-    match conversation.take(&lost) {
-        Ok(()) => Ok(()),
-        Err(TakeFault::Backwards) => Err(Halted::Line(number)),
-        Err(TakeFault::NoMemory) => Err(Halted::Fault(NO_MEMORY)),
-    }
-}
-
-/// Reads the line of a number, if there is one. Why it can't be read is noted.
-fn read<R: Read>(
-    reader: &mut R,
-    line: &mut Vec<u8>,
-    number: u64,
-    notes: &mut Notes,
-) -> Result<bool, Halted> {
-    match next_line(reader, line) {
-        Ok(is_there) => Ok(is_there),
-        Err(ReadFault::NoMemory) => Err(Halted::Fault(NO_MEMORY)),
-        Err(ReadFault::TooLong) => Err(Halted::Line(number)),
-        Err(ReadFault::Failed(kind)) => {
+        ConverseFault::Reader(kind) => {
             notes.blame(Part::Input, kind);
-            Err(Halted::Fault(FAILED))
+            Halted::Fault(FAILED)
         }
+        ConverseFault::Writer(_) | ConverseFault::TooManyLines => Halted::Fault(FAILED),
+        ConverseFault::Follower(fault) => Halted::Fault(fault),
     }
 }
 
@@ -227,25 +198,12 @@ fn talk<S: Stoppable, K: Keeper<S, Refused = ToolFault>>(
 ) -> Result<(), Halted> {
     let rt = answers.rt;
     let mut reader = BufReader::with_capacity(rt.alloc(), READ_AT_ONCE, rt.reader())?;
-    let mut line = Vec::new(rt.alloc());
-    for number in 1..u64::MAX {
-        if !read(&mut reader, &mut line, number, notes)? {
-            return lose(conversation, number);
-        }
-        let Answers { writer, trace, .. } = answers;
-        match answer(rt.alloc(), &line, conversation, keeper, writer, trace) {
-            Err(fault) => return Err(halted_by(fault, number)),
-            Ok(
-                Answered {
-                    unkept: Some(fault),
-                    ..
-                },
-            ) => return Err(Halted::Fault(fault)),
-            Ok(Answered { over: true, .. }) => return Ok(()),
-            Ok(_) => {}
-        }
+    let Answers { writer, trace, .. } = answers;
+    match converse(rt.alloc(), &mut reader, conversation, keeper, writer, trace) {
+        Ok(Ending::Over | Ending::Lost) => Ok(()),
+        Ok(Ending::Unkept(fault)) => Err(Halted::Fault(fault)),
+        Err(fault) => Err(halted_by(fault, notes)),
     }
-    Err(Halted::Fault(FAILED))
 }
 
 /// Talks, and notes why standard output failed.

@@ -5,3 +5,4 @@ pub mod CutOff
 pub mod Taking
 pub mod Few
 pub mod Sent
+pub mod Memory

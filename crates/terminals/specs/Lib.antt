@@ -7,3 +7,4 @@ pub mod Stations
 pub mod StationsAfter
 pub mod Stopping
 pub mod Timing
+pub mod Memory

@@ -2,6 +2,7 @@
 
 ghost use Rattle.terminals.specs.Bursts.{AnswerersSendOne, CallersSendTwo};
 ghost use Rattle.terminals.specs.Hearing.{CutsChangeNothing};
+ghost use Rattle.terminals.specs.Memory.{OneFrameIsKept, OpenPagesAreLimited};
 ghost use Rattle.terminals.specs.StationsAfter.{AnswererIsAfter, CallerIsAfter};
 ghost use Rattle.terminals.specs.Stopping.{AnswerersSendDcn, CallersSendDcn};
 
@@ -31,4 +32,13 @@ pub fn turns_have_few_bursts()
     ensures answerer { AnswerersSendOne }
 {
     stations::laws::bursts_cut();
+}
+
+/// What a terminal holds beside its station's pages: of the octets that were heard no whole content and at most the 302 octets of one
+/// frame; and of an answerer the frames of the open block, of 65,536 octets at most, and the code of the open page, of 8,388,608 at most.
+pub fn little_is_held()
+    ensures framing { OneFrameIsKept }
+    ensures open { OpenPagesAreLimited }
+{
+    stations::laws::open_is_limited();
 }

@@ -1,5 +1,5 @@
 -- What the check asks of `write_turn`.
-use Rattle.std.proofs.Common.{◌≡◌, None, Some, Option, rules, subst}
+use Rattle.std.proofs.Common.{◌≡◌, None, Option, rules, subst}
 use Rattle.std.specs.declared.alloc.AllocError.{AllocError}
 use Rattle.conversations.proofs.Turns.{begins_giving, given_next, one_given, turn_written}
 use Rattle.conversations.proofs.talking.write_turn.Goals as goal

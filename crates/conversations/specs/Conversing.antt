@@ -1,0 +1,120 @@
+-- A whole conversation: the lines of a reader, answered one after the other.
+use Rattle.std.specs.Prelude.{ℕ, ◌≡◌, ◌⊎◌, ◌<◌, ◌+◌, ◌∷◌, [], ⊤, Bool, true, false, List, Option, length}
+use Rattle.std.specs.Io.KnownBytes.{Consumes, IsAtEnd}
+use Rattle.conversations.specs.Conversations.{Behaviour, ConversationFields, TakesLine}
+use Rattle.conversations.specs.Lines.{Says, SaysNothing}
+use Rattle.conversations.specs.Reading.{TakesTooMany}
+use Rattle.conversations.specs.Reading.{TakesLine as ReadsLine}
+use Rattle.conversations.specs.Talking.{Answers, KeepsOf}
+use Rattle.conversations.specs.declared.conversing.ConverseFault.{ConverseFault}
+use Rattle.conversations.specs.declared.conversing.ConverseFault.TheVariants.{Line, NoMemory, Reader, Writer, Follower, TooManyLines}
+use Rattle.conversations.specs.declared.conversing.Ending.{Ending}
+use Rattle.conversations.specs.declared.conversing.Ending.TheVariants.{Over, Lost, Unkept}
+use Rattle.conversations.specs.declared.line.Said.TheVariants.{End}
+use Rattle.conversations.specs.declared.line.TimedLine.{TimedLine}
+use Rattle.conversations.specs.declared.talking.AnswerFault.{AnswerFault}
+use Rattle.conversations.specs.declared.talking.AnswerFault.TheVariants.{NoLine, Backwards}
+use Rattle.conversations.specs.declared.talking.AnswerFault.TheVariants.{NoMemory as NoMemoryLeft, Writer as WriterFailed}
+use Rattle.conversations.specs.declared.talking.AnswerFault.TheVariants.{Follower as FollowerFailed}
+use Rattle.terminals.specs.Speaking.{BurstsOf}
+
+-- how far a conversation is: what is left to be read, the station, what keeps its pages, and what was written
+pub record TalkState (S K : Type 0) : Type 0 where
+  pub input : Option (List ℕ)
+  pub conversation : ConversationFields S
+  pub keeper : K
+  pub output : Option (List ℕ)
+
+-- how far it is, of these four
+abbrev pub talk_state : {S K : Type 0} → Option (List ℕ) → ConversationFields S → K → Option (List ℕ) → TalkState S K
+talk_state input conversation keeper output =
+    record { input = input; conversation = conversation; keeper = keeper; output = output }
+
+-- who talks: the station as a conversation knows it, what it is to keep what a line brought, and the bursts of a turn
+pub record Talker (S K : Type 0) : Type 1 where
+  pub station : Behaviour S
+  pub keeps : KeepsOf S K
+  pub lends : BurstsOf S
+
+-- who talks, of these three
+abbrev pub talker : {S K : Type 0} → Behaviour S → KeepsOf S K → BurstsOf S → Talker S K
+talker station keeps lends = record { station = station; keeps = keeps; lends = lends }
+
+-- the next line is read and answered; whether all that it brought was kept, and whether the call is over then
+pub record AnswersNext (S K : Type 0) (t : Talker S K) (old new : TalkState S K) (line : List ℕ) (kept over : Bool) : Type 0 where
+  pub read : ReadsLine old.input new.input line
+  pub answered :
+      Answers S K t.station t.keeps t.lends line old.conversation new.conversation old.keeper new.keeper old.output new.output kept over
+
+-- lines are read and answered one after the other: all that they brought was kept, and the call goes on
+abbrev pub AnswersAll : {S K : Type 0} → Talker S K → List (List ℕ) → TalkState S K → TalkState S K → Type 0
+AnswersAll t [] old new = new ≡ old
+AnswersAll {S} {K} t (line ∷ lines) old new =
+    (mid : TalkState S K) × AnswersNext S K t old mid line true false × AnswersAll t lines mid new
+
+-- the line is lost, at this time
+abbrev pub lost_at : ℕ → TimedLine
+lost_at now = record { at = now; said = End }
+
+-- no line is left, and the station takes that its line is lost
+pub record LosesLine (S K : Type 0) (t : Talker S K) (old new : TalkState S K) : Type 0 where
+  pub no_more : Consumes old.input new.input []
+  pub at_end : IsAtEnd new.input
+  pub lost : TakesLine S t.station old.conversation (lost_at old.conversation.clock.now) new.conversation
+  pub keeper : new.keeper ≡ old.keeper
+  pub output : new.output ≡ old.output
+
+-- the end of a conversation: the call is over after a line, or something that a line brought wasn't kept, or no line is left
+abbrev pub EndsSo : {S K E : Type 0} → Talker S K → TalkState S K → TalkState S K → Ending E → Type 0
+EndsSo {S} {K} t old new Over = (line : List ℕ) × AnswersNext S K t old new line true true
+EndsSo {S} {K} t old new (Unkept why) = (line : List ℕ) × (over : Bool) × AnswersNext S K t old new line false over
+EndsSo {S} {K} t old new Lost = LosesLine S K t old new
+
+-- lines are answered, and then the conversation ends so
+pub record Converses (S K E : Type 0) (t : Talker S K) (old new : TalkState S K) (ending : Ending E) : Type 0 where
+  pub lines : List (List ℕ)
+  pub last : TalkState S K
+  pub answered : AnswersAll t lines old last
+  pub ends : EndsSo t last new ending
+
+-- octets are none of a station's lines, or their time runs back
+abbrev pub IsNoLine : {S : Type 0} → ConversationFields S → List ℕ → Type 0
+IsNoLine c line = SaysNothing line ⊎ ((timed : TimedLine) × Says line timed × (timed.at < c.clock.now))
+
+-- the next line is too long, or it is read and isn't answered: all else is as it was
+pub record RefusesNext (S K : Type 0) (old new : TalkState S K) : Type 0 where
+  pub line : List ℕ
+  pub refused : TakesTooMany old.input new.input line ⊎ (ReadsLine old.input new.input line × IsNoLine old.conversation line)
+  pub rest : new ≡ record old { input = new.input }
+
+-- lines are answered, and then the one of this number, from 1, is refused
+pub record RefusesLineOf (S K : Type 0) (t : Talker S K) (old new : TalkState S K) (number : ℕ) : Type 0 where
+  pub lines : List (List ℕ)
+  pub last : TalkState S K
+  pub answered : AnswersAll t lines old last
+  pub count : number ≡ length lines + 1
+  pub refused : RefusesNext S K last new
+
+-- lines are answered, and then the reader fails: all but what is left to be read is as it was
+pub record FailsToRead (S K : Type 0) (t : Talker S K) (old new : TalkState S K) : Type 0 where
+  pub lines : List (List ℕ)
+  pub last : TalkState S K
+  pub answered : AnswersAll t lines old last
+  pub rest : new ≡ record last { input = new.input }
+
+-- how far a conversation is where it stops for a fault; of a line whose answer failed nothing is said
+abbrev pub StopsSo : {S K F : Type 0} → Talker S K → TalkState S K → TalkState S K → ConverseFault F → Type 0
+StopsSo {S} {K} t old new (Line number) = RefusesLineOf S K t old new number
+StopsSo {S} {K} t old new (Reader kind) = FailsToRead S K t old new
+StopsSo t old new NoMemory = ⊤
+StopsSo t old new (Writer kind) = ⊤
+StopsSo t old new (Follower fault) = ⊤
+StopsSo t old new TooManyLines = ⊤
+
+-- the fault of a conversation whose line of a number isn't answered
+abbrev pub unanswered : {F : Type 0} → AnswerFault F → ℕ → ConverseFault F
+unanswered NoLine number = Line number
+unanswered Backwards number = Line number
+unanswered NoMemoryLeft number = NoMemory
+unanswered (WriterFailed kind) number = Writer kind
+unanswered (FollowerFailed fault) number = Follower fault

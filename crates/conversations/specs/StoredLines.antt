@@ -1,0 +1,85 @@
+-- What an answerer stores of the lines that it answers, whoever is on the line.
+use Rattle.std.specs.Prelude.{ℕ, ◌≡◌, ◌⊎◌, ◌++◌, ◌∷◌, [], false, true, Bool, List}
+use Rattle.conversations.specs.Answering.{StoreStep, StoresAll, StoresEach, limited_behaviour}
+use Rattle.conversations.specs.Conversations.{ConversationFields}
+use Rattle.conversations.specs.Conversing.{AnswersAll, AnswersNext, TalkState, Talker, talker}
+use Rattle.conversations.specs.Lines.{Says}
+use Rattle.conversations.specs.declared.line.Said.{Said}
+use Rattle.conversations.specs.declared.line.Said.TheVariants.{Received}
+use Rattle.conversations.specs.declared.line.TimedLine.{TimedLine}
+use Rattle.hdlc.specs.DeframerState.{IsAfter}
+use Rattle.raster.specs.Pages.{PagePixels}
+use Rattle.signals.specs.declared.params.Caps.{Caps}
+use Rattle.signals.specs.declared.params.Params.{Params}
+use Rattle.stations.specs.AnswererStep.{new_answerer}
+use Rattle.stations.specs.Inputs.{AnswererInput}
+use Rattle.stations.specs.Laws.{Each}
+use Rattle.stations.specs.Limiting.{LimitedFields}
+use Rattle.stations.specs.Runs.{IsReadOf}
+use Rattle.terminals.specs.Hearing.{heard_of}
+use Rattle.terminals.specs.Stations.{AnswererLends}
+use Rattle.terminals.specs.StationsAfter.{answerer_inputs}
+
+-- the octets that were received, of what a line says
+abbrev pub received_octets : Said → List ℕ
+received_octets (Received channel kind bits octets) = octets.items
+received_octets said = []
+
+-- octets are those that a line says were received, or none
+abbrev pub AreOfLine : List ℕ → List ℕ → Type 0
+AreOfLine line octets = (octets ≡ []) ⊎ ((timed : TimedLine) × Says line timed × (octets ≡ received_octets timed.said))
+
+-- octets are those of some of the lines, joined in order
+abbrev pub AreOfLines : List (List ℕ) → List ℕ → Type 0
+AreOfLines [] octets = octets ≡ []
+AreOfLines (line ∷ lines) octets =
+    (here : List ℕ) × (rest : List ℕ) × AreOfLine line here × AreOfLines lines rest × (octets ≡ here ++ rest)
+
+-- the signals that an answerer hears in octets of the line: those of their good frames, in order
+abbrev pub signals_in : List ℕ → List AnswererInput
+signals_in octets = answerer_inputs (heard_of [] octets)
+
+-- the conversation of a new answerer of these capabilities, which has heard nothing
+pub record IsNewAnswerer (caps : Caps) (c : ConversationFields LimitedFields) : Type 0 where
+  pub params : Params
+  pub station : c.terminal.speaking.station.station ≡ new_answerer caps params
+  pub told : c.terminal.speaking.station.told ≡ false
+  pub framing : IsAfter c.terminal.framing [] 0
+
+-- an answerer with limits talks, and its pages go to a store
+abbrev pub storing : {P : Type 0} → StoreStep P → StoreStep P → Talker LimitedFields P
+storing stores refuses =
+    talker limited_behaviour (λ old c new after kept. StoresAll stores refuses c after old new kept)
+    (λ v turn bursts. AnswererLends v.station turn bursts)
+
+-- pages were stored in order, and each is read of octets of the lines: of data of FCDs in their good frames, joined, by the parameters of a
+-- DCS in one of their good frames, which the answerer allows
+pub record StoresWhatIsSaid (P : Type 0) (stores : StoreStep P) (caps : Caps) (lines : List (List ℕ)) (before after : P) : Type 0 where
+  pub octets : List ℕ
+  pub of_lines : AreOfLines lines octets
+  pub pages : List PagePixels
+  pub stored : StoresEach stores before pages after
+  pub read : Each (IsReadOf caps (signals_in octets)) pages
+
+-- so it is of whatever lines an answerer has answered
+abbrev pub StoredIsSaid : (P : Type 0) → StoreStep P → StoreStep P → Type 0
+StoredIsSaid P stores refuses =
+    (caps : Caps) (lines : List (List ℕ)) (old new : TalkState LimitedFields P) → IsNewAnswerer caps old.conversation →
+    AnswersAll (storing stores refuses) lines old new → StoresWhatIsSaid P stores caps lines old.keeper new.keeper
+
+-- and so with one line more, after which the call is over or goes on, and all that it brought was kept
+abbrev pub LastIsSaid : (P : Type 0) → StoreStep P → StoreStep P → Type 0
+LastIsSaid P stores refuses =
+    (caps : Caps) (lines : List (List ℕ)) (old mid new : TalkState LimitedFields P) (line : List ℕ) (over : Bool) →
+    IsNewAnswerer caps old.conversation → AnswersAll (storing stores refuses) lines old mid →
+    AnswersNext LimitedFields P (storing stores refuses) mid new line true over →
+    StoresWhatIsSaid P stores caps (lines ++ line ∷ []) old.keeper new.keeper
+
+-- where a page that the last line brought was refused, so it is of those before it
+abbrev pub RefusedIsLast : (P : Type 0) → StoreStep P → StoreStep P → Type 0
+RefusedIsLast P stores refuses =
+    (caps : Caps) (lines : List (List ℕ)) (old mid new : TalkState LimitedFields P) (line : List ℕ) (over : Bool) →
+    IsNewAnswerer caps old.conversation → AnswersAll (storing stores refuses) lines old mid →
+    AnswersNext LimitedFields P (storing stores refuses) mid new line false over →
+    (stored : P) × (page : PagePixels) × StoresWhatIsSaid P stores caps (lines ++ line ∷ []) old.keeper stored ×
+    refuses stored page new.keeper

@@ -1,0 +1,116 @@
+//! A whole conversation: the lines of a reader, answered one after the other until the call is over.
+
+ghost use Rattle.conversations.specs.Conversations.{TakesLine, behaviour};
+ghost use Rattle.conversations.specs.Conversing.{Converses, StopsSo, lost_at, talk_state, talker, unanswered};
+ghost use Rattle.std.specs.Prelude.{◌≡◌, IfErr, IfOk, OnOk};
+
+use crate::conversation::{Conversation, TakeFault};
+use crate::line::{Said, TimedLine};
+use crate::reading::{ReadFault, next_line};
+use crate::talking::{AnswerFault, Follower, Keeper, answer};
+use std::alloc::{AllocError, Global};
+use std::io::{ErrorKind, Read, Write};
+use terminals::Stoppable;
+
+/// How a conversation ended.
+#[derive(Debug, Drop)]
+pub enum Ending<E> {
+    /// The call is over.
+    Over,
+    /// No line was left before the call was over: its line is lost.
+    Lost,
+    /// Something that a line brought can't be kept. The station hung up, and that was written.
+    Unkept(E),
+}
+
+/// Why a conversation stopped before its end.
+#[derive(Clone, Copy, Debug, PartialEq, Eq, Drop)]
+pub enum ConverseFault<F> {
+    /// The line of this number, from 1, has more than 400,000 octets, is none of a station's lines, or its time runs back. It has changed
+    /// nothing.
+    Line(u64),
+    /// Memory was refused.
+    NoMemory,
+    /// The reader failed.
+    Reader(ErrorKind),
+    /// The writer failed.
+    Writer(ErrorKind),
+    /// Who follows can't go on.
+    Follower(F),
+    /// There were 2^64 - 2 lines.
+    TooManyLines,
+}
+
+/// The fault of a conversation whose line of a number isn't answered.
+fn unanswered<F>(fault: AnswerFault<F>, number: u64) -> ConverseFault<F>
+    ensures { result ≡ unanswered fault number }
+{
+    match fault {
+        AnswerFault::NoLine | AnswerFault::Backwards => ConverseFault::Line(number),
+        AnswerFault::NoMemory => ConverseFault::NoMemory,
+        AnswerFault::Writer(kind) => ConverseFault::Writer(kind),
+        AnswerFault::Follower(fault) => ConverseFault::Follower(fault),
+    }
+}
+
+/// The station takes that its line is lost, at the time of the last line. Errs where memory is refused.
+fn lose<S: Stoppable>(conversation: &mut Conversation<S>) -> Result<(), AllocError>
+    ensures { OnOk result (TakesLine S (behaviour S.sends S.steps S.shows S.cut_off S.stop_says)
+        conversation.old (lost_at conversation.old.clock.now) conversation.new) }
+{
+    let lost = TimedLine {
+        at: conversation.clock().now,
+        said: Said::End,
+    };
+    match conversation.take(&lost) {
+        Ok(()) => Ok(()),
+        Err(TakeFault::Backwards | TakeFault::NoMemory) => Err(AllocError),
+    }
+}
+
+/// Reads line after line and answers each, as `answer` does, until the call is over. Where no line is left before that, the station's line
+/// is lost; where something that a line brought can't be kept, the conversation ends after the answer to that line. Errs at the first line
+/// that is none of a station's, with its number; where memory is refused; and where the reader, the writer or who follows fails. Holds one
+/// line at a time.
+pub fn converse<S: Stoppable, R: Read, K: Keeper<S>, W: Write, F: Follower>(
+    alloc: Global,
+    reader: &mut R,
+    conversation: &mut Conversation<S>,
+    keeper: &mut K,
+    writer: &mut W,
+    follower: &mut F,
+) -> Result<Ending<K::Refused>, ConverseFault<F::Failed>>
+    ensures ends { IfOk result (λ ending.
+        Converses S K K.Refused (talker (behaviour S.sends S.steps S.shows S.cut_off S.stop_says) K.keeps S.lends)
+        (talk_state (R.remaining reader.old) conversation.old keeper.old (W.contents writer.old))
+        (talk_state (R.remaining reader.new) conversation.new keeper.new (W.contents writer.new)) ending) }
+    ensures stops { IfErr result (λ fault.
+        StopsSo (talker (behaviour S.sends S.steps S.shows S.cut_off S.stop_says) K.keeps S.lends)
+        (talk_state (R.remaining reader.old) conversation.old keeper.old (W.contents writer.old))
+        (talk_state (R.remaining reader.new) conversation.new keeper.new (W.contents writer.new)) fault) }
+{
+    let mut line = Vec::new(alloc);
+    for number in 1..u64::MAX {
+        match next_line(reader, &mut line) {
+            Ok(true) => {}
+            Ok(false) => match lose(conversation) {
+                Ok(()) => return Ok(Ending::Lost),
+                Err(AllocError) => return Err(ConverseFault::NoMemory),
+            },
+            Err(ReadFault::NoMemory) => return Err(ConverseFault::NoMemory),
+            Err(ReadFault::TooLong) => return Err(ConverseFault::Line(number)),
+            Err(ReadFault::Failed(kind)) => return Err(ConverseFault::Reader(kind)),
+        }
+        let answered = match answer(alloc, &line, conversation, keeper, writer, follower) {
+            Ok(answered) => answered,
+            Err(fault) => return Err(unanswered(fault, number)),
+        };
+        if let Some(why) = answered.unkept {
+            return Ok(Ending::Unkept(why));
+        }
+        if answered.over {
+            return Ok(Ending::Over);
+        }
+    }
+    Err(ConverseFault::TooManyLines)
+}
