@@ -1,8 +1,9 @@
-"""What is on the line of a call, in octets: a plain reading of the tables of T.30 over bench/fuzz/reference_call.py, for
-.ci/data/try_octets.py, fuzz_calls.py and fuzz_drive.py."""
+"""What is on the line of a call, in octets, and how long it lasts: a plain reading of the tables of T.30 over
+bench/fuzz/reference_call.py, for .ci/data/try_octets.py, fuzz_calls.py, fuzz_drive.py and reference_times.py."""
 
 import functools
 import sys
+from fractions import Fraction
 
 sys.dont_write_bytecode = True
 from fuzz_stream import TRAINING, line_of, octets_of
@@ -17,6 +18,10 @@ MODEMS = {
     "v27": ("0100", V27),
     "fallback": ("0000", V27[1:]),
 }
+# Bits a second of a page, by those bits.
+SPEEDS = {"0000": 2400, "0100": 4800, "1000": 9600, "1100": 7200, "0001": 14400, "0101": 12000, "1001": 9600, "1101": 7200}
+# In seconds: the silence before a carrier; the flags before frames at 300 bit/s and before those of a page; a training check.
+SILENCE, FLAGS, PAGE_FLAGS, CHECK = Fraction("0.075"), Fraction(1), Fraction("0.2"), Fraction("1.5")
 WIDTHS = {1728: "00", 2048: "10", 2432: "01"}
 PAGE_ENDS = {"NULL": 0x00, "EOM": 0x8F, "MPS": 0x4F, "EOP": 0x2F}
 # The control fields of what has nothing else; those that a caller sends have the lowest bit.
@@ -42,10 +47,28 @@ def framed(item, control, fields=b""):
     return Sent(item, frame_of(bytes([0xFF, 0x03 if item[0] in ("FCD", "RCP") else 0x13, control]) + fields))
 
 
+def lasting(octets, speed):
+    """How long octets last at a speed, in seconds."""
+    return Fraction(8 * octets, speed)
+
+
+def turn_lasts(station, items):
+    """How long a turn of a station lasts: the carriers of its page's frames, of its training check and of its frame at 300 bit/s."""
+    pages = sum(len(item.octets) for item in items if item[0] in ("FCD", "RCP"))
+    lasts = SILENCE + PAGE_FLAGS + lasting(pages, SPEEDS[station.speed_bits()]) if pages else Fraction(0)
+    for item in items:
+        if item[0] == "TRAINING":
+            lasts += SILENCE + CHECK
+        elif item[0] not in ("FCD", "RCP"):
+            lasts += SILENCE + FLAGS + lasting(len(item.octets), 300)
+    return lasts
+
+
 def noted(station, items):
-    """The items, whose octets the station has sent now."""
+    """The items of a turn, whose octets the station has sent now."""
     for item in items:
         station.line += item.octets
+    station.lasts += turn_lasts(station, items)
     return items
 
 
@@ -55,7 +78,7 @@ class OctetCaller(Caller):
     def __init__(self, pages, size, options):
         self.codes, (self.modems, self.fine, self.is_t6) = [code for _, code in pages], options
         super().__init__([(width, len(code)) for width, code in pages], size, len(MODEMS[self.modems][1]))
-        self.line = bytearray()
+        self.line, self.lasts = bytearray(), Fraction(0)
 
     def items(self, turn):
         return noted(self, [self.sent(item) for item in super().items(turn)])
@@ -81,7 +104,7 @@ class OctetCaller(Caller):
 class OctetAnswerer(Answerer):
     def __init__(self, modems):
         super().__init__()
-        self.modems, self.line = modems, bytearray()
+        self.modems, self.line, self.lasts = modems, bytearray(), Fraction(0)
 
     def items(self, turn):
         return noted(self, self.sent(turn))
@@ -96,7 +119,8 @@ class OctetAnswerer(Answerer):
 
 
 class OctetLine(Line):
-    """A line whose items have their octets. Each station has in `line` the octets of all that it has sent."""
+    """A line whose items have their octets. Each station has in `line` the octets of all that it has sent, and in `lasts` for how many
+    seconds it has sent."""
 
     def __init__(self, pages, size, options):
         super().__init__([(width, len(code)) for width, code in pages], size, len(MODEMS[options[0]][1]))

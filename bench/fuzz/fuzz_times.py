@@ -18,16 +18,22 @@ from pathlib import Path
 
 sys.dont_write_bytecode = True
 sys.path.insert(0, str(Path(__file__).resolve().parent))
-from fuzz_calls import PROGRAM, SPEEDS, Failed, compare, need, random_options, value_of  # noqa: E402
+from fuzz_calls import PROGRAM, Failed, compare, need, random_options, value_of  # noqa: E402
 from fuzz_drive import IMAGES, Pages, random_rates  # noqa: E402
 from reference_drive import Drawn, Pcg32, rate_of  # noqa: E402
-from reference_times import times  # noqa: E402
+from reference_times import TimedLine, times  # noqa: E402
 
 
 def printed_by(words):
     ran = subprocess.run([PROGRAM, "call", *words], capture_output=True, timeout=120)
     need(ran.returncode == 0 and ran.stderr == b"", f"status {ran.returncode}: {ran.stderr.decode('utf-8', 'replace')}")
     return ran.stdout.decode("ascii", "replace")
+
+
+def line_of(pages, options):
+    """A new line of a call of pages with these options."""
+    modems, is_t6 = value_of(options, "--modems", "v17"), value_of(options, "--code", "mmr") == "mmr"
+    return TimedLine(pages, int(value_of(options, "--frame", "256")), (modems, "--fine" in options, is_t6))
 
 
 def try_run(rand, pages, folder):
@@ -45,10 +51,8 @@ def try_run(rand, pages, folder):
     Path(document).write_bytes(b"".join(pages.images[number] for number in chosen))
     words = [*line, "--times", str(count), *options, document]
     try:
-        speeds, frame = SPEEDS[value_of(options, "--modems", "v17")], int(value_of(options, "--frame", "256"))
-        coded = [(width, len(code)) for width, code in (pages.coded(number, options) for number in chosen)]
-        printed = printed_by(words)
-        compare(printed, list(times(coded, frame, speeds, lambda number: Drawn(Pcg32(seed, number), *rates), count, calls or 3)))
+        coded, printed = [pages.coded(number, options) for number in chosen], printed_by(words)
+        compare(printed, list(times(lambda: line_of(coded, options), lambda number: Drawn(Pcg32(seed, number), *rates), count, calls or 3)))
         alone = printed_by([*line, *options, document]).split("\n")
         first = printed.split("\n")[0]
         need(first.startswith(f"call 0 {alone[-3]} {alone[-2]} deliveries "), f"the call alone ends with {alone[-3:-1]}")

@@ -5,7 +5,6 @@ use Rattle.stations.proofs.Sizes.{callers_short, steps_are_placed}
 use Rattle.stations.specs.CallerStep.{Caller}
 use Rattle.stations.specs.Inputs.{PlainItem}
 use Rattle.stations.specs.Laws.{SpeedsHold}
-use Rattle.stations.specs.Layers.{Document}
 use Rattle.stations.specs.Sizes.{AreShort, BlocksAreFew, IsPlaced, StepsArePlaced}
 use Rattle.stations.specs.declared.turn.End.{End}
 use Rattle.line_sim.specs.Driving.{Driven, Patience, drives, is_over, is_over_at, most_steps, paid, somebody_waits}

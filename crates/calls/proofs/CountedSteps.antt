@@ -1,21 +1,29 @@
 -- The steps of a call over a bad line, of which events are counted.
-use Rattle.std.proofs.Common.{◌≡◌, ℕ, suc, ◌+◌, Bool, true, false, List, [], ◌∷◌, ◌++◌, Option, Some, None, refl, ap, sym}
+use Rattle.std.proofs.Common.{◌≡◌, ℕ, suc, ◌+◌, Bool, false, List, [], ◌∷◌, ◌++◌, Option, Some, None, refl, ap, sym}
 use Rattle.std.proofs.Common.{subst, ◌∙◌, arith, add_assoc}
 use Rattle.rand_pcg.specs.Lcg.{Lcg}
 use Rattle.line_sim.specs.BusyCalls.{setting_events}
 use Rattle.line_sim.specs.Entries.{entries}
 use Rattle.line_sim.specs.Fates.{DrivenFields, entries_of}
 use Rattle.line_sim.specs.Line.{World}
+use Rattle.line_sim.specs.Octets.{sender_to}
 use Rattle.line_sim.specs.Report.{all_done}
+use Rattle.line_sim.specs.declared.call.Call.{Call}
 use Rattle.line_sim.specs.declared.drive.Step.{Step}
 use Rattle.line_sim.specs.declared.event.Entry.{Entry}
 use Rattle.line_sim.specs.declared.event.Event.{Event}
 use Rattle.line_sim.proofs.Transcripts.{entries_both}
 use Rattle.calls.specs.BadLines.{AreOfSteps, Going, Stands, WasSet, entry_if, going_events, gone, is_marked, setting_of}
-use Rattle.calls.specs.ManyCalls.{CountsAll, counts_in, counts_with, total}
+use Rattle.calls.specs.LineTimes.{Runs, RunsAfter, RunsSteps, clock_to, new_clocks}
+use Rattle.calls.specs.ManyCalls.{CountsAll, counts_in, counts_with}
+use Rattle.calls.specs.Totals.{total}
+use Rattle.calls.specs.declared.counts.Counts.{Counts}
+use Rattle.calls.specs.declared.line_time.Clocks.{Clocks}
 use Rattle.calls.specs.declared.losses.BadLine.{BadLine}
 use Rattle.calls.specs.declared.many_calls.CallCounts.{CallCounts}
-use Rattle.calls.proofs.DrivenSteps.{MaySet, MayStep, WasMade, done_both, over_now, step_made, steps_lead}
+use Rattle.calls.proofs.DrivenSteps.{MaySet, MayStep, WasMade, done_both, over_now, put_counted, step_made, steps_lead}
+use Rattle.calls.proofs.LineTimes.{at_start, runs_step}
+use Rattle.calls.proofs.SentItems.{AreCounted, no_counts}
 
 -- ---- totals
 
@@ -23,24 +31,27 @@ pub total_both : {A : Type 0} (of : A → ℕ) (xs ys : List A) → total of (xs
 total_both of [] ys = let e : total of ys ≡ 0 + total of ys = omega arith in e
 total_both of (x ∷ xs) ys = ap (λ n. of x + n) (total_both of xs ys) ∙ sym (add_assoc (of x) (total of xs) (total of ys))
 
-same_counts : (a b c d e f g h : ℕ) → a ≡ e → b ≡ f → c ≡ g → d ≡ h →
-    ◌≡◌ {A = CallCounts} (record { deliveries = a; lost = b; spoiled = c; again = d })
-    (record { deliveries = e; lost = f; spoiled = g; again = h })
-same_counts a b c d e f g h one two three four = rw (one, two, three, four) refl
+same_counts : (a b c d e f g h i j : ℕ) → a ≡ f → b ≡ g → c ≡ h → d ≡ i → e ≡ j →
+    ◌≡◌ {A = CallCounts} (record { deliveries = a; lost = b; spoiled = c; again = d; waited = e })
+    (record { deliveries = f; lost = g; spoiled = h; again = i; waited = j })
+same_counts a b c d e f g h i j one two three four five = rw (one, two, three, four, five) refl
 
 pub counts_both : (xs ys : List Entry) → counts_in (xs ++ ys) ≡ counts_with (counts_in xs) (counts_in ys)
-counts_both xs ys = same_counts _ _ _ _ _ _ _ _ (total_both _ xs ys) (total_both _ xs ys) (total_both _ xs ys) (total_both _ xs ys)
+counts_both xs ys =
+    same_counts _ _ _ _ _ _ _ _ _ _ (total_both _ xs ys) (total_both _ xs ys) (total_both _ xs ys) (total_both _ xs ys) (total_both _ xs ys)
 
 -- what a setting counts for: nothing
 abbrev no_events : CallCounts
-no_events = record { deliveries = 0; lost = 0; spoiled = 0; again = 0 }
+no_events = record { deliveries = 0; lost = 0; spoiled = 0; again = 0; waited = 0 }
 
 setting_counts : (setting : Option Bool) (w : World) → counts_in (entries (all_done (setting_events setting)) w) ≡ no_events
 setting_counts None w = refl
 setting_counts (Some busy) w = refl
 
 none_with : (counts : CallCounts) → counts_with no_events counts ≡ counts
-none_with counts = same_counts _ _ _ _ _ _ _ _ (more counts.deliveries) (more counts.lost) (more counts.spoiled) (more counts.again)
+none_with counts =
+    same_counts _ _ _ _ _ _ _ _ _ _ (more counts.deliveries) (more counts.lost) (more counts.spoiled) (more counts.again)
+    (more counts.waited)
   where
     more : (n : ℕ) → 0 + n ≡ n
     more n = omega arith
@@ -48,21 +59,37 @@ none_with counts = same_counts _ _ _ _ _ _ _ _ (more counts.deliveries) (more co
 -- ---- steps
 
 -- some steps of a call were made, and their events were counted
-pub record Went (bad : BadLine) (first : Going) (made : ℕ) (now : DrivenFields) (generator : Lcg) (counts : CallCounts) : Type 0 where
+pub record Went (bad : BadLine) (first : Going) (made : ℕ) (now : DrivenFields) (generator : Lcg) (counts : CallCounts) (clocks : Clocks)
+    : Type 0 where
   pub stands : Stands now bad generator (gone made bad first)
   pub events : List Event
   pub are : AreOfSteps made bad first events
   pub counted : counts ≡ counts_in (entries (all_done events) first.call.world)
+  pub sent : RunsSteps bad first made clocks
 
-pub none_went : (bad : BadLine) (first : Going) (now : DrivenFields) (generator : Lcg) (counts : CallCounts) → counts ≡ counts_in [] →
-    Stands now bad generator first → Went bad first 0 now generator counts
-none_went bad first now generator counts none stands = record { stands = stands; events = []; are = refl; counted = none }
+pub none_went : (bad : BadLine) (first : Going) (now : DrivenFields) (generator : Lcg) (counts : CallCounts) (fresh clocks : Clocks) →
+    counts ≡ counts_in [] → fresh ≡ new_clocks → RunsAfter no_counts now.live fresh clocks → Stands now bad generator first →
+    Went bad first 0 now generator counts clocks
+none_went bad first now generator counts fresh clocks none new_is runs stands = record {
+  stands = stands;
+  events = [];
+  are = refl;
+  counted = none;
+  sent = λ to. at_start to bad first now.live clocks stands.shows.world (subst (λ c. RunsAfter no_counts now.live c clocks) new_is runs);
+}
+
+-- what a step makes of the clocks
+pub record StepRuns (now new : Call) (before after : Clocks) : Type 0 where
+  pub counts : Counts
+  pub counted : AreCounted counts now
+  pub runs : RunsAfter counts new before after
 
 pub one_went : (bad : BadLine) (first : Going) (made : ℕ) (now mid new : DrivenFields) (generator drawn later : Lcg) (counts more : CallCounts)
-    (set : Option Entry) (step : Step) → Went bad first made now generator counts → MaySet bad now mid generator drawn set →
-    is_marked set ≡ false → MayStep bad mid new drawn later (Some step) → step.entry.refused ≡ false →
-    more ≡ counts_with counts (counts_in (entries_of step)) → Went bad first (made + 1) new later more
-one_went bad first made now mid new generator drawn later counts more set step r may_set unmarked may whole is =
+    (clocks after : Clocks) (set : Option Entry) (step : Step) → Went bad first made now generator counts clocks →
+    MaySet bad now mid generator drawn set → is_marked set ≡ false → MayStep bad mid new drawn later (Some step) →
+    step.entry.refused ≡ false → more ≡ counts_with counts (counts_in (entries_of step)) → StepRuns now.live new.live clocks after →
+    Went bad first (made + 1) new later more after
+one_went bad first made now mid new generator drawn later counts more clocks after set step r may_set unmarked may whole is did =
     let g : Going = gone made bad first in
     let w : World = first.call.world in
     let was : WasMade bad g new later (entry_if set ++ entries_of step) =
@@ -79,18 +106,21 @@ one_went bad first made now mid new generator drawn later counts more set step r
     (ap (λ c. counts_with c (counts_in (entries_of step)))
     (ap counts_in setting.noted ∙ setting_counts (setting_of bad g) g.call.world) ∙ none_with (counts_in (entries_of step))) in
     let n : suc made ≡ made + 1 = omega arith in
-    subst (λ k. Went bad first k new later more) n
+    subst (λ k. Went bad first k new later more after) n
     (record {
       stands = was.stands;
       events = r.events ++ last;
       are = (r.events, last, r.are, record { goes_on = was.runs; are = refl }, refl);
       counted = is ∙ (ap (λ c. counts_with c (counts_in (entries_of step))) r.counted ∙
           (ap (λ c. counts_with (counts_in old) c) (sym alone) ∙ (sym (counts_both old lines) ∙ ap counts_in (sym both))));
+      sent = λ to. runs_step to bad first made clocks after (r.sent to)
+          (subst (λ l. Runs (sender_to to) l (clock_to to clocks) (clock_to to after))
+          (put_counted to bad g now.live new.live did.counts r.stands.shows.world was.stands.shows.world did.counted) (did.runs to));
     })
 
 pub all_counted : (bad : BadLine) (first : Going) (made : ℕ) (now mid new : DrivenFields) (generator drawn later : Lcg) (counts : CallCounts)
-    (set : Option Entry) → Went bad first made now generator counts → MaySet bad now mid generator drawn set → is_marked set ≡ false →
-    MayStep bad mid new drawn later None → CountsAll bad first new counts
-all_counted bad first made now mid new generator drawn later counts set r may_set unmarked may =
+    (clocks : Clocks) (set : Option Entry) → Went bad first made now generator counts clocks → MaySet bad now mid generator drawn set →
+    is_marked set ≡ false → MayStep bad mid new drawn later None → CountsAll bad first new (record { counts = counts; clocks = clocks })
+all_counted bad first made now mid new generator drawn later counts clocks set r may_set unmarked may =
     let over = over_now bad (gone made bad first) now mid new generator drawn later set r.stands may_set unmarked may in
-    record { made = made; events = r.events; are = r.are; over = over.over; shows = over.shows; counted = r.counted }
+    record { made = made; events = r.events; are = r.are; over = over.over; shows = over.shows; counts = r.counted; sent = r.sent }

@@ -14,7 +14,7 @@ use Rattle.stations.specs.declared.turn.End.{End}
 use Rattle.line_sim.specs.BusyCalls.{setting_events, sets}
 use Rattle.line_sim.specs.Driving.{Driven, Patience, first_fate, is_over, is_over_at}
 use Rattle.line_sim.specs.Entries.{entries, head_kind}
-use Rattle.line_sim.specs.Fates.{DrivenFields, MakesStep, SetsBusy, ShowsDriven, Steps, asks_ready, entries_of, events_of, is_fate_due, next_of}
+use Rattle.line_sim.specs.Fates.{DrivenFields, MakesStep, SetsBusy, ShowsDriven, Steps, asks_ready, entries_of, events_of, is_fate_due}
 use Rattle.line_sim.specs.Fates.{plain_fate}
 use Rattle.line_sim.specs.Line.{Done, run}
 use Rattle.line_sim.specs.Octets.{under_way_to}
@@ -33,7 +33,6 @@ use Rattle.line_sim.proofs.Fates.{due_shown}
 use Rattle.line_sim.proofs.Transcripts.{run_both, entries_both}
 use Rattle.calls.specs.BadLines.{AreOfSteps, Draws, Going, IsSet, Stands, TellsAll, WasSet, drawn_if, entry_if, fated, next_going}
 use Rattle.calls.specs.BadLines.{going_events, gone, is_due, is_marked, is_set, patience_of, put_by_step, put_by_steps, set_in, setting_of}
-use Rattle.calls.specs.BadLines.{stepped}
 use Rattle.calls.specs.Losses.{fate_of, is_busy_word}
 use Rattle.calls.specs.SentBits.{WritesAfter, WritesItems, WritesLines, Written, count_to, on_way_to}
 use Rattle.calls.specs.Transcripts.{entry_lines}
@@ -239,15 +238,21 @@ over_now line g now mid new generator drawn later set stands may_set unmarked ma
 
 -- ---- the octets of a step
 
+-- what a step has put under way are the items after those that were counted before it
+pub put_counted : (to : Side) (line : BadLine) (g : Going) (now new : Call) (counts : Counts) → Shows now g.call.world →
+    Shows new (next_going line g).call.world → AreCounted counts now →
+    drop (count_to to counts) (under_way_to to new) ≡ put_by_step to line g
+put_counted to line g now new counts shown shows are =
+    let size : count_to to counts ≡ length (on_way_to to g.call.world) =
+    counted_to to counts now are ∙ ap (λ (l : List PlainItem). length l) (sym (shown_to to now g.call.world shown)) in
+    ap (λ n. drop n (under_way_to to new)) size ∙
+    ap (λ l. drop (length (on_way_to to g.call.world)) l) (sym (shown_to to new (next_going line g).call.world shows))
+
 step_sent : (to : Side) (line : BadLine) (g : Going) (now new : Call) (counts : Counts) (at after : Written) → Shows now g.call.world →
     Shows new (next_going line g).call.world → AreCounted counts now → WritesAfter counts new at after →
     WritesItems to (put_by_step to line g) at after
 step_sent to line g now new counts at after shown shows are wrote =
-    let size : count_to to counts ≡ length (on_way_to to g.call.world) =
-    counted_to to counts now are ∙ ap (λ (l : List PlainItem). length l) (sym (shown_to to now g.call.world shown)) in
-    subst (λ l. WritesItems to l at after)
-    (ap (λ n. drop n (under_way_to to new)) size ∙
-    ap (λ l. drop (length (on_way_to to g.call.world)) l) (sym (shown_to to new (next_going line g).call.world shows))) (wrote.sent to)
+    subst (λ l. WritesItems to l at after) (put_counted to line g now new counts shown shows are) (wrote.sent to)
 
 steps_sent : (to : Side) (line : BadLine) (made : ℕ) (first : Going) (now new : Call) (before at after : Written) (text : List ℕ) →
     Shows now (gone made line first).call.world → Shows new (gone (suc made) line first).call.world →

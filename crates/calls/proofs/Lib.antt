@@ -13,5 +13,7 @@ mod DrivenSteps
 mod BadCallsEnd
 mod DrivenCalls
 mod Rates
+mod LineTimes
 mod CountedSteps
+mod Shares
 mod ManyCalls

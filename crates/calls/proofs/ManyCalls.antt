@@ -20,10 +20,13 @@ use Rattle.calls.specs.BadLines.{RefusesDriven, bad_call, gone}
 use Rattle.calls.specs.Calls.{EndsAs}
 use Rattle.engines.specs.Faults.{IsOutside}
 use Rattle.calls.specs.ManyCalls.{AreDrivenTo, CountsAll, IsCallOf, IsDrivenTo, Tallies, TellsMany, all_ends, borne_in, end_row, ended_at}
-use Rattle.calls.specs.ManyCalls.{mild_in, mild_row, one_if, one_line, place_of, sum_row, table_text, total}
+use Rattle.calls.specs.LineTimes.{seconds_in}
+use Rattle.calls.specs.ManyCalls.{mild_in, mild_row, one_line, place_of, sum_row, table_text}
+use Rattle.calls.specs.Seconds.{CountsSeconds, Histogram, TellsSeconds, seconds_row}
+use Rattle.calls.specs.Totals.{one_if, total}
 use Rattle.engines.specs.declared.fault.ToolFault.{ToolFault}
 use Rattle.calls.specs.declared.losses.BadLine.{BadLine}
-use Rattle.calls.specs.declared.many_calls.CallCounts.{CallCounts}
+use Rattle.calls.specs.declared.many_calls.Counted.{Counted}
 use Rattle.calls.specs.declared.many_calls.OneCall.{OneCall}
 use Rattle.calls.specs.declared.options.CallOptions.{CallOptions}
 use Rattle.calls.specs.declared.tallies.Tally.{Tally}
@@ -31,10 +34,11 @@ use Rattle.calls.proofs.CountedSteps.{total_both}
 use Rattle.engines.proofs.FirstElements.{take_next}
 
 -- what the call of a number came to, of what its steps lead to
-pub is_call : (options : CallOptions) (bad : BadLine) (number : ℕ) (document : Document) (new : DrivenFields) (counts : CallCounts)
-    (ending : Ending) (pages : ℕ) → AreCallable document →
-    CountsAll bad (bad_call options bad number document) new counts →
+pub is_call : (options : CallOptions) (bad : BadLine) (number : ℕ) (document : Document) (new : DrivenFields) (counted : Counted)
+    (ending : Ending) (pages seconds : ℕ) → AreCallable document →
+    CountsAll bad (bad_call options bad number document) new counted →
     ((w : World) → Shows new.live w → EndsAs ending w) → pages ≡ length ending.pages.items →
+    seconds ≡ seconds_in counted.clocks counted.counts.waited ending.caller_end →
     IsCallOf options bad number document
     (record {
       number = number;
@@ -42,9 +46,10 @@ pub is_call : (options : CallOptions) (bad : BadLine) (number : ℕ) (document :
       confirmed = ending.confirmed;
       answerer_end = ending.answerer_end;
       pages = pages;
-      counts = counts;
+      counts = counted.counts;
+      seconds = seconds;
     })
-is_call options bad number document new counts ending pages callable told ends stored =
+is_call options bad number document new counted ending pages seconds callable told ends stored seconds_is =
     let w : World = (gone told.made bad (bad_call options bad number document)).call.world in
     let ended : EndsAs ending w = ends w told.shows.world in
     record {
@@ -59,8 +64,11 @@ is_call options bad number document new counts ending pages callable told ends s
         confirmed = ended.confirmed;
         answerer_end = ended.answerer_end;
         pages = stored ∙ ap length ended.pages;
-        counted = told.counted;
+        counted = told.counts;
       };
+      clocks = counted.clocks;
+      sent = told.sent;
+      seconds = seconds_is;
     }
 
 -- one call more
@@ -96,30 +104,34 @@ ran_before law options bad number images call fault is (inr (inr (document, read
     ok_inj a b e = ap (λ r. document_of r a) e
 
 -- some calls were run, and what was written is their lines
-pub record RanSo (options : CallOptions) (bad : BadLine) (images : List ℕ) (made : ℕ) (tally : Tally) (before at : Option (List ℕ))
-    : Type 0 where
+pub record RanSo (options : CallOptions) (bad : BadLine) (images : List ℕ) (made : ℕ) (tally : Tally) (seconds : Histogram)
+    (before at : Option (List ℕ)) : Type 0 where
   pub calls : List OneCall
   pub many : length calls ≡ made
   pub are : AreDrivenTo options bad 0 images calls
   pub tallies : Tallies tally calls
+  pub counts : CountsSeconds seconds calls
   pub written : Appends before at (flat_map one_line calls)
 
-pub none_ran : (options : CallOptions) (bad : BadLine) (images : List ℕ) (tally : Tally) (at : Option (List ℕ)) → Tallies tally [] →
-    RanSo options bad images 0 tally at at
-none_ran options bad images tally at none = record { calls = []; many = refl; are = tt; tallies = none; written = Appends-nil at }
+pub none_ran : (options : CallOptions) (bad : BadLine) (images : List ℕ) (tally : Tally) (seconds : Histogram) (at : Option (List ℕ)) →
+    Tallies tally [] → CountsSeconds seconds [] → RanSo options bad images 0 tally seconds at at
+none_ran options bad images tally seconds at none nothing =
+    record { calls = []; many = refl; are = tt; tallies = none; counts = nothing; written = Appends-nil at }
 
-pub one_ran : (options : CallOptions) (bad : BadLine) (images : List ℕ) (made : ℕ) (tally new : Tally) (before at after : Option (List ℕ))
-    (call : OneCall) → RanSo options bad images made tally before at → IsDrivenTo options bad made images call →
-    Appends at after (one_line call) →
+pub one_ran : (options : CallOptions) (bad : BadLine) (images : List ℕ) (made : ℕ) (tally new : Tally) (seconds longer : Histogram)
+    (before at after : Option (List ℕ)) (call : OneCall) → RanSo options bad images made tally seconds before at →
+    IsDrivenTo options bad made images call → Appends at after (one_line call) →
     ((calls : List OneCall) → Tallies tally calls → Tallies new (calls ++ call ∷ [])) →
-    RanSo options bad images (made + 1) new before after
-one_ran options bad images made tally new before at after call ran is line more = record {
+    ((calls : List OneCall) → CountsSeconds seconds calls → CountsSeconds longer (calls ++ call ∷ [])) →
+    RanSo options bad images (made + 1) new longer before after
+one_ran options bad images made tally new seconds longer before at after call ran is line more lasts = record {
   calls = ran.calls ++ call ∷ [];
   many = length-append ran.calls (call ∷ []) ∙ ap (λ n. n + 1) ran.many;
   are = and_call options bad 0 images ran.calls call ran.are
       (let e : made ≡ 0 + length ran.calls = (let m = ran.many in omega (arith, m)) in
       subst (λ n. IsDrivenTo options bad n images call) e is);
   tallies = more ran.calls ran.tallies;
+  counts = lasts ran.calls ran.counts;
   written = subst (Appends before after)
       (sym (flat_map-append one_line ran.calls (call ∷ []) ∙ ap (λ l. flat_map one_line ran.calls ++ l) (append-nil (one_line call))))
       (Appends-trans before at after (flat_map one_line ran.calls) (one_line call) ran.written line);
@@ -135,23 +147,28 @@ fault_later law options bad images (call ∷ calls) made fault many some are ref
 
 -- so it is of the call that is under way, unless it is the first
 pub later_or : {Q : Type 0} → ReadsImages → (options : CallOptions) (bad : BadLine) (images : List ℕ) (made : ℕ) (tally : Tally)
-    (before at : Option (List ℕ)) (fault : ToolFault) → RanSo options bad images made tally before at → (0 < made) ⊎ Q →
-    RefusesDriven options.fine images fault → IsOutside fault ⊎ Q
-later_or law options bad images made tally before at fault ran (inl some) refused =
+    (seconds : Histogram) (before at : Option (List ℕ)) (fault : ToolFault) → RanSo options bad images made tally seconds before at →
+    (0 < made) ⊎ Q → RefusesDriven options.fine images fault → IsOutside fault ⊎ Q
+later_or law options bad images made tally seconds before at fault ran (inl some) refused =
     inl (fault_later law options bad images ran.calls made fault ran.many some ran.are refused)
-later_or law options bad images made tally before at fault ran (inr same) refused = inr same
+later_or law options bad images made tally seconds before at fault ran (inr same) refused = inr same
 
 -- all calls were run, and their table was written
-pub all_ran : (options : CallOptions) (bad : BadLine) (images : List ℕ) (made times : ℕ) (tally : Tally)
-    (before at after : Option (List ℕ)) →
-    RanSo options bad images made tally before at → made ≡ times →
-    ((calls : List OneCall) → Tallies tally calls → Appends at after (table_text calls)) → TellsMany options bad times images before after
-all_ran options bad images made times tally before at after ran all table = record {
-  calls = ran.calls;
-  many = ran.many ∙ all;
-  are = ran.are;
-  written = Appends-trans before at after (flat_map one_line ran.calls) (table_text ran.calls) ran.written (table ran.calls ran.tallies);
-}
+pub all_ran : (options : CallOptions) (bad : BadLine) (images : List ℕ) (made times : ℕ) (tally : Tally) (seconds : Histogram)
+    (before at mid after : Option (List ℕ)) → RanSo options bad images made tally seconds before at → made ≡ times →
+    ((calls : List OneCall) → Tallies tally calls → Appends at mid (table_text calls)) →
+    ((calls : List OneCall) → CountsSeconds seconds calls → TellsSeconds calls mid after) → TellsMany options bad times images before after
+all_ran options bad images made times tally seconds before at mid after ran all table row =
+    let told : TellsSeconds ran.calls mid after = row ran.calls ran.counts in
+    record {
+      calls = ran.calls;
+      many = ran.many ∙ all;
+      are = ran.are;
+      shares = told.shares;
+      are_shares = told.are;
+      written = Appends-trans before at after (flat_map one_line ran.calls) (table_text ran.calls ++ seconds_row told.shares) ran.written
+          (Appends-trans at mid after (table_text ran.calls) (seconds_row told.shares) (table ran.calls ran.tallies) told.written);
+    }
 
 -- ---- the table
 

@@ -91,7 +91,7 @@ left_after zero [] item rest e = absurd (cc)
 left_after (suc place) [] item rest e = absurd (cc)
 left_after (suc place) (x ∷ items) item rest e = left_after place items item rest e
 
-left_of : (place : ℕ) (items : List PlainItem) (item : PlainItem) (rest : List PlainItem) → drop place items ≡ item ∷ rest →
+pub left_of : (place : ℕ) (items : List PlainItem) (item : PlainItem) (rest : List PlainItem) → drop place items ≡ item ∷ rest →
     drop (place + 1) items ≡ rest
 left_of place items item rest e =
     let n : place + 1 ≡ suc place = omega arith in

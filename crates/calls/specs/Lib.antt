@@ -7,4 +7,7 @@ pub mod ScriptsMean
 pub mod OptionsMean
 pub mod Losses
 pub mod BadLines
+pub mod LineTimes
+pub mod Totals
+pub mod Seconds
 pub mod ManyCalls

@@ -24,22 +24,17 @@ use Rattle.calls.specs.BadLines.{AreOfSteps, Going, bad_call, gone, patience_of}
 use Rattle.calls.specs.Calls.{call_world}
 use Rattle.engines.specs.Frames.{line}
 use Rattle.engines.specs.Texts.{spaced}
+use Rattle.calls.specs.LineTimes.{RunsSteps, seconds_in, waited_in}
+use Rattle.calls.specs.Seconds.{AreShares, Shares, seconds_row}
+use Rattle.calls.specs.Totals.{one_if, total}
 use Rattle.calls.specs.Transcripts.{end_text}
+use Rattle.calls.specs.declared.line_time.Clocks.{Clocks}
 use Rattle.calls.specs.declared.losses.BadLine.{BadLine}
 use Rattle.calls.specs.declared.many_calls.CallCounts.{CallCounts}
+use Rattle.calls.specs.declared.many_calls.Counted.{Counted}
 use Rattle.calls.specs.declared.many_calls.OneCall.{OneCall}
 use Rattle.calls.specs.declared.options.CallOptions.{CallOptions}
 use Rattle.calls.specs.declared.tallies.Tally.{Tally}
-
--- what the elements of a list have of something, all together
-abbrev pub total : {A : Type 0} → (A → ℕ) → List A → ℕ
-total of [] = 0
-total of (x ∷ xs) = of x + total of xs
-
--- one, where something is so
-abbrev pub one_if : Bool → ℕ
-one_if true = 1
-one_if false = 0
 
 -- ---- what is counted of a call
 
@@ -66,13 +61,15 @@ abbrev pub frames_again : Option Kind → ℕ → ℕ
 frames_again (Some Ppr) fcds = fcds
 frames_again _ fcds = 0
 
--- how many items came and were lost, how many training checks were spoiled, and how many FCDs were sent again
+-- how many items came and were lost, how many training checks were spoiled, how many FCDs were sent again, and for how many milliseconds
+-- somebody waited until the wait was over
 abbrev pub counts_in : List Entry → CallCounts
 counts_in noted = record {
   deliveries = total (λ entry. one_if (is_delivery entry.event)) noted;
   lost = total (λ entry. one_if (is_loss entry.event)) noted;
   spoiled = total (λ entry. one_if (is_spoiling entry.event)) noted;
   again = total (λ entry. frames_again entry.item entry.fcds) noted;
+  waited = total (λ entry. waited_in entry.event) noted;
 }
 
 -- two counts together
@@ -82,16 +79,19 @@ counts_with a b = record {
   lost = a.lost + b.lost;
   spoiled = a.spoiled + b.spoiled;
   again = a.again + b.again;
+  waited = a.waited + b.waited;
 }
 
--- The call at its start was driven until it was over, by the words of its generator, and its events were counted.
-pub record CountsAll (bad : BadLine) (first : Going) (new : DrivenFields) (counts : CallCounts) : Type 0 where
+-- The call at its start was driven until it was over, by the words of its generator, and its events were counted, and how long what it sent
+-- lasts.
+pub record CountsAll (bad : BadLine) (first : Going) (new : DrivenFields) (counted : Counted) : Type 0 where
   pub made : ℕ
   pub events : List Event
   pub are : AreOfSteps made bad first events
   pub over : is_over (gone made bad first).call ≡ true
   pub shows : ShowsDriven new (patience_of bad) (gone made bad first).call
-  pub counted : counts ≡ counts_in (entries (all_done events) first.call.world)
+  pub counts : counted.counts ≡ counts_in (entries (all_done events) first.call.world)
+  pub sent : RunsSteps bad first made counted.clocks
 
 -- what a call has come to, with its number and what was counted of it
 pub record EndsSo (call : OneCall) (number : ℕ) (w : World) (counts : CallCounts) : Type 0 where
@@ -103,7 +103,7 @@ pub record EndsSo (call : OneCall) (number : ℕ) (w : World) (counts : CallCoun
   pub counted : call.counts ≡ counts
 
 -- The call of a number, of a document: it makes the same steps as where it is driven alone, until it is over. How it ended is what its
--- world has come to, and its events are counted.
+-- world has come to, and its events are counted, and for how many seconds it had the line.
 pub record IsCallOf (options : CallOptions) (bad : BadLine) (number : ℕ) (document : Document) (call : OneCall) : Type 0 where
   pub callable : AreCallable document
   pub made : ℕ
@@ -113,6 +113,9 @@ pub record IsCallOf (options : CallOptions) (bad : BadLine) (number : ℕ) (docu
   pub ends :
       EndsSo call number (gone made bad (bad_call options bad number document)).call.world
       (counts_in (entries (all_done events) (call_world options document)))
+  pub clocks : Clocks
+  pub sent : RunsSteps bad (bad_call options bad number document) made clocks
+  pub seconds : call.seconds ≡ seconds_in clocks call.counts.waited call.caller_end
 
 -- the images are a document's, and the call of a number, of this document, came to it
 pub record IsDrivenTo (options : CallOptions) (bad : BadLine) (number : ℕ) (images : List ℕ) (call : OneCall) : Type 0 where
@@ -211,13 +214,15 @@ pub record Tallies (tally : Tally) (calls : List OneCall) : Type 0 where
   pub deliveries : tally.deliveries ≡ total (λ call. call.counts.deliveries) calls
   pub again : tally.again ≡ total (λ call. call.counts.again) calls
 
--- a line for each call, and the table
-abbrev pub many_text : List OneCall → List ℕ
-many_text calls = flat_map one_line calls ++ table_text calls
+-- a line for each call, and the table, with the row of seconds at its end
+abbrev pub many_text : List OneCall → Shares → List ℕ
+many_text calls shares = flat_map one_line calls ++ (table_text calls ++ seconds_row shares)
 
 -- So many calls of the images were driven, numbered from 0, and what was written is the line of each and the table.
 pub record TellsMany (options : CallOptions) (bad : BadLine) (times : ℕ) (images : List ℕ) (before after : Option (List ℕ)) : Type 0 where
   pub calls : List OneCall
   pub many : length calls ≡ times
   pub are : AreDrivenTo options bad 0 images calls
-  pub written : Appends before after (many_text calls)
+  pub shares : Shares
+  pub are_shares : AreShares shares calls
+  pub written : Appends before after (many_text calls shares)

@@ -2,8 +2,9 @@
 
 ghost use Rattle.calls.specs.BadLines.{Going, RefusesDriven, Stands, is_marked};
 ghost use Rattle.engines.specs.Faults.{IsOutside};
-ghost use Rattle.calls.specs.ManyCalls.{CountsAll, IsCallOf, IsDrivenTo, TellsMany, counts_in, counts_with, frames_again, one_if};
+ghost use Rattle.calls.specs.ManyCalls.{CountsAll, IsCallOf, IsDrivenTo, TellsMany, counts_in, counts_with, frames_again};
 ghost use Rattle.calls.specs.ManyCalls.{counts_words, ends_words, is_delivery, is_loss, is_spoiling, one_line};
+ghost use Rattle.calls.specs.Totals.{one_if};
 ghost use Rattle.engines.specs.declared.fault.ToolFault.TheVariants.{No};
 ghost use Rattle.line_sim.specs.Fates.{entries_of};
 ghost use Rattle.stations.specs.CallerFields.{AreCallable};
@@ -12,8 +13,11 @@ ghost use Rattle.std.specs.Prelude.{◌≡◌, ◌+◌, ◌⊎◌, [], ◌∷◌
 
 use crate::bad_line::{next_step, patience_of, set_answerer};
 use crate::call::{answerer_caps, fault_of};
+use crate::counts::Counts;
+use crate::line_time::{Clocks, seconds_in, waited_in};
 use crate::losses::{BadLine, generator_of};
 use crate::options::CallOptions;
+use crate::seconds::Seconds;
 use crate::tallies::Tally;
 use crate::transcript::end_word;
 use engines::{FAILED, NO_MEMORY, ToolFault};
@@ -37,6 +41,17 @@ pub(crate) struct CallCounts {
     pub(crate) spoiled: u64,
     /// How many FCDs were sent again, in answer to a PPR.
     pub(crate) again: u64,
+    /// How long the waits were that were over, in milliseconds; the caller's for an answer is T4.
+    pub(crate) waited: u64,
+}
+
+/// What is counted of a call, and how long what was sent lasts.
+#[derive(Clone, Copy, Debug, PartialEq, Eq)]
+struct Counted {
+    /// What is counted.
+    counts: CallCounts,
+    /// How long it lasts.
+    clocks: Clocks,
 }
 
 /// What has become of one call of many.
@@ -54,6 +69,8 @@ pub(crate) struct OneCall {
     pub(crate) pages: usize,
     /// What was counted of it.
     pub(crate) counts: CallCounts,
+    /// For how many whole seconds it had the line.
+    pub(crate) seconds: u64,
 }
 
 /// The sum of two numbers. Errs with 8 where it would be 2^64 or more.
@@ -112,6 +129,7 @@ impl CallCounts {
             lost: 0,
             spoiled: 0,
             again: 0,
+            waited: 0,
         }
     }
 
@@ -125,6 +143,7 @@ impl CallCounts {
             lost: sum(self.lost, one_if(is_loss(entry.event)))?,
             spoiled: sum(self.spoiled, one_if(is_spoiling(entry.event)))?,
             again: sum(self.again, frames_again(entry.item, entry.fcds))?,
+            waited: sum(self.waited, waited_in(entry.event))?,
         })
     }
 
@@ -151,30 +170,33 @@ fn is_marked(set: Option<Entry>) -> bool
     }
 }
 
-/// Makes the steps of a call until it is over, by the words of the generator, and counts its events. Errs with 9 where a growth was
-/// refused, and with 8 where a number would be 2^64.
+/// Makes the steps of a call until it is over, by the words of the generator, and counts its events and how long what it sends lasts.
+/// Errs with 9 where a growth was refused, and with 8 where a number would be 2^64.
 fn count_fates(
     call: &mut DrivenCall,
     line: &BadLine,
     generator: &mut Lcg64Xsh32,
-) -> Result<CallCounts, ToolFault>
-    ensures counted { IfOk result (λ counts. (first : Going) → Stands call.old line.now generator.old first →
-        CountsAll line.now first call.new counts) }
+) -> Result<Counted, ToolFault>
+    ensures counted { IfOk result (λ counted. (first : Going) → Stands call.old line.now generator.old first →
+        CountsAll line.now first call.new counted) }
     ensures fault { IfErr result IsOutside }
 {
     let mut counts = CallCounts::new();
+    let mut clocks = Clocks::new().after_sent(call.live(), Counts::none())?;
     for _made in 0..u64::MAX {
+        let before = Counts::of(call.live());
         let set = set_answerer(call, line, generator);
         if is_marked(set) {
             return Err(NO_MEMORY);
         }
         let Some(step) = next_step(call, line, generator) else {
-            return Ok(counts);
+            return Ok(Counted { counts, clocks });
         };
         if step.entry.refused {
             return Err(NO_MEMORY);
         }
         counts = counts.with_step(&step)?;
+        clocks = clocks.after_sent(call.live(), before)?;
     }
     Err(FAILED)
 }
@@ -210,15 +232,17 @@ fn run_call(
         Err(fault) => return Err(fault_of(fault)),
     };
     let mut generator = generator_of(line, number);
-    let counts = count_fates(&mut call, line, &mut generator)?;
+    let counted = count_fates(&mut call, line, &mut generator)?;
     let ending = call.into_live().into_ending();
+    let seconds = seconds_in(&counted.clocks, counted.counts.waited, ending.caller_end)?;
     Ok(OneCall {
         number,
         caller_end: ending.caller_end,
         confirmed: ending.confirmed,
         answerer_end: ending.answerer_end,
         pages: stored(&ending),
-        counts,
+        counts: counted.counts,
+        seconds,
     })
 }
 
@@ -280,10 +304,10 @@ fn write_call<W: Write>(call: &OneCall, writer: &mut W) -> Result<(), ToolFault>
 /// Runs so many calls over a bad line, of the numbers from 0, one after the other, each between a caller that has the images' document
 /// and an answerer that can take it, as `drive_engine` runs the call of a number. Writes a line for each as it is over, with how it
 /// ended for both stations, how many items came and were lost, how many training checks were spoiled and how many FCDs were sent
-/// again; and then a table: how many calls ended how for the caller, how many bore at most two losses, and the sums. Keeps nothing of a
-/// call but numbers, so its memory doesn't grow with their count. Errs with the first fault of the images; with 26 where the width of
-/// a page is none that a call can have; with 8 where the writer fails or a sum would be 2^64; and with 9. With any fault but 8 and 9
-/// nothing is written.
+/// again; and then a table: how many calls ended how for the caller, how many bore at most two losses, the sums, and for how many seconds
+/// calls had the line. Keeps nothing of a call but numbers, so its memory doesn't grow with their count. Errs with the first fault of
+/// the images; with 26 where the width of a page is none that a call can have; with 8 where the writer fails or a sum would be 2^64;
+/// and with 9. With any fault but 8 and 9 nothing is written.
 pub fn drive_many<W: Write>(
     alloc: Global,
     images: &[u8],
@@ -298,11 +322,14 @@ pub fn drive_many<W: Write>(
 {
     pbm_reads_exactly();
     let mut tally = Tally::new();
+    let mut seconds = Seconds::new(alloc)?;
     for number in 0..times {
         let call = one_call(alloc, images, options, line, number)?;
         write_call(&call, writer)?;
         tally.add(&call)?;
+        seconds.add(&call)?;
     }
     tally.write(writer)?;
+    seconds.write(writer)?;
     Ok(())
 }

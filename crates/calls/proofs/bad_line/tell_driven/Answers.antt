@@ -1,5 +1,5 @@
 -- What the check asks of `tell_driven`.
-use Rattle.std.proofs.Common.{[], refl, subst, sym}
+use Rattle.std.proofs.Common.{[], subst, sym}
 use Rattle.line_sim.specs.Driving.{new_driven}
 use Rattle.line_sim.specs.Fates.{ShowsDriven}
 use Rattle.line_sim.specs.Standing.{Shows}

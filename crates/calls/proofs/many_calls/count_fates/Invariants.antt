@@ -5,4 +5,4 @@ use Rattle.calls.proofs.many_calls.count_fates.Given as goal
 
 abbrev pub invariant-loop-made : goal.invariant-loop-made
 invariant-loop-made l =
-    (first : Going) → Stands l.fn.call l.line l.fn.generator first → Went l.line first l._made l.call l.generator l.counts
+    (first : Going) → Stands l.fn.call l.line l.fn.generator first → Went l.line first l._made l.call l.generator l.counts l.clocks

@@ -5,5 +5,5 @@ use Rattle.calls.proofs.many_calls.drive_many.Given as goal
 
 abbrev pub invariant-loop-number : goal.invariant-loop-number
 invariant-loop-number g l =
-    (RanSo l.options l.line l.images l.number l.tally (g.W.Write.contents l.fn.writer) (g.W.Write.contents l.writer)) ×
+    (RanSo l.options l.line l.images l.number l.tally l.seconds (g.W.Write.contents l.fn.writer) (g.W.Write.contents l.writer)) ×
     ((0 < l.number) ⊎ (l.writer ≡ l.fn.writer)) × (l.number ≤ l.times)

@@ -21,9 +21,9 @@ returns-clause-is c =
           c.patience_of-patience.ensures (c.in-Ok.ensures.1 []));
       drawn = sym c.generator_of-generator.ensures;
     } in
-    is_call c.args.options.now c.args.line.now c.args.number c.args.document c.count_fates.new.call c.in_ok-counts.counts
-    c.into_ending-ending.result c.stored.result c.in-Ok.ensures.0
-    (c.in_ok-counts.ensures.counted first starts)
+    is_call c.args.options.now c.args.line.now c.args.number c.args.document c.count_fates.new.call c.in_ok-counted.counted
+    c.into_ending-ending.result c.stored.result c.in_ok-seconds.seconds c.in-Ok.ensures.0
+    (c.in_ok-counted.ensures.counted first starts)
     (λ w shows.
     let there : Shows c.into_live.result w = subst (λ v. Shows v w) (sym c.into_live.ensures) shows in
     record {
@@ -32,4 +32,4 @@ returns-clause-is c =
       caller_end = c.into_ending-ending.ensures.caller w there;
       answerer_end = c.into_ending-ending.ensures.answerer w there;
     })
-    c.stored.ensures
+    c.stored.ensures c.in_ok-seconds.ensures.seconds
