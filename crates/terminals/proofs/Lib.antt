@@ -6,3 +6,6 @@ pub mod Taking
 pub mod Few
 pub mod Sent
 pub mod Memory
+pub mod Writable
+pub mod FrameSizes
+pub mod BurstSizes

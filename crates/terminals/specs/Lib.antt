@@ -1,3 +1,4 @@
+pub mod BurstSizes
 pub mod Bursts
 pub mod Hearing
 pub mod Runs
@@ -8,3 +9,4 @@ pub mod StationsAfter
 pub mod Stopping
 pub mod Timing
 pub mod Memory
+pub mod Writable

@@ -1,10 +1,13 @@
-//! Laws of what is heard, of where it leads, and of DCN. Nothing runs.
+//! Laws of what is heard, of where it leads, of DCN, and of what can be written. Nothing runs.
 
+ghost use Rattle.terminals.specs.BurstSizes.{AnswerersBurstsAreShort, CallersBurstsAreShort, FramesAreShort};
 ghost use Rattle.terminals.specs.Bursts.{AnswerersSendOne, CallersSendTwo};
 ghost use Rattle.terminals.specs.Hearing.{CutsChangeNothing};
 ghost use Rattle.terminals.specs.Memory.{OneFrameIsKept, OpenPagesAreLimited};
 ghost use Rattle.terminals.specs.StationsAfter.{AnswererIsAfter, CallerIsAfter};
 ghost use Rattle.terminals.specs.Stopping.{AnswerersSendDcn, CallersSendDcn};
+ghost use Rattle.terminals.specs.Writable.{AnswerersCanBeWritten, AnswerersSendWhole, CallersCanBeWritten, CallersSendWhole};
+ghost use Rattle.terminals.specs.Writable.{KeptMapsAreWhole, MapsAreWhole};
 
 /// Octets of the line that come in two pieces are heard as those that come in one.
 pub fn cuts_change_nothing()
@@ -41,4 +44,34 @@ pub fn little_is_held()
     ensures open { OpenPagesAreLimited }
 {
     stations::laws::open_is_limited();
+/// Each item of a turn can be written: the frames of a caller's blocks have 1 to 256 octets, whatever its state, and the map of each PPR
+/// that an answerer gives, and keeps for sending, has 32.
+pub fn turns_can_be_written()
+    ensures caller { CallersCanBeWritten }
+    ensures answerer { AnswerersCanBeWritten }
+    ensures maps { MapsAreWhole }
+    ensures kept { KeptMapsAreWhole }
+{
+    partial_page::laws::page_is_cut_into_full_frames();
+}
+
+/// So each burst of such a turn is sent with the frame of each of its items: none is left out.
+pub fn turns_are_sent_whole()
+    ensures caller { CallersSendWhole }
+    ensures answerer { AnswerersSendWhole }
+{
+    stations::laws::bursts_cut();
+    partial_page::laws::page_is_cut_into_full_frames();
+}
+
+/// A frame has two flags, and at most six bits for each five of its content and its check sequence. So a burst of a caller has at most
+/// 800,000 bits, and one of an answerer at most 6,000.
+pub fn bursts_are_short()
+    ensures frames { FramesAreShort }
+    ensures caller { CallersBurstsAreShort }
+    ensures answerer { AnswerersBurstsAreShort }
+{
+    stations::laws::bursts_cut();
+    partial_page::laws::page_is_cut_into_full_frames();
+    signals::laws::written_fits_a_frame();
 }
