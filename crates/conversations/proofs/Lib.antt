@@ -4,6 +4,7 @@ mod HexPieces
 pub mod Led
 mod LineOctets
 mod ServedLines
+pub mod OneLine
 pub mod Stored
 pub mod StoredLines
 pub mod TakenLines

@@ -232,7 +232,7 @@ one_word line none timed h = elim h.words [
 ]
 
 -- the words that say something have no space
-word_solid : (word : List ℕ) (said : Said) → IsWordOf word said → HasNoSpace word
+pub word_solid : (word : List ℕ) (said : Said) → IsWordOf word said → HasNoSpace word
 word_solid word Quiet h = rw h (solid_at (codes "quiet") refl)
 word_solid word Busy h = rw h (solid_at (codes "busy") refl)
 word_solid word (Received channel kind bits octets) h = absurd h
@@ -241,8 +241,11 @@ word_solid word Ready h = rw h (solid_at (codes "ready") refl)
 word_solid word Stop h = rw h (solid_at (codes "stop") refl)
 word_solid word End h = rw h (solid_at (codes "end") refl)
 
+pub rx_solid : HasNoSpace (codes "rx")
+rx_solid = solid_at (codes "rx") refl
+
 -- none of them is `rx`
-word_is_not_rx : (word : List ℕ) (said : Said) → IsWordOf word said → word ≡ codes "rx" → ⊥
+pub word_is_not_rx : (word : List ℕ) (said : Said) → IsWordOf word said → word ≡ codes "rx" → ⊥
 word_is_not_rx word Quiet h is = cc (sym h ∙ is)
 word_is_not_rx word Busy h is = cc (sym h ∙ is)
 word_is_not_rx word (Received channel kind bits octets) h is = h
@@ -257,7 +260,7 @@ module _ (line word after : List ℕ) (solid : HasNoSpace word) (cut : line ≡ 
   word_cut first time timed is says = same_cut line word after first time solid cut (word_solid first timed.said says) is
 
   rx_cut : (rest : List ℕ) → line ≡ spaced (codes "rx" ∷ rest ∷ []) → (codes "rx" ≡ word) × (rest ≡ after)
-  rx_cut rest is = same_cut line word after (codes "rx") rest solid cut (solid_at (codes "rx") refl) is
+  rx_cut rest is = same_cut line word after (codes "rx") rest solid cut rx_solid is
 
   pub no_word_of : (word ≡ codes "rx" → ⊥) → ((said : Said) → IsWordOf word said → ⊥) → SaysNothing line
   no_word_of not_rx none timed h = elim h.words [

@@ -4,6 +4,7 @@ pub mod Conversations
 pub mod Conversing
 pub mod Hearing
 pub mod Led
+pub mod LineLaws
 pub mod Lines
 pub mod Reading
 pub mod Talking

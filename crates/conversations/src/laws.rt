@@ -7,6 +7,8 @@ ghost use Rattle.conversations.specs.StoredLines.{LastIsSaid, RefusedIsLast, Sto
 
 use crate::answering::PageStore;
 
+pub mod lines;
+
 /// A wait is over only where the station shows it, and its duration has passed since the time that it runs from.
 pub fn waits_pass()
     ensures { WaitsPass }

@@ -1,0 +1,69 @@
+-- Laws of one line: names tell carriers and kinds apart, a line says one thing, and a burst is read as it was sent.
+use Rattle.std.specs.Prelude.{◌≡◌, ◌≤◌, ◌∷◌, [], ℕ, List, codes, length}
+use Rattle.raster.specs.Octets.{AreOctets}
+use Rattle.signals.specs.declared.signal.Side.{Side}
+use Rattle.stations.specs.Bursts.{PlainBurst}
+use Rattle.terminals.specs.Sending.{IsSent}
+use Rattle.terminals.specs.declared.sending.SentBurst.{SentBurst}
+use Rattle.conversations.specs.Lines.{IsNumber, Says, channel_name, kind_name, octets_for, spaced}
+use Rattle.conversations.specs.Writing.{burst_words, channel_of, kind_of}
+use Rattle.conversations.specs.declared.carrier.Channel.{Channel}
+use Rattle.conversations.specs.declared.carrier.Kind.{Kind}
+use Rattle.conversations.specs.declared.line.Said.{Said}
+use Rattle.conversations.specs.declared.line.Said.TheVariants.{Quiet, Busy, Received, NotReady, Ready, Stop, End}
+use Rattle.conversations.specs.declared.line.TimedLine.{TimedLine}
+
+-- two carriers have two names
+abbrev pub ChannelsHaveNames : Type 0
+ChannelsHaveNames = (one other : Channel) → channel_name one ≡ channel_name other → one ≡ other
+
+-- two kinds have two names
+abbrev pub KindsHaveNames : Type 0
+KindsHaveNames = (one other : Kind) → kind_name one ≡ kind_name other → one ≡ other
+
+-- what a line says, with octets as a list
+pub data PlainSaid : Type 0 where
+  quiet busy not_ready ready stop ended : PlainSaid
+  received : Channel → Kind → ℕ → List ℕ → PlainSaid
+
+-- the plain value of what a line says
+abbrev pub plain_said : Said → PlainSaid
+plain_said Quiet = quiet
+plain_said Busy = busy
+plain_said (Received channel kind bits octets) = received channel kind bits octets.items
+plain_said NotReady = not_ready
+plain_said Ready = ready
+plain_said Stop = stop
+plain_said End = ended
+
+-- a line says one thing at most, at one time
+abbrev pub SaysOneThing : Type 0
+SaysOneThing =
+    (line : List ℕ) (one other : TimedLine) → Says line one → Says line other →
+    (one.at ≡ other.at) × (plain_said one.said ≡ plain_said other.said)
+
+-- A burst fits a line, whatever the time: it has at most 1,599,824 bits, in as many octets as they need.
+pub record FitsALine (burst : SentBurst) : Type 0 where
+  pub few : burst.bits ≤ 1599824
+  pub size : length burst.octets.items ≡ octets_for burst.bits
+  pub octets : AreOctets burst.octets.items
+
+-- a burst that is sent fits a line, where it has no more bits
+abbrev pub SentFitsALine : Type 0
+SentFitsALine =
+    (side : Side) (plain : PlainBurst) (later : List PlainBurst) (burst : SentBurst) → IsSent side plain later burst →
+    AreOctets burst.octets.items → burst.bits ≤ 1599824 → FitsALine burst
+
+-- the line that says that a burst has come, in the words in which it is sent
+abbrev pub rx_line : List ℕ → SentBurst → List ℕ
+rx_line time burst = spaced (codes "rx" ∷ time ∷ burst_words burst ∷ [])
+
+-- a burst has come, and when
+abbrev pub come_at : ℕ → SentBurst → TimedLine
+come_at at burst =
+    record { at = at; said = Received (channel_of burst.carrier) (kind_of burst.carrier) burst.bits burst.octets }
+
+-- the words in which a burst is sent say at the other station its carrier, kind, number of bits and octets
+abbrev pub ReadsWhatIsSent : Type 0
+ReadsWhatIsSent =
+    (burst : SentBurst) (time : List ℕ) (at : ℕ) → FitsALine burst → IsNumber 15 time at → Says (rx_line time burst) (come_at at burst)

@@ -1,0 +1,22 @@
+//! Laws of one line. Nothing runs.
+
+ghost use Rattle.conversations.specs.LineLaws.{ChannelsHaveNames, KindsHaveNames, ReadsWhatIsSent, SaysOneThing, SentFitsALine};
+
+/// Two carriers have two names, and so have the two kinds.
+pub fn names_differ()
+    ensures channels { ChannelsHaveNames }
+    ensures kinds { KindsHaveNames }
+{}
+
+/// A line says one thing at most, at one time.
+pub fn says_one_thing()
+    ensures { SaysOneThing }
+{}
+
+/// The words in which a burst is sent, `CARRIER KIND BITS HEX`, say at the other station, after `rx` and a time, its carrier, its kind,
+/// its number of bits and its octets, where it has at most 1,599,824 bits. A burst that a terminal sends has as many octets as its bits
+/// need.
+pub fn reads_what_is_sent()
+    ensures reads { ReadsWhatIsSent }
+    ensures fits { SentFitsALine }
+{}
