@@ -177,8 +177,8 @@ after_few V21 = omega arith
 after_few (Page speed) = omega arith
 after_few (ByTraining speed) = omega arith
 
-sent_short : (side : Side) (burst : PlainBurst) (later : List PlainBurst) (sent : SentBurst) (most : ℕ) → (is : IsSent side burst later sent) →
-    length is.bits ≤ most → sent.bits ≤ most + 2896
+sent_short : (side : Side) (burst : PlainBurst) (later : List PlainBurst) (sent : SentBurst) (most : ℕ) →
+    (is : IsSent side burst later sent) → length is.bits ≤ most → sent.bits ≤ most + 2896
 sent_short side burst later sent most is short =
     let before = before_few burst.carrier in
     let behind = after_few burst.carrier in

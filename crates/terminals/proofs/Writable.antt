@@ -1,5 +1,6 @@
 -- What a station says can be written.
-use Rattle.std.proofs.Common.{◌≡◌, ◌≤◌, ◌<◌, ℕ, zero, suc, Bool, true, false, List, [], ◌∷◌, ◌++◌, length, drop, get_or, refl, ap, sym, subst, arith}
+use Rattle.std.proofs.Common.{◌≡◌, ◌≤◌, ◌<◌, ℕ, zero, suc, Bool, true, false, List, [], ◌∷◌, ◌++◌, length, drop, get_or, refl, ap, sym}
+use Rattle.std.proofs.Common.{subst, arith}
 use Rattle.std.proofs.Common.{inl, inr, ◌∙◌}
 use Rattle.std.specs.Prelude.{◌&&◌, All, Option, Some, None, cond, is_some, not, slice_get}
 use Rattle.partial_page.specs.Frames.{CutIsFullFrames, IsBlock, cut, frame_size}
@@ -13,7 +14,8 @@ use Rattle.signals.specs.declared.signal.Side.{Side}
 use Rattle.signals.specs.declared.signal.Side.TheVariants.{Caller as CallerSide, Answerer as AnswererSide}
 use Rattle.stations.proofs.PprMaps.{length_map}
 use Rattle.stations.proofs.Progress.{either}
-use Rattle.stations.specs.AnswererStep.{Answerer, AnswererAnswer, all_there, answerer_silent, answerer_step, answerer_table, answers_pps, answers_repeated}
+use Rattle.stations.specs.AnswererStep.{Answerer, AnswererAnswer, all_there, answerer_silent, answerer_step, answerer_table, answers_pps}
+use Rattle.stations.specs.AnswererStep.{answers_repeated}
 use Rattle.stations.specs.AnswererStep.{answers_rr, is_clear, is_repeated, judges_block, stores, takes_block, unless_answerer_ended}
 use Rattle.signals.specs.Agreement.{allowed}
 use Rattle.stations.specs.Blocks.{Block, call_blocks, end_before, groups_after, page_blocks}
@@ -39,7 +41,8 @@ use Rattle.terminals.specs.Sending.{AreBits, AreBitsOf}
 use Rattle.terminals.specs.Speaking.{Speaking, StepOf, is_silent, spoken}
 use Rattle.terminals.specs.Stations.{AnswererSteps, answerer_answers, answerer_takes}
 use Rattle.terminals.specs.Stopping.{LimitedStepsUnlessCut, limited_answers}
-use Rattle.terminals.specs.Writable.{AnswerersCanBeWritten, AnswerersSendWhole, AreFrameOf, AreFrames, CallersCanBeWritten, CallersSendWhole}
+use Rattle.terminals.specs.Writable.{AnswerersCanBeWritten, AnswerersSendWhole, AreFrameOf, AreFrames, CallersCanBeWritten}
+use Rattle.terminals.specs.Writable.{CallersSendWhole}
 use Rattle.terminals.specs.Writable.{CanBeWritten, HasWholeMap, KeptMapsAreWhole, MapsAreWhole}
 
 -- ---- lists
@@ -93,7 +96,8 @@ blocks_fill :
     Each FillBlock blocks
 blocks_fill small [] h = tt
 blocks_fill small (frames ∷ blocks) h =
-    (let block = h 0 (omega arith) in (frames_fill small frames block.sizes, block.few), blocks_fill small blocks (λ k within. h (suc k) (omega arith)))
+    let block = h 0 (omega arith) in
+    ((frames_fill small frames block.sizes, block.few), blocks_fill small blocks (λ k within. h (suc k) (omega arith)))
 
 code_fills : CutIsFullFrames → (params : Params) (page : PagePixels) → Each FillBlock (code_blocks params page)
 unfolding code_blocks
@@ -107,7 +111,8 @@ page_fills params page ends place [] h = tt
 page_fills params page ends place (frames ∷ []) h = (h.0, tt)
 page_fills params page ends place (frames ∷ next ∷ more) h = (h.0, page_fills params page ends (suc place) (next ∷ more) h.1)
 
-call_fills : CutIsFullFrames → (groups : List Params) (number : ℕ) (pages : List PagePixels) → Each IsFilled (call_blocks groups number pages)
+call_fills : CutIsFullFrames → (groups : List Params) (number : ℕ) (pages : List PagePixels) →
+    Each IsFilled (call_blocks groups number pages)
 call_fills cuts groups number [] = tt
 call_fills cuts [] number (page ∷ pages) = tt
 call_fills cuts (params ∷ groups) number (page ∷ pages) =
@@ -128,9 +133,11 @@ fcds_are map number (octets ∷ frames) h =
 
 burst_is : (map : List ℕ) (at : Option Block) → ((block : Block) → at ≡ Some block → IsFilled block) → Each CanBeWritten (burst_of map at)
 burst_is map None h = tt
-burst_is map (Some block) h = each_joined CanBeWritten (fcds map 0 block.frames) _ (fcds_are map 0 block.frames (h block refl).0) (tt, (tt, (tt, (tt, tt))))
+burst_is map (Some block) h =
+    each_joined CanBeWritten (fcds map 0 block.frames) _ (fcds_are map 0 block.frames (h block refl).0) (tt, (tt, (tt, (tt, tt))))
 
-present_is : (state : CallerState) (ending : Option End) (at : Option Block) (block : Block) → present_in state ending at ≡ Some block → at ≡ Some block
+present_is : (state : CallerState) (ending : Option End) (at : Option Block) (block : Block) →
+    present_in state ending at ≡ Some block → at ≡ Some block
 present_is WaitBlock None at block e = e
 present_is WaitReady None at block e = e
 present_is WaitBlock (Some why) at block e = absurd (cc e)
@@ -183,6 +190,10 @@ answerers_can_be_written s (Burst map) h = tt
 answerers_can_be_written s Pps h = tt
 answerers_can_be_written s Rr h = tt
 
+-- the map of what is answered is whole
+abbrev IsWhole : AnswererAnswer → Type 0
+IsWhole answer = HasWholeMap answer.turn
+
 confirms_so : (busy : Bool) → HasWholeMap (cond busy Rnr Mcf)
 confirms_so true = tt
 confirms_so false = tt
@@ -192,35 +203,35 @@ stores_so s ends mark None = tt
 stores_so s ends mark (Some page) = confirms_so s.busy
 
 block_so : (s : Answerer) (ends : PageEnd) (mark : Mark) (octets : List ℕ) → HasWholeMap (takes_block s ends mark octets).turn
-block_so s Null mark octets = either (λ (a : AnswererAnswer). HasWholeMap a.turn) (within_page_limit octets) _ _ (λ _. confirms_so s.busy) (λ _. tt)
+block_so s Null mark octets = either IsWhole (within_page_limit octets) _ _ (λ _. confirms_so s.busy) (λ _. tt)
 block_so s Mps mark octets = stores_so s Mps mark _
 block_so s Eom mark octets = stores_so s Eom mark _
 block_so s Eop mark octets = stores_so s Eop mark _
 
 judged_so : (s : Answerer) (ends : PageEnd) (mark : Mark) (last : ℕ) → HasWholeMap (judges_block s ends mark last).turn
 judged_so s ends mark last =
-    either (λ (a : AnswererAnswer). HasWholeMap a.turn) (all_there s.frames last) _ _ (λ _. block_so s ends mark _) (λ _. length_map s.frames last)
+    either IsWhole (all_there s.frames last) _ _ (λ _. block_so s ends mark _) (λ _. length_map s.frames last)
 
 pps_so : (s : Answerer) (ends : PageEnd) (mark : Mark) (last : ℕ) → HasWholeMap (answers_pps s ends mark last).turn
 pps_so s ends mark last =
-    either (λ (a : AnswererAnswer). HasWholeMap a.turn) (is_repeated s.accepted mark) _ _ (λ _. confirms_so s.busy) (λ _. judged_so s ends mark _)
+    either IsWhole (is_repeated s.accepted mark) _ _ (λ _. confirms_so s.busy) (λ _. judged_so s ends mark _)
 
 repeated_so : (s : Answerer) (mark : Mark) → HasWholeMap (answers_repeated s mark).turn
-repeated_so s mark = either (λ (a : AnswererAnswer). HasWholeMap a.turn) (is_repeated s.accepted mark) _ _ (λ _. confirms_so s.busy) (λ _. tt)
+repeated_so s mark = either IsWhole (is_repeated s.accepted mark) _ _ (λ _. confirms_so s.busy) (λ _. tt)
 
 rr_so : (s : Answerer) → HasWholeMap (answers_rr s).turn
 rr_so s =
-    either (λ (a : AnswererAnswer). HasWholeMap a.turn) (is_some s.accepted && is_clear s.frames) _ _
+    either IsWhole (is_some s.accepted && is_clear s.frames) _ _
     (λ _. confirms_so s.busy) (λ _. tt)
 
 table_so : (state : AnswererState) (input : AnswererInput) (s : Answerer) → HasWholeMap (answerer_table state input s).turn
-table_so PhaseB (listens (dcs params)) s = either (λ (a : AnswererAnswer). HasWholeMap a.turn) (allowed s.caps params) _ _ (λ _. tt) (λ _. tt)
+table_so PhaseB (listens (dcs params)) s = either IsWhole (allowed s.caps params) _ _ (λ _. tt) (λ _. tt)
 table_so WaitTraining (trains octets) s =
-    either (λ (a : AnswererAnswer). HasWholeMap a.turn) (is_good_training octets s.params) _ _ (λ _. tt) (λ _. tt)
-table_so WaitTraining (listens (dcs params)) s = either (λ (a : AnswererAnswer). HasWholeMap a.turn) (allowed s.caps params) _ _ (λ _. tt) (λ _. tt)
-table_so Message (listens (dcs params)) s = either (λ (a : AnswererAnswer). HasWholeMap a.turn) (allowed s.caps params) _ _ (λ _. tt) (λ _. tt)
+    either IsWhole (is_good_training octets s.params) _ _ (λ _. tt) (λ _. tt)
+table_so WaitTraining (listens (dcs params)) s = either IsWhole (allowed s.caps params) _ _ (λ _. tt) (λ _. tt)
+table_so Message (listens (dcs params)) s = either IsWhole (allowed s.caps params) _ _ (λ _. tt) (λ _. tt)
 table_so Message (listens (fcd number octets)) s =
-    either (λ (a : AnswererAnswer). HasWholeMap a.turn) (within_frame_size s.params octets) _ _ (λ _. tt) (λ _. tt)
+    either IsWhole (within_frame_size s.params octets) _ _ (λ _. tt) (λ _. tt)
 table_so Message (listens (pps ends page block last)) s = pps_so s ends (record { page = page; block = block }) last
 table_so Message (listens rr) s = rr_so s
 table_so PhaseB (listens (pps ends page block last)) s = repeated_so s (record { page = page; block = block })
@@ -259,17 +270,17 @@ limited_step_so limits s input =
     let before = is_full limits s.pages in
     let answer = answerer_step s (busy_while before input) in
     let whole = step_so s (busy_while before input) in
-    either (λ (a : AnswererAnswer). HasWholeMap a.turn) (before && is_kept_out s input) (answerer_silent s)
+    either IsWhole (before && is_kept_out s input) (answerer_silent s)
     (filled before (is_full limits answer.next.pages) answer) (λ _. tt)
-    (λ _. either (λ (a : AnswererAnswer). HasWholeMap a.turn) (not before && is_full limits answer.next.pages) (busy_answer answer) answer
+    (λ _. either IsWhole (not before && is_full limits answer.next.pages) (busy_answer answer) answer
     (λ _. not_ready_so answer.turn whole) (λ _. whole))
 
 limited_so : (limits : Limits) (s : Answerer) (taken : Option AnswererInput) → HasWholeMap (limited_answers limits s taken).turn
 limited_so limits s None = tt
 limited_so limits s (Some input) = limited_step_so limits s input
 
-unless_cut_so : (cut : Option Cut) (old new : LimitedFields) (input : PlainInput) (turn : Turn) → LimitedStepsUnlessCut cut old input new turn →
-    HasWholeMap turn
+unless_cut_so : (cut : Option Cut) (old new : LimitedFields) (input : PlainInput) (turn : Turn) →
+    LimitedStepsUnlessCut cut old input new turn → HasWholeMap turn
 unless_cut_so None old new input turn h = subst HasWholeMap (sym h.0.1) (limited_so old.limits old.station (answerer_takes input))
 unless_cut_so (Some why) old new input turn h = subst HasWholeMap (sym h.1) tt
 
@@ -292,7 +303,8 @@ spoken_so old station turn p q =
     either_turn (is_silent turn) (record { station = station; turn = old.turn; taken = old.taken })
     (record { station = station; turn = turn; taken = 0 }) p q
 
-kept_so : {S : Type 0} (steps : StepOf S) → ((old new : S) (input : PlainInput) (turn : Turn) → steps old input new turn → HasWholeMap turn) →
+kept_so : {S : Type 0} (steps : StepOf S) →
+    ((old new : S) (input : PlainInput) (turn : Turn) → steps old input new turn → HasWholeMap turn) →
     (old new : Speaking S) (inputs : List PlainInput) → TakesAll steps old inputs new → HasWholeMap old.turn → HasWholeMap new.turn
 kept_so steps whole old new [] h p = subst (λ s. HasWholeMap s.turn) (sym h) p
 kept_so steps whole old new (input ∷ inputs) h p =
