@@ -1,24 +1,27 @@
 -- What one line says.
-use Rattle.std.proofs.Common.{◌≡◌, ◌≤◌, ◌<◌, ◌+◌, ◌*◌, ◌^◌, ℕ, zero, suc, Bool, false, replicate, List, [], ◌∷◌, ◌++◌, Ok, Result, cond, nat_eq}
-use Rattle.std.proofs.Common.{length, get_or, codes, refl, ap, sym, ◌∙◌, subst, arith, length-append, inl, inr, le_trans}
+use Rattle.std.proofs.Common.{◌≡◌, ◌≤◌, ◌<◌, ◌+◌, ◌*◌, ◌^◌, ℕ, zero, suc, Bool, false, replicate, List, [], ◌∷◌, ◌++◌, Ok, Result, cond}
+use Rattle.std.proofs.Common.{nat_eq}
+use Rattle.std.proofs.Common.{length, get_or, codes, refl, ap, sym, ◌∙◌, subst, arith, length-append, inl, inr}
 use Rattle.std.proofs.lemmas.Fmt.{decimal_is_IsNumeral, length-decimal-le}
 use Rattle.std.specs.Fmt.{decimal}
-use Rattle.std.specs.Prelude.{slice_index}
 use Rattle.std.specs.Result.{result_unwrap_or}
-use Rattle.hex.specs.Hex.{IsBytes, decode_of, encode_upper, upper_digits}
+use Rattle.hex.specs.Hex.{IsBytes, encode_upper, upper_digits}
 use Rattle.hex.proofs.HexLemmas.{decode_of-encode_upper, length-encode_with}
 use Rattle.hex.specs.declared.error.FromHexError.{FromHexError}
 use Rattle.raster.specs.Octets.{AreOctets}
-use Rattle.raster.specs.Packed.{FillsOctets, bits_of}
+use Rattle.raster.specs.Packed.{FillsOctets}
 use Rattle.raster.specs.declared.packed.Order.TheVariants.{LsbFirst}
 use Rattle.raster.proofs.PackedLemmas.{length-bits_in}
 use Rattle.std.proofs.lemmas.List.{length-replicate}
 use Rattle.signals.specs.declared.params.Speed.TheVariants.{V27At2400, V27At4800, V29At7200, V29At9600, V17At7200, V17At9600}
 use Rattle.signals.specs.declared.params.Speed.TheVariants.{V17At12000, V17At14400}
+use Rattle.signals.specs.declared.signal.Side.TheVariants.{Caller as CallerSide, Answerer as AnswererSide}
+use Rattle.terminals.specs.BurstSizes.{AnswerersBurstsAreShort, CallersBurstsAreShort}
 use Rattle.terminals.specs.declared.sending.SentBurst.{SentBurst}
 use Rattle.conversations.specs.LineLaws.{ChannelsHaveNames, FitsALine, KindsHaveNames, PlainSaid, ReadsWhatIsSent, SaysOneThing}
-use Rattle.conversations.specs.LineLaws.{SentFitsALine, quiet, busy, not_ready, ready, stop, ended, received, plain_said, rx_line}
-use Rattle.conversations.specs.Lines.{AreBits, IsBurst, IsNumber, IsReceived, IsWordOf, ReceivedAfter, Says}
+use Rattle.conversations.specs.LineLaws.{AnswerersFitLines, CallersFitLines, SentFitsALine}
+use Rattle.conversations.specs.LineLaws.{quiet, busy, not_ready, ready, stop, ended, received, plain_said, rx_line}
+use Rattle.conversations.specs.Lines.{AreBits, IsBurst, IsNumber, IsReceived, IsWordOf, ReceivedAfter}
 use Rattle.conversations.specs.Lines.{channel_name, kind_name, octets_for, spaced}
 use Rattle.conversations.specs.Writing.{burst_words, channel_of, kind_of}
 use Rattle.conversations.specs.declared.carrier.Channel.{Channel}
@@ -106,7 +109,8 @@ one_burst text c d k l n m xs ys (rest, is, bits) (other, same, others) =
     let first =
     same_cut text (channel_name d) (kind_name l ++ 32 ∷ other) (channel_name c) (kind_name k ++ 32 ∷ rest) (channel_solid d) same
     (channel_solid c) is in
-    let second = same_cut (kind_name l ++ 32 ∷ other) (kind_name l) other (kind_name k) rest (kind_solid l) refl (kind_solid k) (sym first.1) in
+    let second =
+    same_cut (kind_name l ++ 32 ∷ other) (kind_name l) other (kind_name k) rest (kind_solid l) refl (kind_solid k) (sym first.1) in
     let last = one_bits other n m xs ys (subst (λ t. AreBits t n xs) second.1 bits) others in
     rw (channels_have_names c d first.0, kinds_have_names k l second.0, last.0, last.1) refl
 
@@ -131,7 +135,8 @@ Alike one other = (one.at ≡ other.at) × (plain_said one.said ≡ plain_said o
 
 one_after : (text : List ℕ) (one other : TimedLine) → ReceivedAfter text one → ReceivedAfter text other → Alike one other
 one_after text one other (time, burst, is, number, came) (time', burst', is', number', came') =
-    let cut = same_cut text time' burst' time burst (number_solid 15 time' other.at number') is' (number_solid 15 time one.at number) is in (
+    let cut =
+    same_cut text time' burst' time burst (number_solid 15 time' other.at number') is' (number_solid 15 time one.at number) is in (
       one_number 15 15 time' one.at other.at (subst (λ d. IsNumber 15 d one.at) cut.0 number) number',
       one_received burst' one.said other.said (subst (λ b. IsReceived b one.said) cut.1 came) came',
     )
@@ -198,7 +203,8 @@ sent_bits burst fits = record {
   count = decimal burst.bits;
   hex = encode_upper burst.octets.items;
   text_is = refl;
-  count_is = decimal_number 7 burst.bits (omega arith) (let few = fits.few in omega (arith, few)) (let few = fits.few in omega (arith, few));
+  count_is =
+      let few = fits.few in decimal_number 7 burst.bits (omega arith) (omega (arith, few)) (omega (arith, few));
   hex_is = decode_of-encode_upper burst.octets.items (are_bytes burst.octets.items fits.octets);
   size = fits.size;
 }
@@ -250,3 +256,13 @@ sent_fits_a_line side plain later burst is octets few = record {
   size = rw is.count (filled_size _ burst.octets.items is.octets);
   octets = octets;
 }
+
+pub callers_fit_lines : CallersBurstsAreShort → CallersFitLines
+callers_fit_lines short v t turn bursts r lends taken burst later sent at is octets =
+    let few = short v t turn bursts r lends taken burst later sent at is in
+    sent_fits_a_line CallerSide burst later sent is octets (omega (arith, few))
+
+pub answerers_fit_lines : AnswerersBurstsAreShort → AnswerersFitLines
+answerers_fit_lines short s turn bursts map lends taken burst later sent at is octets =
+    let few = short s turn bursts map lends taken burst later sent at is in
+    sent_fits_a_line AnswererSide burst later sent is octets (omega (arith, few))

@@ -1,9 +1,16 @@
 -- Laws of one line: names tell carriers and kinds apart, a line says one thing, and a burst is read as it was sent.
-use Rattle.std.specs.Prelude.{◌≡◌, ◌≤◌, ◌∷◌, [], ℕ, List, codes, length}
+use Rattle.std.specs.Prelude.{◌≡◌, ◌≤◌, ◌∷◌, [], ℕ, List, codes, drop, length}
 use Rattle.raster.specs.Octets.{AreOctets}
 use Rattle.signals.specs.declared.signal.Side.{Side}
+use Rattle.signals.specs.declared.signal.Side.TheVariants.{Caller as CallerSide, Answerer as AnswererSide}
+use Rattle.stations.specs.AnswererStep.{Answerer}
 use Rattle.stations.specs.Bursts.{PlainBurst}
+use Rattle.stations.specs.CallerFields.{CallerFields, Represents}
+use Rattle.stations.specs.CallerStep.{Caller}
+use Rattle.stations.specs.declared.turn.Turn.{Turn}
 use Rattle.terminals.specs.Sending.{IsSent}
+use Rattle.terminals.specs.Stations.{AnswererLends, CallerLends}
+use Rattle.terminals.specs.Writable.{HasWholeMap}
 use Rattle.terminals.specs.declared.sending.SentBurst.{SentBurst}
 use Rattle.conversations.specs.Lines.{IsNumber, Says, channel_name, kind_name, octets_for, spaced}
 use Rattle.conversations.specs.Writing.{burst_words, channel_of, kind_of}
@@ -53,6 +60,23 @@ abbrev pub SentFitsALine : Type 0
 SentFitsALine =
     (side : Side) (plain : PlainBurst) (later : List PlainBurst) (burst : SentBurst) → IsSent side plain later burst →
     AreOctets burst.octets.items → burst.bits ≤ 1599824 → FitsALine burst
+
+-- each burst of these, as it is sent, fits a line
+abbrev pub FitLines : Side → List PlainBurst → Type 0
+FitLines side bursts =
+    (taken : ℕ) (burst : PlainBurst) (later : List PlainBurst) (sent : SentBurst) → drop taken bursts ≡ burst ∷ later →
+    IsSent side burst later sent → AreOctets sent.octets.items → FitsALine sent
+
+-- so does each burst that a caller has for a turn
+abbrev pub CallersFitLines : Type 0
+CallersFitLines =
+    (v : CallerFields) (t : Caller) (turn : Turn) (bursts : List PlainBurst) → Represents v t → CallerLends v turn bursts →
+    FitLines CallerSide bursts
+
+-- and each that an answerer has for one, where the map of a PPR is whole
+abbrev pub AnswerersFitLines : Type 0
+AnswerersFitLines =
+    (s : Answerer) (turn : Turn) (bursts : List PlainBurst) → HasWholeMap turn → AnswererLends s turn bursts → FitLines AnswererSide bursts
 
 -- the line that says that a burst has come, in the words in which it is sent
 abbrev pub rx_line : List ℕ → SentBurst → List ℕ

@@ -1,6 +1,7 @@
 //! Laws of one line. Nothing runs.
 
-ghost use Rattle.conversations.specs.LineLaws.{ChannelsHaveNames, KindsHaveNames, ReadsWhatIsSent, SaysOneThing, SentFitsALine};
+ghost use Rattle.conversations.specs.LineLaws.{AnswerersFitLines, CallersFitLines, ChannelsHaveNames, KindsHaveNames, ReadsWhatIsSent};
+ghost use Rattle.conversations.specs.LineLaws.{SaysOneThing, SentFitsALine};
 
 /// Two carriers have two names, and so have the two kinds.
 pub fn names_differ()
@@ -20,3 +21,11 @@ pub fn reads_what_is_sent()
     ensures reads { ReadsWhatIsSent }
     ensures fits { SentFitsALine }
 {}
+
+/// Each burst that a station sends fits a line, so it is read as it was sent.
+pub fn bursts_fit_lines()
+    ensures caller { CallersFitLines }
+    ensures answerer { AnswerersFitLines }
+{
+    terminals::laws::bursts_are_short();
+}
