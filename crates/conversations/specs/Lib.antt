@@ -7,6 +7,6 @@ pub mod Led
 pub mod LineLaws
 pub mod Lines
 pub mod Reading
-pub mod Talking
 pub mod StoredLines
+pub mod Talking
 pub mod Writing

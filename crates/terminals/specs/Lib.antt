@@ -1,6 +1,7 @@
 pub mod BurstSizes
 pub mod Bursts
 pub mod Hearing
+pub mod Memory
 pub mod Runs
 pub mod Sending
 pub mod Speaking
@@ -8,5 +9,4 @@ pub mod Stations
 pub mod StationsAfter
 pub mod Stopping
 pub mod Timing
-pub mod Memory
 pub mod Writable

@@ -1,4 +1,4 @@
-//! Laws of what is heard, of where it leads, of DCN, and of what can be written. Nothing runs.
+//! Laws of what is heard, of where it leads, of DCN, of what can be written, and of what is held. Nothing runs.
 
 ghost use Rattle.terminals.specs.BurstSizes.{AnswerersBurstsAreShort, CallersBurstsAreShort, FramesAreShort};
 ghost use Rattle.terminals.specs.Bursts.{AnswerersSendOne, CallersSendTwo};
@@ -44,6 +44,8 @@ pub fn little_is_held()
     ensures open { OpenPagesAreLimited }
 {
     stations::laws::open_is_limited();
+}
+
 /// Each item of a turn can be written: the frames of a caller's blocks have 1 to 256 octets, whatever its state, and the map of each PPR
 /// that an answerer gives, and keeps for sending, has 32.
 pub fn turns_can_be_written()
