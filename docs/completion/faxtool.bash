@@ -1,5 +1,5 @@
 # Completion of faxtool's commands, options and files in bash. Load it by `. faxtool.bash`, or put it as `faxtool` into
-# ~/.local/share/bash-completion/completions.
+# ~/.local/share/bash-completion/completions. Written by docs/man/make.py from the help of the program.
 
 # The options of a command.
 _faxtool_options() {
@@ -10,6 +10,7 @@ _faxtool_options() {
         frames) echo --data --pages --explain --help ;;
         call) echo --script --lose --spoil --busy --seed --calls --times --code --frame --modems --fine --out --bits --explain --help ;;
         station) echo --answer --call --out --code --modems --standard --widest --limit --frame --fine --t1 --t2 --t4 --t5 --trace --explain --help ;;
+        version) echo --help ;;
         *) echo --help ;;
     esac
 }
@@ -19,8 +20,6 @@ _faxtool_values() {
     case $1 in
         --code) echo mh mmr ;;
         --order) echo msb lsb ;;
-        --frame) echo 256 64 ;;
-        --modems) echo v17 v27v29 v29 v27 fallback ;;
         --width) echo 1728 2048 2432 ;;
         --data) echo 8 ;;
         --lose) echo 1% 5% 10% ;;
@@ -29,6 +28,8 @@ _faxtool_values() {
         --seed) echo 1 ;;
         --calls) echo 3 ;;
         --times) echo 100 1000 ;;
+        --frame) echo 256 64 ;;
+        --modems) echo v17 v27v29 v29 v27 fallback ;;
         --widest) echo 1728 2048 2432 ;;
         --limit) echo 2 10 ;;
         --t1) echo 35000 ;;
@@ -42,7 +43,7 @@ _faxtool() {
     local word=${COMP_WORDS[COMP_CWORD]} before=${COMP_WORDS[COMP_CWORD - 1]} values
     COMPREPLY=()
     if [ "$COMP_CWORD" = 1 ]; then
-        COMPREPLY=($(compgen -W "code show decode frames call station version help --help" -- "$word"))
+        mapfile -t COMPREPLY < <(compgen -W "code show decode frames call station version help --help" -- "$word")
         return
     fi
     # bash takes --code=mh as three words
@@ -50,13 +51,13 @@ _faxtool() {
     [ "$before" != = ] || before=${COMP_WORDS[COMP_CWORD - 2]}
     values=$(_faxtool_values "$before")
     if [ -n "$values" ]; then
-        COMPREPLY=($(compgen -W "$values" -- "$word"))
+        mapfile -t COMPREPLY < <(compgen -W "$values" -- "$word")
     elif [ "${COMP_WORDS[1]}" = help ]; then
-        COMPREPLY=($(compgen -W "code show decode frames call station version" -- "$word"))
+        mapfile -t COMPREPLY < <(compgen -W "code show decode frames call station version" -- "$word")
     elif [ "${word#-}" != "$word" ]; then
-        COMPREPLY=($(compgen -W "$(_faxtool_options "${COMP_WORDS[1]}")" -- "$word"))
+        mapfile -t COMPREPLY < <(compgen -W "$(_faxtool_options "${COMP_WORDS[1]}")" -- "$word")
     else
-        COMPREPLY=($(compgen -f -- "$word"))
+        mapfile -t COMPREPLY < <(compgen -f -- "$word")
     fi
 }
 

@@ -1,0 +1,33 @@
+# The man pages and the completions, which docs/man/make.py writes.
+
+# They are those of the program's help; `man`, and `mandoc` where it is there, show each page without a warning; zsh and fish, where they
+# are there, take their completion.
+try_man() {
+    "$top/docs/man/make.py" "$program" --check > "$work/output" 2> "$work/error" || fails "man pages and completion"
+    for page in "$top"/docs/man/*.1; do
+        if command -v man > /dev/null; then
+            LC_ALL=C.UTF-8 MANWIDTH=80 man --warnings -l "$page" > "$work/output" 2> "$work/error" || fails "man -l $page"
+            [ -s "$work/output" ] && [ ! -s "$work/error" ] || fails "man -l $page has a warning"
+        fi
+        if command -v mandoc > /dev/null; then
+            mandoc -T lint "$page" > "$work/error" 2>&1 || fails "mandoc $page"
+        fi
+        count=$((count + 1))
+    done
+    if command -v zsh > /dev/null; then
+        zsh -n "$top/docs/completion/_faxtool" 2> "$work/error" || fails "the completion for zsh"
+    fi
+    if command -v fish > /dev/null; then
+        fishes "code show decode frames call station version help" ""
+        fishes "mh mmr" "code --code "
+        fishes "v27 v27v29 v29" "station --modems v2"
+        fishes "--data --explain --help --pages" "frames --"
+    fi
+}
+
+# fishes WANTED WORDS: what fish completes the words to, in any order.
+fishes() {
+    fish -N -c "source '$top/docs/completion/faxtool.fish'; complete -C 'faxtool $2'" 2> "$work/error" | cut -f 1 | sort > "$work/output"
+    printf '%s\n' $1 | sort > "$work/wanted"
+    is_same "$work/output" "$work/wanted" "fish completes faxtool $2"
+}
