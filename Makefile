@@ -1,0 +1,33 @@
+# The program and the library for C, built, installed and packed. packaging/README.md says more.
+#
+#     make                   proves and builds what isn't built yet, with the Rattle kit: crates/faxtool/out/faxtool and bindings/build
+#     make install           copies what was built below $(DESTDIR)$(PREFIX), and builds nothing
+#     make uninstall         removes what was copied there
+#     make tarball, make deb packs what was built, into packaging/out
+#
+# PREFIX is where the files are used from. DESTDIR is put before it where they are gathered elsewhere first, as for a package. LIBDIR is
+# where the libraries go, if not $(PREFIX)/lib. FAXTOOL and G3FAX name another program and another folder of the library.
+PREFIX ?= /usr/local
+DESTDIR ?=
+LIBDIR ?= $(PREFIX)/lib
+KIT ?= /opt/rattle
+FAXTOOL ?= crates/faxtool/out/faxtool
+G3FAX ?= bindings/build
+export PREFIX DESTDIR LIBDIR KIT FAXTOOL G3FAX
+
+all:
+	packaging/build.sh
+
+install:
+	packaging/install.sh
+
+uninstall:
+	packaging/install.sh --uninstall
+
+tarball:
+	packaging/tarball.sh packaging/out
+
+deb:
+	packaging/deb.sh packaging/out
+
+.PHONY: all install uninstall tarball deb

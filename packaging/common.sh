@@ -1,0 +1,54 @@
+# What the scripts of this folder use: names, times and what is missing. `top` is the top of the repository.
+# shellcheck shell=sh disable=SC2154
+
+# ends WORDS: says what is wrong, and ends.
+ends() {
+    echo "${0##*/}: $*" >&2
+    exit 1
+}
+
+# needs PROGRAM..: each of these programs is there.
+needs() {
+    for word in "$@"; do
+        command -v "$word" > /dev/null || ends "the program $word is missing"
+    done
+}
+
+# is_git: the top is that of a git repository, and git is there.
+is_git() {
+    command -v git > /dev/null && [ "$(git -C "$top" rev-parse --show-toplevel 2> /dev/null)" = "$top" ]
+}
+
+# commit: the commit of the sources, with a word where they were changed since; of a source tarball the one that its file COMMIT has.
+commit() {
+    if is_git; then
+        changed=
+        [ -z "$(git -C "$top" status --porcelain)" ] || changed=" and changes that aren't committed"
+        echo "$(git -C "$top" rev-parse HEAD)$changed"
+    elif [ -f "$top/COMMIT" ]; then
+        cat "$top/COMMIT"
+    else
+        echo "unknown"
+    fi
+}
+
+# epoch: the time that files in a package have, in seconds: SOURCE_DATE_EPOCH, else that of the commit, else that of the file VERSION.
+epoch() {
+    if [ -n "$SOURCE_DATE_EPOCH" ]; then
+        echo "$SOURCE_DATE_EPOCH"
+    elif is_git; then
+        git -C "$top" log -1 --format=%ct
+    else
+        stat -c %Y "$top/VERSION"
+    fi
+}
+
+# sources: each file of the sources, one a line, in the order of its octets.
+sources() {
+    if is_git; then
+        git -C "$top" ls-files
+    else
+        (cd "$top" && find . -type f ! -path '*/out/*' ! -path './bindings/build/*' ! -path '*/__pycache__/*' ! -path './.git/*' \
+            ! -path ./COMMIT | sed 's,^\./,,')
+    fi | LC_ALL=C sort
+}

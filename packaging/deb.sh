@@ -1,0 +1,148 @@
+#!/bin/sh
+# Packs what was built for Debian and its kin, in a folder:
+#
+#     packaging/deb.sh FOLDER
+#
+# Three packages: faxtool, libg3fax0 (the shared library) and libg3fax-dev. Each needs the C library that its files ask for by their
+# versioned symbols. Symbols that nothing at run time wants are taken out. The same sources and tools give the same octets. It needs
+# dpkg-deb and binutils; where lintian is there, its errors are refused.
+set -e
+top=$(cd "$(dirname "$0")/.." && pwd)
+. "$top/packaging/common.sh"
+[ $# = 1 ] || { echo "usage: deb.sh FOLDER" >&2; exit 2; }
+needs dpkg-deb strip readelf gzip md5sum python3
+mkdir -p "$1"
+to=$(cd "$1" && pwd)
+version=$(cat "$top/VERSION")
+SOURCE_DATE_EPOCH=$(epoch)
+export SOURCE_DATE_EPOCH
+who="Badrejmo maintainers <maintainers@users.noreply.badrejmo.example>"
+triplet=x86_64-linux-gnu
+libdir=/usr/lib/$triplet
+work=$(mktemp -d)
+trap 'rm -rf "$work"' EXIT
+umask 022
+
+# wants FILE: the packages that a program or a shared library asks for: the C library, of the least version that has its symbols.
+wants() {
+    other=$(readelf -W -d "$1" | sed -n 's/.*(NEEDED).*\[\(.*\)\]/\1/p' | grep -vx 'libc\.so\.6' || true)
+    [ -z "$other" ] || ends "$1 asks for a library that no dependency is known of: $other"
+    least=$(readelf -W -V "$1" | grep -o 'Name: GLIBC_[0-9.]*' | sed 's/.*_//' | sort -t . -k 1,1n -k 2,2n -k 3,3n | tail -n 1)
+    echo "libc6${least:+ (>= $least)}"
+}
+
+# takes PACKAGE PATH..: the package has these of the installed files.
+takes() {
+    package=$1
+    shift
+    for path in "$@"; do
+        mkdir -p "$work/$package${path%/*}"
+        mv "$work/stage$path" "$work/$package${path%/*}/"
+    done
+}
+
+# copyright: what Debian wants to read of the licences.
+copyright() {
+    echo "Format: https://www.debian.org/doc/packaging-manuals/copyright-format/1.0/"
+    echo
+    echo "Files: *"
+    echo "Copyright: $(sed -n 's/^Copyright (c) //p' "$top/LICENSE-MIT")"
+    echo "License: Expat or Apache-2.0"
+    echo
+    echo "License: Expat"
+    sed -n '/^Permission/,$p' "$top/LICENSE-MIT" | sed 's/^$/./; s/^/ /'
+    echo
+    echo "License: Apache-2.0"
+    echo " The text of this licence is in /usr/share/common-licenses/Apache-2.0."
+}
+
+# documents PACKAGE: what each package has beside its files.
+documents() {
+    docs=$work/$1/usr/share/doc/$1
+    mkdir -p "$docs"
+    copyright > "$docs/copyright"
+    printf '%s (%s) unstable; urgency=medium\n\n  * The changes are in CHANGELOG.md of the package faxtool and of the sources.\n\n -- %s  %s\n' \
+        "faxtool" "$version" "$who" "$(LC_ALL=C date -u -R -d "@$SOURCE_DATE_EPOCH")" | gzip -9n > "$docs/changelog.gz"
+    [ -f "$docs/COMMIT" ] || cp "$work/COMMIT" "$docs/"
+}
+
+# control PACKAGE SECTION DEPENDS MORE: what dpkg reads of it; the last word has further lines, and the text comes on standard input.
+control() {
+    folder=$work/$1
+    mkdir -p "$folder/DEBIAN"
+    size=$(du -k -s --apparent-size --exclude=DEBIAN "$folder" | cut -f 1)
+    {
+        printf 'Package: %s\nSource: faxtool\nVersion: %s\nArchitecture: amd64\nMaintainer: %s\n' "$1" "$version" "$who"
+        printf 'Installed-Size: %s\nDepends: %s\nSection: %s\nPriority: optional\n%s' "$size" "$3" "$2" "$4"
+        cat
+    } > "$folder/DEBIAN/control"
+    (cd "$folder" && find usr -type f | LC_ALL=C sort | xargs -d '\n' md5sum > DEBIAN/md5sums)
+    find "$folder" -exec touch -h -d "@$SOURCE_DATE_EPOCH" {} +
+    dpkg-deb --root-owner-group -Zxz --build "$folder" "$to/$1_${version}_amd64.deb" > /dev/null
+}
+
+# page PACKAGE FILE: the page of trust, with the sums of the built files and of those in the package too.
+page() {
+    mkdir -p "${2%/*}"
+    "$top/packaging/trust.py" --package "faxtool=$program" "libg3fax.a=$library/libg3fax.a" "libg3fax.so.0=$library/libg3fax.so.0" \
+        "stripped faxtool=$work/faxtool/usr/bin/faxtool" "stripped libg3fax.a=$work/libg3fax-dev$libdir/libg3fax.a" \
+        "stripped libg3fax.so.0=$work/libg3fax0$libdir/libg3fax.so.0" > "$2"
+}
+
+program=${FAXTOOL:-crates/faxtool/out/faxtool}
+library=${G3FAX:-bindings/build}
+PREFIX=/usr LIBDIR=$libdir DESTDIR=$work/stage "$top/packaging/install.sh" > /dev/null
+share=/usr/share
+rm "$work/stage$share/doc/faxtool/INSTALLED"
+cp "$work/stage$share/doc/faxtool/COMMIT" "$work/COMMIT"
+gzip -9n "$work/stage$share/man/man1"/*.1
+mkdir -p "$work/stage$share/zsh/vendor-completions"
+mv "$work/stage$share/zsh/site-functions/_faxtool" "$work/stage$share/zsh/vendor-completions/"
+mv "$work/stage$share/doc/g3fax" "$work/stage$share/doc/libg3fax-dev"
+takes faxtool /usr/bin/faxtool $share/man/man1 $share/bash-completion/completions/faxtool $share/zsh/vendor-completions/_faxtool \
+    $share/fish/vendor_completions.d/faxtool.fish $share/doc/faxtool
+takes libg3fax0 $libdir/libg3fax.so.0
+takes libg3fax-dev /usr/include/g3fax.h $libdir/libg3fax.a $libdir/libg3fax.so $libdir/pkgconfig/g3fax.pc $share/doc/libg3fax-dev
+[ -z "$(find "$work/stage" ! -type d)" ] || ends "in no package: $(cd "$work/stage" && find . ! -type d | tr '\n' ' ')"
+strip --strip-all "$work/faxtool/usr/bin/faxtool"
+strip --strip-unneeded "$work/libg3fax0$libdir/libg3fax.so.0"
+strip --strip-debug -D "$work/libg3fax-dev$libdir/libg3fax.a"
+chmod 644 "$work/libg3fax0$libdir/libg3fax.so.0"
+for package in faxtool libg3fax0 libg3fax-dev; do documents $package; done
+page faxtool "$work/faxtool$share/doc/faxtool/docs/TRUST.md"
+for package in libg3fax0 libg3fax-dev; do page $package "$work/$package$share/doc/$package/TRUST.md"; done
+# the licences are in the file copyright
+rm "$work/faxtool$share/doc/faxtool"/LICENSE-*
+
+control faxtool comm "$(wants "$work/faxtool/usr/bin/faxtool")" "" << TEXT
+Description: Group 3 fax pages, frames and calls, proved
+ faxtool codes images as fax pages of ITU-T T.4 and T.6, shows, decodes and
+ repairs such pages, lists the HDLC frames in a capture of a line, runs calls
+ of T.30 over a simulated line, and is one end of a call for a program that
+ has a modem. Each of its functions has a contract that a prover has checked.
+TEXT
+mkdir -p "$work/libg3fax0/DEBIAN"
+echo "activate-noawait ldconfig" > "$work/libg3fax0/DEBIAN/triggers"
+echo "libg3fax 0 libg3fax0 (>= $version)" > "$work/libg3fax0/DEBIAN/shlibs"
+control libg3fax0 libs "$(wants "$work/libg3fax0$libdir/libg3fax.so.0")" "Multi-Arch: same
+" << TEXT
+Description: Group 3 fax pages and frames for C, proved: shared library
+ libg3fax has page codes of ITU-T T.4 and T.6, raw PBM in memory, salvage and
+ repair of broken pages, and HDLC frames. It opens no file and keeps no state
+ of its own. Each of its functions has a contract that a prover has checked.
+TEXT
+control libg3fax-dev libdevel "libg3fax0 (= $version)" "Multi-Arch: same
+" << TEXT
+Description: Group 3 fax pages and frames for C, proved: header and archive
+ libg3fax has page codes of ITU-T T.4 and T.6, raw PBM in memory, salvage and
+ repair of broken pages, and HDLC frames.
+ .
+ This package has the header g3fax.h, the archive libg3fax.a, g3fax.pc for
+ pkg-config, and examples.
+TEXT
+for package in faxtool libg3fax0 libg3fax-dev; do
+    if command -v lintian > /dev/null; then
+        lintian --fail-on error "$to/${package}_${version}_amd64.deb" || ends "lintian refuses $package"
+    fi
+    echo "$to/${package}_${version}_amd64.deb"
+done

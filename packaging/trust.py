@@ -1,0 +1,130 @@
+#!/usr/bin/env python3
+"""Writes what docs/TRUST.md has of the kit, of the public clauses and of the built files:
+
+    packaging/trust.py --write           writes these parts of docs/TRUST.md anew; those of the kit by the kit's own file
+    packaging/trust.py --check           compares them, names what is other, and ends with status 1 then
+    packaging/trust.py --sources         prints the sum of the sources that the built files depend on
+    packaging/trust.py --package NAME=FILE..   prints the page for a package that has these files
+
+The sum of the sources is the SHA-256 of the lines `SUM  FILE` of each file, as sha256sum prints them, in the order of the names: src/,
+specs/ and proofs/ of each crate, crates.txt, HANDLES, VERSION and what bindings/build.sh reads. Files that were built from other sources
+than those here are not compared. KIT is where the kit lies, if not /opt/rattle. It needs Python's standard library alone."""
+
+import hashlib
+import os
+import re
+import sys
+from collections import Counter
+from pathlib import Path
+
+TOP = Path(__file__).resolve().parent.parent
+PAGE = TOP / "docs" / "TRUST.md"
+CLAUSES = TOP / ".ci" / "public_clauses.txt"
+KIT = Path(os.environ.get("KIT", "/opt/rattle"))
+BUILT = {
+    "faxtool": "crates/faxtool/out/faxtool",
+    "libg3fax.a": "bindings/build/libg3fax.a",
+    "libg3fax.so.0": "bindings/build/libg3fax.so.0",
+}
+NONE_BUILT = "No sums are kept here of these sources. `packaging/trust.py --write` writes them after the gate."
+
+
+def sum_of(file):
+    """The SHA-256 of a file."""
+    return hashlib.sha256(Path(file).read_bytes()).hexdigest()
+
+
+def sources_sum():
+    """The sum of the sources, as the first lines say it."""
+    files = [file for part in ("src", "specs", "proofs") for file in TOP.glob(f"crates/*/{part}/**/*") if file.is_file()]
+    files += [TOP / name for name in ("crates.txt", "HANDLES", "VERSION", "bindings/build.sh", "bindings/exports")]
+    files += [file for shape in ("bindings/*.[ch]", "bindings/*.in", "bindings/include/*") for file in TOP.glob(shape) if file.is_file()]
+    names = sorted(str(file.relative_to(TOP)) for file in files)
+    lines = "".join(f"{sum_of(TOP / name)}  {name}\n" for name in names)
+    return hashlib.sha256(lines.encode()).hexdigest()
+
+
+def parts_of(text):
+    """The generated parts of the page: each name with its text."""
+    return dict(re.findall(r"<!-- written: (\w+) -->\n(.*?)<!-- end -->\n", text, re.S))
+
+
+def with_parts(text, parts):
+    """The page with other parts."""
+    for name, part in parts.items():
+        text = re.sub(rf"(<!-- written: {name} -->\n).*?(<!-- end -->\n)", lambda found: found[1] + part + found[2], text, flags=re.S)
+    return text
+
+
+def kit_part():
+    """What the kit says of itself."""
+    lines = (KIT / "KIT-ID").read_text()
+    return f"\n```text\n{lines}```\n\n"
+
+
+def clauses_part():
+    """How many public clauses each crate has, and the sum of their list."""
+    counts = Counter(line.split()[0] for line in CLAUSES.read_text().splitlines())
+    rows = "".join(f"| `{crate}` | {count} |\n" for crate, count in sorted(counts.items()))
+    return (
+        f"\n{sum(counts.values())} public clauses of {len(counts)} crates. The list has the SHA-256\n`{sum_of(CLAUSES)}`.\n\n"
+        f"| Crate | Public clauses |\n|---|---|\n{rows}\n"
+    )
+
+
+def sums_part(files):
+    """The sums of files, and that of their sources."""
+    rows = "".join(f"| `{name}` | {Path(file).stat().st_size} | `{sum_of(file)}` |\n" for name, file in files.items())
+    return f"\nSum of the sources: `{sources_sum()}`.\n\n| File | Octets | SHA-256 |\n|---|---|---|\n{rows}\n"
+
+
+def built_part():
+    """The sums of the built files, where each is built."""
+    files = {name: TOP / file for name, file in BUILT.items()}
+    return sums_part(files) if all(file.is_file() for file in files.values()) else f"\n{NONE_BUILT}\n\n"
+
+
+def check():
+    """What is other than the page says."""
+    parts = parts_of(PAGE.read_text())
+    wrong = []
+    if parts["kit"] != kit_part():
+        wrong.append("the kit")
+    if parts["clauses"] != clauses_part():
+        wrong.append("the public clauses")
+    kept = f"Sum of the sources: `{sources_sum()}`." in parts["built"]
+    built = built_part()
+    if kept and NONE_BUILT not in built and parts["built"] != built:
+        wrong.append("the sums of the built files, of the same sources")
+    if wrong:
+        sys.exit(f"docs/TRUST.md: other than it says: {'; '.join(wrong)}. packaging/trust.py --write writes it anew")
+    said = "the built files" if kept else "no built files, since the sources are other"
+    print(f"trust: docs/TRUST.md has this kit, these public clauses, and {said}")
+
+
+def package(words):
+    """The page for a package."""
+    files = dict(word.split("=", 1) for word in words)
+    given = [name for name, file in files.items() if (TOP / file).resolve() != (TOP / BUILT.get(name, "-")).resolve()]
+    said = f"These were given to the install by hand, so it is not known here what proved them: {', '.join(given)}.\n\n" if given else ""
+    part = sums_part({name: TOP / file for name, file in files.items()})
+    text = PAGE.read_text().replace("](../.ci/public_clauses.txt)", "](../public_clauses.txt)")
+    return with_parts(text, {"built": f"\n{said}{part.lstrip()}" if said else part})
+
+
+def main(words):
+    if words == ["--write"]:
+        parts = {"kit": kit_part(), "clauses": clauses_part(), "built": built_part()}
+        PAGE.write_text(with_parts(PAGE.read_text(), parts))
+    elif words == ["--check"]:
+        check()
+    elif words == ["--sources"]:
+        print(sources_sum())
+    elif words[:1] == ["--package"] and all("=" in word for word in words[1:]):
+        print(package(words[1:]), end="")
+    else:
+        sys.exit(__doc__)
+
+
+if __name__ == "__main__":
+    main(sys.argv[1:])
