@@ -142,7 +142,7 @@ Description: Group 3 fax pages and frames for C, proved: header and archive
 TEXT
 for package in faxtool libg3fax0 libg3fax-dev; do
     if command -v lintian > /dev/null; then
-        lintian --fail-on error "$to/${package}_${version}_amd64.deb" || ends "lintian refuses $package"
+        lintian --fail-on error "$to/${package}_${version}_amd64.deb" > "$work/said" 2>&1 || { cat "$work/said" >&2; ends "lintian refuses $package"; }
     fi
     echo "$to/${package}_${version}_amd64.deb"
 done

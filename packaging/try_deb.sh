@@ -1,0 +1,131 @@
+#!/bin/sh
+# Installs the packages that packaging/deb.sh left in a folder into a fresh root, tries them there, removes them, and shows that nothing
+# is left:
+#
+#     packaging/try_deb.sh FOLDER
+#
+# The root is a new folder with a list of packages of its own, in which the C library stands as this machine has it; dpkg installs there
+# by --root, so nothing else of the machine changes. Tried are: the command lines of the README and of docs/RECIPES.md in the installed
+# examples, the man pages, the completion, and an example in C that is built by pkg-config with the shared library and with the archive.
+# It needs dpkg, pkg-config, cc, python3, and fakeroot where it isn't run as root. Ends with status 1 at the first difference.
+set -e
+top=$(cd "$(dirname "$0")/.." && pwd)
+. "$top/packaging/common.sh"
+[ $# = 1 ] || { echo "usage: try_deb.sh FOLDER" >&2; exit 2; }
+needs dpkg dpkg-query pkg-config cc python3
+from=$(cd "$1" && pwd)
+version=$(cat "$top/VERSION")
+libdir=/usr/lib/x86_64-linux-gnu
+work=$(mktemp -d)
+trap 'rm -rf "$work"' EXIT
+root=$work/root
+fakeroot=
+if [ "$(id -u)" != 0 ]; then
+    needs fakeroot
+    fakeroot="fakeroot --"
+    PATH=$PATH:/usr/sbin:/sbin
+fi
+
+# dpkgs WORDS: dpkg works on the root, and says nothing but what it does.
+dpkgs() {
+    # shellcheck disable=SC2086
+    $fakeroot dpkg --root="$root" --log=/dev/null "$@" > "$work/said" 2>&1 || { cat "$work/said" >&2; ends "dpkg $1"; }
+    ! grep -i warning "$work/said" >&2 || ends "dpkg $1 has a warning"
+}
+
+# files: what is in the root, without dpkg's own.
+files() {
+    (cd "$root" && find . -mindepth 1 ! -path './var/lib/dpkg/*' | LC_ALL=C sort)
+}
+
+# is_same FILE WANTED WORDS: the file has the octets of the other one.
+is_same() {
+    difference=$(cmp "$1" "$2" 2>&1) || ends "$3: other octets: $difference"
+}
+
+# builds NAME FLAGS: the installed example that codes a page, by these flags alone; it codes as another program does.
+builds() {
+    name=$1
+    shift
+    cc -std=c11 -Wall -Wextra -Werror -O1 -o "$work/$name" "$root/usr/share/doc/libg3fax-dev/examples/encode.c" "$@" \
+        || ends "the example isn't built: $*"
+    LD_LIBRARY_PATH=$root$libdir "$work/$name" "$root/usr/share/doc/faxtool/examples/page.pbm" "$work/code" mmr msb \
+        || ends "the example, $name: status $?"
+    is_same "$work/code" "$root/usr/share/doc/faxtool/examples/page.mmr" "the example, $name"
+}
+
+for package in faxtool libg3fax0 libg3fax-dev; do
+    [ -f "$from/${package}_${version}_amd64.deb" ] || ends "$from/${package}_${version}_amd64.deb is missing: run packaging/deb.sh"
+done
+mkdir -p "$root/var/lib/dpkg/info" "$root/var/lib/dpkg/updates" "$root/var/lib/dpkg/triggers"
+{ dpkg-query -s libc6 | sed 's/^\(Pre-\)*Depends:.*//' | sed '/^$/d'; echo; } > "$root/var/lib/dpkg/status"
+echo /. > "$root/var/lib/dpkg/info/libc6:amd64.list"
+files > "$work/before"
+
+# the shared library first, since the others may need it
+dpkgs --install "$from/libg3fax0_${version}_amd64.deb" "$from/libg3fax-dev_${version}_amd64.deb" "$from/faxtool_${version}_amd64.deb"
+dpkgs --verify
+files > "$work/installed"
+for package in faxtool libg3fax0 libg3fax-dev; do
+    [ "$(dpkg-query --root="$root" -W -f '${db:Status-Status}' $package 2> /dev/null)" = installed ] || ends "$package isn't installed"
+    [ -z "$(find "$root/usr/share/doc/$package" -name COMMIT -empty)" ] || ends "$package has no commit"
+    [ -n "$(find "$root/usr/share/doc/$package" -name TRUST.md)" ] || ends "$package has no TRUST.md"
+done
+
+# README's command lines, in the installed examples; they are run as the gate runs them
+mkdir -p "$work/try/.ci" "$work/try/docs"
+cp "$top/.ci/sessions.py" "$work/try/.ci/"
+cp -r "$root/usr/share/doc/faxtool/examples" "$work/try/docs/examples"
+commands=$("$work/try/.ci/sessions.py" "$root/usr/bin/faxtool" "$root/usr/share/doc/faxtool/README.md" \
+    "$root/usr/share/doc/faxtool/docs/RECIPES.md") || ends "a command line of a document"
+[ "$commands" -gt 20 ] || ends "the documents have $commands commands alone"
+[ "$("$root/usr/bin/faxtool" version)" = "$version" ] || ends "faxtool version"
+
+if command -v man > /dev/null; then
+    for page in "$root"/usr/share/man/man1/*.1.gz; do
+        name=$(basename "$page" .1.gz)
+        MANPATH=$root/usr/share/man man "$name" 2> "$work/error" > "$work/page" || ends "man $name"
+        grep -q "^NAME" "$work/page" || ends "man $name shows no page"
+        [ ! -s "$work/error" ] || ends "man $name has a warning"
+    done
+fi
+if command -v bash > /dev/null; then
+    shown=$(bash -c '. "$1" && COMP_WORDS=(faxtool de) COMP_CWORD=1 && _faxtool && echo "${COMPREPLY[@]}"' bash \
+        "$root/usr/share/bash-completion/completions/faxtool")
+    [ "$shown" = decode ] || ends "the completion gives: $shown"
+fi
+
+# the library for C, by the flags of the installed g3fax.pc
+pkg() {
+    PKG_CONFIG_SYSROOT_DIR=$root PKG_CONFIG_LIBDIR=$root$libdir/pkgconfig PKG_CONFIG_ALLOW_SYSTEM_CFLAGS=1 \
+        PKG_CONFIG_ALLOW_SYSTEM_LIBS=1 pkg-config "$@" g3fax
+}
+[ "$(pkg --modversion)" = "$version" ] || ends "g3fax.pc has another version"
+# the words of these flags have no spaces of their own, unless TMPDIR has
+# shellcheck disable=SC2046
+builds shared $(pkg --cflags --libs)
+# shellcheck disable=SC2046
+builds static $(pkg --cflags --libs | sed 's/-lg3fax/-l:libg3fax.a/')
+ldd "$work/shared" | grep -q 'libg3fax\.so\.0' || ends "the example doesn't want libg3fax.so.0"
+! ldd "$work/static" | grep -q g3fax || ends "the example wants libg3fax though it has the archive"
+
+# what the packages say that they need is what Debian's own tool finds
+if command -v dpkg-shlibdeps > /dev/null; then
+    mkdir -p "$work/shlibs/debian"
+    printf 'Source: faxtool\n\nPackage: faxtool\nArchitecture: amd64\n' > "$work/shlibs/debian/control"
+    for pair in "faxtool /usr/bin/faxtool" "libg3fax0 $libdir/libg3fax.so.0"; do
+        found=$(cd "$work/shlibs" && dpkg-shlibdeps -O "$root${pair#* }" 2> "$work/error" | sed 's/^shlibs:Depends=//')
+        said=$(dpkg-query --root="$root" -W -f '${Depends}' "${pair%% *}")
+        [ "$found" = "$said" ] || ends "${pair%% *} needs $found and says $said"
+    done
+fi
+
+# a second install over the first, and the end
+dpkgs --install "$from/faxtool_${version}_amd64.deb"
+files | cmp - "$work/installed" || ends "a second install leaves other files"
+dpkgs --purge libg3fax-dev libg3fax0 faxtool
+files > "$work/after"
+is_same "$work/after" "$work/before" "what is left in the root"
+left=$(dpkg-query --root="$root" -W -f '${Package} ')
+[ "$left" = "libc6 " ] || ends "dpkg still lists $left"
+echo "try_deb: installed, $commands command lines, two C examples, and nothing left of $(wc -l < "$work/installed") files and folders"
