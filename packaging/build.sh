@@ -1,12 +1,25 @@
 #!/bin/sh
 # Builds what is installed, where that isn't done: `rt` proves the program and the library for C first, and builds nothing that isn't
-# proved. `make` calls it. bindings/build/SOURCES has the sum of the sources then. KIT is where the kit lies, if not /opt/rattle.
+# proved. `make` calls it.
+#
+#     packaging/build.sh [--built]
+#
+# With --built, as the gate calls it, the program must be there and be newer than its sources, and only the library is linked. After
+# either bindings/build/SOURCES has the sum of the sources. KIT is where the kit lies, if not /opt/rattle.
 set -e
 top=$(cd "$(dirname "$0")/.." && pwd)
+. "$top/packaging/common.sh"
 KIT=${KIT:-/opt/rattle}
 export KIT
-cd "$top/crates/faxtool"
-"$KIT/bin/rt" run -- version
 cd "$top"
+program=crates/faxtool/out/faxtool
+[ $# = 0 ] || [ "$*" = --built ] || { echo "usage: build.sh [--built]" >&2; exit 2; }
+if [ $# = 1 ]; then
+    [ -f $program ] || ends "$program is missing: .ci/run, or make, proves and builds it"
+    newer=$(find crates/*/src crates/*/specs crates/*/proofs crates.txt -type f -newer $program | head -n 3 | tr '\n' ' ')
+    [ -z "$newer" ] || ends "$program is older than $newer: .ci/run, or make, proves and builds it"
+else
+    (cd crates/faxtool && "$KIT/bin/rt" run -- version)
+fi
 bindings/build.sh bindings/build
 packaging/trust.py --sources > bindings/build/SOURCES

@@ -30,7 +30,7 @@ packs() {
 
 name=faxtool-$version-x86_64-linux
 # the prefix of g3fax.pc is found from where it lies
-PREFIX=/unpacked LIBDIR= DESTDIR=$work "$top/packaging/install.sh" > /dev/null
+PREFIX=/unpacked LIBDIR='' DESTDIR=$work "$top/packaging/install.sh" > /dev/null
 mv "$work/unpacked" "$work/$name"
 rm "$work/$name/share/doc/faxtool/INSTALLED"
 # shellcheck disable=SC2016
