@@ -84,6 +84,7 @@ gather_documents() {
     chmod 755 "$stage$docs"/examples/*.py
     ln -s ../examples "$stage$docs/docs/examples"
     puts 644 bindings/README.md "$docs/bindings"
+    puts 644 packaging/README.md "$docs/packaging"
     for crate in crates/*/README.md; do puts 644 "$crate" "$docs/${crate%/README.md}"; done
     commit > "$stage$docs/COMMIT"
     packaging/trust.py --package "faxtool=$program" "libg3fax.a=$library/libg3fax.a" "libg3fax.so.0=$library/libg3fax.so.0" \

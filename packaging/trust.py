@@ -58,7 +58,7 @@ def with_parts(text, parts):
 
 def kit_part():
     """What the kit says of itself."""
-    lines = (KIT / "KIT-ID").read_text()
+    lines = "".join((KIT / name).read_text() for name in ("KIT-ID", "WHAT"))
     return f"\n```text\n{lines}```\n\n"
 
 
@@ -90,6 +90,8 @@ def check():
     wrong = []
     if parts["kit"] != kit_part():
         wrong.append("the kit")
+    if (KIT / "KIT-ID").read_text().split("\n")[0] not in (TOP / "README.md").read_text():
+        wrong.append("the kit that the README names")
     if parts["clauses"] != clauses_part():
         wrong.append("the public clauses")
     kept = f"Sum of the sources: `{sources_sum()}`." in parts["built"]
