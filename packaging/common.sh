@@ -14,17 +14,22 @@ needs() {
     done
 }
 
+# gits WORDS: git, of the repository here, whoever owns it.
+gits() {
+    git -c safe.directory="$top" -C "$top" "$@"
+}
+
 # is_git: the top is that of a git repository, and git is there.
 is_git() {
-    command -v git > /dev/null && [ "$(git -C "$top" rev-parse --show-toplevel 2> /dev/null)" = "$top" ]
+    command -v git > /dev/null && [ "$(gits rev-parse --show-toplevel 2> /dev/null)" = "$top" ]
 }
 
 # commit: the commit of the sources, with a word where they were changed since; of a source tarball the one that its file COMMIT has.
 commit() {
     if is_git; then
         changed=
-        [ -z "$(git -C "$top" status --porcelain)" ] || changed=" and changes that aren't committed"
-        echo "$(git -C "$top" rev-parse HEAD)$changed"
+        [ -z "$(gits status --porcelain)" ] || changed=" and changes that aren't committed"
+        echo "$(gits rev-parse HEAD)$changed"
     elif [ -f "$top/COMMIT" ]; then
         cat "$top/COMMIT"
     else
@@ -37,7 +42,7 @@ epoch() {
     if [ -n "$SOURCE_DATE_EPOCH" ]; then
         echo "$SOURCE_DATE_EPOCH"
     elif is_git; then
-        git -C "$top" log -1 --format=%ct
+        gits log -1 --format=%ct
     else
         stat -c %Y "$top/VERSION"
     fi
@@ -46,7 +51,7 @@ epoch() {
 # sources: each file of the sources, one a line, in the order of its octets.
 sources() {
     if is_git; then
-        git -C "$top" ls-files
+        gits ls-files
     else
         (cd "$top" && find . -type f ! -path '*/out/*' ! -path './bindings/build/*' ! -path '*/__pycache__/*' ! -path './.git/*' \
             ! -path ./COMMIT | sed 's,^\./,,')

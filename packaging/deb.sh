@@ -140,9 +140,8 @@ Description: Group 3 fax pages and frames for C, proved: header and archive
  This package has the header g3fax.h, the archive libg3fax.a, g3fax.pc for
  pkg-config, and examples.
 TEXT
-for package in faxtool libg3fax0 libg3fax-dev; do
-    if command -v lintian > /dev/null; then
-        lintian --fail-on error "$to/${package}_${version}_amd64.deb" > "$work/said" 2>&1 || { cat "$work/said" >&2; ends "lintian refuses $package"; }
-    fi
-    echo "$to/${package}_${version}_amd64.deb"
-done
+set -- "$to/faxtool_${version}_amd64.deb" "$to/libg3fax0_${version}_amd64.deb" "$to/libg3fax-dev_${version}_amd64.deb"
+if command -v lintian > /dev/null; then
+    lintian --fail-on error "$@" > "$work/said" 2>&1 || { cat "$work/said" >&2; ends "lintian refuses a package"; }
+fi
+printf '%s\n' "$@"

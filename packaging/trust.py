@@ -107,7 +107,7 @@ def check():
 def package(words):
     """The page for a package."""
     files = dict(word.split("=", 1) for word in words)
-    given = [name for name, file in files.items() if (TOP / file).resolve() != (TOP / BUILT.get(name, "-")).resolve()]
+    given = [name for name, built in BUILT.items() if name in files and (TOP / files[name]).resolve() != TOP / built]
     said = f"These were given to the install by hand, so it is not known here what proved them: {', '.join(given)}.\n\n" if given else ""
     part = sums_part({name: TOP / file for name, file in files.items()})
     text = PAGE.read_text().replace("](../.ci/public_clauses.txt)", "](../public_clauses.txt)")
