@@ -82,7 +82,12 @@ try_program() {
     commands=$("$work/try/.ci/sessions.py" "$to/usr/bin/faxtool" "$docs/README.md" "$docs/docs/RECIPES.md") || fails "the installed program"
     [ "$("$to/usr/bin/faxtool" version)" = "$(cat VERSION)" ] || fails "the installed program has another version"
     [ -s "$docs/COMMIT" ] || fails "there is no commit"
-    python3 - "$docs" << 'LINKS' || fails "links of installed documents"
+    leads "$to/usr/share/doc"
+}
+
+# leads FOLDER: each link of a document in the folder leads to a file.
+leads() {
+    python3 - "$1" << 'LINKS' || fails "links of installed documents"
 import re
 import sys
 from pathlib import Path

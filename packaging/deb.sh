@@ -61,8 +61,11 @@ documents() {
     docs=$work/$1/usr/share/doc/$1
     mkdir -p "$docs"
     copyright > "$docs/copyright"
-    printf '%s (%s) unstable; urgency=medium\n\n  * The changes are in CHANGELOG.md of the package faxtool and of the sources.\n\n -- %s  %s\n' \
-        "faxtool" "$version" "$who" "$(LC_ALL=C date -u -R -d "@$SOURCE_DATE_EPOCH")" | gzip -9n > "$docs/changelog.gz"
+    {
+        printf 'faxtool (%s) unstable; urgency=medium\n\n' "$version"
+        printf '  * The changes are in CHANGELOG.md of the package faxtool and of the sources.\n\n'
+        printf ' -- %s  %s\n' "$who" "$(LC_ALL=C date -u -R -d "@$SOURCE_DATE_EPOCH")"
+    } | gzip -9n > "$docs/changelog.gz"
     [ -f "$docs/COMMIT" ] || cp "$work/COMMIT" "$docs/"
 }
 
@@ -81,12 +84,11 @@ control() {
     dpkg-deb --root-owner-group -Zxz --build "$folder" "$to/$1_${version}_amd64.deb" > /dev/null
 }
 
-# page PACKAGE FILE: the page of trust, with the sums of the built files and of those in the package too.
+# page FILE: the page of trust, with the sums of the built files and of those in the packages too.
 page() {
-    mkdir -p "${2%/*}"
     "$top/packaging/trust.py" --package "faxtool=$program" "libg3fax.a=$library/libg3fax.a" "libg3fax.so.0=$library/libg3fax.so.0" \
         "stripped faxtool=$work/faxtool/usr/bin/faxtool" "stripped libg3fax.a=$work/libg3fax-dev$libdir/libg3fax.a" \
-        "stripped libg3fax.so.0=$work/libg3fax0$libdir/libg3fax.so.0" > "$2"
+        "stripped libg3fax.so.0=$work/libg3fax0$libdir/libg3fax.so.0" > "$1"
 }
 
 program=${FAXTOOL:-crates/faxtool/out/faxtool}
@@ -109,8 +111,13 @@ strip --strip-unneeded "$work/libg3fax0$libdir/libg3fax.so.0"
 strip --strip-debug -D "$work/libg3fax-dev$libdir/libg3fax.a"
 chmod 644 "$work/libg3fax0$libdir/libg3fax.so.0"
 for package in faxtool libg3fax0 libg3fax-dev; do documents $package; done
-page faxtool "$work/faxtool$share/doc/faxtool/docs/TRUST.md"
-for package in libg3fax0 libg3fax-dev; do page $package "$work/$package$share/doc/$package/TRUST.md"; done
+page "$work/faxtool$share/doc/faxtool/docs/TRUST.md"
+# in the other packages the page leads to the documents of the package faxtool
+for package in libg3fax0 libg3fax-dev; do
+    cp "$work/faxtool$share/doc/faxtool/public_clauses.txt" "$work/$package$share/doc/$package/"
+    sed -e 's,](\.\./public_clauses\.txt),](public_clauses.txt),' -e 's,](\.\./README,](../faxtool/README,g' \
+        -e 's,](\([A-Z]*\.md\)),](../faxtool/docs/\1),g' "$work/faxtool$share/doc/faxtool/docs/TRUST.md" > "$work/$package$share/doc/$package/TRUST.md"
+done
 # the licences are in the file copyright
 rm "$work/faxtool$share/doc/faxtool"/LICENSE-*
 

@@ -71,7 +71,8 @@ gather_library() {
     [ "$libdir" = "$prefix/lib" ] || sed -i "s|^libdir=.*|libdir=$(escaped "$(escaped "$libdir")")|" "$work/pc"
     install -m 644 "$work/pc" "$pc"
     docs=$prefix/share/doc/g3fax
-    puts 644 bindings/README.md "$docs"
+    sed 's,](\.\./,](../faxtool/,' bindings/README.md > "$work/README.md"
+    puts 644 "$work/README.md" "$docs"
     puts 644 bindings/c/*.[ch] bindings/python/g3fax.py "$docs/examples"
 }
 

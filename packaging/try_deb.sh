@@ -72,6 +72,21 @@ for package in faxtool libg3fax0 libg3fax-dev; do
     [ -n "$(find "$root/usr/share/doc/$package" -name TRUST.md)" ] || ends "$package has no TRUST.md"
 done
 
+# each link of an installed document leads to a file, but those to licences, which are in the file copyright
+python3 - "$root/usr/share/doc" << 'LINKS' || ends "links of installed documents"
+import re
+import sys
+from pathlib import Path
+
+lost = [
+    f"{page}: {link}"
+    for page in Path(sys.argv[1]).rglob("*.md")
+    for link in re.findall(r"\]\(([^)#:]+)(?:#[^)]*)?\)", page.read_text())
+    if not (page.parent / link).exists() and not link.startswith("LICENSE-")
+]
+sys.exit("\n".join(lost) or 0)
+LINKS
+
 # README's command lines, in the installed examples; they are run as the gate runs them
 mkdir -p "$work/try/.ci" "$work/try/docs"
 cp "$top/.ci/sessions.py" "$work/try/.ci/"

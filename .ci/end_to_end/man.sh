@@ -27,7 +27,9 @@ try_man() {
 
 # fishes WANTED WORDS: what fish completes the words to, in any order.
 fishes() {
-    fish -N -c "source '$top/docs/completion/faxtool.fish'; complete -C 'faxtool $2'" 2> "$work/error" | cut -f 1 | sort > "$work/output"
+    # a home of its own, so that no settings are read
+    HOME=$work XDG_CONFIG_HOME=$work/config XDG_DATA_HOME=$work/data fish -c \
+        "source '$top/docs/completion/faxtool.fish'; complete -C 'faxtool $2'" 2> "$work/error" | cut -f 1 | sort > "$work/output"
     printf '%s\n' $1 | sort > "$work/wanted"
     is_same "$work/output" "$work/wanted" "fish completes faxtool $2"
 }

@@ -380,15 +380,16 @@ def made(program):
     names = ["faxtool", *(f"faxtool-{name}" for name in helps)]
     files = {"docs/man/faxtool.1": main_page(top, names)}
     files |= {f"docs/man/faxtool-{name}.1": command_page(name, told, names) for name, told in helps.items()}
-    files |= {"docs/completion/faxtool.bash": bash(helps), "docs/completion/_faxtool": zsh(helps), "docs/completion/faxtool.fish": fish(helps)}
-    return files
+    shells = {"faxtool.bash": bash(helps), "_faxtool": zsh(helps), "faxtool.fish": fish(helps)}
+    return files | {f"docs/completion/{name}": text for name, text in shells.items()}
 
 
 def main(words):
     if len(words) not in (1, 2) or words[1:] not in ([], ["--check"]):
         sys.exit("usage: make.py PROGRAM [--check]")
     files = made(str(Path(words[0]).resolve()))
-    there = {str(path.relative_to(TOP)) for folder, shape in (("man", "*.1"), ("completion", "*")) for path in (TOP / "docs" / folder).glob(shape)}
+    kept = [*TOP.glob("docs/man/*.1"), *TOP.glob("docs/completion/*")]
+    there = {str(path.relative_to(TOP)) for path in kept}
     if words[1:]:
         other = [name for name, text in files.items() if not (TOP / name).is_file() or (TOP / name).read_text() != text]
         other += sorted(there - set(files))
