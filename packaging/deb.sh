@@ -4,8 +4,8 @@
 #     packaging/deb.sh FOLDER
 #
 # Three packages: faxtool, libg3fax0 (the shared library) and libg3fax-dev. Each needs the C library that its files ask for by their
-# versioned symbols. Symbols that nothing at run time wants are taken out. The same sources and tools give the same octets. It needs
-# dpkg-deb and binutils; where lintian is there, its errors are refused.
+# versioned symbols. Symbols that nothing wants at run time are taken out of the program and the shared library. The same sources and tools
+# give the same octets. It needs dpkg-deb and binutils; where lintian is there, its errors are refused.
 set -e
 top=$(cd "$(dirname "$0")/.." && pwd)
 . "$top/packaging/common.sh"
@@ -87,8 +87,7 @@ control() {
 # page FILE: the page of trust, with the sums of the built files and of those in the packages too.
 page() {
     "$top/packaging/trust.py" --package "faxtool=$program" "libg3fax.a=$library/libg3fax.a" "libg3fax.so.0=$library/libg3fax.so.0" \
-        "stripped faxtool=$work/faxtool/usr/bin/faxtool" "stripped libg3fax.a=$work/libg3fax-dev$libdir/libg3fax.a" \
-        "stripped libg3fax.so.0=$work/libg3fax0$libdir/libg3fax.so.0" > "$1"
+        "stripped faxtool=$work/faxtool/usr/bin/faxtool" "stripped libg3fax.so.0=$work/libg3fax0$libdir/libg3fax.so.0" > "$1"
 }
 
 program=${FAXTOOL:-crates/faxtool/out/faxtool}
@@ -108,7 +107,6 @@ takes libg3fax-dev /usr/include/g3fax.h $libdir/libg3fax.a $libdir/libg3fax.so $
 [ -z "$(find "$work/stage" ! -type d)" ] || ends "in no package: $(cd "$work/stage" && find . ! -type d | tr '\n' ' ')"
 strip --strip-all "$work/faxtool/usr/bin/faxtool"
 strip --strip-unneeded "$work/libg3fax0$libdir/libg3fax.so.0"
-strip --strip-debug -D "$work/libg3fax-dev$libdir/libg3fax.a"
 chmod 644 "$work/libg3fax0$libdir/libg3fax.so.0"
 for package in faxtool libg3fax0 libg3fax-dev; do documents $package; done
 page "$work/faxtool$share/doc/faxtool/docs/TRUST.md"
