@@ -95,6 +95,7 @@ commands=$("$work/try/.ci/sessions.py" "$root/usr/bin/faxtool" "$root/usr/share/
     "$root/usr/share/doc/faxtool/docs/RECIPES.md") || ends "a command line of a document"
 [ "$commands" -gt 20 ] || ends "the documents have $commands commands alone"
 [ "$("$root/usr/bin/faxtool" version)" = "$version" ] || ends "faxtool version"
+grep -qxF "$("$root/usr/bin/faxtool" version --proof)" "$root/usr/share/doc/faxtool/docs/TRUST.md" || ends "faxtool version --proof"
 
 if command -v man > /dev/null; then
     for page in "$root"/usr/share/man/man1/*.1.gz; do

@@ -252,12 +252,16 @@ completes() {
     [ "$(completed "$@" | sort)" = "$wanted" ] || fails "faxtool $* is completed to: $(echo $(completed "$@"))"
 }
 
-# The version is that of the file at the top.
+# The version is that of the file at the top, and the kit that of `rt version`.
 try_version() {
     works version
     is_same "$work/output" "$top/VERSION" "version"
     refuses version --explain
     refuses version 1
+    refuses version --proof --proof
+    works version --proof
+    rt version > "$work/wanted"
+    is_same "$work/output" "$work/wanted" "the kit of version --proof"
 }
 
 # FAXTOOL_EXPLAIN=1 is --explain; another value isn't.

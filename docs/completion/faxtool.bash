@@ -10,7 +10,7 @@ _faxtool_options() {
         frames) echo --data --pages --explain --help ;;
         call) echo --script --lose --spoil --busy --seed --calls --times --code --frame --modems --fine --out --bits --explain --help ;;
         station) echo --answer --call --out --code --modems --standard --widest --limit --frame --fine --t1 --t2 --t4 --t5 --trace --explain --help ;;
-        version) echo --help ;;
+        version) echo --proof --help ;;
         *) echo --help ;;
     esac
 }

@@ -205,7 +205,7 @@ no_width rows none (Answer caps limit waits out trace) (others, e, is) =
     show_is_station (some_name (codes "show") (codes "station") rows others e)
 no_width rows none (Dial options waits trace input) (others, e, is) =
     show_is_station (some_name (codes "show") (codes "station") rows others e)
-no_width rows none Version (others, e) = show_is_version (some_name (codes "show") (codes "version") rows others e)
+no_width rows none (Version proof) (others, e, is) = show_is_version (some_name (codes "show") (codes "version") rows others e)
 
 -- nor is there one for `decode`
 pub no_width_to_decode : (rows : List Row) → ((n : ℕ) → IsWidthIn rows n → ⊥) → HasNoJob (Some (codes "decode", rows))
@@ -226,7 +226,7 @@ no_width_to_decode rows none (Answer caps limit waits out trace) (others, e, is)
     decode_is_station (some_name (codes "decode") (codes "station") rows others e)
 no_width_to_decode rows none (Dial options waits trace input) (others, e, is) =
     decode_is_station (some_name (codes "decode") (codes "station") rows others e)
-no_width_to_decode rows none Version (others, e) = decode_is_version (some_name (codes "decode") (codes "version") rows others e)
+no_width_to_decode rows none (Version proof) (others, e, is) = decode_is_version (some_name (codes "decode") (codes "version") rows others e)
 
 -- without options there is no job for `call`
 pub no_options : (rows : List Row) → HasNoOptions rows → HasNoJob (Some (codes "call", rows))
@@ -248,7 +248,7 @@ no_options rows none (Answer caps limit waits out trace) (others, e, is) =
     call_is_station (some_name (codes "call") (codes "station") rows others e)
 no_options rows none (Dial options waits trace input) (others, e, is) =
     call_is_station (some_name (codes "call") (codes "station") rows others e)
-no_options rows none Version (others, e) = call_is_version (some_name (codes "call") (codes "version") rows others e)
+no_options rows none (Version proof) (others, e, is) = call_is_version (some_name (codes "call") (codes "version") rows others e)
 
 -- ---- a bad line
 
@@ -299,7 +299,7 @@ no_line rows open_end none (Answer caps limit waits out trace) (others, e, is) =
     call_is_station (some_name (codes "call") (codes "station") rows others e)
 no_line rows open_end none (Dial options waits trace input) (others, e, is) =
     call_is_station (some_name (codes "call") (codes "station") rows others e)
-no_line rows open_end none Version (others, e) = call_is_version (some_name (codes "call") (codes "version") rows others e)
+no_line rows open_end none (Version proof) (others, e, is) = call_is_version (some_name (codes "call") (codes "version") rows others e)
 
 -- without a script, and where no number of calls fits, there is no job for `call`
 pub no_times : (rows : List Row) → None ≡ first_of (codes "script") rows → ((times : Option ℕ) → IsTimesIn rows times → ⊥)
@@ -323,4 +323,4 @@ no_times rows open_end none (Answer caps limit waits out trace) (others, e, is) 
     call_is_station (some_name (codes "call") (codes "station") rows others e)
 no_times rows open_end none (Dial options waits trace input) (others, e, is) =
     call_is_station (some_name (codes "call") (codes "station") rows others e)
-no_times rows open_end none Version (others, e) = call_is_version (some_name (codes "call") (codes "version") rows others e)
+no_times rows open_end none (Version proof) (others, e, is) = call_is_version (some_name (codes "call") (codes "version") rows others e)

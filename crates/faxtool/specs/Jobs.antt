@@ -191,9 +191,9 @@ abbrev pub page_app : ValueParser → ValueParser → App
 page_app codings orders = with_subcommand (with_subcommand (with_subcommand (with_subcommand empty_app (code_app codings orders).top)
     (show_app codings orders).top) (decode_app codings orders).top) frames_app.top
 
--- `version`, which has no option
+-- `version`, with `--proof`
 abbrev pub version_app : App
-version_app = new_app (codes "version")
+version_app = with_rule (new_app (codes "version")) (flag_rule (codes "proof"))
 
 -- the program with the command that runs calls too
 abbrev pub call_and_page_app : ValueParser → ValueParser → ValueParser → ValueParser → App
@@ -498,7 +498,9 @@ IsJobOf met (Answer caps limit waits out trace) = (rows : List Row)
 IsJobOf met (Dial options waits trace input) = (rows : List Row)
     × (met ≡ Some (codes "station", rows))
     × IsDialOf rows options waits (option_map string_bytes trace) (string_bytes input)
-IsJobOf met Version = (rows : List Row) × (met ≡ Some (codes "version", rows))
+IsJobOf met (Version proof) = (rows : List Row)
+    × (met ≡ Some (codes "version", rows))
+    × (proof ≡ is_named (codes "true") (first_of (codes "proof") rows))
 
 -- no job is of the command's name and values
 abbrev pub HasNoJob : Option (Text × List Row) → Type 0
@@ -551,4 +553,4 @@ HasWidth (Call script options out bits input) = Unit {0}
 HasWidth (Drive line times options out bits input) = Unit {0}
 HasWidth (Answer caps limit waits out trace) = Unit {0}
 HasWidth (Dial options waits trace input) = Unit {0}
-HasWidth Version = Unit {0}
+HasWidth (Version proof) = Unit {0}

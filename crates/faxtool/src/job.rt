@@ -48,7 +48,7 @@ fn takes_image(job: &Job) -> bool {
 fn is_long(job: &Job) -> bool {
     match job {
         Job::Code { .. } | Job::Decode { .. } | Job::Call { .. } | Job::Drive { .. } => true,
-        Job::Show { .. } | Job::Frames { .. } | Job::Version => false,
+        Job::Show { .. } | Job::Frames { .. } | Job::Version { .. } => false,
         Job::Answer { .. } | Job::Dial { .. } => false,
     }
 }
@@ -153,7 +153,7 @@ pub fn do_whole(rt: &HostRuntime, job: &Job, notes: &mut Notes) -> Result<(), To
             CallFiles::of(out, bits, input),
             notes,
         ),
-        Job::Version => print_version(rt, notes),
+        Job::Version { proof } => print_version(rt, *proof, notes),
         Job::Decode { .. } | Job::Frames { .. } | Job::Answer { .. } | Job::Dial { .. } => Ok(()),
     }
 }

@@ -11,7 +11,7 @@ pub fn output_of<'a>(job: &'a Job) -> Option<&'a str> {
         Job::Call { out, .. } | Job::Drive { out, .. } => out.as_deref(),
         Job::Frames { pages, .. } => pages.as_deref(),
         Job::Answer { out, .. } => Some(out.as_str()),
-        Job::Show { .. } | Job::Dial { .. } | Job::Version => None,
+        Job::Show { .. } | Job::Dial { .. } | Job::Version { .. } => None,
     }
 }
 
@@ -49,7 +49,7 @@ fn input_of<'a>(job: &'a Job) -> &'a str {
         | Job::Call { input, .. }
         | Job::Drive { input, .. }
         | Job::Dial { input, .. } => input.as_str(),
-        Job::Answer { .. } | Job::Version => STANDARD,
+        Job::Answer { .. } | Job::Version { .. } => STANDARD,
     }
 }
 

@@ -379,6 +379,12 @@ const STATION_ARGUMENTS: &[Argument<'static>] = &[
     EXPLAIN,
 ];
 
+const VERSION_ARGUMENTS: &[Argument<'static>] = &[Argument {
+    id: "proof",
+    help: "Prints the kit that the program is proved with, as `rt version` names it",
+    ..FLAG
+}];
+
 /// The first commands, in the order of the help.
 static COMMANDS: [Entry<'static>; 5] = [
     Entry {
@@ -418,7 +424,7 @@ static LATER_COMMANDS: [Entry<'static>; 2] = [
     Entry {
         name: "version",
         about: "Prints the program's version",
-        arguments: &[],
+        arguments: VERSION_ARGUMENTS,
     },
 ];
 

@@ -11,12 +11,16 @@ use std::io::Write;
 /// The program's version, as the file `VERSION` at the top has it.
 const VERSION: &str = "0.1.0";
 
-/// Prints the program's version.
-pub fn print_version(rt: &HostRuntime, notes: &mut Notes) -> Result<(), ToolFault>
+/// The kit that proves the program, as `rt version` names it.
+const KIT: &str = "rattle-kit-13b logic dac8208d650f15bf";
+
+/// Prints the program's version, or the kit where its proof is asked for.
+pub fn print_version(rt: &HostRuntime, proof: bool, notes: &mut Notes) -> Result<(), ToolFault>
     ensures { IfErr result IsOutside }
 {
+    let line = if proof { KIT } else { VERSION };
     let mut writer = files::print(rt)?;
-    let written = writeln!(writer, "{VERSION}");
+    let written = writeln!(writer, "{line}");
     let printed = files::end_print(writer, written.is_ok(), notes);
     written?;
     printed

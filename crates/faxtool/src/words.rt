@@ -119,8 +119,11 @@ pub enum Job {
         /// The name of the document's file.
         input: String,
     },
-    /// Prints the program's version.
-    Version,
+    /// Prints the program's version, or the kit that it is proved with.
+    Version {
+        /// Whether the kit is asked for.
+        proof: bool,
+    },
 }
 
 /// What the program is asked to do, and how it is to show a fault.
@@ -240,10 +243,18 @@ fn job_in(alloc: Global, matches: &ArgMatches<'_>) -> Result<Option<Job>, AllocE
     if let Some(inner) = matches.subcommand_matches("station") {
         return station_job(alloc, inner);
     }
-    if let Some(_inner) = matches.subcommand_matches("version") {
-        return Ok(Some(Job::Version));
+    if let Some(inner) = matches.subcommand_matches("version") {
+        return Ok(Some(version_job(inner)));
     }
     Ok(None)
+}
+
+fn version_job(matches: &ArgMatches<'_>) -> Job
+    ensures { IsJobOf (Some (codes "version", rows_of (found_of matches.now))) result }
+{
+    Job::Version {
+        proof: is_named(text_in(matches, "proof"), "true"),
+    }
 }
 
 fn code_job(alloc: Global, matches: &ArgMatches<'_>) -> Result<Option<Job>, AllocError>
