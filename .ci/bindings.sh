@@ -42,7 +42,7 @@ is_same() {
 }
 
 "$top/bindings/build.sh" "$work"
-for name in encode decode raster frames misuse; do builds "c/$name.c"; done
+for name in encode decode raster frames call answer misuse; do builds "c/$name.c"; done
 for name in memory random; do builds "tests/$name.c" --wrap=malloc --wrap=realloc --wrap=free; done
 
 for code in mh mmr; do
@@ -71,6 +71,24 @@ is_same "$work/contents" "$work/wanted" "frames"
 tail -n 1 "$data/line.txt" > "$work/wanted"
 tail -n 1 "$work/output" > "$work/counts"
 is_same "$work/counts" "$work/wanted" "the counts of frames"
+
+# a call in one process, with each of its bursts lost in turn; and answerers by lines, whose answers another program wrote
+for lost in 0 1 2 3 4 5 6 7 8; do
+    gives 0 call "$top/docs/examples/row.pbm" "$work/stored.pbm" "$lost"
+    is_same "$work/stored.pbm" "$top/docs/examples/row.pbm" "call without burst $lost"
+done
+answerers=0
+for words in "$top"/.ci/conversations/*.words; do
+    talk=${words%.words}
+    # those by other options, and with a line that is none, are for faxtool
+    if [ "$(cat "$words")" != '--answer --out DIR' ] || grep -q '^fault' "$talk.error"; then continue; fi
+    end=1
+    grep -q '^end normal ' "$talk.error" && end=0
+    gives "$end" answer "$work/stored.pbm" < "$talk.lines"
+    is_same "$work/output" "$talk.expected" "answer to $(basename "$talk")"
+    answerers=$((answerers + 1))
+done
+[ "$answerers" -gt 5 ] || fails "there were $answerers answerers"
 
 gives 0 misuse
 [ ! -s "$work/output" ] || fails "misuse printed: $(cat "$work/output")"

@@ -24,6 +24,22 @@ g3_status g3_core_deframer_feed(handle *, const uint8_t *, size_t);
 g3_status g3_core_deframer_next(handle *, uint8_t *, size_t, uint64_t *);
 g3_status g3_core_deframer_counts(handle *, g3_counts *);
 g3_status g3_core_frame_write(const uint8_t *, size_t, handle *, uint64_t *);
+g3_status g3_core_document_new(handle *);
+g3_status g3_core_document_push(handle *, handle *);
+g3_status g3_core_document_pages(handle *, uint64_t *);
+g3_status g3_core_answerer_new(handle *, const g3_caps *);
+g3_status g3_core_caller_new(handle *, handle *, const g3_wish *);
+g3_status g3_core_terminal_hear(handle *, const uint8_t *, size_t);
+g3_status g3_core_terminal_hear_training(handle *, const uint8_t *, size_t);
+g3_status g3_core_terminal_wait_over(handle *, uint32_t);
+uint32_t g3_core_wait_millis(uint32_t);
+g3_status g3_core_terminal_set_busy(handle *, uint32_t);
+g3_status g3_core_terminal_stop(handle *);
+g3_status g3_core_terminal_hang_up(handle *);
+g3_status g3_core_terminal_lost(handle *);
+g3_status g3_core_terminal_next_burst(handle *, handle *, g3_burst *);
+g3_status g3_core_terminal_state(handle *, g3_state *);
+g3_status g3_core_terminal_take_page(handle *, handle *);
 
 #define HANDLE(it) do { if ((it) == NULL) return G3_EMPTY_HANDLE; } while (0)
 #define PLACE(it) do { if ((it) == NULL) return G3_BAD_LENGTH; } while (0)
@@ -34,6 +50,8 @@ static uint8_t none[1];
 void g3_page_free(g3_page *page) { if (page != NULL) g3_core_free((handle *)page); }
 void g3_octets_free(g3_octets *octets) { if (octets != NULL) g3_core_free((handle *)octets); }
 void g3_deframer_free(g3_deframer *deframer) { if (deframer != NULL) g3_core_free((handle *)deframer); }
+void g3_document_free(g3_document *document) { if (document != NULL) g3_core_free((handle *)document); }
+void g3_terminal_free(g3_terminal *terminal) { if (terminal != NULL) g3_core_free((handle *)terminal); }
 
 g3_status g3_page_new(g3_page *out, uint32_t width, uint32_t fine)
 {
@@ -131,6 +149,83 @@ g3_status g3_frame_write(const uint8_t *content, size_t length, g3_octets *out, 
     return g3_core_frame_write(content, length, (handle *)out, bits);
 }
 
+g3_status g3_document_new(g3_document *out)
+{
+    HANDLE(out);
+    return g3_core_document_new((handle *)out);
+}
+g3_status g3_document_push(g3_document *document, g3_page *page)
+{
+    HANDLE(document); HANDLE(page);
+    return g3_core_document_push((handle *)document, (handle *)page);
+}
+g3_status g3_document_pages(g3_document *document, uint64_t *count)
+{
+    HANDLE(document); PLACE(count);
+    return g3_core_document_pages((handle *)document, count);
+}
+g3_status g3_answerer_new(g3_terminal *out, const g3_caps *caps)
+{
+    HANDLE(out); PLACE(caps);
+    return g3_core_answerer_new((handle *)out, caps);
+}
+g3_status g3_caller_new(g3_terminal *out, g3_document *document, const g3_wish *wish)
+{
+    HANDLE(out); HANDLE(document); PLACE(wish);
+    return g3_core_caller_new((handle *)out, (handle *)document, wish);
+}
+g3_status g3_terminal_hear(g3_terminal *terminal, const uint8_t *octets, size_t length)
+{
+    HANDLE(terminal); OCTETS(octets, length);
+    return g3_core_terminal_hear((handle *)terminal, octets, length);
+}
+g3_status g3_terminal_hear_training(g3_terminal *terminal, const uint8_t *octets, size_t length)
+{
+    HANDLE(terminal); OCTETS(octets, length);
+    return g3_core_terminal_hear_training((handle *)terminal, octets, length);
+}
+g3_status g3_terminal_wait_over(g3_terminal *terminal, uint32_t wait)
+{
+    HANDLE(terminal);
+    return g3_core_terminal_wait_over((handle *)terminal, wait);
+}
+uint32_t g3_wait_millis(uint32_t wait) { return g3_core_wait_millis(wait); }
+g3_status g3_terminal_set_busy(g3_terminal *terminal, uint32_t is)
+{
+    HANDLE(terminal);
+    return g3_core_terminal_set_busy((handle *)terminal, is);
+}
+g3_status g3_terminal_stop(g3_terminal *terminal)
+{
+    HANDLE(terminal);
+    return g3_core_terminal_stop((handle *)terminal);
+}
+g3_status g3_terminal_hang_up(g3_terminal *terminal)
+{
+    HANDLE(terminal);
+    return g3_core_terminal_hang_up((handle *)terminal);
+}
+g3_status g3_terminal_lost(g3_terminal *terminal)
+{
+    HANDLE(terminal);
+    return g3_core_terminal_lost((handle *)terminal);
+}
+g3_status g3_terminal_next_burst(g3_terminal *terminal, g3_octets *out, g3_burst *burst)
+{
+    HANDLE(terminal); HANDLE(out); PLACE(burst);
+    return g3_core_terminal_next_burst((handle *)terminal, (handle *)out, burst);
+}
+g3_status g3_terminal_state(g3_terminal *terminal, g3_state *state)
+{
+    HANDLE(terminal); PLACE(state);
+    return g3_core_terminal_state((handle *)terminal, state);
+}
+g3_status g3_terminal_take_page(g3_terminal *terminal, g3_page *out)
+{
+    HANDLE(terminal); HANDLE(out);
+    return g3_core_terminal_take_page((handle *)terminal, (handle *)out);
+}
+
 const char *g3_version(void) { return G3_VERSION; }
 const char *g3_status_text(g3_status status)
 {
@@ -152,6 +247,7 @@ const char *g3_status_text(g3_status status)
     case G3_EXTENSION: return "an extension code";
     case G3_MISSING_EOFB: return "the end of the facsimile block is missing";
     case G3_TOO_MANY_CODED_ROWS: return "more than 20000 coded rows";
+    case G3_NOT_CALLABLE: return "a page isn't 1728, 2048 or 2432 pixels wide, as a call can have it";
     case G3_EMPTY_HANDLE: return "the handle is empty";
     case G3_OTHER_HANDLE: return "the handle has something of another kind";
     case G3_FULL_HANDLE: return "the handle that is to be filled has something";
@@ -159,6 +255,7 @@ const char *g3_status_text(g3_status status)
     case G3_BAD_CHOICE: return "a number that stands for no choice";
     case G3_BAD_LENGTH: return "a length that isn't allowed, or no address";
     case G3_NOTHING: return "nothing is there";
+    case G3_FRAME_LOST: return "no memory: a frame that was heard is lost";
     default: return "no such status";
     }
 }

@@ -1,4 +1,4 @@
-/* The proved Group 3 fax codec and frames, for C and for every language that calls C. README.md, beside this file, says
+/* The proved Group 3 fax codec, frames and stations, for C and for every language that calls C. README.md, beside this file, says
  * what is defined and what isn't, who owns what, and which status comes when. SPDX: MIT OR Apache-2.0 */
 #ifndef G3FAX_H
 #define G3FAX_H
@@ -13,9 +13,11 @@ extern "C" {
 typedef struct g3_page { void *at; } g3_page;
 typedef struct g3_octets { void *at; } g3_octets;
 typedef struct g3_deframer { void *at; } g3_deframer;
+typedef struct g3_document { void *at; } g3_document;
+typedef struct g3_terminal { void *at; } g3_terminal;
 #define G3_EMPTY {NULL}
 
-/* What each function answers. By any status above 0 each handle is as it was. */
+/* What each function answers. By any status above 0, G3_FRAME_LOST aside, each handle is as it was. */
 typedef uint32_t g3_status;
 enum {
     G3_OK = 0,
@@ -24,9 +26,13 @@ enum {
     /* faults of coded pages, with G3_NO_ROWS */
     G3_BAD_CODE = 10, G3_TRUNCATED = 11, G3_RUN_TOO_LONG = 12, G3_BACKWARDS = 13, G3_PAST_END = 14, G3_EMPTY_HORIZONTAL = 15,
     G3_EXTENSION = 16, G3_MISSING_EOFB = 17, G3_TOO_MANY_CODED_ROWS = 18,
+    /* a document whose page has a width that a call can't have */
+    G3_NOT_CALLABLE = 26,
     /* wrong use */
     G3_EMPTY_HANDLE = 100, G3_OTHER_HANDLE = 101, G3_FULL_HANDLE = 102, G3_NO_ROOM = 103, G3_BAD_CHOICE = 104, G3_BAD_LENGTH = 105,
-    G3_NOTHING = 106
+    G3_NOTHING = 106,
+    /* octets of the line were taken, and memory was refused: a frame in them is lost, as on a line */
+    G3_FRAME_LOST = 108
 };
 
 enum { G3_MH = 1, G3_MMR = 2 };              /* T.4 in one dimension, T.6 */
@@ -61,6 +67,8 @@ typedef struct g3_counts { uint64_t good, aborted, ragged, too_short, too_long, 
 void g3_page_free(g3_page *page);
 void g3_octets_free(g3_octets *octets);
 void g3_deframer_free(g3_deframer *deframer);
+void g3_document_free(g3_document *document);
+void g3_terminal_free(g3_terminal *terminal);
 
 /* The text of a status, in English; never NULL, and not to be freed. */
 const char *g3_status_text(g3_status status);
@@ -113,6 +121,111 @@ g3_status g3_deframer_counts(g3_deframer *deframer, g3_counts *counts);
 /* Writes the frame of a content of 3 to 300 octets: a flag, the content and its check sequence with 0 bits stuffed, and a flag. *bits:
  * how many bits it has; fewer than eight 0 bits fill the last octet. */
 g3_status g3_frame_write(const uint8_t *content, size_t length, g3_octets *out, uint64_t *bits);
+
+/* Documents: the pages of a call, in order. */
+g3_status g3_document_new(g3_document *out);
+/* Moves a page to the end: its handle is empty then. The page is copied for that, so that nothing is lost where memory is refused.
+ * G3_NO_ROWS: it has no row. */
+g3_status g3_document_push(g3_document *document, g3_page *page);
+g3_status g3_document_pages(g3_document *document, uint64_t *count);
+
+/* Terminals: the two stations of a call with error correction (T.30, Annex A), a caller and an answerer. A terminal hears octets of the
+ * line and gives the bursts that are to be sent. It has no clock and no modem: the program measures the waits, and listens by the carrier
+ * that g3_terminal_state names. */
+
+/* the modems of a station: V.27 ter alone, V.27 ter and V.29, or these and V.17 */
+enum { G3_V27TER = 1, G3_V29 = 2, G3_V17 = 3 };
+
+typedef struct g3_caps {
+    uint32_t modems; /* G3_V27TER, G3_V29 or G3_V17 */
+    uint32_t t6;     /* 1: it reads T.6 beside T.4 in one dimension */
+    uint32_t fine;   /* 1: it takes pages of 7.7 lines a millimeter */
+    uint32_t widest; /* the width of its widest page in pixels: 1728, 2048 or 2432 */
+    uint32_t limit;  /* how many pages it stores before it is busy, 1 or more */
+} g3_caps;
+
+typedef struct g3_wish {
+    uint32_t modems; /* G3_V27TER, G3_V29 or G3_V17 */
+    uint32_t coding; /* G3_MH or G3_MMR; where the answerer doesn't read T.6, G3_MH is sent */
+    uint32_t frame;  /* the octets of data in a frame: 256 or 64 */
+} g3_wish;
+
+/* An answerer, whose first burst is DIS. G3_BAD_CHOICE: a number of caps stands for no choice. */
+g3_status g3_answerer_new(g3_terminal *out, const g3_caps *caps);
+/* A caller, which waits for a DIS. The document moves in: its handle is empty then. G3_NOTHING: it has no page. G3_NOT_CALLABLE: a page
+ * isn't 1728, 2048 or 2432 pixels wide. G3_BAD_CHOICE: a number of wish stands for no choice. */
+g3_status g3_caller_new(g3_terminal *out, g3_document *document, const g3_wish *wish);
+
+/* Hears octets that came by V.21 or by the carrier of a page: flags and frames, the least significant bit of each first, in pieces of any
+ * size. G3_NO_MEMORY: nothing was taken; give the octets again. G3_FRAME_LOST: don't. */
+g3_status g3_terminal_hear(g3_terminal *terminal, const uint8_t *octets, size_t length);
+/* Hears the octets of a training check that has come. */
+g3_status g3_terminal_hear_training(g3_terminal *terminal, const uint8_t *octets, size_t length);
+
+/* the waits of T.30, 5.4.3.1 */
+enum { G3_T1 = 1, G3_T2 = 2, G3_T4 = 4, G3_T5 = 5 };
+/* A wait is over; one that doesn't run changes nothing. G3_BAD_CHOICE: no such wait. */
+g3_status g3_terminal_wait_over(g3_terminal *terminal, uint32_t wait);
+/* How long a wait runs, in milliseconds; 0 for a number that is no wait. */
+uint32_t g3_wait_millis(uint32_t wait);
+/* Whether an answerer can't take pages for now. */
+g3_status g3_terminal_set_busy(g3_terminal *terminal, uint32_t is);
+/* Ends the call in order: DCN is to be sent in place of what was. */
+g3_status g3_terminal_stop(g3_terminal *terminal);
+/* The same also where the call has ended: what was to be sent isn't, as the confirmation of a page that couldn't be kept. */
+g3_status g3_terminal_hang_up(g3_terminal *terminal);
+/* The line is gone: nothing is left to be sent. */
+g3_status g3_terminal_lost(g3_terminal *terminal);
+
+/* what a burst goes out on, by the bits a second of it: a training check and the frames of a page go by the same */
+enum {
+    G3_V21 = 1, G3_V27TER_2400 = 2, G3_V27TER_4800 = 3, G3_V29_7200 = 4, G3_V29_9600 = 5, G3_V17_7200 = 6, G3_V17_9600 = 7,
+    G3_V17_12000 = 8, G3_V17_14400 = 9
+};
+
+typedef struct g3_burst {
+    uint64_t bits;
+    uint32_t carrier;
+    uint32_t check; /* 1: a training check, 0 bits alone; 0: flags and frames */
+    uint32_t last;  /* 1: the last one before the other station has its turn */
+} g3_burst;
+
+/* The next burst that is to be sent, 75 ms after the one before it. Its octets hold the bits, the least significant of each first.
+ * G3_NOTHING: nothing is left to be sent. */
+g3_status g3_terminal_next_burst(g3_terminal *terminal, g3_octets *out, g3_burst *burst);
+
+/* what a station listens for: V.21 alone; a training check by `carrier`; V.21, and the frames of a page by `carrier` */
+enum { G3_HEARS_V21 = 1, G3_HEARS_CHECK = 2, G3_HEARS_PAGES = 3 };
+/* why a call ended */
+enum {
+    G3_END_NORMAL = 1,         /* all pages went over */
+    G3_END_NO_ANSWER = 2,      /* no DIS or no DCS came */
+    G3_END_NOT_COMPATIBLE = 3,
+    G3_END_TRAINING = 4,       /* training failed at the lowest speed */
+    G3_END_NO_REPLY = 5,       /* a command had no reply, three times */
+    G3_END_UNREADABLE = 6,     /* a block was asked for a fourth time */
+    G3_END_STILL_BUSY = 7,     /* the answerer was busy for too long */
+    G3_END_PEER_LEFT = 8,
+    G3_END_BAD_PAGE = 9,       /* a page couldn't be read */
+    G3_END_PAGE_TOO_LONG = 10, /* a page's code is too long */
+    G3_END_STOPPED = 11,       /* by g3_terminal_stop */
+    G3_END_LINE_LOST = 12      /* by g3_terminal_lost */
+};
+
+typedef struct g3_state {
+    uint64_t pages;   /* of a caller, confirmed; of an answerer, stored and not taken by g3_terminal_take_page */
+    uint64_t frames;  /* how many good frames were heard */
+    uint32_t listens; /* G3_HEARS_.. */
+    uint32_t carrier; /* where it listens for more than V.21; else 0 */
+    uint32_t wait;    /* the wait that runs; 0 for none */
+    uint32_t longer;  /* the longer one beside it; 0 for none */
+    uint32_t end;     /* 0: the call goes on; else G3_END_.. */
+} g3_state;
+g3_status g3_terminal_state(g3_terminal *terminal, g3_state *state);
+
+/* The oldest page that an answerer has stored and that wasn't taken. G3_NOTHING: there is none. Where none waits in the handle, all stored
+ * pages leave the station, which isn't busy for them then: there are never more than 2 * limit - 1 in memory. */
+g3_status g3_terminal_take_page(g3_terminal *terminal, g3_page *out);
 
 #ifdef __cplusplus
 }

@@ -2,12 +2,15 @@
 #define KIT_STDIO_H
 #include <stddef.h>
 typedef struct kit_file FILE;
-extern FILE *stdout, *stderr;
+extern FILE *stdin, *stdout, *stderr;
 FILE *fopen(const char *name, const char *mode);
 size_t fread(void *to, size_t size, size_t count, FILE *file);
 size_t fwrite(const void *from, size_t size, size_t count, FILE *file);
 int fclose(FILE *file);
+int fflush(FILE *file);
+char *fgets(char *to, int size, FILE *file);
 int fprintf(FILE *file, const char *format, ...) __attribute__((format(printf, 2, 3)));
 int printf(const char *format, ...) __attribute__((format(printf, 1, 2)));
+int sscanf(const char *text, const char *format, ...) __attribute__((format(scanf, 2, 3)));
 void perror(const char *text);
 #endif

@@ -5,4 +5,5 @@ void *malloc(size_t size);
 void *realloc(void *block, size_t size);
 void free(void *block);
 int atoi(const char *text);
+unsigned long strtoul(const char *text, char **end, int base);
 #endif

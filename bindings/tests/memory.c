@@ -1,5 +1,6 @@
 /* memory IN.pbm LINE.bits: each growth of a round of calls is refused in turn. Each call answers G3_OK or G3_NO_MEMORY, a call that was
- * refused memory gives what it gives when it is made again, and no block is left. Prints how many growths there were. */
+ * refused memory gives what it gives when it is made again, and no block is left. A terminal that hears may lose a frame, and then the page
+ * goes over all the same. Prints how many growths there were. */
 #include "g3fax.h"
 #include "heap.h"
 #include <stdint.h>
@@ -63,6 +64,65 @@ static void frames(size_t length)
     g3_octets_free(&frame); g3_deframer_free(&deframer);
 }
 
+/* One station says its turn to the other one. Tells how many bursts there were. */
+static unsigned say(g3_terminal *from, g3_terminal *to)
+{
+    unsigned said = 0;
+    for (;; said++) {
+        g3_octets octets = G3_EMPTY;
+        g3_burst burst;
+        g3_state state;
+        uint64_t size = 0;
+        g3_status status = g3_terminal_next_burst(from, &octets, &burst);
+        if (status == G3_NO_MEMORY) status = g3_terminal_next_burst(from, &octets, &burst);
+        if (status == G3_NOTHING) return said;
+        if (status != G3_OK) printf("growth %lu refused: a burst: %u\n", refused, status), bad = 1;
+        DOES(g3_octets_copy(&octets, again, sizeof again, &size));
+        g3_octets_free(&octets);
+        DOES(g3_terminal_state(to, &state));
+        if (burst.check) {
+            if (state.listens == G3_HEARS_CHECK) DOES(g3_terminal_hear_training(to, again, size));
+            continue;
+        }
+        status = g3_terminal_hear(to, again, size);
+        if (status == G3_NO_MEMORY) status = g3_terminal_hear(to, again, size);
+        if (status != G3_OK && status != G3_FRAME_LOST) printf("growth %lu refused: hearing: %u\n", refused, status), bad = 1;
+    }
+}
+
+static void calls(void)
+{
+    g3_page page = G3_EMPTY, stored = G3_EMPTY;
+    g3_document document = G3_EMPTY;
+    g3_terminal caller = G3_EMPTY, answerer = G3_EMPTY;
+    g3_caps caps = {G3_V17, 1, 1, 2432, 2};
+    g3_wish wish = {G3_V17, G3_MH, 64};
+    g3_state here = {0, 0, 0, 0, 0, 0, 0}, there = here;
+    uint64_t count = 0;
+    DOES(g3_page_new(&page, 1728, 1));
+    for (unsigned row = 0; row < 6; row++) DOES(g3_page_push_row(&page, image + row, 216));
+    DOES(g3_document_new(&document));
+    DOES(g3_document_push(&document, &page));
+    DOES(g3_answerer_new(&answerer, &caps));
+    DOES(g3_caller_new(&caller, &document, &wish));
+    for (unsigned turns = 0; turns < 40 && (here.end == 0 || there.end == 0); turns++) {
+        unsigned said = say(&answerer, &caller);
+        said += say(&caller, &answerer);
+        DOES(g3_terminal_state(&caller, &here));
+        DOES(g3_terminal_state(&answerer, &there));
+        if (said == 0 && here.end == 0) DOES(g3_terminal_wait_over(&caller, here.wait));
+        if (said == 0 && here.end != 0 && there.end == 0) DOES(g3_terminal_wait_over(&answerer, there.wait));
+    }
+    if (here.end != G3_END_NORMAL || there.end != G3_END_NORMAL || here.pages != 1 || there.pages != 1)
+        printf("growth %lu refused: ends %u %u\n", refused, here.end, there.end), bad = 1;
+    DOES(g3_terminal_take_page(&answerer, &stored));
+    for (unsigned row = 0; row < 6; row++) {
+        DOES(g3_page_row(&stored, row, again, sizeof again, &count));
+        if (memcmp(again, image + row, 216) != 0) printf("growth %lu refused: another row\n", refused), bad = 1;
+    }
+    g3_page_free(&page); g3_page_free(&stored); g3_document_free(&document); g3_terminal_free(&caller); g3_terminal_free(&answerer);
+}
+
 int main(int argc, char **argv)
 {
     if (argc != 3) return fprintf(stderr, "usage: memory IN.pbm LINE.bits\n"), 2;
@@ -74,6 +134,7 @@ int main(int argc, char **argv)
         codes(length, G3_MH);
         codes(length, G3_MMR);
         frames(bits);
+        calls();
         if (blocks != before) printf("growth %lu refused: %ld blocks are left\n", refused, blocks - before), bad = 1;
     } while (grown >= refused);
     printf("growths %lu\n", refused - 1);

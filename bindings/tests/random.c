@@ -18,11 +18,29 @@ static uint32_t below(uint32_t end)
     return (uint32_t)(state >> 32) % end;
 }
 
+/* One terminal hears the next burst of another one, so that calls go on. */
+static g3_status hears(void *from, void *to)
+{
+    static uint8_t line[1 << 17];
+    g3_octets octets = G3_EMPTY;
+    g3_burst burst;
+    uint64_t count = 0;
+    g3_status status = g3_terminal_next_burst(from, &octets, &burst);
+    if (status == G3_OK) status = g3_octets_copy(&octets, line, sizeof line, &count);
+    g3_octets_free(&octets);
+    if (status != G3_OK) return status;
+    return burst.check ? g3_terminal_hear_training(to, line, count) : g3_terminal_hear(to, line, count);
+}
+
 static g3_status call(uint32_t which, void *a, void *b)
 {
     static uint64_t told;
     static g3_size size;
     static g3_counts counts;
+    static g3_burst burst;
+    static g3_state shown;
+    g3_caps caps = {below(5), below(2), below(2), below(8) ? 1728 : below(3000), below(4)};
+    g3_wish wish = {below(5), below(4), below(3) ? 64 : below(300)};
     g3_code code = {below(4), below(3), below(2) ? 8 : below(3000), below(3)};
     uint64_t stride = below(20) ? below(6) : (uint64_t)below(UINT32_MAX) << 32;
     g3_raster raster = {stride, below(2) ? 8 : below(3000), below(20) ? below(50) : below(30000), 1};
@@ -50,6 +68,24 @@ static g3_status call(uint32_t which, void *a, void *b)
     case 16: return g3_frame_write(octets, length, a, number);
     case 17: return g3_page_read_raster(octets, length, below(50) ? &raster : NULL, a);
     case 18: return g3_page_write_raster(a, raster.stride, octets, length, number);
+    case 19: return g3_document_new(a);
+    case 20: case 21: return g3_document_push(a, b);
+    case 22: return g3_document_pages(a, number);
+    case 23: return g3_answerer_new(a, below(50) ? &caps : NULL);
+    case 24: return g3_caller_new(a, b, below(50) ? &wish : NULL);
+    case 25: return hears(a, b);
+    case 26: return g3_terminal_hear(a, octets, length);
+    case 27: return g3_terminal_hear_training(a, octets, length);
+    case 28: return g3_terminal_wait_over(a, below(7));
+    case 29: return g3_terminal_set_busy(a, below(2));
+    case 30: return below(4) ? G3_OK : g3_terminal_stop(a);
+    case 31: return below(4) ? G3_OK : g3_terminal_hang_up(a);
+    case 32: return below(4) ? G3_OK : g3_terminal_lost(a);
+    case 33: return g3_terminal_next_burst(a, b, below(50) ? &burst : NULL);
+    case 34: return g3_terminal_state(a, below(50) ? &shown : NULL);
+    case 35: return g3_terminal_take_page(a, b);
+    case 36: return g3_page_new(a, 1728, below(2));
+    case 37: return g3_wait_millis(below(7)) > 60000;
     default: g3_page_free(a); return G3_OK;
     }
 }
@@ -61,8 +97,10 @@ int main(int argc, char **argv)
     for (int calls = argc == 2 ? atoi(argv[1]) : 0; calls > 0; calls--) {
         uint32_t first = below(8), second = (first + 1 + below(7)) % 8;
         if (below(20) == 0) refused = grown + 1 + below(4);
-        g3_status status = call(below(22), below(50) ? &handles[first] : NULL, below(50) ? &handles[second] : NULL);
-        if (status > G3_NOTHING || (status > G3_TOO_MANY_CODED_ROWS && status < G3_EMPTY_HANDLE)) printf("status %u\n", status), bad = 1;
+        g3_status status = call(below(41), below(50) ? &handles[first] : NULL, below(50) ? &handles[second] : NULL);
+        int is_known = status <= G3_TOO_MANY_CODED_ROWS || status == G3_NOT_CALLABLE || status == G3_FRAME_LOST
+            || (status >= G3_EMPTY_HANDLE && status <= G3_NOTHING);
+        if (!is_known) printf("status %u\n", status), bad = 1;
     }
     for (int at = 0; at < 8; at++) g3_page_free(&handles[at]);
     if (blocks != 0) printf("%ld blocks are left\n", blocks), bad = 1;

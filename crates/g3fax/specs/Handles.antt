@@ -4,9 +4,13 @@ use Rattle.std.specs.declared.option.Option.{Option}
 use Rattle.std.specs.declared.option.Option.TheVariants.{None, Some}
 use Rattle.raster.specs.Pages.{PagePixels}
 use Rattle.hdlc.specs.DeframerState.{DeframerState}
+use Rattle.stations.specs.Limiting.{LimitedFields}
+use Rattle.stations.specs.Stopping.{StoppableCallerFields}
+use Rattle.terminals.specs.Runs.{TerminalFields}
+use Rattle.g3fax.specs.Answering.{AnsweringFields}
 use Rattle.g3fax.specs.Statuses.{ok, empty_handle, other_handle, full_handle, no_room}
 use Rattle.g3fax.specs.declared.handle.Kept.{Kept}
-use Rattle.g3fax.specs.declared.handle.Kept.TheVariants.{Octets, Page, Deframer}
+use Rattle.g3fax.specs.declared.handle.Kept.TheVariants.{Octets, Page, Deframer, Document, Caller, Answerer}
 
 -- a handle of octets for which this holds
 abbrev pub HasOctets : (List ℕ → Type 0) → Option Kept → Type 0
@@ -14,6 +18,9 @@ HasOctets Holds None = ⊥
 HasOctets Holds (Some (Octets octets)) = Holds octets.items
 HasOctets Holds (Some (Page page)) = ⊥
 HasOctets Holds (Some (Deframer state)) = ⊥
+HasOctets Holds (Some (Document pages)) = ⊥
+HasOctets Holds (Some (Caller terminal)) = ⊥
+HasOctets Holds (Some (Answerer answering)) = ⊥
 
 -- a handle of a page for which this holds
 abbrev pub HasPage : (PagePixels → Type 0) → Option Kept → Type 0
@@ -21,6 +28,9 @@ HasPage Holds None = ⊥
 HasPage Holds (Some (Octets octets)) = ⊥
 HasPage Holds (Some (Page page)) = Holds page
 HasPage Holds (Some (Deframer state)) = ⊥
+HasPage Holds (Some (Document pages)) = ⊥
+HasPage Holds (Some (Caller terminal)) = ⊥
+HasPage Holds (Some (Answerer answering)) = ⊥
 
 -- a handle of a deframer for which this holds
 abbrev pub HasDeframer : (DeframerState → Type 0) → Option Kept → Type 0
@@ -28,6 +38,39 @@ HasDeframer Holds None = ⊥
 HasDeframer Holds (Some (Octets octets)) = ⊥
 HasDeframer Holds (Some (Page page)) = ⊥
 HasDeframer Holds (Some (Deframer state)) = Holds state
+HasDeframer Holds (Some (Document pages)) = ⊥
+HasDeframer Holds (Some (Caller terminal)) = ⊥
+HasDeframer Holds (Some (Answerer answering)) = ⊥
+
+-- a handle of a document for which this holds
+abbrev pub HasDocument : (Option (List PagePixels) → Type 0) → Option Kept → Type 0
+HasDocument Holds None = ⊥
+HasDocument Holds (Some (Octets octets)) = ⊥
+HasDocument Holds (Some (Page page)) = ⊥
+HasDocument Holds (Some (Deframer state)) = ⊥
+HasDocument Holds (Some (Document pages)) = Holds pages
+HasDocument Holds (Some (Caller terminal)) = ⊥
+HasDocument Holds (Some (Answerer answering)) = ⊥
+
+-- a handle of a caller's terminal for which this holds
+abbrev pub HasCaller : (TerminalFields StoppableCallerFields → Type 0) → Option Kept → Type 0
+HasCaller Holds None = ⊥
+HasCaller Holds (Some (Octets octets)) = ⊥
+HasCaller Holds (Some (Page page)) = ⊥
+HasCaller Holds (Some (Deframer state)) = ⊥
+HasCaller Holds (Some (Document pages)) = ⊥
+HasCaller Holds (Some (Caller terminal)) = Holds terminal
+HasCaller Holds (Some (Answerer answering)) = ⊥
+
+-- a handle of an answerer's terminal for which this holds
+abbrev pub HasAnswerer : (AnsweringFields → Type 0) → Option Kept → Type 0
+HasAnswerer Holds None = ⊥
+HasAnswerer Holds (Some (Octets octets)) = ⊥
+HasAnswerer Holds (Some (Page page)) = ⊥
+HasAnswerer Holds (Some (Deframer state)) = ⊥
+HasAnswerer Holds (Some (Document pages)) = ⊥
+HasAnswerer Holds (Some (Caller terminal)) = ⊥
+HasAnswerer Holds (Some (Answerer answering)) = Holds answering
 
 -- what is answered of a handle of octets; 100 of an empty one, and 101 of another one
 abbrev pub OfOctets : (List ℕ → Type 0) → Option Kept → ℕ → Type 0
@@ -35,6 +78,9 @@ OfOctets Answers None status = status ≡ empty_handle
 OfOctets Answers (Some (Octets octets)) status = Answers octets.items
 OfOctets Answers (Some (Page page)) status = status ≡ other_handle
 OfOctets Answers (Some (Deframer state)) status = status ≡ other_handle
+OfOctets Answers (Some (Document pages)) status = status ≡ other_handle
+OfOctets Answers (Some (Caller terminal)) status = status ≡ other_handle
+OfOctets Answers (Some (Answerer answering)) status = status ≡ other_handle
 
 -- what is answered of a handle of a page; 100 of an empty one, and 101 of another one
 abbrev pub OfPage : (PagePixels → Type 0) → Option Kept → ℕ → Type 0
@@ -42,6 +88,9 @@ OfPage Answers None status = status ≡ empty_handle
 OfPage Answers (Some (Octets octets)) status = status ≡ other_handle
 OfPage Answers (Some (Page page)) status = Answers page
 OfPage Answers (Some (Deframer state)) status = status ≡ other_handle
+OfPage Answers (Some (Document pages)) status = status ≡ other_handle
+OfPage Answers (Some (Caller terminal)) status = status ≡ other_handle
+OfPage Answers (Some (Answerer answering)) status = status ≡ other_handle
 
 -- what is answered of a handle of a deframer; 100 of an empty one, and 101 of another one
 abbrev pub OfDeframer : (DeframerState → Type 0) → Option Kept → ℕ → Type 0
@@ -49,6 +98,19 @@ OfDeframer Answers None status = status ≡ empty_handle
 OfDeframer Answers (Some (Octets octets)) status = status ≡ other_handle
 OfDeframer Answers (Some (Page page)) status = status ≡ other_handle
 OfDeframer Answers (Some (Deframer state)) status = Answers state
+OfDeframer Answers (Some (Document pages)) status = status ≡ other_handle
+OfDeframer Answers (Some (Caller terminal)) status = status ≡ other_handle
+OfDeframer Answers (Some (Answerer answering)) status = status ≡ other_handle
+
+-- what is answered of a handle of a document; 100 of an empty one, and 101 of another one
+abbrev pub OfDocument : (Option (List PagePixels) → Type 0) → Option Kept → ℕ → Type 0
+OfDocument Answers None status = status ≡ empty_handle
+OfDocument Answers (Some (Octets octets)) status = status ≡ other_handle
+OfDocument Answers (Some (Page page)) status = status ≡ other_handle
+OfDocument Answers (Some (Deframer state)) status = status ≡ other_handle
+OfDocument Answers (Some (Document pages)) status = Answers pages
+OfDocument Answers (Some (Caller terminal)) status = status ≡ other_handle
+OfDocument Answers (Some (Answerer answering)) status = status ≡ other_handle
 
 -- what is made of the page of a handle; an empty handle is answered by 100, one of another kind by 101, and both stay
 abbrev pub OnPage : (PagePixels → PagePixels → Type 0) → Option Kept → Option Kept → ℕ → Type 0
@@ -58,7 +120,13 @@ OnPage Makes (Some (Page old)) None status = ⊥
 OnPage Makes (Some (Page old)) (Some (Octets octets)) status = ⊥
 OnPage Makes (Some (Page old)) (Some (Page new)) status = Makes old new
 OnPage Makes (Some (Page old)) (Some (Deframer state)) status = ⊥
+OnPage Makes (Some (Page old)) (Some (Document pages)) status = ⊥
+OnPage Makes (Some (Page old)) (Some (Caller terminal)) status = ⊥
+OnPage Makes (Some (Page old)) (Some (Answerer answering)) status = ⊥
 OnPage Makes (Some (Deframer state)) new status = (status ≡ other_handle) × (new ≡ Some (Deframer state))
+OnPage Makes (Some (Document pages)) new status = (status ≡ other_handle) × (new ≡ Some (Document pages))
+OnPage Makes (Some (Caller terminal)) new status = (status ≡ other_handle) × (new ≡ Some (Caller terminal))
+OnPage Makes (Some (Answerer answering)) new status = (status ≡ other_handle) × (new ≡ Some (Answerer answering))
 
 -- what is made of the deframer of a handle; an empty handle is answered by 100, one of another kind by 101, and both stay
 abbrev pub OnDeframer : (DeframerState → DeframerState → Type 0) → Option Kept → Option Kept → ℕ → Type 0
@@ -69,6 +137,80 @@ OnDeframer Makes (Some (Deframer old)) None status = ⊥
 OnDeframer Makes (Some (Deframer old)) (Some (Octets octets)) status = ⊥
 OnDeframer Makes (Some (Deframer old)) (Some (Page page)) status = ⊥
 OnDeframer Makes (Some (Deframer old)) (Some (Deframer new)) status = Makes old new
+OnDeframer Makes (Some (Deframer old)) (Some (Document pages)) status = ⊥
+OnDeframer Makes (Some (Deframer old)) (Some (Caller terminal)) status = ⊥
+OnDeframer Makes (Some (Deframer old)) (Some (Answerer answering)) status = ⊥
+OnDeframer Makes (Some (Document pages)) new status = (status ≡ other_handle) × (new ≡ Some (Document pages))
+OnDeframer Makes (Some (Caller terminal)) new status = (status ≡ other_handle) × (new ≡ Some (Caller terminal))
+OnDeframer Makes (Some (Answerer answering)) new status = (status ≡ other_handle) × (new ≡ Some (Answerer answering))
+
+-- what is made of the document of a handle; an empty handle is answered by 100, one of another kind by 101, and both stay
+abbrev pub OnDocument :
+    (Option (List PagePixels) → Option (List PagePixels) → Type 0) → Option Kept → Option Kept → ℕ → Type 0
+OnDocument Makes None new status = (status ≡ empty_handle) × (new ≡ None)
+OnDocument Makes (Some (Octets octets)) new status = (status ≡ other_handle) × (new ≡ Some (Octets octets))
+OnDocument Makes (Some (Page page)) new status = (status ≡ other_handle) × (new ≡ Some (Page page))
+OnDocument Makes (Some (Deframer state)) new status = (status ≡ other_handle) × (new ≡ Some (Deframer state))
+OnDocument Makes (Some (Document old)) None status = ⊥
+OnDocument Makes (Some (Document old)) (Some (Octets octets)) status = ⊥
+OnDocument Makes (Some (Document old)) (Some (Page page)) status = ⊥
+OnDocument Makes (Some (Document old)) (Some (Deframer state)) status = ⊥
+OnDocument Makes (Some (Document old)) (Some (Document new)) status = Makes old new
+OnDocument Makes (Some (Document old)) (Some (Caller terminal)) status = ⊥
+OnDocument Makes (Some (Document old)) (Some (Answerer answering)) status = ⊥
+OnDocument Makes (Some (Caller terminal)) new status = (status ≡ other_handle) × (new ≡ Some (Caller terminal))
+OnDocument Makes (Some (Answerer answering)) new status = (status ≡ other_handle) × (new ≡ Some (Answerer answering))
+
+-- what is made of the answerer of a handle; an empty handle is answered by 100, one of another kind by 101, and both stay
+abbrev pub OnAnswerer : (AnsweringFields → AnsweringFields → Type 0) → Option Kept → Option Kept → ℕ → Type 0
+OnAnswerer Makes None new status = (status ≡ empty_handle) × (new ≡ None)
+OnAnswerer Makes (Some (Octets octets)) new status = (status ≡ other_handle) × (new ≡ Some (Octets octets))
+OnAnswerer Makes (Some (Page page)) new status = (status ≡ other_handle) × (new ≡ Some (Page page))
+OnAnswerer Makes (Some (Deframer state)) new status = (status ≡ other_handle) × (new ≡ Some (Deframer state))
+OnAnswerer Makes (Some (Document pages)) new status = (status ≡ other_handle) × (new ≡ Some (Document pages))
+OnAnswerer Makes (Some (Caller terminal)) new status = (status ≡ other_handle) × (new ≡ Some (Caller terminal))
+OnAnswerer Makes (Some (Answerer old)) None status = ⊥
+OnAnswerer Makes (Some (Answerer old)) (Some (Octets octets)) status = ⊥
+OnAnswerer Makes (Some (Answerer old)) (Some (Page page)) status = ⊥
+OnAnswerer Makes (Some (Answerer old)) (Some (Deframer state)) status = ⊥
+OnAnswerer Makes (Some (Answerer old)) (Some (Document pages)) status = ⊥
+OnAnswerer Makes (Some (Answerer old)) (Some (Caller terminal)) status = ⊥
+OnAnswerer Makes (Some (Answerer old)) (Some (Answerer new)) status = Makes old new
+
+-- what is answered of a handle of a terminal, a caller's or an answerer's; 100 of an empty one, and 101 of another one
+abbrev pub OfTerminal : (TerminalFields StoppableCallerFields → Type 0) → (AnsweringFields → Type 0) → Option Kept → ℕ → Type 0
+OfTerminal Calls Answers None status = status ≡ empty_handle
+OfTerminal Calls Answers (Some (Octets octets)) status = status ≡ other_handle
+OfTerminal Calls Answers (Some (Page page)) status = status ≡ other_handle
+OfTerminal Calls Answers (Some (Deframer state)) status = status ≡ other_handle
+OfTerminal Calls Answers (Some (Document pages)) status = status ≡ other_handle
+OfTerminal Calls Answers (Some (Caller terminal)) status = Calls terminal
+OfTerminal Calls Answers (Some (Answerer answering)) status = Answers answering
+
+-- what is made of the terminal of a handle, a caller's or an answerer's, whose pages that wait stay; an empty handle is answered by 100,
+-- one of another kind by 101, and both stay
+abbrev pub OnTerminal :
+    (TerminalFields StoppableCallerFields → TerminalFields StoppableCallerFields → Type 0)
+    → (TerminalFields LimitedFields → TerminalFields LimitedFields → Type 0) → Option Kept → Option Kept → ℕ → Type 0
+OnTerminal Calls Answers None new status = (status ≡ empty_handle) × (new ≡ None)
+OnTerminal Calls Answers (Some (Octets octets)) new status = (status ≡ other_handle) × (new ≡ Some (Octets octets))
+OnTerminal Calls Answers (Some (Page page)) new status = (status ≡ other_handle) × (new ≡ Some (Page page))
+OnTerminal Calls Answers (Some (Deframer state)) new status = (status ≡ other_handle) × (new ≡ Some (Deframer state))
+OnTerminal Calls Answers (Some (Document pages)) new status = (status ≡ other_handle) × (new ≡ Some (Document pages))
+OnTerminal Calls Answers (Some (Caller old)) None status = ⊥
+OnTerminal Calls Answers (Some (Caller old)) (Some (Octets octets)) status = ⊥
+OnTerminal Calls Answers (Some (Caller old)) (Some (Page page)) status = ⊥
+OnTerminal Calls Answers (Some (Caller old)) (Some (Deframer state)) status = ⊥
+OnTerminal Calls Answers (Some (Caller old)) (Some (Document pages)) status = ⊥
+OnTerminal Calls Answers (Some (Caller old)) (Some (Caller new)) status = Calls old new
+OnTerminal Calls Answers (Some (Caller old)) (Some (Answerer answering)) status = ⊥
+OnTerminal Calls Answers (Some (Answerer old)) None status = ⊥
+OnTerminal Calls Answers (Some (Answerer old)) (Some (Octets octets)) status = ⊥
+OnTerminal Calls Answers (Some (Answerer old)) (Some (Page page)) status = ⊥
+OnTerminal Calls Answers (Some (Answerer old)) (Some (Deframer state)) status = ⊥
+OnTerminal Calls Answers (Some (Answerer old)) (Some (Document pages)) status = ⊥
+OnTerminal Calls Answers (Some (Answerer old)) (Some (Caller terminal)) status = ⊥
+OnTerminal Calls Answers (Some (Answerer old)) (Some (Answerer new)) status = Answers old.terminal new.terminal × (new.waiting ≡ old.waiting)
 
 -- an empty handle is filled with something of this kind; a full one is answered by 102, and by any status above 0 it stays
 pub record Fills (Holds : Option Kept → Type 0) (old : Option Kept) (status : ℕ) (new : Option Kept) : Type 0 where

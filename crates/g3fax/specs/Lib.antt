@@ -1,9 +1,17 @@
+pub mod Answering
+pub mod Beginning
+pub mod Bursts
 pub mod Codes
+pub mod Documents
 pub mod Frames
 pub mod Handles
+pub mod Hearing
 pub mod Images
+pub mod Numbers
 pub mod Owned
 pub mod Pages
 pub mod Rasters
 pub mod Repairs
+pub mod States
 pub mod Statuses
+pub mod Taking

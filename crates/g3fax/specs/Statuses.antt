@@ -9,6 +9,10 @@ ok = 0
 abbrev pub no_memory : ℕ
 no_memory = 9
 
+-- the width of a page is none that a call can have
+abbrev pub not_callable : ℕ
+not_callable = 26
+
 -- the handle has nothing
 abbrev pub empty_handle : ℕ
 empty_handle = 100
@@ -36,3 +40,7 @@ bad_length = 105
 -- nothing is there: no such row, no frame that waits
 abbrev pub nothing_there : ℕ
 nothing_there = 106
+
+-- memory was refused after octets of the line were taken
+abbrev pub frame_lost : ℕ
+frame_lost = 108

@@ -16,7 +16,7 @@ use raster::{MAX_WIDTH, Page};
 use std::alloc::Global;
 
 /// The code of a number: 1 is T.4 in one dimension, 2 is T.6.
-fn coding_of(number: u32) -> Option<Coding>
+pub(crate) fn coding_of(number: u32) -> Option<Coding>
     ensures { result ≡ coding_of number }
 {
     match number {

@@ -4,13 +4,16 @@ ghost use Rattle.g3fax.specs.declared.handle.Kept.{Kept};
 ghost use Rattle.std.specs.Prelude.{◌≡◌, ◌≢◌, ◌↔◌, ◌⊎◌, IfNone, IfSome, IsTrue, None, Some};
 ghost use Rattle.std.specs.declared.option.Option.{Option};
 
+use crate::answering::Answering;
 use crate::loose::Loose;
 use crate::status::{FULL_HANDLE, NO_MEMORY, OK};
 use hdlc::Deframer;
-use raster::Page;
+use raster::{Document, Page};
+use stations::StoppableCaller;
 use std::alloc::Global;
 use std::marker::Model;
 use std::{mem, ptr};
+use terminals::Terminal;
 
 /// A value of a handle.
 #[derive(Drop)]
@@ -21,6 +24,12 @@ pub enum Kept {
     Page(Page),
     /// A deframer.
     Deframer(Deframer),
+    /// The pages of a call; none yet.
+    Document(Option<Document>),
+    /// The terminal of a caller.
+    Caller(Terminal<StoppableCaller>),
+    /// The terminal of an answerer, with pages that were taken out of it.
+    Answerer(Answering),
 }
 
 /// A handle: null, or the place of a value that the handle owns. C begins it as null.
@@ -79,6 +88,14 @@ impl G3Handle {
                 alloc,
             })
         }
+    }
+}
+
+/// A box for a value that is made later; none where memory is refused.
+pub(crate) fn room(alloc: Global) -> Option<Box<Kept>> {
+    match Box::new(alloc, Kept::Octets(Vec::new(alloc))) {
+        Ok(boxed) => Some(boxed),
+        Err(_) => None,
     }
 }
 
@@ -159,6 +176,29 @@ macro_rules! opened {
 }
 
 pub(crate) use opened;
+
+/// Works on the terminal of a handle, a caller's or an answerer's: as `opened` does.
+macro_rules! opened_terminal {
+    ($alloc:expr, $handle:expr, $name:ident => $work:expr) => {
+        match $handle.take($alloc) {
+            None => crate::status::EMPTY_HANDLE,
+            Some(mut kept) => {
+                let status = match &mut *kept {
+                    crate::handle::Kept::Caller($name) => $work,
+                    crate::handle::Kept::Answerer(answering) => {
+                        let $name = &mut answering.terminal;
+                        $work
+                    }
+                    _ => crate::status::OTHER_HANDLE,
+                };
+                $handle.put(kept);
+                status
+            }
+        }
+    };
+}
+
+pub(crate) use opened_terminal;
 
 /// Frees what a handle has; an empty one stays empty.
 #[unsafe(no_mangle)]

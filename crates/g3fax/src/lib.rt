@@ -1,20 +1,32 @@
-//! The library for C: pages and their codes, frames and signals, behind handles. Each exported function answers a
+//! The library for C: pages and their codes, frames, documents and terminals, behind handles. Each exported function answers a
 //! status, 0 where it did what it says; results go out through references.
 #![tactic(auto)]
 
+mod answering;
+mod beginning;
+mod bursts;
 mod codes;
+mod documents;
 mod frames;
 mod handle;
+mod hearing;
 mod images;
 mod loose;
+mod numbers;
 mod octets;
 mod pages;
 mod rasters;
 mod repairs;
+mod states;
 mod status;
+mod taking;
 
+pub use crate::answering::Answering;
+pub use crate::beginning::{G3Caps, G3Wish};
+pub use crate::bursts::G3Burst;
 pub use crate::codes::G3Code;
 pub use crate::frames::G3Counts;
 pub use crate::handle::{G3Handle, Kept};
 pub use crate::pages::G3Size;
 pub use crate::rasters::G3Raster;
+pub use crate::states::G3State;

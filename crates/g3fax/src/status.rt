@@ -10,6 +10,8 @@ pub(crate) const TOO_MANY_ROWS: u32 = 3;
 pub(crate) const NO_ROWS: u32 = 4;
 /// Memory was refused.
 pub(crate) const NO_MEMORY: u32 = 9;
+/// The width of a page is none that a call can have.
+pub(crate) const NOT_CALLABLE: u32 = 26;
 /// The handle has nothing.
 pub(crate) const EMPTY_HANDLE: u32 = 100;
 /// The handle has something of another kind.
@@ -24,3 +26,5 @@ pub(crate) const BAD_CHOICE: u32 = 104;
 pub(crate) const BAD_LENGTH: u32 = 105;
 /// Nothing is there: no such row.
 pub(crate) const NOTHING: u32 = 106;
+/// Memory was refused after octets of the line were taken: a frame in them is lost.
+pub(crate) const FRAME_LOST: u32 = 108;

@@ -1,0 +1,99 @@
+/* answer OUT.pbm: an answerer, whose modem says by lines of text on standard input what is on the line and when, and gets lines with the
+ * bursts to be sent; docs/STATION.md has them. Each page is added to the file before it can be confirmed. */
+#include "g3fax.h"
+#include "files.h"
+#include <string.h>
+
+static char line[1 << 19], word[16], name[16], kind[16];
+static uint8_t octets[1 << 23]; /* a burst, or an image */
+static const char *const carriers[] = {"none", "v21", "v27ter-2400", "v27ter-4800", "v29-7200", "v29-9600", "v17-7200", "v17-9600",
+    "v17-12000", "v17-14400"};
+static g3_terminal terminal = G3_EMPTY;
+static unsigned long long now, calm, heard; /* milliseconds: the line's time, since when all is quiet, the last good frame's time */
+static int is_calm, begun;
+
+/* The wait that is over ends: the longer one runs from the last good frame, the other one while all is quiet. */
+static g3_status quiet(const g3_state *state)
+{
+    if (!is_calm) calm = now, is_calm = 1;
+    if (!begun) return begun = now >= 1000, G3_OK;
+    if (state->longer != 0 && heard + g3_wait_millis(state->longer) <= now) return g3_terminal_wait_over(&terminal, state->longer);
+    if (state->wait != 0 && calm + g3_wait_millis(state->wait) <= now) return g3_terminal_wait_over(&terminal, state->wait);
+    return G3_OK;
+}
+
+/* A burst has come. It is heard where it came by a carrier that the station listens for. */
+static g3_status receive(const g3_state *state, const char *hex)
+{
+    g3_state after = *state;
+    uint32_t carrier = 9, check = strcmp(kind, "raw") == 0, length = 0;
+    for (char digits[3] = ""; (digits[0] = hex[0]) > ' ' && (digits[1] = hex[1]) > ' '; hex += 2)
+        octets[length++] = (uint8_t)strtoul(digits, NULL, 16);
+    while (carrier > 0 && strcmp(name, carriers[carrier]) != 0) carrier--;
+    int awaited = state->carrier == carrier && state->listens == (check ? G3_HEARS_CHECK : G3_HEARS_PAGES);
+    if (!begun || !(awaited || (carrier == G3_V21 && !check))) return G3_OK;
+    g3_status status = (check ? g3_terminal_hear_training : g3_terminal_hear)(&terminal, octets, length);
+    if (status == G3_OK) status = g3_terminal_state(&terminal, &after);
+    if (check || after.frames > state->frames) heard = now;
+    return status;
+}
+
+/* What a line says. */
+static g3_status take(const g3_state *state)
+{
+    int hex = 0, words = sscanf(line, "%15s %llu %15s %15s %*u %n", word, &now, name, kind, &hex);
+    if (words == 4 && strcmp(word, "rx") == 0) return is_calm = 0, receive(state, line + hex);
+    if (strcmp(word, "quiet") == 0) return quiet(state);
+    if (strcmp(word, "busy") == 0) is_calm = 0;
+    if (strcmp(word, "not-ready") == 0 || strcmp(word, "ready") == 0) return g3_terminal_set_busy(&terminal, word[0] == 'n');
+    if (strcmp(word, "stop") == 0) return begun = 1, g3_terminal_stop(&terminal);
+    return strcmp(word, "end") == 0 ? g3_terminal_lost(&terminal) : G3_OK;
+}
+
+/* Adds the pages that were stored to the file. Where that fails, the answerer hangs up in place of confirming. */
+static g3_status keep(FILE *out)
+{
+    g3_page page = G3_EMPTY;
+    g3_octets text = G3_EMPTY;
+    uint64_t count = 0;
+    g3_status status = g3_terminal_take_page(&terminal, &page);
+    if (status == G3_NOTHING) return G3_OK;
+    int is_kept = status == G3_OK && g3_page_write_pbm(&page, &text) == G3_OK
+        && g3_octets_copy(&text, octets, sizeof octets, &count) == G3_OK && fwrite(octets, 1, count, out) == count && fflush(out) == 0;
+    g3_page_free(&page); g3_octets_free(&text);
+    return is_kept ? keep(out) : g3_terminal_hang_up(&terminal);
+}
+
+/* Sends what is to be sent, and tells the state after it. */
+static g3_status say(g3_state *state)
+{
+    g3_octets bits = G3_EMPTY;
+    g3_burst burst = {0, 0, 0, 0};
+    uint64_t count = 0;
+    g3_status status = begun ? g3_terminal_next_burst(&terminal, &bits, &burst) : G3_NOTHING;
+    if (status == G3_NOTHING) return g3_terminal_state(&terminal, state);
+    if (status == G3_OK) status = g3_octets_copy(&bits, octets, sizeof octets, &count);
+    g3_octets_free(&bits);
+    if (status != G3_OK) return status;
+    printf("tx %s %s %llu ", carriers[burst.carrier], burst.check ? "raw" : "hdlc", (unsigned long long)burst.bits);
+    for (uint64_t at = 0; at < count; at++) printf("%02X", octets[at]);
+    is_calm = 0;
+    return printf("\n"), say(state);
+}
+
+int main(int argc, char **argv)
+{
+    g3_caps caps = {G3_V17, 1, 1, 2432, 2};
+    g3_state state = {0, 0, 0, 0, 0, 0, 0};
+    FILE *out = argc == 2 ? fopen(argv[1], "wb") : NULL;
+    if (out == NULL) return fprintf(stderr, "usage: answer OUT.pbm\n"), 2;
+    g3_status status = g3_answerer_new(&terminal, &caps);
+    while (status == G3_OK && state.end == 0 && fgets(line, sizeof line, stdin) != NULL) {
+        status = take(&state);
+        if (status == G3_OK || status == G3_NO_MEMORY || status == G3_FRAME_LOST) status = keep(out);
+        if (status == G3_OK) status = say(&state);
+        printf(state.end == 0 ? "wait\n" : "done\n");
+    }
+    g3_terminal_free(&terminal);
+    return fclose(out) == 0 && status == G3_OK && state.end == G3_END_NORMAL ? 0 : 1;
+}

@@ -1,0 +1,97 @@
+/* call IN.pbm OUT.pbm [NUMBER]: the page of an image goes from a caller to an answerer in one process, and is written as the answerer
+ * stored it. The image is 1728, 2048 or 2432 pixels wide. Prints each burst. The burst of this number, from 1, is lost on the way. */
+#include "g3fax.h"
+#include "files.h"
+
+static uint8_t octets[1 << 18];
+static long sent, lost;
+
+static int fails(const char *what, g3_status status)
+{
+    return fprintf(stderr, "%s: %s\n", what, g3_status_text(status)), 1;
+}
+
+/* One station hears a burst of the other one. */
+static g3_status hear(g3_terminal *to, const g3_burst *burst, size_t length)
+{
+    g3_state state;
+    g3_status status = g3_terminal_state(to, &state);
+    if (status != G3_OK) return status;
+    if (burst->check && state.listens == G3_HEARS_CHECK && state.carrier == burst->carrier)
+        return g3_terminal_hear_training(to, octets, length);
+    if (burst->carrier == G3_V21 || (!burst->check && state.listens == G3_HEARS_PAGES && state.carrier == burst->carrier))
+        return g3_terminal_hear(to, octets, length);
+    return G3_OK; /* its modem doesn't listen for that */
+}
+
+/* One station says its turn, burst by burst. Tells how many there were. */
+static g3_status say(const char *name, g3_terminal *from, g3_terminal *to, unsigned *said)
+{
+    g3_status status;
+    g3_burst burst;
+    for (;;) {
+        g3_octets line = G3_EMPTY;
+        uint64_t length = 0;
+        status = g3_terminal_next_burst(from, &line, &burst);
+        if (status == G3_NOTHING) return G3_OK;
+        if (status == G3_OK) status = g3_octets_copy(&line, octets, sizeof octets, &length);
+        g3_octets_free(&line);
+        if (status != G3_OK) return status;
+        ++sent, ++*said;
+        printf("%ld %s %u%s %llu%s\n", sent, name, burst.carrier, burst.check ? " check" : "", (unsigned long long)burst.bits,
+               sent == lost ? " lost" : "");
+        if (sent != lost && (status = hear(to, &burst, length)) != G3_OK) return status;
+    }
+}
+
+/* The call, to its end. Where nothing is on the line, the shorter of the two waits is over; after the caller's end the answerer's. */
+static g3_status talk(g3_terminal *caller, g3_terminal *answerer)
+{
+    g3_state calls = {0}, answers = {0};
+    g3_status status = G3_OK;
+    while (status == G3_OK && (calls.end == 0 || answers.end == 0)) {
+        unsigned said = 0;
+        status = say("answerer", answerer, caller, &said);
+        if (status == G3_OK) status = say("caller", caller, answerer, &said);
+        if (status == G3_OK) status = g3_terminal_state(caller, &calls);
+        if (status == G3_OK) status = g3_terminal_state(answerer, &answers);
+        if (status != G3_OK || said != 0 || (calls.end != 0 && answers.end != 0)) continue;
+        if (calls.end != 0) status = g3_terminal_wait_over(answerer, answers.longer != 0 ? answers.longer : answers.wait);
+        else if (answers.end == 0 && g3_wait_millis(answers.wait) < g3_wait_millis(calls.wait))
+            status = g3_terminal_wait_over(answerer, answers.wait);
+        else status = g3_terminal_wait_over(caller, calls.wait);
+    }
+    printf("caller ended %u with %llu confirmed, answerer ended %u with %llu stored\n", calls.end, (unsigned long long)calls.pages,
+           answers.end, (unsigned long long)answers.pages);
+    return status;
+}
+
+int main(int argc, char **argv)
+{
+    g3_page page = G3_EMPTY, stored = G3_EMPTY;
+    g3_document document = G3_EMPTY;
+    g3_terminal caller = G3_EMPTY, answerer = G3_EMPTY;
+    g3_octets text = G3_EMPTY;
+    g3_caps caps = {G3_V17, 1, 1, 2432, 2};
+    g3_wish wish = {G3_V17, G3_MMR, 256};
+    size_t length = 0;
+    uint64_t count = 0;
+    if (argc != 3 && argc != 4) return fprintf(stderr, "usage: call IN.pbm OUT.pbm [NUMBER]\n"), 2;
+    lost = argc == 4 ? atoi(argv[3]) : 0;
+    uint8_t *image = read_file(argv[1], &length);
+    if (image == NULL) return perror(argv[1]), 1;
+    g3_status status = g3_page_read_pbm(image, length, 1, &page, &count);
+    free(image);
+    if (status == G3_OK) status = g3_document_new(&document);
+    if (status == G3_OK) status = g3_document_push(&document, &page);
+    if (status == G3_OK) status = g3_answerer_new(&answerer, &caps);
+    if (status == G3_OK) status = g3_caller_new(&caller, &document, &wish);
+    if (status == G3_OK) status = talk(&caller, &answerer);
+    if (status == G3_OK) status = g3_terminal_take_page(&answerer, &stored);
+    if (status == G3_OK) status = g3_page_write_pbm(&stored, &text);
+    if (status == G3_OK) status = g3_octets_copy(&text, octets, sizeof octets, &count);
+    g3_page_free(&page); g3_page_free(&stored); g3_document_free(&document); g3_octets_free(&text);
+    g3_terminal_free(&caller); g3_terminal_free(&answerer);
+    if (status != G3_OK) return fails(argv[1], status);
+    return write_file(argv[2], octets, count) ? 0 : (perror(argv[2]), 1);
+}

@@ -1,0 +1,31 @@
+-- What the check asks of `next_burst`.
+use Rattle.std.proofs.Common.{◌≡◌, None, Some, Ok, Option, arith, inl, refl, rules, subst}
+use Rattle.std.specs.declared.alloc.AllocError.{AllocError}
+use Rattle.terminals.specs.Sending.{Sends}
+use Rattle.terminals.specs.declared.sending.SentBurst.{SentBurst}
+use Rattle.g3fax.proofs.bursts.next_burst.Goals as goal
+
+pub returns-in-Ok-Some-clause-next : goal.returns-in-Ok-Some-clause-next
+returns-in-Ok-Some-clause-next g c =
+    let empty : c.args.out.now.value ≡ None = search rules in
+    let is : c.in-Ok-Some.field-0 ≡ Some c.in-Ok-Some.sent = search rules in
+    record {
+      fills = record {
+        done = λ done. (
+          empty,
+          record {
+            sent = c.in-Ok-Some.sent;
+            sends = subst (λ (sent : Option SentBurst). Sends {E = AllocError} g.S.Station.sends g.S.Station.lends
+                c.args.terminal.now.speaking c.next_burst.new.self.speaking (Ok sent)) is c.in-Ok-Some.ensures.sends;
+            octets_are = c.give.ensures.given;
+            told = c.give.ensures.told;
+          },
+        );
+        kept = λ other. absurd (other refl);
+        full = λ full. absurd (full empty);
+      };
+      framing = c.next_burst.ensures.framing;
+      kept = λ other. absurd (other refl);
+      nothing = λ nothing. absurd (omega (arith, nothing));
+      only = λ before. inl refl;
+    }

@@ -1,0 +1,50 @@
+-- What a call answers of the bursts of a terminal.
+use Rattle.std.specs.Prelude.{ℕ, ◌≡◌, ◌≢◌, ◌⊎◌, Ok}
+use Rattle.std.specs.declared.alloc.AllocError.{AllocError}
+use Rattle.std.specs.declared.option.Option.{Option}
+use Rattle.std.specs.declared.option.Option.TheVariants.{None, Some}
+use Rattle.signals.specs.declared.signal.Side.{Side}
+use Rattle.stations.specs.Limiting.{LimitedFields}
+use Rattle.stations.specs.Stopping.{StoppableCallerFields}
+use Rattle.terminals.specs.Runs.{TerminalFields}
+use Rattle.terminals.specs.Sending.{Sends}
+use Rattle.terminals.specs.Speaking.{BurstsOf}
+use Rattle.terminals.specs.Stations.{AnswererLends, CallerLends}
+use Rattle.terminals.specs.declared.sending.SentBurst.{SentBurst}
+use Rattle.g3fax.specs.Codes.{Tells}
+use Rattle.g3fax.specs.Handles.{Fills, HasOctets}
+use Rattle.g3fax.specs.Numbers.{carrier_number, check_number, flag_number}
+use Rattle.g3fax.specs.Statuses.{ok, no_memory, nothing_there}
+use Rattle.g3fax.specs.declared.bursts.G3Burst.{G3Burst}
+use Rattle.g3fax.specs.declared.handle.Kept.{Kept}
+
+-- the bursts of a caller that can be stopped
+abbrev pub caller_bursts : BurstsOf StoppableCallerFields
+caller_bursts = λ v turn bursts. CallerLends v.station turn bursts
+
+-- the bursts of an answerer with limits
+abbrev pub answerer_bursts : BurstsOf LimitedFields
+answerer_bursts = λ v turn bursts. AnswererLends v.station turn bursts
+
+-- what is told of a burst: how many bits it has, what it goes out on, and whether it is the turn's last
+pub record TellsBurst (sent : SentBurst) (burst : G3Burst) : Type 0 where
+  pub bits : Tells sent.bits burst.bits
+  pub carrier : burst.carrier ≡ carrier_number sent.carrier
+  pub check : burst.check ≡ check_number sent.carrier
+  pub last : burst.last ≡ flag_number sent.last
+
+-- a burst was taken of the turn, its octets fill a handle, and it is told
+pub record GivesBurst (S : Type 0) (side : Side) (lends : BurstsOf S) (old new : TerminalFields S) (octets : Option Kept) (burst : G3Burst) : Type 0 where
+  pub sent : SentBurst
+  pub sends : Sends {E = AllocError} side lends old.speaking new.speaking (Ok (Some sent))
+  pub octets_are : HasOctets (λ octets. octets ≡ sent.octets.items) octets
+  pub told : TellsBurst sent burst
+
+-- the next burst is given in an empty handle; 106 where none is left, and nothing changes by any status above 0
+pub record NextBurst (S : Type 0) (side : Side) (lends : BurstsOf S) (old new : TerminalFields S) (before after : Option Kept)
+    (burst : G3Burst) (status : ℕ) : Type 0 where
+  pub fills : Fills (λ octets. GivesBurst S side lends old new octets burst) before status after
+  pub framing : new.framing ≡ old.framing
+  pub kept : status ≢ ok → new ≡ old
+  pub nothing : status ≡ nothing_there → Sends {E = AllocError} side lends old.speaking new.speaking (Ok None)
+  pub only : before ≡ None → (status ≡ ok) ⊎ ((status ≡ nothing_there) ⊎ (status ≡ no_memory))

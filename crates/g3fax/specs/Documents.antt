@@ -1,0 +1,38 @@
+-- What calls answer and make of documents: the pages of a call, in order.
+use Rattle.std.specs.Prelude.{ℕ, ◌≡◌, ◌≢◌, ◌<◌, ◌++◌, ◌∷◌, ◌⊎◌, [], List, length}
+use Rattle.std.specs.declared.option.Option.{Option}
+use Rattle.std.specs.declared.option.Option.TheVariants.{None, Some}
+use Rattle.raster.specs.Pages.{PagePixels}
+use Rattle.g3fax.specs.Handles.{OnDocument}
+use Rattle.g3fax.specs.Statuses.{ok, no_memory, empty_handle, other_handle}
+use Rattle.g3fax.specs.declared.handle.Kept.{Kept}
+use Rattle.g3fax.specs.declared.handle.Kept.TheVariants.{Octets, Page, Deframer, Document, Caller, Answerer}
+
+-- the pages of a document that has some, or none yet
+abbrev pub pages_of : Option (List PagePixels) → List PagePixels
+pages_of None = []
+pages_of (Some pages) = pages
+
+-- a page is appended; one of no rows is answered by 4
+pub record AppendsPage (old : Option (List PagePixels)) (page : PagePixels) (new : Option (List PagePixels)) (status : ℕ) : Type 0 where
+  pub done : status ≡ ok → new ≡ Some (pages_of old ++ page ∷ [])
+  pub kept : status ≢ ok → new ≡ old
+  pub no_rows : length page.rows ≡ 0 → status ≡ 4
+  pub only : 0 < length page.rows → (status ≡ ok) ⊎ (status ≡ no_memory)
+
+-- a value leaves its handle by status 0, and by any other it stays
+pub record IsMoved (status : ℕ) (old new : Option Kept) : Type 0 where
+  pub done : status ≡ ok → new ≡ None
+  pub kept : status ≢ ok → new ≡ old
+
+-- the page of a handle moves to the end of a document, whose handle was and is so; an empty handle is answered by 100, one of another kind
+-- by 101, the page's first, and both stay
+abbrev pub MovesPage : Option Kept → Option Kept → Option Kept → Option Kept → ℕ → Type 0
+MovesPage None left old new status = (status ≡ empty_handle) × (left ≡ None) × (new ≡ old)
+MovesPage (Some (Octets octets)) left old new status = (status ≡ other_handle) × (left ≡ Some (Octets octets)) × (new ≡ old)
+MovesPage (Some (Page page)) left old new status =
+    OnDocument (λ before after. AppendsPage before page after status) old new status × IsMoved status (Some (Page page)) left
+MovesPage (Some (Deframer state)) left old new status = (status ≡ other_handle) × (left ≡ Some (Deframer state)) × (new ≡ old)
+MovesPage (Some (Document pages)) left old new status = (status ≡ other_handle) × (left ≡ Some (Document pages)) × (new ≡ old)
+MovesPage (Some (Caller terminal)) left old new status = (status ≡ other_handle) × (left ≡ Some (Caller terminal)) × (new ≡ old)
+MovesPage (Some (Answerer answering)) left old new status = (status ≡ other_handle) × (left ≡ Some (Answerer answering)) × (new ≡ old)

@@ -1,0 +1,60 @@
+-- What calls answer and make of the terminal of a station: what it hears, and how its call is stopped.
+use Rattle.std.specs.Prelude.{ℕ, ◌≡◌, ◌≢◌, ◌⊎◌, List, Ok, Err}
+use Rattle.std.specs.declared.option.Option.{Option}
+use Rattle.std.specs.declared.option.Option.TheVariants.{None, Some}
+use Rattle.stations.specs.Limiting.{LimitedFields}
+use Rattle.stations.specs.Stopping.{StoppableCallerFields}
+use Rattle.stations.specs.declared.stopping.Cut.{Cut}
+use Rattle.stations.specs.declared.turn.Turn.{Turn}
+use Rattle.stations.specs.declared.waiting.Wait.{Wait}
+use Rattle.terminals.specs.Hearing.{PlainInput, over}
+use Rattle.terminals.specs.Runs.{Hears, TerminalFields}
+use Rattle.terminals.specs.Speaking.{StepOf, Takes}
+use Rattle.terminals.specs.Stopping.{CallerStepsUnlessCut, LimitedStepsUnlessCut, hung_up, silenced, stopped}
+use Rattle.terminals.specs.declared.fault.HearFault.TheVariants.{FrameLost}
+use Rattle.g3fax.specs.Statuses.{ok, no_memory, bad_choice, frame_lost}
+
+-- the steps of a caller that can be stopped
+abbrev pub caller_steps : StepOf StoppableCallerFields
+caller_steps = λ old input new turn. CallerStepsUnlessCut old.cut old input new turn
+
+-- the steps of an answerer with limits
+abbrev pub answerer_steps : StepOf LimitedFields
+answerer_steps = λ old input new turn. LimitedStepsUnlessCut old.cut old input new turn
+
+-- octets were heard; where memory is refused nothing was taken (9), or frames are lost (108)
+pub record HearsOctets (S : Type 0) (steps : StepOf S) (old : TerminalFields S) (octets : List ℕ) (new : TerminalFields S) (status : ℕ) : Type 0 where
+  pub done : status ≡ ok → Hears steps old octets new (Ok tt)
+  pub lost : status ≡ frame_lost → Hears steps old octets new (Err FrameLost)
+  pub kept : status ≡ no_memory → new ≡ old
+  pub only : (status ≡ ok) ⊎ ((status ≡ no_memory) ⊎ (status ≡ frame_lost))
+
+-- the station has taken an input; or memory was refused, and nothing has changed
+pub record TakesInput (S : Type 0) (steps : StepOf S) (old : TerminalFields S) (input : PlainInput) (new : TerminalFields S) (status : ℕ) : Type 0 where
+  pub done : status ≡ ok → Takes S steps old.speaking input new.speaking
+  pub framing : new.framing ≡ old.framing
+  pub kept : status ≢ ok → new ≡ old
+  pub only : (status ≡ ok) ⊎ (status ≡ no_memory)
+
+-- a wait is over; a number that is no wait is answered by 104
+abbrev pub EndsWait : (S : Type 0) → StepOf S → Option Wait → TerminalFields S → TerminalFields S → ℕ → Type 0
+EndsWait S steps None old new status = (status ≡ bad_choice) × (new ≡ old)
+EndsWait S steps (Some wait) old new status = TakesInput S steps old (over wait) new status
+
+-- the program has stopped the call
+pub record StopsCall (S : Type 0) (cut_off : Cut → S → S) (stop_says : S → Turn) (old new : TerminalFields S) (status : ℕ) : Type 0 where
+  pub done : status ≡ ok
+  pub framing : new.framing ≡ old.framing
+  pub speaking : new.speaking ≡ stopped cut_off stop_says old.speaking
+
+-- the program hangs up: DCN is to be said, also where the call has ended
+pub record HangsUp (S : Type 0) (cut_off : Cut → S → S) (old new : TerminalFields S) (status : ℕ) : Type 0 where
+  pub done : status ≡ ok
+  pub framing : new.framing ≡ old.framing
+  pub speaking : new.speaking ≡ hung_up cut_off old.speaking
+
+-- the line is gone
+pub record LosesLine (S : Type 0) (cut_off : Cut → S → S) (old new : TerminalFields S) (status : ℕ) : Type 0 where
+  pub done : status ≡ ok
+  pub framing : new.framing ≡ old.framing
+  pub speaking : new.speaking ≡ silenced cut_off old.speaking

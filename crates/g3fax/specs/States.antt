@@ -1,0 +1,45 @@
+-- What a call tells of the state of a terminal.
+use Rattle.std.specs.Prelude.{ℕ, ◌≡◌, ◌+◌, List, length}
+use Rattle.hdlc.specs.DeframerState.{DeframerState}
+use Rattle.stations.specs.CallerFields.{Represents}
+use Rattle.stations.specs.CallerStep.{Caller, confirmed}
+use Rattle.stations.specs.Stopping.{StoppableCallerFields}
+use Rattle.terminals.specs.Hearing.{HasHeard, good_frames}
+use Rattle.terminals.specs.Runs.{TerminalFields}
+use Rattle.terminals.specs.Stopping.{CallerShows, IsShown, LimitedShows}
+use Rattle.terminals.specs.declared.stopping.Shown.{Shown}
+use Rattle.g3fax.specs.Answering.{AnsweringFields}
+use Rattle.g3fax.specs.Codes.{Tells}
+use Rattle.g3fax.specs.Numbers.{end_number, listens_carrier, listens_number, wait_number}
+use Rattle.g3fax.specs.Statuses.{ok}
+use Rattle.g3fax.specs.declared.states.G3State.{G3State}
+
+-- what a station shows of its call is told by numbers
+pub record TellsShown (shown : Shown) (state : G3State) : Type 0 where
+  pub listens : state.listens ≡ listens_number shown.listens
+  pub carrier : state.carrier ≡ listens_carrier shown.listens
+  pub wait : state.wait ≡ wait_number shown.running
+  pub longer : state.longer ≡ wait_number shown.longer
+  pub ends : state.end ≡ end_number shown.end
+
+-- the number of good frames that were heard is told
+abbrev pub TellsFrames : DeframerState → G3State → Type 0
+TellsFrames framing state = (octets : List ℕ) → HasHeard framing octets → state.frames ≡ good_frames octets
+
+-- the state of a caller is told, with how many of its pages are confirmed
+pub record TellsCaller (terminal : TerminalFields StoppableCallerFields) (state : G3State) (status : ℕ) : Type 0 where
+  pub done : status ≡ ok
+  pub shown : Shown
+  pub shows : IsShown CallerShows terminal.speaking.station shown
+  pub told : TellsShown shown state
+  pub pages : (t : Caller) → Represents terminal.speaking.station.station t → state.pages ≡ confirmed t
+  pub frames : TellsFrames terminal.framing state
+
+-- the state of an answerer is told, with how many pages it has stored that were not handed out
+pub record TellsAnswerer (answering : AnsweringFields) (state : G3State) (status : ℕ) : Type 0 where
+  pub done : status ≡ ok
+  pub shown : Shown
+  pub shows : IsShown LimitedShows answering.terminal.speaking.station shown
+  pub told : TellsShown shown state
+  pub pages : Tells (length answering.waiting + length answering.terminal.speaking.station.station.pages) state.pages
+  pub frames : TellsFrames answering.terminal.framing state

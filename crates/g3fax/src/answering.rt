@@ -1,0 +1,21 @@
+//! An answerer's terminal in a handle.
+
+use raster::Page;
+use stations::LimitedAnswerer;
+use std::marker::Model;
+use terminals::Terminal;
+
+/// The terminal of an answerer, and the pages that were taken out of it and not handed out yet.
+#[derive(Drop)]
+pub struct Answering {
+    pub(crate) terminal: Terminal<LimitedAnswerer>,
+    pub(crate) waiting: Vec<Page>,
+}
+
+impl Model for Answering {
+    ghost use Rattle.g3fax.specs.Answering.{AnsweringFields};
+
+    ghost Value = { AnsweringFields };
+
+    ghost view = { λ a. record { terminal = a.terminal; waiting = a.waiting.items } };
+}

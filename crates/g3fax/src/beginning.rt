@@ -1,0 +1,232 @@
+//! Terminals of callers and answerers made, for C.
+
+ghost use Rattle.g3fax.specs.Beginning.{AnswersDocument, IsNewAnswerer, IsNewCaller, MakesAnswerer, MakesCaller};
+ghost use Rattle.g3fax.specs.Beginning.{caps_of, modems_of, small_of, wish_of};
+ghost use Rattle.g3fax.specs.Documents.{pages_of};
+ghost use Rattle.signals.specs.Agreement.{width_of_pixels};
+ghost use Rattle.std.specs.Prelude.{◌≡◌, ◌<◌, ◌↔◌, IfErr, IfOk, IfSome, IsSome, IsTrue, true};
+ghost use Rattle.stations.specs.CallerFields.{AreCallable};
+
+use crate::answering::Answering;
+use crate::codes::coding_of;
+use crate::handle::{G3Handle, Kept};
+use crate::status::{
+    BAD_CHOICE, EMPTY_HANDLE, FULL_HANDLE, NOT_CALLABLE, NOTHING, OK, OTHER_HANDLE,
+};
+use raster::{Document, Page};
+use signals::{Caps, Modems, PageWidth, Wish};
+use stations::{Caller, LimitedAnswerer, Limits, StoppableCaller, Turn};
+use std::alloc::Global;
+use terminals::Terminal;
+
+/// What an answerer can do: its modems, whether it reads T.6 and takes fine lines, its widest page, and how many pages wait in memory.
+#[repr(C)]
+#[derive(Clone, Copy)]
+pub struct G3Caps {
+    /// The fastest modem: 1 for V.27 ter alone, 2 for V.27 ter and V.29, 3 for these and V.17.
+    pub modems: u32,
+    /// 1 where it reads the code of T.6, and 0 where it doesn't.
+    pub t6: u32,
+    /// 1 where it takes pages of 7.7 lines a millimeter, and 0 where it doesn't.
+    pub fine: u32,
+    /// The width of its widest page in pixels: 1,728, 2,048 or 2,432.
+    pub widest: u32,
+    /// How many pages the station stores before it is busy, at least 1.
+    pub limit: u32,
+}
+
+/// What a caller wishes: its modems, the code of its pages, and the octets of data in a frame.
+#[repr(C)]
+#[derive(Clone, Copy)]
+pub struct G3Wish {
+    /// The fastest modem: 1 for V.27 ter alone, 2 for V.27 ter and V.29, 3 for these and V.17.
+    pub modems: u32,
+    /// The code of the pages, where the answerer reads it: 1 for T.4 in one dimension, 2 for T.6.
+    pub coding: u32,
+    /// The octets of data in a frame: 256 or 64.
+    pub frame: u32,
+}
+
+/// The modems of a number.
+fn modems_of(number: u32) -> Option<Modems>
+    ensures { result ≡ modems_of number }
+{
+    match number {
+        1 => Some(Modems::V27),
+        2 => Some(Modems::V27V29),
+        3 => Some(Modems::V17),
+        _ => None,
+    }
+}
+
+/// Whether frames have 64 octets of data in place of 256; none of another number.
+fn small_of(octets: u32) -> Option<bool>
+    ensures { result ≡ small_of octets }
+{
+    match octets {
+        256 => Some(false),
+        64 => Some(true),
+        _ => None,
+    }
+}
+
+/// What an answerer can do.
+fn caps_of(caps: &G3Caps) -> Option<Caps>
+    ensures { result ≡ caps_of caps.now }
+{
+    let modems = modems_of(caps.modems)?;
+    let widest = PageWidth::of_pixels(caps.widest)?;
+    Some(Caps {
+        receiver: true,
+        modems,
+        fine: caps.fine != 0,
+        widest,
+        t6: caps.t6 != 0,
+        ecm: true,
+    })
+}
+
+/// What a caller wishes.
+fn wish_of(wish: &G3Wish) -> Option<Wish>
+    ensures { result ≡ wish_of wish.now }
+{
+    let modems = modems_of(wish.modems)?;
+    let coding = coding_of(wish.coding)?;
+    let small = small_of(wish.frame)?;
+    Some(Wish {
+        modems,
+        coding,
+        small,
+    })
+}
+
+/// The terminal of a new answerer.
+fn answering(alloc: Global, caps: Caps, limit: u32) -> Answering
+    requires receiver { caps.receiver ≡ true }
+    requires ecm { caps.ecm ≡ true }
+    requires limit { 0 < limit }
+    ensures { IsNewAnswerer caps limit result }
+{
+    let limits = Limits {
+        pages: limit as u64,
+        octets: u64::MAX,
+    };
+    let (station, first) = LimitedAnswerer::new(alloc, caps, limits);
+    Answering {
+        terminal: Terminal::new(alloc, station, first),
+        waiting: Vec::new(alloc),
+    }
+}
+
+/// Makes the terminal of an answerer in an empty handle: DIS is the first that it has to send. Answers 102; 104 where a number stands for
+/// no modem or no width, or no page may wait; and 9.
+#[unsafe(no_mangle)]
+pub extern "C" fn g3_core_answerer_new(alloc: Global, out: &mut G3Handle, caps: &G3Caps) -> u32
+    ensures { MakesAnswerer caps.now out.old.value result out.new.value }
+{
+    if out.is_full(alloc) {
+        return FULL_HANDLE;
+    }
+    let Some(given) = caps_of(caps) else {
+        return BAD_CHOICE;
+    };
+    if caps.limit == 0 {
+        return BAD_CHOICE;
+    }
+    out.fill(alloc, Kept::Answerer(answering(alloc, given, caps.limit)))
+}
+
+/// Whether a call can have the width of each page.
+fn are_callable(pages: &[Page]) -> bool
+    ensures { IsTrue result ↔ AreCallable pages.now }
+{
+    for page in pages {
+        if !is_callable(page) {
+            return false;
+        }
+    }
+    true
+}
+
+/// Whether a call can have a page's width.
+fn is_callable(page: &Page) -> bool
+    ensures { IsTrue result ↔ IsSome (width_of_pixels page.now.width) }
+{
+    PageWidth::of_pixels(page.width()).is_some()
+}
+
+/// Whether a caller can be made of a document: 0; 106 where it has no page, and 26 where a call can't have the width of one.
+fn test_document(document: &Option<Document>) -> u32
+    ensures { AnswersDocument document.now result }
+{
+    let Some(pages) = document else {
+        return NOTHING;
+    };
+    if are_callable(pages.pages()) {
+        OK
+    } else {
+        NOT_CALLABLE
+    }
+}
+
+/// The terminal of a new caller of a document. Errs where there is none, and the document stays then.
+fn calling(
+    alloc: Global,
+    document: &mut Option<Document>,
+    wish: Wish,
+) -> Result<Terminal<StoppableCaller>, u32>
+    ensures ok { IfOk result (λ terminal. IsNewCaller (pages_of document.old) wish terminal) }
+    ensures made { IfOk result (λ terminal. AnswersDocument document.old 0) }
+    ensures err { IfErr result (λ status. (document.new ≡ document.old) × AnswersDocument document.old status) }
+    ensures no { IfErr result (λ status. 0 < status) }
+{
+    let status = test_document(document);
+    if status != OK {
+        return Err(status);
+    }
+    let Some(pages) = document.take() else {
+        return Err(NOTHING);
+    };
+    match Caller::new(alloc, pages, wish) {
+        Ok(caller) => Ok(Terminal::new(alloc, StoppableCaller::new(caller), Turn::Silent)),
+        Err(_) => Err(NOT_CALLABLE),
+    }
+}
+
+/// Makes the terminal of a caller in an empty handle: the document moves in, and its handle is empty then. Answers 102; 104 where a number
+/// stands for no modem, no code or no size of a frame; 100 and 101 of the document; 106 where it has no page; and 26 where a page isn't
+/// 1,728, 2,048 or 2,432 pixels wide. Takes no memory.
+#[unsafe(no_mangle)]
+pub extern "C" fn g3_core_caller_new(
+    alloc: Global,
+    out: &mut G3Handle,
+    document: &mut G3Handle,
+    wish: &G3Wish,
+) -> u32
+    ensures { MakesCaller wish.now out.old.value document.old.value document.new.value result out.new.value }
+{
+    if out.is_full(alloc) {
+        return FULL_HANDLE;
+    }
+    let Some(wish) = wish_of(wish) else {
+        return BAD_CHOICE;
+    };
+    let Some(mut kept) = document.take(alloc) else {
+        return EMPTY_HANDLE;
+    };
+    let made = match &mut *kept {
+        Kept::Document(pages) => calling(alloc, pages, wish),
+        _ => Err(OTHER_HANDLE),
+    };
+    match made {
+        Ok(terminal) => {
+            *kept = Kept::Caller(terminal);
+            out.put(kept);
+            OK
+        }
+        Err(status) => {
+            document.put(kept);
+            status
+        }
+    }
+}

@@ -1,0 +1,97 @@
+//! What terminals have to send, for C.
+
+ghost use Rattle.g3fax.specs.Bursts.{NextBurst, TellsBurst, answerer_bursts, caller_bursts};
+ghost use Rattle.g3fax.specs.Handles.{HasOctets, OnTerminal};
+ghost use Rattle.signals.specs.declared.signal.Side.TheVariants.{Answerer, Caller};
+ghost use Rattle.std.specs.Prelude.{◌≡◌, ◌≢◌};
+ghost use Rattle.stations.specs.Limiting.{LimitedFields};
+ghost use Rattle.stations.specs.Stopping.{StoppableCallerFields};
+
+use crate::codes::in_64_bits;
+use crate::handle::{G3Handle, Kept, opened_terminal, room};
+use crate::numbers::{carrier_number, check_number};
+use crate::status::{FULL_HANDLE, NO_MEMORY, NOTHING, OK};
+use std::alloc::Global;
+use terminals::{SentBurst, Station, Terminal};
+
+/// What is told of a burst: how many bits it has, what it goes out on, and whether it is the turn's last.
+#[repr(C)]
+#[derive(Clone, Copy)]
+pub struct G3Burst {
+    /// The number of bits.
+    pub bits: u64,
+    /// The number of the carrier: 1 for V.21, 2 to 9 for the message speeds.
+    pub carrier: u32,
+    /// 1 for a training check, and 0 for flags and frames.
+    pub check: u32,
+    /// 1 for the turn's last burst, else 0.
+    pub last: u32,
+}
+
+/// What is told of a burst.
+fn told(sent: &SentBurst) -> G3Burst
+    ensures { TellsBurst sent.now result }
+{
+    G3Burst {
+        bits: in_64_bits(sent.bits),
+        carrier: carrier_number(sent.carrier),
+        check: check_number(sent.carrier),
+        last: sent.last as u32,
+    }
+}
+
+/// Puts the octets of a burst into a handle by a box of it, and tells the burst.
+fn give(sent: SentBurst, boxed: Box<Kept>, out: &mut G3Handle, burst: &mut G3Burst)
+    ensures told { TellsBurst sent burst.new }
+    ensures given { HasOctets (λ octets. octets ≡ sent.octets.items) out.new.value }
+{
+    let mut kept = boxed;
+    *burst = told(&sent);
+    *kept = Kept::Octets(sent.octets);
+    out.put(kept);
+}
+
+/// Fills an empty handle with the octets of the next burst.
+fn next_burst<S: Station>(
+    alloc: Global,
+    terminal: &mut Terminal<S>,
+    out: &mut G3Handle,
+    burst: &mut G3Burst,
+) -> u32
+    ensures next { NextBurst S S.sends S.lends terminal.old terminal.new out.old.value out.new.value burst.new result }
+    ensures untold { result ≢ 0 → burst.new ≡ burst.old }
+{
+    if out.is_full(alloc) {
+        return FULL_HANDLE;
+    }
+    let Some(kept) = room(alloc) else {
+        return NO_MEMORY;
+    };
+    match terminal.next_burst() {
+        Ok(Some(sent)) => {
+            give(sent, kept, out, burst);
+            OK
+        }
+        Ok(None) => NOTHING,
+        Err(_) => NO_MEMORY,
+    }
+}
+
+/// Takes the next burst of what the terminal has to send: its octets come in an empty handle, the least significant bit of each first, and
+/// it is told. Answers 102, 106 where nothing is left to be sent, and 9.
+#[unsafe(no_mangle)]
+pub extern "C" fn g3_core_terminal_next_burst(
+    alloc: Global,
+    terminal: &mut G3Handle,
+    out: &mut G3Handle,
+    burst: &mut G3Burst,
+) -> u32
+    ensures next { OnTerminal
+        (λ old new. NextBurst StoppableCallerFields Caller caller_bursts old new out.old.value out.new.value burst.new result)
+        (λ old new. NextBurst LimitedFields Answerer answerer_bursts old new out.old.value out.new.value burst.new result)
+        terminal.old.value terminal.new.value result }
+    ensures out { result ≢ 0 → out.new.value ≡ out.old.value }
+    ensures untold { result ≢ 0 → burst.new ≡ burst.old }
+{
+    opened_terminal!(alloc, terminal, terminal => next_burst(alloc, terminal, out, burst))
+}

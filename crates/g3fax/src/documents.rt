@@ -1,0 +1,118 @@
+//! Documents, for C: the pages of a call, in order.
+
+ghost use Rattle.g3fax.specs.Documents.{AppendsPage, MovesPage, pages_of};
+ghost use Rattle.g3fax.specs.Handles.{Fills, HasDocument, OfDocument};
+ghost use Rattle.std.specs.Prelude.{◌≡◌, ◌≢◌, IfErr, IfOk, None, length};
+
+use crate::handle::{G3Handle, Kept, opened};
+use crate::pages::push_octets;
+use crate::status::{EMPTY_HANDLE, NO_ROWS, OK, OTHER_HANDLE};
+use raster::{Document, Page};
+use std::alloc::Global;
+
+/// Makes a document with no page in an empty handle. Answers 102 and 9.
+#[unsafe(no_mangle)]
+pub extern "C" fn g3_core_document_new(alloc: Global, out: &mut G3Handle) -> u32
+    ensures { Fills (HasDocument (λ pages. pages ≡ None)) out.old.value result out.new.value }
+{
+    out.fill(alloc, Kept::Document(None))
+}
+
+/// A page of its own with the rows of another one. Errs with 9.
+fn copied(alloc: Global, page: &Page) -> Result<Page, u32>
+    ensures ok { IfOk result (λ copy. copy ≡ page.now) }
+    ensures only { IfErr result (λ status. status ≡ 9) }
+{
+    let rows = page.rows();
+    let mut copy = match Page::new(alloc, page.width(), page.fine()) {
+        Ok(copy) => copy,
+        Err(fault) => return Err(fault.number() as u32),
+    };
+    for row in rows {
+        let status = push_octets(alloc, &mut copy, row.octets());
+        if status != OK {
+            return Err(status);
+        }
+    }
+    Ok(copy)
+}
+
+/// Appends a page of its own with the rows of another one.
+fn append(alloc: Global, document: &mut Option<Document>, page: &Page) -> u32
+    ensures { AppendsPage document.old page.now document.new result }
+{
+    if page.rows().is_empty() {
+        return NO_ROWS;
+    }
+    let copy = match copied(alloc, page) {
+        Ok(copy) => copy,
+        Err(status) => return status,
+    };
+    if let Some(pages) = document {
+        return match pages.push(copy) {
+            Ok(()) => OK,
+            Err(fault) => fault.number() as u32,
+        };
+    }
+    match Document::new(alloc, copy) {
+        Ok(pages) => {
+            *document = Some(pages);
+            OK
+        }
+        Err(fault) => fault.number() as u32,
+    }
+}
+
+/// Moves a page to the end of a document; the page's handle is empty then. Answers 100 and 101 of either handle, 4 where the page has no
+/// rows, and 9.
+#[unsafe(no_mangle)]
+pub extern "C" fn g3_core_document_push(
+    alloc: Global,
+    document: &mut G3Handle,
+    page: &mut G3Handle,
+) -> u32
+    ensures { MovesPage page.old.value page.new.value document.old.value document.new.value result }
+{
+    match page.take(alloc) {
+        None => EMPTY_HANDLE,
+        Some(kept) => {
+            let status = match &*kept {
+                Kept::Page(pixels) => {
+                    opened!(alloc, document, Document, pages => append(alloc, pages, pixels))
+                }
+                _ => OTHER_HANDLE,
+            };
+            if status != OK {
+                page.put(kept);
+            }
+            status
+        }
+    }
+}
+
+/// How many pages there are.
+fn count_pages(document: &Option<Document>) -> u64
+    ensures { result ≡ length (pages_of document.now) }
+{
+    match document {
+        Some(document) => document.pages().len() as u64,
+        None => 0,
+    }
+}
+
+/// How many pages a document has.
+#[unsafe(no_mangle)]
+pub extern "C" fn g3_core_document_pages(
+    alloc: Global,
+    document: &mut G3Handle,
+    count: &mut u64,
+) -> u32
+    ensures answers { OfDocument (λ pages. (result ≡ 0) × (count.new ≡ length (pages_of pages))) document.old.value result }
+    ensures kept { document.new.value ≡ document.old.value }
+    ensures untold { result ≢ 0 → count.new ≡ count.old }
+{
+    opened!(alloc, document, Document, pages => {
+            *count = count_pages(pages);
+            OK
+        })
+}

@@ -1,0 +1,163 @@
+//! What terminals hear, for C, and how their calls are stopped.
+
+ghost use Rattle.g3fax.specs.Handles.{OnTerminal};
+ghost use Rattle.g3fax.specs.Hearing.{EndsWait, HangsUp, HearsOctets, LosesLine, StopsCall, TakesInput, answerer_steps, caller_steps};
+ghost use Rattle.g3fax.specs.Numbers.{wait_of};
+ghost use Rattle.g3fax.specs.Pages.{is_set};
+ghost use Rattle.std.specs.Prelude.{◌≡◌};
+ghost use Rattle.stations.specs.Limiting.{LimitedFields};
+ghost use Rattle.stations.specs.Stopping.{StoppableCallerFields};
+ghost use Rattle.terminals.specs.Hearing.{busy, check};
+ghost use Rattle.terminals.specs.Stopping.{caller_cut_off, caller_stop_says, limited_cut_off, limited_stop_says};
+
+use crate::handle::{G3Handle, opened_terminal};
+use crate::numbers::wait_of;
+use crate::status::{BAD_CHOICE, FRAME_LOST, NO_MEMORY, OK};
+use std::alloc::Global;
+use terminals::{HearFault, Station, Stoppable, Terminal};
+
+/// Hears octets of the line.
+fn hear<S: Station>(terminal: &mut Terminal<S>, octets: &[u8]) -> u32
+    ensures { HearsOctets S S.steps terminal.old octets.now terminal.new result }
+{
+    match terminal.hear(octets) {
+        Ok(()) => OK,
+        Err(HearFault::NothingTaken) => NO_MEMORY,
+        Err(HearFault::FrameLost) => FRAME_LOST,
+    }
+}
+
+/// Hears the next octets of the line, flags and frames, the least significant bit of each first, in pieces of any size. The station takes
+/// the signal of each good frame in them. Answers 9 where memory is refused and nothing was taken; and 108 where memory is refused and
+/// frames in the octets are lost, as on a line.
+#[unsafe(no_mangle)]
+pub extern "C" fn g3_core_terminal_hear(
+    alloc: Global,
+    terminal: &mut G3Handle,
+    octets: &[u8],
+) -> u32
+    ensures { OnTerminal (λ old new. HearsOctets StoppableCallerFields caller_steps old octets.now new result)
+        (λ old new. HearsOctets LimitedFields answerer_steps old octets.now new result) terminal.old.value terminal.new.value result }
+{
+    opened_terminal!(alloc, terminal, terminal => hear(terminal, octets))
+}
+
+/// Hears a training check.
+fn hear_training<S: Station>(terminal: &mut Terminal<S>, octets: &[u8]) -> u32
+    ensures { TakesInput S S.steps terminal.old (check octets.now) terminal.new result }
+{
+    match terminal.hear_training(octets) {
+        Ok(()) => OK,
+        Err(_) => NO_MEMORY,
+    }
+}
+
+/// Hears the octets of a training check that has come; a caller takes none. Answers 9.
+#[unsafe(no_mangle)]
+pub extern "C" fn g3_core_terminal_hear_training(
+    alloc: Global,
+    terminal: &mut G3Handle,
+    octets: &[u8],
+) -> u32
+    ensures { OnTerminal (λ old new. TakesInput StoppableCallerFields caller_steps old (check octets.now) new result)
+        (λ old new. TakesInput LimitedFields answerer_steps old (check octets.now) new result) terminal.old.value terminal.new.value result }
+{
+    opened_terminal!(alloc, terminal, terminal => hear_training(terminal, octets))
+}
+
+/// Ends a wait.
+fn end_wait<S: Station>(terminal: &mut Terminal<S>, wait: u32) -> u32
+    ensures { EndsWait S S.steps (wait_of wait) terminal.old terminal.new result }
+{
+    let Some(wait) = wait_of(wait) else {
+        return BAD_CHOICE;
+    };
+    match terminal.wait_over(wait) {
+        Ok(()) => OK,
+        Err(_) => NO_MEMORY,
+    }
+}
+
+/// A wait of the station is over, T1, T2, T4 or T5 by its number; one that doesn't run changes nothing. Answers 104 for any other number,
+/// and 9.
+#[unsafe(no_mangle)]
+pub extern "C" fn g3_core_terminal_wait_over(
+    alloc: Global,
+    terminal: &mut G3Handle,
+    wait: u32,
+) -> u32
+    ensures { OnTerminal (λ old new. EndsWait StoppableCallerFields caller_steps (wait_of wait) old new result)
+        (λ old new. EndsWait LimitedFields answerer_steps (wait_of wait) old new result) terminal.old.value terminal.new.value result }
+{
+    opened_terminal!(alloc, terminal, terminal => end_wait(terminal, wait))
+}
+
+/// Tells whether pages can't be taken for now.
+fn tell_busy<S: Station>(terminal: &mut Terminal<S>, is: u32) -> u32
+    ensures { TakesInput S S.steps terminal.old (busy (is_set is)) terminal.new result }
+{
+    match terminal.set_busy(is != 0) {
+        Ok(()) => OK,
+        Err(_) => NO_MEMORY,
+    }
+}
+
+/// Tells an answerer whether pages can't be taken for now: 0 where they can; a caller takes no notice. Answers 9.
+#[unsafe(no_mangle)]
+pub extern "C" fn g3_core_terminal_set_busy(alloc: Global, terminal: &mut G3Handle, is: u32) -> u32
+    ensures { OnTerminal (λ old new. TakesInput StoppableCallerFields caller_steps old (busy (is_set is)) new result)
+        (λ old new. TakesInput LimitedFields answerer_steps old (busy (is_set is)) new result) terminal.old.value terminal.new.value result }
+{
+    opened_terminal!(alloc, terminal, terminal => tell_busy(terminal, is))
+}
+
+/// Stops the call.
+fn stop<S: Stoppable>(terminal: &mut Terminal<S>) -> u32
+    ensures { StopsCall S S.cut_off S.stop_says terminal.old terminal.new result }
+{
+    terminal.stop();
+    OK
+}
+
+/// Stops the call: DCN is to be sent in place of what was. A call that has ended stays as it ended.
+#[unsafe(no_mangle)]
+pub extern "C" fn g3_core_terminal_stop(alloc: Global, terminal: &mut G3Handle) -> u32
+    ensures { OnTerminal (λ old new. StopsCall StoppableCallerFields caller_cut_off caller_stop_says old new result)
+        (λ old new. StopsCall LimitedFields limited_cut_off limited_stop_says old new result) terminal.old.value terminal.new.value result }
+{
+    opened_terminal!(alloc, terminal, terminal => stop(terminal))
+}
+
+/// Hangs up.
+fn hang_up<S: Stoppable>(terminal: &mut Terminal<S>) -> u32
+    ensures { HangsUp S S.cut_off terminal.old terminal.new result }
+{
+    terminal.hang_up();
+    OK
+}
+
+/// Stops the call, and has DCN to be sent in place of what was, also where the call has ended: what was to be said isn't said.
+#[unsafe(no_mangle)]
+pub extern "C" fn g3_core_terminal_hang_up(alloc: Global, terminal: &mut G3Handle) -> u32
+    ensures { OnTerminal (λ old new. HangsUp StoppableCallerFields caller_cut_off old new result)
+        (λ old new. HangsUp LimitedFields limited_cut_off old new result) terminal.old.value terminal.new.value result }
+{
+    opened_terminal!(alloc, terminal, terminal => hang_up(terminal))
+}
+
+/// Loses the line.
+fn lose<S: Stoppable>(terminal: &mut Terminal<S>) -> u32
+    ensures { LosesLine S S.cut_off terminal.old terminal.new result }
+{
+    terminal.lost();
+    OK
+}
+
+/// The line is gone: nothing is left to be sent. A call that has ended stays as it ended.
+#[unsafe(no_mangle)]
+pub extern "C" fn g3_core_terminal_lost(alloc: Global, terminal: &mut G3Handle) -> u32
+    ensures { OnTerminal (λ old new. LosesLine StoppableCallerFields caller_cut_off old new result)
+        (λ old new. LosesLine LimitedFields limited_cut_off old new result) terminal.old.value terminal.new.value result }
+{
+    opened_terminal!(alloc, terminal, terminal => lose(terminal))
+}

@@ -1,0 +1,97 @@
+//! The states of terminals, for C.
+
+ghost use Rattle.g3fax.specs.Handles.{OfTerminal};
+ghost use Rattle.g3fax.specs.States.{TellsAnswerer, TellsCaller, TellsShown};
+ghost use Rattle.std.specs.Prelude.{◌≡◌, ◌≢◌};
+
+use crate::answering::Answering;
+use crate::codes::in_64_bits;
+use crate::handle::{G3Handle, Kept};
+use crate::numbers::{end_number, listens_carrier, listens_number, wait_number};
+use crate::status::{EMPTY_HANDLE, OK, OTHER_HANDLE};
+use stations::StoppableCaller;
+use std::alloc::Global;
+use terminals::{Shown, Terminal};
+
+/// The state of a terminal: its pages, what it listens for, its waits, and why its call ended.
+#[repr(C)]
+#[derive(Clone, Copy)]
+pub struct G3State {
+    /// How many pages a caller has confirmed, or an answerer has stored that were not handed out.
+    pub pages: u64,
+    /// How many good frames were heard.
+    pub frames: u64,
+    /// 1 where it listens for V.21 alone, 2 for a training check, 3 for V.21 and the frames of a page.
+    pub listens: u32,
+    /// The number of the carrier of the training check or the page, 2 to 9; 0 where it listens for V.21 alone.
+    pub carrier: u32,
+    /// The wait that runs: 1 for T1, 2 for T2, 4 for T4, 5 for T5; 0 for none.
+    pub wait: u32,
+    /// The longer wait that runs beside it; 0 for none.
+    pub longer: u32,
+    /// Why the call ended, 1 to 12; 0 while it goes on.
+    pub end: u32,
+}
+
+/// What is told of what a station shows.
+fn told(shown: Shown, pages: u64, frames: u64) -> G3State
+    ensures told { TellsShown shown result }
+    ensures pages { result.pages ≡ pages }
+    ensures frames { result.frames ≡ frames }
+{
+    G3State {
+        pages,
+        frames,
+        listens: listens_number(shown.listens),
+        carrier: listens_carrier(shown.listens),
+        wait: wait_number(shown.running),
+        longer: wait_number(shown.longer),
+        end: end_number(shown.end),
+    }
+}
+
+/// Tells the state of a caller.
+fn tell_caller(terminal: &Terminal<StoppableCaller>, state: &mut G3State) -> u32
+    ensures { TellsCaller terminal.now state.new result }
+{
+    let confirmed = terminal.station().station().confirmed();
+    *state = told(terminal.shown(), confirmed, terminal.good_frames());
+    OK
+}
+
+/// Tells the state of an answerer.
+fn tell_answerer(answering: &Answering, state: &mut G3State) -> u32
+    ensures { TellsAnswerer answering.now state.new result }
+{
+    let terminal = &answering.terminal;
+    let stored = terminal.station().station().pages();
+    let pages = answering.waiting.len() as u128 + stored.len() as u128;
+    *state = told(terminal.shown(), in_64_bits(pages), terminal.good_frames());
+    OK
+}
+
+/// Tells the state of a terminal.
+#[unsafe(no_mangle)]
+pub extern "C" fn g3_core_terminal_state(
+    alloc: Global,
+    terminal: &mut G3Handle,
+    state: &mut G3State,
+) -> u32
+    ensures answers { OfTerminal (λ terminal. TellsCaller terminal state.new result) (λ answering. TellsAnswerer answering state.new result)
+        terminal.old.value result }
+    ensures kept { terminal.new.value ≡ terminal.old.value }
+    ensures untold { result ≢ 0 → state.new ≡ state.old }
+{
+    match terminal.take(alloc) {
+        None => EMPTY_HANDLE,
+        Some(kept) => {
+            let status = match &*kept {
+                Kept::Caller(calling) => tell_caller(calling, state),
+                Kept::Answerer(answering) => tell_answerer(answering, state),
+                _ => OTHER_HANDLE,
+            };
+            terminal.put(kept);
+            status
+        }
+    }
+}
