@@ -1,0 +1,96 @@
+#include "line.h"
+#include "paper.h"
+
+static const double FULL = 32767, HIT = -10;
+enum { HIT_MILLIS = 50, SIGNALS_OF_ANSWERER = 2 /* CED and DIS */, GAP = 4 /* slices */ };
+
+/* The height that a signal of full scale has at a level, of a sine, in dBm0 to the tenth. */
+static double height(double level)
+{
+    double factor = 1;
+    for (double left = 3.14 - level; left > 0.05; left -= 0.1) factor *= 0.98855309465693882; /* 0.1 dB */
+    return FULL * factor;
+}
+
+void line_new(line *out, const line_kind *kind, uint64_t seed)
+{
+    static const line fresh;
+    *out = fresh;
+    out->kind = *kind;
+    out->chance = seed * 2 + 1;
+    for (int i = 0; i < 8; i++) draw(&out->chance);
+    if (kind->hum != 0) out->hum[1] = -height(kind->hum) * 0.03925980; /* sin of 50 Hz's step */
+}
+
+/* A number that is normally distributed, with variance 1: the sum of twelve that are even between 0 and 1. */
+static double normal(line *it)
+{
+    double sum = -6;
+    for (int i = 0; i < 12; i++) sum += draw(&it->chance) / 4294967296.0;
+    return sum;
+}
+
+static double hum_sample(line *it)
+{
+    double next = 1.99845806 * it->hum[0] - it->hum[1]; /* a sine by its two samples before: twice the cosine of its step */
+    it->hum[1] = it->hum[0];
+    return it->hum[0] = next;
+}
+
+/* Counts the signals of a direction; whether one begins with this slice. */
+static int count_signals(wire *it, const int16_t *said)
+{
+    int sounds = 0;
+    for (int i = 0; i < SLICE; i++) sounds |= said[i] != 0;
+    int begins = sounds && (it->silent >= GAP || it->signals == 0);
+    it->silent = sounds ? 0 : it->silent + 1;
+    it->signals += begins;
+    it->lasted = begins ? 0 : it->lasted + 1;
+    return begins;
+}
+
+/* Whether the caller's carrier is cut in this slice. */
+static int is_cut(const line *it)
+{
+    int millis = it->caller.lasted * SLICE_MILLIS;
+    return it->kind.cut != 0 && it->commands == it->kind.cut && it->caller.silent == 0 && millis >= it->kind.from
+        && millis < it->kind.from + it->kind.lasts;
+}
+
+/* Whether noise strikes a direction in this slice, by chance. */
+static int is_hit(line *it, wire *direction)
+{
+    int every = it->kind.every / SLICE_MILLIS;
+    if (direction->hit > 0) return direction->hit--;
+    if (every == 0 || draw(&it->chance) % (uint32_t)every != 0) return 0;
+    direction->hit = (int)(draw(&it->chance) % (2 * HIT_MILLIS / SLICE_MILLIS));
+    return 1;
+}
+
+static int16_t clipped(double sample)
+{
+    return sample > FULL ? 32767 : sample < -FULL ? -32767 : (int16_t)(sample < 0 ? sample - 0.5 : sample + 0.5);
+}
+
+/* A slice of one direction. */
+static void carry(line *it, const int16_t *said, int hit, int16_t *heard)
+{
+    double noise = it->kind.noise != 0 ? height(it->kind.noise) * 0.70710678 : 0, strike = hit ? height(HIT) * 0.70710678 : 0;
+    for (int i = 0; i < SLICE; i++) {
+        double sample = said[i];
+        if (noise > 0 && (it->kind.always || said[i] != 0)) sample += noise * normal(it);
+        if (hit) sample += strike * normal(it);
+        if (it->kind.hum != 0) sample += hum_sample(it);
+        heard[i] = clipped(sample);
+    }
+}
+
+void line_carry(line *it, const int16_t *caller, const int16_t *answerer, int16_t *to_caller, int16_t *to_answerer)
+{
+    count_signals(&it->answerer, answerer);
+    int begins = count_signals(&it->caller, caller);
+    it->commands += begins && it->answerer.signals >= SIGNALS_OF_ANSWERER;
+    int cut = is_cut(it), hit = is_hit(it, &it->caller);
+    carry(it, caller, cut || hit, to_answerer);
+    carry(it, answerer, is_hit(it, &it->answerer), to_caller);
+}

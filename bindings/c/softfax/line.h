@@ -1,0 +1,36 @@
+/* A telephone line for trials: noise, hum, and carriers that are cut. Levels are in dBm0, where a sine of full scale is 3.14 dBm0; the
+ * carriers leave at -14. */
+#ifndef LINE_H
+#define LINE_H
+#include "modem.h"
+
+typedef struct line_kind {
+    const char *name;
+    int noise;    /* white noise in both directions; 0: none */
+    int always;   /* it is there in silences too, else only while there is a signal */
+    int hum;      /* 50 Hz in both directions; 0: none */
+    int cut;      /* the caller's carrier after the first DIS that is cut: 1 is DCS, 2 the check, 3 the page, 4 the PPS; 0: none */
+    int from, lasts; /* when in it noise of -10 dBm0 begins, and how long it lasts, in milliseconds */
+    int every;    /* such noise strikes each so many milliseconds, on average; 0: never */
+} line_kind;
+
+/* A direction of the line. */
+typedef struct wire {
+    int silent;   /* slices of silence, one after the other */
+    int signals;  /* how many signals there have been */
+    int lasted;   /* slices of the last one */
+    int hit;      /* slices that noise strikes from now on */
+} wire;
+
+typedef struct line {
+    line_kind kind;
+    uint64_t chance;      /* the state of a generator */
+    double hum[2];        /* its last two samples */
+    wire caller, answerer;
+    int commands;         /* the caller's signals since the first DIS */
+} line;
+
+void line_new(line *out, const line_kind *kind, uint64_t seed);
+/* A slice in each direction: what is said, and what is heard of it. */
+void line_carry(line *it, const int16_t *caller, const int16_t *answerer, int16_t *to_caller, int16_t *to_answerer);
+#endif

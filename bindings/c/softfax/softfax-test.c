@@ -1,0 +1,140 @@
+/* Calls of the terminal over libspandsp's modems, with libspandsp's own fax terminal and with itself, in one process.
+ *
+ *     softfax-test FOLDER                      a call of one page each way, and one with itself
+ *     softfax-test FOLDER --table SEEDS [LINE..]  all kinds of calls on each line, or on those that are named, as a table
+ *     softfax-test FOLDER --call PAIR LINE MODEMS CODING PAGES SEED    one call of the table; what happens is told on standard error
+ *
+ * PAIR is the caller and the answerer, as it:ours. FOLDER is for files of libspandsp's terminal. Status 1: a page is stored that isn't
+ * the document's, or a confirmed one is missing; or a call fails on a clean line. */
+#include "theirs.h"
+#include <stdio.h>
+#include <stdlib.h>
+#include <string.h>
+
+static const line_kind LINES[] = {
+    {.name = "clean"},
+    {.name = "-44", .noise = -44},
+    {.name = "-36", .noise = -36},
+    {.name = "-30", .noise = -30},
+    {.name = "-54-always", .noise = -54, .always = 1},
+    {.name = "-48-always", .noise = -48, .always = 1},
+    {.name = "-40-always", .noise = -40, .always = 1},
+    {.name = "hum-20", .hum = -20},
+    {.name = "cut-DCS", .cut = 1, .lasts = 4000},
+    {.name = "cut-check", .cut = 2, .from = 2000, .lasts = 300},
+    {.name = "cut-page", .cut = 3, .from = 1000, .lasts = 100},
+    {.name = "cut-PPS", .cut = 4, .lasts = 4000},
+};
+enum { LINES_COUNT = sizeof LINES / sizeof LINES[0], PAIRS_COUNT = 4, ROWS = 576 };
+static const char *const PAIRS[PAIRS_COUNT] = {"it:it", "it:ours", "ours:it", "ours:ours"};
+
+typedef struct tally { uint32_t calls, well, broken; } tally;
+
+static int party_of(const char *name, size_t length, const trial *kind, int calls, const char *folder, party *out)
+{
+    if (strncmp(name, "ours", length) == 0) return trial_ours(out, kind, calls);
+    return trial_theirs(out, kind, calls, folder);
+}
+
+/* Runs a call of a pair, and prints what came of it unless it went well; whether it could be begun. */
+static int try_call(const char *pair, const trial *kind, const char *folder, tally *out)
+{
+    const char *second = strchr(pair, ':') + 1;
+    party caller, answerer;
+    outcome came;
+    if (!party_of(pair, (size_t)(second - 1 - pair), kind, 1, folder, &caller)) return 0;
+    if (!party_of(second, strlen(second), kind, 0, folder, &answerer)) return 0;
+    trial_run(&caller, &answerer, kind, &came);
+    int well = trial_went_well(kind, &came);
+    out->calls++;
+    out->well += (uint32_t)well;
+    out->broken += (uint32_t)trial_is_broken(&came);
+    if (well && kind->tells == NULL) return 1;
+    fprintf(stderr, "%s %s %u %u %u %u: caller: %s; answerer: %s; confirmed %u, equal %u, wrong %u; %u s\n", pair, kind->line.name,
+            kind->modems, kind->coding, kind->pages, (uint32_t)kind->seed, came.caller, came.answerer, (uint32_t)came.confirmed,
+            came.equal, came.wrong, came.seconds);
+    return 1;
+}
+
+/* A cell of the table: twelve kinds of calls, with each seed. */
+static int try_cell(const char *pair, const line_kind *line, uint32_t seeds, const paper *papers, const char *folder, tally *out)
+{
+    for (uint32_t i = 0; i < 12 * seeds; i++) {
+        trial kind = {*line, 1 + i % 3, i / 3 % 2 ? G3_MMR : G3_MH, i / 6 % 2 ? 3 : 1, 2, i / 12, papers, NULL};
+        if (!try_call(pair, &kind, folder, out)) return 0;
+    }
+    return 1;
+}
+
+/* A row of the table; whether nothing was wrong in it. */
+static int try_line(const line_kind *line, uint32_t seeds, const paper *papers, const char *folder)
+{
+    int is_right = 1;
+    if (line->noise == 0) seeds = 1; /* nothing is left to chance */
+    printf("| %s |", line->name);
+    for (int i = 0; i < PAIRS_COUNT; i++) {
+        tally all = {0, 0, 0};
+        if (!try_cell(PAIRS[i], line, seeds, papers, folder, &all)) return 0;
+        printf(" %u of %u%s |", all.well, all.calls, all.broken > 0 ? ", WRONG" : "");
+        fflush(stdout);
+        is_right &= all.broken == 0 && (strcmp(line->name, "clean") != 0 || all.well == all.calls);
+    }
+    printf("\n");
+    return is_right;
+}
+
+static int is_wanted(const char *name, int count, char **names)
+{
+    int is = count == 0;
+    for (int i = 0; i < count; i++) is |= strcmp(names[i], name) == 0;
+    return is;
+}
+
+static int try_table(int count, char **words, const paper *papers, const char *folder)
+{
+    int is_right = 1;
+    printf("| line |");
+    for (int i = 0; i < PAIRS_COUNT; i++) printf(" %s |", PAIRS[i]);
+    printf("\n|---|---|---|---|---|\n");
+    for (int i = 0; i < LINES_COUNT; i++) {
+        if (is_wanted(LINES[i].name, count - 1, words + 1)) is_right &= try_line(&LINES[i], (uint32_t)atoi(words[0]), papers, folder);
+    }
+    return is_right;
+}
+
+static int try_one(char **words, const paper *papers, const char *folder)
+{
+    tally all = {0, 0, 0};
+    int line = 0;
+    while (line < LINES_COUNT && strcmp(LINES[line].name, words[1]) != 0) line++;
+    if (line == LINES_COUNT || strchr(words[0], ':') == NULL) return 0;
+    trial kind = {LINES[line], (uint32_t)atoi(words[2]), (uint32_t)atoi(words[3]), (uint32_t)atoi(words[4]), 2, (uint64_t)atoi(words[5]), papers, "told"};
+    return kind.pages <= MOST_PAGES && try_call(words[0], &kind, folder, &all) && all.well == all.calls;
+}
+
+/* A call of one page of each pair with ours in it, over a clean line. */
+static int try_few(const paper *papers, const char *folder)
+{
+    tally all = {0, 0, 0};
+    for (int i = 1; i < PAIRS_COUNT; i++) {
+        trial kind = {LINES[0], G3_V17, G3_MMR, 1, 2, 0, papers, NULL};
+        if (!try_call(PAIRS[i], &kind, folder, &all)) return 0;
+    }
+    printf("softfax: %u of %u calls by spandsp's modems complete, with its own terminal each way and with ours\n", all.well, all.calls);
+    return all.well == all.calls;
+}
+
+int main(int argc, char **argv)
+{
+    paper papers[MOST_PAGES];
+    int is_right = 0;
+    for (uint32_t i = 0; i < MOST_PAGES; i++) {
+        if (!paper_new(&papers[i], 1728, ROWS, i + 1)) return fprintf(stderr, "softfax-test: no memory\n"), 1;
+    }
+    if (argc == 2) is_right = try_few(papers, argv[1]);
+    else if (argc >= 4 && strcmp(argv[2], "--table") == 0) is_right = try_table(argc - 3, argv + 3, papers, argv[1]);
+    else if (argc == 9 && strcmp(argv[2], "--call") == 0) is_right = try_one(argv + 3, papers, argv[1]);
+    else fprintf(stderr, "usage: softfax-test FOLDER [--table SEEDS [LINE..] | --call PAIR LINE MODEMS CODING PAGES SEED]\n");
+    for (uint32_t i = 0; i < MOST_PAGES; i++) paper_free(&papers[i]);
+    return !is_right;
+}

@@ -1,0 +1,367 @@
+#include "terminal.h"
+#include "names.h"
+#include <stdio.h>
+#include <stdlib.h>
+#include <string.h>
+
+/* Durations in milliseconds. The waits of T.30 are those of the library, g3_wait_millis. */
+enum {
+    BEFORE_CED = 1800,        /* an answerer is silent at first (T.30, 4) */
+    CED = 2600,               /* (T.30, 4.3.3) */
+    BEFORE_CARRIER = 75,      /* silence (T.30, 5.3) */
+    AFTER_CALL = 200,         /* silence after the last carrier, so that the line carries all of it */
+    LONGEST_UNREAD = 6000,    /* a signal with no frame, which trains no receiver: after that it is the line's hiss */
+    LONGEST_CARRIER = 240000, /* a page carrier with no good frame: likewise */
+    LEAST_CHECK = 1000,       /* a signal that may have been a training check that couldn't be read */
+    LEAST_SIGNAL = 400        /* a shorter one without a frame is a crackle, and no wait runs anew from it */
+};
+enum { NEVER = -1 };
+
+enum phase { WAITS_FOR_CED, IN_CED, LISTENS, PAUSES, IN_CARRIER, LEAVES, IS_OVER };
+
+struct terminal {
+    g3_terminal *station;
+    terminal_pages pages;
+    modem *modem;
+    const char *name;               /* for what is told; NULL: nothing is */
+    int calls, phase;
+    int64_t now, until;             /* until: when a silence or a tone is over */
+    int64_t quiet;                  /* since when the line is silent; NEVER while there is a signal */
+    int64_t calm;                   /* when our last turn ended, or the last signal that was no crackle */
+    int64_t heard;                  /* when the last good frame or training check came */
+    int64_t asked;                  /* the last time at which T5 didn't run */
+    int64_t began;                  /* when the last signal began */
+    int rings;                      /* CNG goes out in silences */
+    int reads;                      /* frames have come in this signal */
+    int trained;                    /* the page receiver is, in this signal */
+    uint32_t listens, carrier;      /* what is listened for, as the library has said it */
+    g3_deframer frames[RECEIVERS];  /* each receiver has one of its own: both hear the line at once */
+    uint8_t *check;                 /* the octets of a training check */
+    size_t checked, check_room;
+    uint8_t *octets;                /* the burst that goes out */
+    g3_burst burst;
+};
+
+static void tell(const terminal *it, const char *what, const char *name, uint64_t number)
+{
+    if (it->name == NULL) return;
+    fprintf(stderr, "%llu %s %s", (unsigned long long)it->now, it->name, what);
+    if (name != NULL) fprintf(stderr, " %s", name);
+    if (number > 0) fprintf(stderr, " %llu", (unsigned long long)number);
+    fprintf(stderr, "\n");
+}
+
+/* Tells of a status that isn't 0; whether it is 0. */
+static int is_done(const terminal *it, g3_status status)
+{
+    if (status != G3_OK) tell(it, "is refused:", g3_status_text(status), status);
+    return status == G3_OK;
+}
+
+/* The octets of a handle, to be freed, with their number; NULL where memory is refused. The handle is empty then. */
+static uint8_t *octets_of(g3_octets *handle, uint64_t *length)
+{
+    uint8_t *octets = NULL;
+    if (g3_octets_len(handle, length) == G3_OK) octets = malloc(*length + 1);
+    if (octets != NULL && g3_octets_copy(handle, octets, *length, length) != G3_OK) {
+        free(octets);
+        octets = NULL;
+    }
+    g3_octets_free(handle);
+    return octets;
+}
+
+terminal *terminal_new(g3_terminal *station, const terminal_pages *pages)
+{
+    static const terminal fresh;
+    terminal *it = malloc(sizeof *it);
+    if (it == NULL) return NULL;
+    *it = fresh;
+    it->station = station;
+    it->calls = it->rings = pages == NULL;
+    if (pages != NULL) it->pages = *pages;
+    it->phase = it->calls ? LISTENS : WAITS_FOR_CED;
+    it->until = BEFORE_CED;
+    it->check_room = 4096; /* 1.5 s at 14,400 bit/s are 2,700 octets */
+    it->check = malloc(it->check_room);
+    it->modem = modem_new();
+    if (it->check != NULL && it->modem != NULL && g3_deframer_new(&it->frames[BY_V21]) == G3_OK && g3_deframer_new(&it->frames[BY_PAGE]) == G3_OK) {
+        if (it->calls) modem_begin_tone(it->modem, TONE_CNG);
+        return it;
+    }
+    terminal_free(it);
+    return NULL;
+}
+
+void terminal_free(terminal *it)
+{
+    if (it == NULL) return;
+    g3_deframer_free(&it->frames[BY_V21]);
+    g3_deframer_free(&it->frames[BY_PAGE]);
+    modem_free(it->modem);
+    free(it->check);
+    free(it->octets);
+    free(it);
+}
+
+int terminal_is_over(const terminal *it)
+{
+    return it->phase == IS_OVER;
+}
+
+void terminal_tell(terminal *it, const char *name)
+{
+    it->name = name;
+}
+
+/* Sets the page receiver to what the library listens for. A check comes with the long training of V.17, and pages with the short one. */
+static void listen(terminal *it)
+{
+    g3_state state;
+    it->trained = 0;
+    it->checked = 0;
+    if (!is_done(it, g3_terminal_state(it->station, &state))) return;
+    it->listens = state.listens;
+    it->carrier = state.listens == G3_HEARS_V21 ? 0 : state.carrier;
+    modem_listen(it->modem, it->carrier, state.listens == G3_HEARS_PAGES);
+}
+
+/* Gives a frame that a receiver has brought to the library, as the bits of a line of its own: so those of two receivers never mix. */
+static void give_frame(terminal *it, const uint8_t *content, uint64_t length)
+{
+    g3_octets frame = G3_EMPTY;
+    uint64_t bits = 0, count = 0;
+    if (!is_done(it, g3_frame_write(content, length, &frame, &bits))) return;
+    uint8_t *octets = octets_of(&frame, &count);
+    if (octets == NULL) tell(it, "is refused memory: a frame is lost", NULL, 0);
+    else is_done(it, g3_terminal_hear(it->station, octets, count));
+    free(octets);
+}
+
+/* Hears octets of a receiver as flags and frames. */
+static void hear_frames(terminal *it, int receiver, const uint8_t *octets, uint32_t count)
+{
+    uint8_t content[300];
+    uint64_t length = 0;
+    if (!is_done(it, g3_deframer_feed(&it->frames[receiver], octets, count))) return;
+    while (g3_deframer_next(&it->frames[receiver], content, sizeof content, &length) == G3_OK) {
+        tell(it, "hears", frame_name(content[2]), 0);
+        it->heard = it->now;
+        it->reads = 1;
+        give_frame(it, content, length);
+    }
+}
+
+static void hear_check(terminal *it, const uint8_t *octets, uint32_t count)
+{
+    if (it->checked + count > it->check_room) return; /* the rest of a check that is too long says nothing new */
+    memcpy(it->check + it->checked, octets, count);
+    it->checked += count;
+}
+
+/* How many octets of the check that came are given to the library: all, if nine tenths of its 1.5 s were zeros with nothing wrong between
+ * them, else none. On a line that spoils an octet each second few frames would come whole. */
+static size_t good_check(const terminal *it)
+{
+    static const uint32_t RATES[] = {
+        [G3_V27TER_2400] = 2400, [G3_V27TER_4800] = 4800, [G3_V29_7200] = 7200, [G3_V29_9600] = 9600, [G3_V17_7200] = 7200,
+        [G3_V17_9600] = 9600, [G3_V17_12000] = 12000, [G3_V17_14400] = 14400};
+    size_t run = 0, longest = 0;
+    for (size_t i = 0; i < it->checked; i++) {
+        run = it->check[i] == 0 ? run + 1 : 0;
+        if (run > longest) longest = run;
+    }
+    return longest * 8 * 10 >= RATES[it->carrier] * 3 / 2 * 9 ? it->checked : 0;
+}
+
+/* The signal that may have been a training check is over. */
+static void end_check(terminal *it)
+{
+    if (!it->trained && (it->reads || it->now - it->began < LEAST_CHECK)) return; /* frames, or a crackle */
+    size_t good = it->trained ? good_check(it) : 0;
+    tell(it, "hears a training check, octets", NULL, it->checked);
+    if (is_done(it, g3_terminal_hear_training(it->station, it->check, good))) it->heard = it->now;
+}
+
+static void hear(terminal *it, const int16_t *in)
+{
+    modem_heard heard;
+    modem_hear(it->modem, in, &heard);
+    if (heard.begins) {
+        it->quiet = NEVER;
+        it->began = it->now;
+        it->reads = 0;
+    }
+    if (heard.trains) {
+        it->trained = 1;
+        it->checked = 0;
+        tell(it, "is trained", NULL, 0);
+    }
+    if (heard.fails) tell(it, "can't be trained", NULL, 0);
+    hear_frames(it, BY_V21, heard.octets[BY_V21], heard.count[BY_V21]);
+    if (it->listens == G3_HEARS_CHECK) hear_check(it, heard.octets[BY_PAGE], heard.count[BY_PAGE]);
+    else hear_frames(it, BY_PAGE, heard.octets[BY_PAGE], heard.count[BY_PAGE]);
+    if (!heard.ends) return;
+    it->quiet = it->now;
+    if (it->reads || it->now - it->began >= LEAST_SIGNAL) it->calm = it->now;
+    if (it->listens == G3_HEARS_CHECK) end_check(it);
+    listen(it);
+}
+
+/* Takes what goes on and on for the hiss of the line. */
+static void hush(terminal *it)
+{
+    int64_t longest = it->trained ? LONGEST_CARRIER : LONGEST_UNREAD;
+    if (it->quiet == NEVER && it->now - it->began > longest && it->now - it->heard > longest) modem_hush(it->modem);
+}
+
+/* Whether a wait that runs since a time is over. */
+static int is_past(const terminal *it, uint32_t wait, int64_t since)
+{
+    return wait != 0 && it->now - since >= g3_wait_millis(wait);
+}
+
+/* Whether the wait that runs is over. T1 of a caller runs from what was heard last. The others run from our last turn or the last signal,
+ * but where crackles go on and on, T1 of an answerer is over too when nothing is read for long. */
+static int wait_is_past(const terminal *it, uint32_t wait)
+{
+    if (wait == G3_T1 && it->calls) return is_past(it, wait, it->heard);
+    return is_past(it, wait, it->calm) || (wait == G3_T1 && it->now - it->heard >= LONGEST_CARRIER);
+}
+
+/* Tells the library of a wait that is over. Waits are looked at while the line is silent. Of the longer ones T5 runs from when the other
+ * station said that it isn't ready, and T1 from what was heard last. */
+static void end_waits(terminal *it)
+{
+    g3_state state;
+    uint32_t over = 0;
+    if (it->quiet == NEVER || !is_done(it, g3_terminal_state(it->station, &state))) return;
+    if (state.longer != G3_T5) it->asked = it->now;
+    if (is_past(it, state.longer, state.longer == G3_T5 ? it->asked : it->heard)) over = state.longer;
+    else if (wait_is_past(it, state.wait)) over = state.wait;
+    if (over == 0) return;
+    tell(it, "has waited: T", NULL, over);
+    is_done(it, g3_terminal_wait_over(it->station, over));
+}
+
+/* Hands over the pages that were stored; where one isn't kept, DCN takes the place of what was to be said. */
+static void hand_over(terminal *it)
+{
+    g3_page page = G3_EMPTY;
+    while (!it->calls && g3_terminal_take_page(it->station, &page) == G3_OK) {
+        int kept = it->pages.keep(it->pages.user, &page);
+        g3_page_free(&page);
+        if (kept) continue;
+        tell(it, "can't keep a page", NULL, 0);
+        is_done(it, g3_terminal_stop(it->station));
+    }
+}
+
+static void tell_burst(const terminal *it, uint64_t length)
+{
+    g3_deframer frames = G3_EMPTY;
+    uint8_t content[300];
+    uint64_t count = 0;
+    if (it->name == NULL) return;
+    if (it->burst.check) tell(it, "says a training check", NULL, 0);
+    else if (g3_deframer_new(&frames) == G3_OK && g3_deframer_feed(&frames, it->octets, length) == G3_OK) {
+        while (g3_deframer_next(&frames, content, sizeof content, &count) == G3_OK) tell(it, "says", frame_name(content[2]), 0);
+    }
+    g3_deframer_free(&frames);
+}
+
+/* Begins the next carrier of the turn. G3_NOTHING: there is none. Where memory is refused, it can be tried again. */
+static g3_status begin_carrier(terminal *it)
+{
+    g3_octets handle = G3_EMPTY;
+    uint64_t length = 0;
+    g3_status status = g3_terminal_next_burst(it->station, &handle, &it->burst);
+    if (status == G3_NOTHING || !is_done(it, status)) return status;
+    free(it->octets);
+    it->octets = octets_of(&handle, &length);
+    if (it->octets == NULL) return G3_NO_MEMORY; /* the burst is lost, as on a line */
+    modem_begin_carrier(it->modem, it->burst.carrier, !it->burst.check, it->octets, it->burst.bits);
+    tell_burst(it, length);
+    it->rings = 0;
+    it->phase = IN_CARRIER;
+    return G3_OK;
+}
+
+/* Begins the turn if there is one and the line has been silent for long enough; leaves after the call's end, once nothing is left to be
+ * said: the last turn may be DCN. */
+static void speak(terminal *it)
+{
+    g3_state state;
+    if (it->quiet == NEVER || it->now - it->quiet < BEFORE_CARRIER) return;
+    hand_over(it);
+    if (begin_carrier(it) != G3_NOTHING || !is_done(it, g3_terminal_state(it->station, &state)) || state.end == 0) return;
+    it->phase = LEAVES;
+    it->until = it->now + AFTER_CALL;
+}
+
+/* The turn is over: the line is the other station's. */
+static void end_turn(terminal *it)
+{
+    it->phase = LISTENS;
+    it->quiet = it->calm = it->now;
+    modem_forget(it->modem);
+    listen(it);
+}
+
+/* A carrier has ended. */
+static void end_carrier(terminal *it)
+{
+    it->phase = PAUSES;
+    it->until = it->now + BEFORE_CARRIER;
+    if (it->burst.last) end_turn(it);
+}
+
+static void listen_and_speak(terminal *it, const int16_t *in, int16_t *out)
+{
+    if (it->rings && it->quiet != NEVER) modem_say(it->modem, out);
+    hear(it, in);
+    hush(it);
+    end_waits(it);
+    speak(it);
+}
+
+void terminal_step(terminal *it, const int16_t *in, int16_t *out)
+{
+    memset(out, 0, SLICE * sizeof *out);
+    it->now += SLICE_MILLIS;
+    int is_time = it->now >= it->until;
+    modem_heard unheard;
+    switch (it->phase) {
+    case WAITS_FOR_CED:
+        modem_hear(it->modem, in, &unheard); /* so that it learns how loud the silent line is */
+        if (!is_time) break;
+        modem_begin_tone(it->modem, TONE_CED);
+        it->phase = IN_CED;
+        it->until = it->now + CED;
+        break;
+    case IN_CED:
+        modem_say(it->modem, out);
+        if (!is_time) break;
+        modem_forget(it->modem);
+        it->quiet = it->calm = it->heard = it->now;
+        it->phase = LISTENS;
+        break;
+    case LISTENS: listen_and_speak(it, in, out); break;
+    case PAUSES:
+        if (is_time && begin_carrier(it) == G3_NOTHING) end_turn(it);
+        break;
+    case IN_CARRIER:
+        if (!modem_say(it->modem, out)) end_carrier(it);
+        break;
+    case LEAVES:
+        if (is_time) it->phase = IS_OVER;
+        break;
+    }
+}
+
+void terminal_lose(terminal *it)
+{
+    hand_over(it);
+    is_done(it, g3_terminal_lost(it->station));
+    it->phase = IS_OVER;
+}

@@ -1,0 +1,27 @@
+/* A fax terminal: a g3_terminal of libg3fax joined to a modem. What is said, what is listened for and which wait runs the library decides; when,
+ * by a clock of samples, is decided here. It knows no signal processing. */
+#ifndef TERMINAL_H
+#define TERMINAL_H
+#include "g3fax.h"
+#include "modem.h"
+
+/* Keeps a page that an answerer has stored; whether it is kept. A page is confirmed only then; where it isn't, the call is ended. */
+typedef struct terminal_pages {
+    int (*keep)(void *user, g3_page *page);
+    void *user;
+} terminal_pages;
+
+typedef struct terminal terminal;
+/* A terminal of a caller, where `pages` is NULL, or of an answerer. The handle stays the caller's, and is used until the terminal is
+ * freed. NULL where memory is refused. */
+terminal *terminal_new(g3_terminal *station, const terminal_pages *pages);
+void terminal_free(terminal *it);
+/* One slice of 5 ms: what is heard, and what is said meanwhile. */
+void terminal_step(terminal *it, const int16_t *in, int16_t *out);
+/* Whether it has hung up. */
+int terminal_is_over(const terminal *it);
+/* The line is gone: hangs up. */
+void terminal_lose(terminal *it);
+/* Tells on standard error what happens, each line with the time in milliseconds and this name. */
+void terminal_tell(terminal *it, const char *name);
+#endif

@@ -1,0 +1,148 @@
+#include "trial.h"
+#include "terminal.h"
+#include <stdlib.h>
+#include <string.h>
+
+enum { LONGEST = 900000, TAIL = 1000 }; /* milliseconds of a call, and of what is heard after both have hung up */
+
+typedef struct ours {
+    const trial *kind;
+    int calls;
+    g3_terminal station;
+    terminal *terminal;
+    outcome counted; /* the pages that were kept */
+} ours;
+
+void trial_judge(const trial *kind, outcome *out, uint32_t width, uint32_t rows, const uint8_t *pixels)
+{
+    uint32_t next = out->equal + out->wrong;
+    int is_equal = next < kind->pages && paper_is(&kind->papers[next], width, rows, pixels);
+    out->equal += is_equal;
+    out->wrong += !is_equal;
+}
+
+/* Compares a stored page with its paper; it is kept in any case. */
+static int keep(void *user, g3_page *page)
+{
+    ours *it = user;
+    g3_size size = {0, 0, 0};
+    uint64_t count = 0;
+    if (g3_page_size(page, &size) != G3_OK) return 0;
+    uint64_t stride = (size.width + 7) / 8, room = stride * size.rows;
+    uint8_t *pixels = malloc(room + 1);
+    if (pixels == NULL || g3_page_write_raster(page, stride, pixels, room, &count) != G3_OK) size.rows = 0;
+    trial_judge(it->kind, &it->counted, size.width, size.rows, pixels);
+    free(pixels);
+    return 1;
+}
+
+static g3_status new_document(const trial *kind, g3_document *out)
+{
+    g3_status status = g3_document_new(out);
+    for (uint32_t i = 0; status == G3_OK && i < kind->pages; i++) {
+        const paper *paper = &kind->papers[i];
+        g3_raster raster = {paper->stride, paper->width, paper->rows, 1};
+        g3_page page = G3_EMPTY;
+        status = g3_page_read_raster(paper->pixels, (size_t)paper->stride * paper->rows, &raster, &page);
+        if (status == G3_OK) status = g3_document_push(out, &page);
+        g3_page_free(&page);
+    }
+    return status;
+}
+
+static g3_status new_station(const trial *kind, int calls, g3_terminal *out)
+{
+    g3_caps caps = {kind->modems, kind->coding == G3_MMR, 1, 2432, kind->limit};
+    g3_wish wish = {kind->modems, kind->coding, 256};
+    g3_document document = G3_EMPTY;
+    if (!calls) return g3_answerer_new(out, &caps);
+    g3_status status = new_document(kind, &document);
+    if (status == G3_OK) status = g3_caller_new(out, &document, &wish);
+    g3_document_free(&document);
+    return status;
+}
+
+static void ours_step(void *user, const int16_t *in, int16_t *out)
+{
+    ours *it = user;
+    terminal_step(it->terminal, in, out);
+}
+
+static int ours_is_over(void *user)
+{
+    ours *it = user;
+    return terminal_is_over(it->terminal);
+}
+
+static const char *ours_ending(void *user)
+{
+    static const char *const ENDS[] = {"no end", "normal", "no answer", "not compatible", "training", "no reply", "unreadable", "still busy"};
+    ours *it = user;
+    g3_state state;
+    if (g3_terminal_state(&it->station, &state) != G3_OK) return "no state";
+    return state.end < sizeof ENDS / sizeof ENDS[0] ? ENDS[state.end] : "another end";
+}
+
+static void ours_leave(void *user, outcome *out)
+{
+    ours *it = user;
+    g3_state state;
+    if (it->calls && g3_terminal_state(&it->station, &state) == G3_OK) out->confirmed = state.pages;
+    out->equal += it->counted.equal;
+    out->wrong += it->counted.wrong;
+    terminal_free(it->terminal);
+    g3_terminal_free(&it->station);
+    free(it);
+}
+
+int trial_ours(party *out, const trial *kind, int calls)
+{
+    static const ours fresh;
+    ours *it = malloc(sizeof *it);
+    if (it == NULL) return 0;
+    *it = fresh;
+    it->kind = kind;
+    it->calls = calls;
+    terminal_pages pages = {keep, it};
+    if (new_station(kind, calls, &it->station) == G3_OK) it->terminal = terminal_new(&it->station, calls ? NULL : &pages);
+    if (it->terminal != NULL) {
+        party mine = {it, ours_step, ours_is_over, ours_ending, ours_leave};
+        if (kind->tells != NULL) terminal_tell(it->terminal, calls ? "caller" : "answerer");
+        *out = mine;
+        return 1;
+    }
+    g3_terminal_free(&it->station);
+    free(it);
+    return 0;
+}
+
+void trial_run(party *caller, party *answerer, const trial *kind, outcome *out)
+{
+    int16_t said[SLICE] = {0}, replied[SLICE] = {0}, to_caller[SLICE] = {0}, to_answerer[SLICE] = {0};
+    uint32_t millis = 0, tail = 0;
+    line line;
+    line_new(&line, &kind->line, kind->seed);
+    for (; millis < LONGEST && tail < TAIL; millis += SLICE_MILLIS) {
+        caller->step(caller->it, to_caller, said);
+        answerer->step(answerer->it, to_answerer, replied);
+        line_carry(&line, said, replied, to_caller, to_answerer);
+        if (caller->is_over(caller->it) && answerer->is_over(answerer->it)) tail += SLICE_MILLIS;
+    }
+    memset(out, 0, sizeof *out);
+    out->caller = caller->ending(caller->it);
+    out->answerer = answerer->ending(answerer->it);
+    out->seconds = millis / 1000;
+    caller->leave(caller->it, out);
+    answerer->leave(answerer->it, out);
+}
+
+int trial_went_well(const trial *kind, const outcome *it)
+{
+    return strcmp(it->caller, "normal") == 0 && strcmp(it->answerer, "normal") == 0 && it->equal == kind->pages && it->wrong == 0
+        && it->confirmed == kind->pages;
+}
+
+int trial_is_broken(const outcome *it)
+{
+    return it->wrong > 0 || it->confirmed > it->equal;
+}

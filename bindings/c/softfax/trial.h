@@ -1,0 +1,49 @@
+/* Calls in one process, for tests: two ends, a line between them, and what came of it. */
+#ifndef TRIAL_H
+#define TRIAL_H
+#include "g3fax.h"
+#include "line.h"
+#include "paper.h"
+
+enum { MOST_PAGES = 3 };
+
+/* What a call is made of. */
+typedef struct trial {
+    line_kind line;
+    uint32_t modems;           /* G3_V27TER, G3_V29 or G3_V17 */
+    uint32_t coding;           /* G3_MMR or G3_MH */
+    uint32_t pages;            /* how many of the papers */
+    uint32_t limit;            /* how many pages wait in our answerer's memory */
+    uint64_t seed;
+    const paper *papers;
+    const char *tells;         /* what happens is told on standard error; NULL: nothing */
+} trial;
+
+/* What came of it. */
+typedef struct outcome {
+    const char *caller, *answerer; /* how each ended: "normal", or why not */
+    uint64_t confirmed;            /* pages, as the caller counts */
+    uint32_t equal, wrong;         /* stored pages that are those of the document, in order, and others */
+    uint32_t seconds;              /* how long the call was */
+} outcome;
+
+/* An end of a call, ours or another. */
+typedef struct party {
+    void *it;
+    void (*step)(void *it, const int16_t *in, int16_t *out);
+    int (*is_over)(void *it);
+    const char *(*ending)(void *it);
+    void (*leave)(void *it, outcome *out); /* counts its pages, and frees it */
+} party;
+
+/* Our end; 0 where memory is refused. */
+int trial_ours(party *out, const trial *kind, int calls);
+/* Runs a call until both ends are over, or for 900 s; frees both. */
+void trial_run(party *caller, party *answerer, const trial *kind, outcome *out);
+/* Counts a stored page: it should be the next paper. */
+void trial_judge(const trial *kind, outcome *out, uint32_t width, uint32_t rows, const uint8_t *pixels);
+/* Whether both ends ended normally and all pages are there. */
+int trial_went_well(const trial *kind, const outcome *it);
+/* Whether what must never be is: a wrong page, or one that is confirmed and missing. */
+int trial_is_broken(const outcome *it);
+#endif
