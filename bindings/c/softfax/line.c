@@ -19,7 +19,7 @@ void line_new(line *out, const line_kind *kind, uint64_t seed)
     out->kind = *kind;
     out->chance = seed * 2 + 1;
     for (int i = 0; i < 8; i++) draw(&out->chance);
-    if (kind->hum != 0) out->hum[1] = -height(kind->hum) * 0.03925980; /* sin of 50 Hz's step */
+    if (kind->hum != 0) out->caller.hum[1] = out->answerer.hum[1] = -height(kind->hum) * 0.03925980; /* the sine of its step */
 }
 
 /* A number that is normally distributed, with variance 1: the sum of twelve that are even between 0 and 1. */
@@ -30,9 +30,10 @@ static double normal(line *it)
     return sum;
 }
 
-static double hum_sample(line *it)
+/* The next sample of 50 Hz: a sine by its two samples before and twice the cosine of its step. */
+static double hum_sample(wire *it)
 {
-    double next = 1.99845806 * it->hum[0] - it->hum[1]; /* a sine by its two samples before: twice the cosine of its step */
+    double next = 1.9984580696 * it->hum[0] - it->hum[1];
     it->hum[1] = it->hum[0];
     return it->hum[0] = next;
 }
@@ -73,14 +74,14 @@ static int16_t clipped(double sample)
 }
 
 /* A slice of one direction. */
-static void carry(line *it, const int16_t *said, int hit, int16_t *heard)
+static void carry(line *it, wire *direction, const int16_t *said, int hit, int16_t *heard)
 {
     double noise = it->kind.noise != 0 ? height(it->kind.noise) * 0.70710678 : 0, strike = hit ? height(HIT) * 0.70710678 : 0;
     for (int i = 0; i < SLICE; i++) {
         double sample = said[i];
         if (noise > 0 && (it->kind.always || said[i] != 0)) sample += noise * normal(it);
         if (hit) sample += strike * normal(it);
-        if (it->kind.hum != 0) sample += hum_sample(it);
+        if (it->kind.hum != 0) sample += hum_sample(direction);
         heard[i] = clipped(sample);
     }
 }
@@ -91,6 +92,6 @@ void line_carry(line *it, const int16_t *caller, const int16_t *answerer, int16_
     int begins = count_signals(&it->caller, caller);
     it->commands += begins && it->answerer.signals >= SIGNALS_OF_ANSWERER;
     int cut = is_cut(it), hit = is_hit(it, &it->caller);
-    carry(it, caller, cut || hit, to_answerer);
-    carry(it, answerer, is_hit(it, &it->answerer), to_caller);
+    carry(it, &it->caller, caller, cut || hit, to_answerer);
+    carry(it, &it->answerer, answerer, is_hit(it, &it->answerer), to_caller);
 }

@@ -20,12 +20,12 @@ typedef struct wire {
     int signals;  /* how many signals there have been */
     int lasted;   /* slices of the last one */
     int hit;      /* slices that noise strikes from now on */
+    double hum[2]; /* the last two samples of its hum */
 } wire;
 
 typedef struct line {
     line_kind kind;
     uint64_t chance;      /* the state of a generator */
-    double hum[2];        /* its last two samples */
     wire caller, answerer;
     int commands;         /* the caller's signals since the first DIS */
 } line;

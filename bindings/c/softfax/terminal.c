@@ -253,7 +253,7 @@ static void hand_over(terminal *it)
         g3_page_free(&page);
         if (kept) continue;
         tell(it, "can't keep a page", NULL, 0);
-        is_done(it, g3_terminal_stop(it->station));
+        is_done(it, g3_terminal_hang_up(it->station));
     }
 }
 
