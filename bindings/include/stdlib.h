@@ -2,6 +2,7 @@
 #define KIT_STDLIB_H
 #include <stddef.h>
 void *malloc(size_t size);
+void *calloc(size_t count, size_t size);
 void *realloc(void *block, size_t size);
 void free(void *block);
 int atoi(const char *text);

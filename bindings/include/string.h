@@ -3,5 +3,6 @@
 #include <stddef.h>
 int strcmp(const char *a, const char *b);
 int memcmp(const void *a, const void *b, size_t length);
+void *memset(void *to, int octet, size_t length);
 void *memcpy(void *to, const void *from, size_t length);
 #endif

@@ -1,12 +1,13 @@
-/* bits-test [--tell]: calls of the terminal with itself over modems of plain bits, so that it is tested where libspandsp isn't installed. Each
- * kind of call is tried on each line: a clean one, lines that cut one carrier of the caller, and lines that noise strikes again and again.
- * Status 1: a page is stored that isn't the document's, a confirmed one is missing, an end doesn't hang up, or a call fails on a line that
- * strikes once at most. --tell: what happens in each call, on standard error. */
+/* bits-test [SEEDS [--tell]]: calls of the terminal with itself over modems of plain bits, so that it is tested where libspandsp isn't
+ * installed. Each kind of call is tried on each line: a clean one, lines that cut one carrier of the caller, and lines that noise strikes
+ * again and again, with so many seeds, 1 if not said. Status 1: a page is stored that isn't the document's, a confirmed one is missing, an
+ * end doesn't hang up, or a call fails on a line that is struck once at most. --tell: what happens in each call, on standard error. */
 #include "trial.h"
 #include <stdio.h>
+#include <stdlib.h>
 #include <string.h>
 
-enum { ROWS = 96, SEEDS = 4 };
+enum { ROWS = 96 };
 
 static const line_kind LINES[] = {
     {.name = "clean"},
@@ -45,10 +46,10 @@ static void try_call(const trial *kind, tally *out)
 }
 
 /* All kinds of calls on a line; whether nothing was wrong. */
-static int try_line(const line_kind *line, const paper *papers, const char *tells)
+static int try_line(const line_kind *line, uint32_t seeds, const paper *papers, const char *tells)
 {
     tally all = {0, 0, 0, 0};
-    uint32_t seeds = line->every != 0 ? SEEDS : 1;
+    if (line->every == 0) seeds = 1; /* nothing is left to chance */
     for (uint32_t i = 0; i < 3 * 2 * 2 * 2 * seeds; i++) {
         trial kind = {*line, 1 + i % 3, i / 3 % 2 ? G3_MMR : G3_MH, i / 6 % 2 ? 3 : 1, 1 + i / 12 % 2, i / 24, papers, tells};
         try_call(&kind, &all);
@@ -62,13 +63,14 @@ static int try_line(const line_kind *line, const paper *papers, const char *tell
 int main(int argc, char **argv)
 {
     static const uint32_t WIDTHS[MOST_PAGES] = {1728, 2432, 1728};
-    const char *tells = argc > 1 && strcmp(argv[1], "--tell") == 0 ? "told" : NULL;
+    const char *tells = argc > 2 && strcmp(argv[2], "--tell") == 0 ? "told" : NULL;
+    uint32_t seeds = argc > 1 ? (uint32_t)atoi(argv[1]) : 1;
     paper papers[MOST_PAGES];
     int is_right = 1;
     for (uint32_t i = 0; i < MOST_PAGES; i++) {
         if (!paper_new(&papers[i], WIDTHS[i], ROWS, i + 1)) return fprintf(stderr, "bits-test: no memory\n"), 1;
     }
-    for (uint32_t i = 0; i < LINES_COUNT; i++) is_right &= try_line(&LINES[i], papers, tells);
+    for (uint32_t i = 0; i < LINES_COUNT; i++) is_right &= try_line(&LINES[i], seeds, papers, tells);
     for (uint32_t i = 0; i < MOST_PAGES; i++) paper_free(&papers[i]);
     return !is_right;
 }

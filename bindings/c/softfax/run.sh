@@ -1,0 +1,91 @@
+#!/bin/sh
+# Builds softfax and its tests, and runs them: calls of the terminal with itself over plain bits; calls over libspandsp's modems, with its
+# own terminal each way and with itself; two processes that are joined by two pipes; and what softfax says of wrong files.
+#
+#     bindings/c/softfax/run.sh [--table SEEDS]
+#
+# --table adds the table of docs/AUDIO.md, with so many calls by chance of each kind. It wants libspandsp-dev (apt-get install
+# libspandsp-dev), and the library that bindings/build.sh left in the folder LIB, if not bindings/build. OUT is where the programs go.
+set -e
+here=$(cd "$(dirname "$0")" && pwd)
+LIB=${LIB:-$here/../../build}
+OUT=${OUT:-$here/build}
+work=$(mktemp -d)
+trap 'rm -rf "$work"' EXIT
+
+fails() {
+    echo "softfax: FAILED: $*" >&2
+    exit 1
+}
+
+# joins CALLER_STATUS ANSWERER_STATUS ANSWERER -- WORDS: a call of two processes, joined by two pipes. ANSWERER is the program, WORDS are
+# those of the caller.
+joins() {
+    caller_status=$1 answerer_status=$2 answerer=$3 status=0
+    shift 4
+    rm -f "$work/to" "$work/from"
+    mkfifo "$work/to" "$work/from"
+    timeout 60 "$answerer" --answer "$work/got" --rx "$work/to" --tx "$work/from" 2> "$work/answerer" &
+    timeout 60 "$OUT/softfax" --call "$@" --rx "$work/from" --tx "$work/to" 2> "$work/caller" || status=$?
+    [ "$status" = "$caller_status" ] || { cat "$work/caller" "$work/answerer" >&2; fails "the caller ended with status $status"; }
+    status=0
+    wait $! || status=$?
+    [ "$status" = "$answerer_status" ] || { cat "$work/caller" "$work/answerer" >&2; fails "the answerer ended with status $status"; }
+}
+
+# refuses STATUS TEXT WORDS: softfax ends so, and the last line on standard error has the text.
+refuses() {
+    wanted=$1 text=$2 status=0
+    shift 2
+    timeout 60 "$OUT/softfax" "$@" > /dev/null 2> "$work/said" < /dev/null || status=$?
+    [ "$status" = "$wanted" ] || fails "softfax $* ended with status $status"
+    grep -q "$text" "$work/said" || fails "softfax $* said: $(cat "$work/said")"
+}
+
+make -s -C "$here" LIB="$LIB" OUT="$OUT" all
+"$OUT/bits-test"
+"$OUT/softfax-test" "$work"
+
+# pages whose pixels are text
+for page in 1 2; do { printf 'P4\n1728 200\n'; seq "$page"0000 99999 | head -c 43200; } > "$work/$page.pbm"; done
+mkdir "$work/got"
+joins 0 0 "$OUT/softfax" -- "$work/1.pbm" "$work/2.pbm" --wav "$work/call.wav"
+for page in 1 2; do cmp "$work/$page.pbm" "$work/got/page-$page.pbm" || fails "page $page is another"; done
+[ "$(cat "$work/caller" "$work/answerer" | tr '\n' ' ')" = "end normal confirmed 2 end normal pages 2 " ] || fails "ends: $(cat "$work/caller")"
+[ "$(head -c 4 "$work/call.wav")" = RIFF ] || fails "call.wav"
+
+# a page that can't be written: files may have 512 octets here, which is as if the disk were full
+printf '#!/bin/sh\ntrap "" XFSZ\nulimit -f 1\nexec "%s" "$@"\n' "$OUT/softfax" > "$work/narrow"
+chmod +x "$work/narrow"
+joins 1 1 "$work/narrow" -- "$work/1.pbm"
+grep -q "page-3.pbm: File too large" "$work/answerer" || fails "the answerer said: $(cat "$work/answerer")"
+grep -q "confirmed 0" "$work/caller" || fails "a page that isn't kept was confirmed"
+[ ! -e "$work/got/page-3.pbm" ] || fails "a part of a page was left"
+
+refuses 2 usage
+refuses 2 usage --call --rx /dev/null --tx /dev/null
+refuses 2 usage --call "$work/1.pbm" --answer "$work" --rx /dev/null --tx /dev/null
+refuses 2 usage --call "$work/1.pbm" --rx /dev/null --tx /dev/null --modems v8
+refuses 1 "no.pbm: No such file" --call "$work/no.pbm" --rx /dev/null --tx /dev/null
+refuses 1 "call.wav: the header is no raw PBM header" --call "$work/call.wav" --rx /dev/null --tx /dev/null
+printf 'P4\n8 1\n.' > "$work/narrow.pbm"
+refuses 1 "1728, 2048 or 2432" --call "$work/narrow.pbm" --rx /dev/null --tx /dev/null
+cat "$work/narrow.pbm" "$work/narrow.pbm" > "$work/two.pbm"
+refuses 1 "two.pbm: it has more than one image" --call "$work/two.pbm" --rx /dev/null --tx /dev/null
+refuses 1 "nowhere: No such file" --answer "$work/nowhere" --rx /dev/null --tx /dev/null
+refuses 1 "1.pbm: Not a directory" --answer "$work/1.pbm" --rx /dev/null --tx /dev/null
+refuses 1 "none.raw: No such file" --answer "$work" --rx "$work/none.raw" --tx /dev/null
+printf 'abc' > "$work/odd.raw"
+refuses 1 "odd.raw: it ends in the middle of a sample" --answer "$work" --rx "$work/odd.raw" --tx /dev/null
+refuses 1 "odd.raw: File exists" --answer "$work" --rx /dev/null --tx "$work/odd.raw"
+refuses 1 "call.wav: File exists" --answer "$work" --rx /dev/null --tx /dev/null --wav "$work/call.wav"
+refuses 1 "/dev/full: No space left" --answer "$work" --rx /dev/zero --tx /dev/full
+refuses 1 "end line-lost pages 0" --answer "$work" --rx /dev/null --tx /dev/null
+refuses 1 "end no-answer confirmed 0" --call "$work/1.pbm" --rx /dev/zero --tx /dev/null
+refuses 1 "end no-answer pages 0" --answer "$work" --rx /dev/zero --tx "$work/said.raw"
+# who listens goes away: the call goes on as on a line that carries nothing that way
+(timeout 60 "$OUT/softfax" --answer "$work" --rx /dev/zero --tx - 2> "$work/said" || true) | head -c 1000 > /dev/null
+grep -q "end no-answer pages 0" "$work/said" || fails "softfax said of a closed pipe: $(cat "$work/said")"
+echo "softfax: two processes carry two pages over two pipes; wrong files are told"
+
+if [ "$1" = --table ]; then "$OUT/softfax-test" "$work" --table "${2:-1}"; fi
