@@ -1,11 +1,12 @@
 /* Calls of the terminal over libspandsp's modems, with libspandsp's own fax terminal and with itself, in one process.
  *
- *     softfax-test FOLDER                      a call of one page each way, and one with itself
- *     softfax-test FOLDER --table SEEDS [LINE..]  all kinds of calls on each line, or on those that are named, as a table
+ *     softfax-test FOLDER                         a call of one page each way, and with itself
+ *     softfax-test FOLDER --table SEEDS [LINE..]  twelve kinds of calls on each line, or on those that are named, as a table
  *     softfax-test FOLDER --call PAIR LINE MODEMS CODING PAGES SEED    one call of the table; what happens is told on standard error
  *
- * PAIR is the caller and the answerer, as it:ours. FOLDER is for files of libspandsp's terminal. Status 1: a page is stored that isn't
- * the document's, or a confirmed one is missing; or a call fails on a clean line. */
+ * PAIR is the caller and the answerer, as it:ours, where "it" is libspandsp's. Noise is in dBm0, the carriers are at -14. FOLDER is for
+ * files of libspandsp's terminal, and for one process at a time. Status 1: a page is stored that isn't the document's, or a confirmed one
+ * is missing; or a call fails on a clean line. */
 #include "theirs.h"
 #include <stdio.h>
 #include <stdlib.h>
@@ -25,43 +26,50 @@ static const line_kind LINES[] = {
     {.name = "cut-page", .cut = 3, .from = 1000, .lasts = 100},
     {.name = "cut-PPS", .cut = 4, .lasts = 4000},
 };
-enum { LINES_COUNT = sizeof LINES / sizeof LINES[0], PAIRS_COUNT = 4, ROWS = 576 };
-static const char *const PAIRS[PAIRS_COUNT] = {"it:it", "it:ours", "ours:it", "ours:ours"};
+enum { LINES_COUNT = sizeof LINES / sizeof LINES[0], PAIRS_COUNT = 5, ROWS = 576 };
+
+/* Who calls and who answers. */
+typedef struct pair {
+    const char *name;
+    int caller_is_ours, answerer_is_ours;
+    int ctc; /* our answerer answers CTC */
+} pair;
+static const pair PAIRS[] = {{"it:it", 0, 0, 0}, {"it:ours", 0, 1, 0}, {"it:ours+ctc", 0, 1, 1}, {"ours:it", 1, 0, 0}, {"ours:ours", 1, 1, 0}};
 
 typedef struct tally { uint32_t calls, well, broken; } tally;
 
-static int party_of(const char *name, size_t length, const trial *kind, int calls, const char *folder, party *out)
+static int begin(int is_ours, const trial *kind, int calls, const char *folder, party *out)
 {
-    if (strncmp(name, "ours", length) == 0) return trial_ours(out, kind, calls);
-    return trial_theirs(out, kind, calls, folder);
+    return is_ours ? trial_ours(out, kind, calls) : trial_theirs(out, kind, calls, folder);
 }
 
 /* Runs a call of a pair, and prints what came of it unless it went well; whether it could be begun. */
-static int try_call(const char *pair, const trial *kind, const char *folder, tally *out)
+static int try_call(const pair *who, const trial *kind, const char *folder, tally *out)
 {
-    const char *second = strchr(pair, ':') + 1;
     party caller, answerer;
     outcome came;
-    if (!party_of(pair, (size_t)(second - 1 - pair), kind, 1, folder, &caller)) return 0;
-    if (!party_of(second, strlen(second), kind, 0, folder, &answerer)) return 0;
+    if (!begin(who->caller_is_ours, kind, 1, folder, &caller) || !begin(who->answerer_is_ours, kind, 0, folder, &answerer)) {
+        fprintf(stderr, "softfax-test: %s can't begin\n", who->name);
+        return 0;
+    }
     trial_run(&caller, &answerer, kind, &came);
     int well = trial_went_well(kind, &came);
     out->calls++;
     out->well += (uint32_t)well;
     out->broken += (uint32_t)trial_is_broken(&came);
     if (well && kind->tells == NULL) return 1;
-    fprintf(stderr, "%s %s %u %u %u %u: caller: %s; answerer: %s; confirmed %u, equal %u, wrong %u; %u s\n", pair, kind->line.name,
+    fprintf(stderr, "%s %s %u %u %u %u: caller: %s; answerer: %s; confirmed %u, equal %u, wrong %u; %u s\n", who->name, kind->line.name,
             kind->modems, kind->coding, kind->pages, (uint32_t)kind->seed, came.caller, came.answerer, (uint32_t)came.confirmed,
             came.equal, came.wrong, came.seconds);
     return 1;
 }
 
 /* A cell of the table: twelve kinds of calls, with each seed. */
-static int try_cell(const char *pair, const line_kind *line, uint32_t seeds, const paper *papers, const char *folder, tally *out)
+static int try_cell(const pair *who, const line_kind *line, uint32_t seeds, const paper *papers, const char *folder, tally *out)
 {
     for (uint32_t i = 0; i < 12 * seeds; i++) {
-        trial kind = {*line, 1 + i % 3, i / 3 % 2 ? G3_MMR : G3_MH, i / 6 % 2 ? 3 : 1, 2, i / 12, papers, NULL};
-        if (!try_call(pair, &kind, folder, out)) return 0;
+        trial kind = {*line, 1 + i % 3, i / 3 % 2 ? G3_MMR : G3_MH, i / 6 % 2 ? 3 : 1, 2, i / 12, papers, who->ctc, NULL};
+        if (!try_call(who, &kind, folder, out)) return 0;
     }
     return 1;
 }
@@ -74,7 +82,7 @@ static int try_line(const line_kind *line, uint32_t seeds, const paper *papers, 
     printf("| %s |", line->name);
     for (int i = 0; i < PAIRS_COUNT; i++) {
         tally all = {0, 0, 0};
-        if (!try_cell(PAIRS[i], line, seeds, papers, folder, &all)) return 0;
+        if (!try_cell(&PAIRS[i], line, seeds, papers, folder, &all)) return 0;
         printf(" %u of %u%s |", all.well, all.calls, all.broken > 0 ? ", WRONG" : "");
         fflush(stdout);
         is_right &= all.broken == 0 && (strcmp(line->name, "clean") != 0 || all.well == all.calls);
@@ -94,8 +102,8 @@ static int try_table(int count, char **words, const paper *papers, const char *f
 {
     int is_right = 1;
     printf("| line |");
-    for (int i = 0; i < PAIRS_COUNT; i++) printf(" %s |", PAIRS[i]);
-    printf("\n|---|---|---|---|---|\n");
+    for (int i = 0; i < PAIRS_COUNT; i++) printf(" %s |", PAIRS[i].name);
+    printf("\n|---|---|---|---|---|---|\n");
     for (int i = 0; i < LINES_COUNT; i++) {
         if (is_wanted(LINES[i].name, count - 1, words + 1)) is_right &= try_line(&LINES[i], (uint32_t)atoi(words[0]), papers, folder);
     }
@@ -105,11 +113,12 @@ static int try_table(int count, char **words, const paper *papers, const char *f
 static int try_one(char **words, const paper *papers, const char *folder)
 {
     tally all = {0, 0, 0};
-    int line = 0;
+    int line = 0, who = 0;
     while (line < LINES_COUNT && strcmp(LINES[line].name, words[1]) != 0) line++;
-    if (line == LINES_COUNT || strchr(words[0], ':') == NULL) return 0;
-    trial kind = {LINES[line], (uint32_t)atoi(words[2]), (uint32_t)atoi(words[3]), (uint32_t)atoi(words[4]), 2, (uint64_t)atoi(words[5]), papers, "told"};
-    return kind.pages <= MOST_PAGES && try_call(words[0], &kind, folder, &all) && all.well == all.calls;
+    while (who < PAIRS_COUNT && strcmp(PAIRS[who].name, words[0]) != 0) who++;
+    if (line == LINES_COUNT || who == PAIRS_COUNT) return 0;
+    trial kind = {LINES[line], (uint32_t)atoi(words[2]), (uint32_t)atoi(words[3]), (uint32_t)atoi(words[4]), 2, (uint64_t)atoi(words[5]), papers, PAIRS[who].ctc, "told"};
+    return kind.pages <= MOST_PAGES && try_call(&PAIRS[who], &kind, folder, &all) && all.well == all.calls;
 }
 
 /* A call of one page of each pair with ours in it, over a clean line. */
@@ -117,8 +126,8 @@ static int try_few(const paper *papers, const char *folder)
 {
     tally all = {0, 0, 0};
     for (int i = 1; i < PAIRS_COUNT; i++) {
-        trial kind = {LINES[0], G3_V17, G3_MMR, 1, 2, 0, papers, NULL};
-        if (!try_call(PAIRS[i], &kind, folder, &all)) return 0;
+        trial kind = {LINES[0], G3_V17, G3_MMR, 1, 2, 0, papers, PAIRS[i].ctc, NULL};
+        if (!try_call(&PAIRS[i], &kind, folder, &all)) return 0;
     }
     printf("softfax: %u of %u calls by spandsp's modems complete, with its own terminal each way and with ours\n", all.well, all.calls);
     return all.well == all.calls;

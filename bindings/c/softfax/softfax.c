@@ -1,11 +1,12 @@
 /* A fax terminal on two streams of sound: signed samples of 16 bits, 8,000 a second.
  *
  *     softfax --call PAGE.pbm.. --rx IN --tx OUT [--modems v17|v29|v27ter] [--code mmr|mh] [--fine] [--wav FILE] [--tell]
- *     softfax --answer DIR --rx IN --tx OUT [--modems ..] [--code ..] [--wav FILE] [--tell]
+ *     softfax --answer DIR --rx IN --tx OUT [--modems ..] [--code ..] [--ctc] [--wav FILE] [--tell]
  *
  * A caller sends its pages; an answerer writes those that come to DIR/page-1.pbm and so on. --wav writes both directions as a WAV file,
- * ours on the left. --tell tells on standard error what happens. Samples keep the time: no clock is looked at. SIGINT hangs up in order.
- * Status 0: the call ended normally; 1: it didn't, or a file is at fault; 2: the words are no command. */
+ * ours on the left. --ctc answers CTC, which is outside what the library proves. --tell tells on standard error what happens. Samples keep
+ * the time: no clock is looked at. SIGINT hangs up in order. Status 0: the call ended normally; 1: it didn't, or a file is at fault; 2: the
+ * words are no command. */
 #include "pages.h"
 #include "sound.h"
 #include "terminal.h"
@@ -16,7 +17,7 @@ enum { PIECE = 4 * SLICE, MOST_PAGES = 256 };
 enum { AFTER_LINE = 25 }; /* pieces of silence that are heard after the other side's end, 0.5 s: what it said last may be DCN */
 
 typedef struct options {
-    int calls, answers, fine, tells;
+    int calls, answers, fine, ctc, tells;
     const char *folder, *rx, *tx, *wav;
     uint32_t modems, coding;
     const char *pages[MOST_PAGES];
@@ -43,7 +44,7 @@ static void on_interrupt(int number)
 static int usage(void)
 {
     fprintf(stderr, "usage: softfax --call PAGE.pbm.. | --answer DIR   --rx IN --tx OUT\n"
-                    "       [--modems v17|v29|v27ter] [--code mmr|mh] [--fine] [--wav FILE] [--tell]\n");
+                    "       [--modems v17|v29|v27ter] [--code mmr|mh] [--fine] [--ctc] [--wav FILE] [--tell]\n");
     return 2;
 }
 
@@ -76,6 +77,7 @@ static int read_words(options *out, int argc, char **argv)
     for (int i = 1; i < argc; i++) {
         if (strcmp(argv[i], "--call") == 0) out->calls = 1;
         else if (strcmp(argv[i], "--fine") == 0) out->fine = 1;
+        else if (strcmp(argv[i], "--ctc") == 0) out->ctc = 1;
         else if (strcmp(argv[i], "--tell") == 0) out->tells = 1;
         else if (argv[i][0] != '-') {
             if (out->count == MOST_PAGES) return 0;
@@ -117,6 +119,7 @@ static int make_terminal(call *it)
     it->folder.name = it->given->folder;
     it->terminal = terminal_new(&it->station, it->given->calls ? NULL : &pages);
     if (it->terminal == NULL) return fprintf(stderr, "softfax: no memory\n"), 0;
+    if (it->given->ctc) terminal_answer_ctc(it->terminal);
     if (it->given->tells) terminal_tell(it->terminal, it->given->calls ? "caller" : "answerer");
     return 1;
 }

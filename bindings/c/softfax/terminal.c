@@ -40,6 +40,9 @@ struct terminal {
     size_t checked, check_room;
     uint8_t *octets;                /* the burst that goes out */
     g3_burst burst;
+    int answers_ctc, ctr;           /* CTC is answered; CTR is to be said */
+    uint32_t ctc;                   /* the carrier that CTC has named; 0: none since the last DCS */
+    int trains_anew;                /* the next page carrier comes with the long training, as CTC has it */
 };
 
 static void tell(const terminal *it, const char *what, const char *name, uint64_t number)
@@ -109,6 +112,11 @@ int terminal_is_over(const terminal *it)
     return it->phase == IS_OVER;
 }
 
+void terminal_answer_ctc(terminal *it)
+{
+    it->answers_ctc = 1;
+}
+
 void terminal_tell(terminal *it, const char *name)
 {
     it->name = name;
@@ -122,8 +130,24 @@ static void listen(terminal *it)
     it->checked = 0;
     if (!is_done(it, g3_terminal_state(it->station, &state))) return;
     it->listens = state.listens;
-    it->carrier = state.listens == G3_HEARS_V21 ? 0 : state.carrier;
-    modem_listen(it->modem, it->carrier, state.listens == G3_HEARS_PAGES);
+    it->carrier = state.listens == G3_HEARS_V21 ? 0 : state.listens == G3_HEARS_PAGES && it->ctc != 0 ? it->ctc : state.carrier;
+    modem_listen(it->modem, it->carrier, state.listens == G3_HEARS_PAGES && !it->trains_anew);
+}
+
+/* Notes CTC, and the DCS that ends what it said. The third octet is the kind of the frame; the fifth has the speed, as in a DCS (T.30, table
+ * 2, bits 11 to 14). */
+static void note_ctc(terminal *it, const uint8_t *content, uint64_t length)
+{
+    static const uint32_t CARRIERS[16] = {
+        [0] = G3_V27TER_2400, [2] = G3_V27TER_4800, [3] = G3_V29_7200, [1] = G3_V29_9600, [11] = G3_V17_7200, [9] = G3_V17_9600,
+        [10] = G3_V17_12000, [8] = G3_V17_14400};
+    enum { DCS = 0x82, CTC = 0x12, SIDE = 1 };
+    int kind = content[2] & ~SIDE;
+    uint32_t carrier = length >= 5 ? CARRIERS[content[4] >> 2 & 15] : 0;
+    if (kind == DCS) it->ctc = 0, it->trains_anew = 0;
+    if (kind != CTC || carrier == 0 || it->listens != G3_HEARS_PAGES) return;
+    it->ctc = carrier;
+    it->trains_anew = it->ctr = 1;
 }
 
 /* Gives a frame that a receiver has brought to the library, as the bits of a line of its own: so those of two receivers never mix. */
@@ -148,6 +172,7 @@ static void hear_frames(terminal *it, int receiver, const uint8_t *octets, uint3
         tell(it, "hears", frame_name(content[2]), 0);
         it->heard = it->now;
         it->reads = 1;
+        if (receiver == BY_V21 && it->answers_ctc) note_ctc(it, content, length);
         give_frame(it, content, length);
     }
 }
@@ -205,6 +230,7 @@ static void hear(terminal *it, const int16_t *in)
     it->quiet = it->now;
     if (it->reads || it->now - it->began >= LEAST_SIGNAL) it->calm = it->now;
     if (it->listens == G3_HEARS_CHECK) end_check(it);
+    else if (it->trained) it->trains_anew = 0;
     listen(it);
 }
 
@@ -287,14 +313,44 @@ static g3_status begin_carrier(terminal *it)
     return G3_OK;
 }
 
+/* Says CTR, which the library doesn't have: 1 s of flags, the frame and two flags. */
+static void say_ctr(terminal *it)
+{
+    static const uint8_t CTR[] = {0xff, 0x13, 0xc4};
+    enum { FLAG = 0x7e, FLAGS_BEFORE = 37, FLAGS_AFTER = 2, ROOM = 64 };
+    g3_octets handle = G3_EMPTY;
+    uint64_t bits = 0, length = 0;
+    it->ctr = 0;
+    free(it->octets);
+    it->octets = malloc(ROOM);
+    if (it->octets == NULL || !is_done(it, g3_frame_write(CTR, sizeof CTR, &handle, &bits))) return;
+    memset(it->octets, FLAG, ROOM);
+    is_done(it, g3_octets_copy(&handle, it->octets + FLAGS_BEFORE, ROOM - FLAGS_BEFORE - FLAGS_AFTER, &length));
+    g3_octets_free(&handle);
+    length += FLAGS_BEFORE + FLAGS_AFTER;
+    it->burst = (g3_burst){length * 8, G3_V21, 0, 1};
+    modem_begin_carrier(it->modem, G3_V21, 0, it->octets, it->burst.bits);
+    tell_burst(it, length);
+    it->phase = IN_CARRIER;
+}
+
+static int has_ended(const terminal *it)
+{
+    g3_state state;
+    return is_done(it, g3_terminal_state(it->station, &state)) && state.end != 0;
+}
+
 /* Begins the turn if there is one and the line has been silent for long enough; leaves after the call's end, once nothing is left to be
  * said: the last turn may be DCN. */
 static void speak(terminal *it)
 {
-    g3_state state;
     if (it->quiet == NEVER || it->now - it->quiet < BEFORE_CARRIER) return;
     hand_over(it);
-    if (begin_carrier(it) != G3_NOTHING || !is_done(it, g3_terminal_state(it->station, &state)) || state.end == 0) return;
+    if (it->ctr) {
+        say_ctr(it);
+        return;
+    }
+    if (begin_carrier(it) != G3_NOTHING || !has_ended(it)) return;
     it->phase = LEAVES;
     it->until = it->now + AFTER_CALL;
 }

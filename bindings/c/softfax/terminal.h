@@ -22,6 +22,9 @@ void terminal_step(terminal *it, const int16_t *in, int16_t *out);
 int terminal_is_over(const terminal *it);
 /* The line is gone: hangs up. */
 void terminal_lose(terminal *it);
+/* An answerer answers CTC by CTR from now on. CTC is outside what the library proves: other machines send it after the fourth PPR of a
+ * block, and go on by a carrier that it names, which trains anew. Without this it isn't answered. */
+void terminal_answer_ctc(terminal *it);
 /* Tells on standard error what happens, each line with the time in milliseconds and this name. */
 void terminal_tell(terminal *it, const char *name);
 #endif

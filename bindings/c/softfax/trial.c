@@ -107,6 +107,7 @@ int trial_ours(party *out, const trial *kind, int calls)
     if (new_station(kind, calls, &it->station) == G3_OK) it->terminal = terminal_new(&it->station, calls ? NULL : &pages);
     if (it->terminal != NULL) {
         party mine = {it, ours_step, ours_is_over, ours_ending, ours_leave};
+        if (kind->ctc) terminal_answer_ctc(it->terminal);
         if (kind->tells != NULL) terminal_tell(it->terminal, calls ? "caller" : "answerer");
         *out = mine;
         return 1;

@@ -16,6 +16,7 @@ typedef struct trial {
     uint32_t limit;            /* how many pages wait in our answerer's memory */
     uint64_t seed;
     const paper *papers;
+    int ctc;                   /* our answerer answers CTC */
     const char *tells;         /* what happens is told on standard error; NULL: nothing */
 } trial;
 
