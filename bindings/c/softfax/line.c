@@ -2,6 +2,7 @@
 #include "paper.h"
 
 static const double FULL = 32767, HIT = -10;
+static const double OF_SINE = 0.70710678; /* the deviation of noise is that of a sine of its level */
 enum { HIT_MILLIS = 50, SIGNALS_OF_ANSWERER = 2 /* CED and DIS */, GAP = 4 /* slices */ };
 
 /* The height that a signal of full scale has at a level, of a sine, in dBm0 to the tenth. */
@@ -17,6 +18,9 @@ void line_new(line *out, const line_kind *kind, uint64_t seed)
     static const line fresh;
     *out = fresh;
     out->kind = *kind;
+    out->noise = kind->noise != 0 ? height(kind->noise) * OF_SINE : 0;
+    out->strike = height(HIT) * OF_SINE;
+    out->echo = kind->echo != 0 ? height(kind->echo) / height(0) : 0;
     out->chance = seed * 2 + 1;
     for (int i = 0; i < 8; i++) draw(&out->chance);
     if (kind->hum != 0) out->caller.hum[1] = out->answerer.hum[1] = -height(kind->hum) * 0.03925980; /* the sine of its step */
@@ -73,15 +77,22 @@ static int16_t clipped(double sample)
     return sample > FULL ? 32767 : sample < -FULL ? -32767 : (int16_t)(sample < 0 ? sample - 0.5 : sample + 0.5);
 }
 
-/* A slice of one direction. */
-static void carry(line *it, wire *direction, const int16_t *said, int hit, int16_t *heard)
+/* Keeps what is said, for its echo. */
+static void keep(wire *it, const int16_t *said)
 {
-    double noise = it->kind.noise != 0 ? height(it->kind.noise) * 0.70710678 : 0, strike = hit ? height(HIT) * 0.70710678 : 0;
+    for (int i = 0; i < SLICE; i++) it->past[it->at++ % PAST] = said[i];
+}
+
+/* A slice of one direction, with the echo of the other one. */
+static void carry(line *it, wire *direction, const wire *other, const int16_t *said, int hit, int16_t *heard)
+{
+    uint32_t echo_at = other->at - SLICE - (uint32_t)it->kind.late * 8;
     for (int i = 0; i < SLICE; i++) {
         double sample = said[i];
-        if (noise > 0 && (it->kind.always || said[i] != 0)) sample += noise * normal(it);
-        if (hit) sample += strike * normal(it);
+        if (it->noise > 0 && (it->kind.always || said[i] != 0)) sample += it->noise * normal(it);
+        if (hit) sample += it->strike * normal(it);
         if (it->kind.hum != 0) sample += hum_sample(direction);
+        sample += it->echo * other->past[(echo_at + (uint32_t)i) % PAST];
         heard[i] = clipped(sample);
     }
 }
@@ -92,6 +103,8 @@ void line_carry(line *it, const int16_t *caller, const int16_t *answerer, int16_
     int begins = count_signals(&it->caller, caller);
     it->commands += begins && it->answerer.signals >= SIGNALS_OF_ANSWERER;
     int cut = is_cut(it), hit = is_hit(it, &it->caller);
-    carry(it, &it->caller, caller, cut || hit, to_answerer);
-    carry(it, &it->answerer, answerer, is_hit(it, &it->answerer), to_caller);
+    keep(&it->caller, caller);
+    keep(&it->answerer, answerer);
+    carry(it, &it->caller, &it->answerer, caller, cut || hit, to_answerer);
+    carry(it, &it->answerer, &it->caller, answerer, is_hit(it, &it->answerer), to_caller);
 }

@@ -21,6 +21,8 @@ static const line_kind LINES[] = {
     {.name = "-48-always", .noise = -48, .always = 1},
     {.name = "-40-always", .noise = -40, .always = 1},
     {.name = "hum-20", .hum = -20},
+    {.name = "echo-30ms", .echo = -12, .late = 30},
+    {.name = "echo-250ms", .echo = -12, .late = 250},
     {.name = "cut-DCS", .cut = 1, .lasts = 4000},
     {.name = "cut-check", .cut = 2, .from = 2000, .lasts = 300},
     {.name = "cut-page", .cut = 3, .from = 1000, .lasts = 100},
@@ -135,10 +137,11 @@ static int try_few(const paper *papers, const char *folder)
 
 int main(int argc, char **argv)
 {
+    static const uint32_t WIDTHS[MOST_PAGES] = {1728, 2432, 1728};
     paper papers[MOST_PAGES];
     int is_right = 0;
     for (uint32_t i = 0; i < MOST_PAGES; i++) {
-        if (!paper_new(&papers[i], 1728, ROWS, i + 1)) return fprintf(stderr, "softfax-test: no memory\n"), 1;
+        if (!paper_new(&papers[i], WIDTHS[i], ROWS, i + 1)) return fprintf(stderr, "softfax-test: no memory\n"), 1;
     }
     if (argc == 2) is_right = try_few(papers, argv[1]);
     else if (argc >= 4 && strcmp(argv[2], "--table") == 0) is_right = try_table(argc - 3, argv + 3, papers, argv[1]);

@@ -10,12 +10,13 @@ enum {
     CED = 2600,               /* (T.30, 4.3.3) */
     BEFORE_CARRIER = 75,      /* silence (T.30, 5.3) */
     AFTER_CALL = 200,         /* silence after the last carrier, so that the line carries all of it */
-    LONGEST_UNREAD = 6000,    /* a signal with no frame, which trains no receiver: after that it is the line's hiss */
-    LONGEST_CARRIER = 240000, /* a page carrier with no good frame: likewise */
+    LONGEST_UNREAD = 6000,    /* a signal with no frame where no page is awaited: after that it is the line's hiss */
+    LONGEST_CRACKLE = 300000, /* a line that is never silent for long, with no frame: T1 is over, whatever else is heard */
     LEAST_CHECK = 1000,       /* a signal that may have been a training check that couldn't be read */
     LEAST_SIGNAL = 400        /* a shorter one without a frame is a crackle, and no wait runs anew from it */
 };
 enum { NEVER = -1 };
+enum { BLOCK_BITS = 660000 }; /* the longest block: 256 frames of 262 octets with a flag each and as many 0 bits stuffed as can be */
 
 enum phase { WAITS_FOR_CED, IN_CED, LISTENS, PAUSES, IN_CARRIER, LEAVES, IS_OVER };
 
@@ -184,19 +185,25 @@ static void hear_check(terminal *it, const uint8_t *octets, uint32_t count)
     it->checked += count;
 }
 
+/* The bits a second of a carrier. */
+static uint32_t rate_of(uint32_t carrier)
+{
+    static const uint32_t RATES[] = {
+        [0] = 300, [G3_V21] = 300, [G3_V27TER_2400] = 2400, [G3_V27TER_4800] = 4800, [G3_V29_7200] = 7200, [G3_V29_9600] = 9600,
+        [G3_V17_7200] = 7200, [G3_V17_9600] = 9600, [G3_V17_12000] = 12000, [G3_V17_14400] = 14400};
+    return RATES[carrier];
+}
+
 /* How many octets of the check that came are given to the library: all, if nine tenths of its 1.5 s were zeros with nothing wrong between
  * them, else none. On a line that spoils an octet each second few frames would come whole. */
 static size_t good_check(const terminal *it)
 {
-    static const uint32_t RATES[] = {
-        [G3_V27TER_2400] = 2400, [G3_V27TER_4800] = 4800, [G3_V29_7200] = 7200, [G3_V29_9600] = 9600, [G3_V17_7200] = 7200,
-        [G3_V17_9600] = 9600, [G3_V17_12000] = 12000, [G3_V17_14400] = 14400};
     size_t run = 0, longest = 0;
     for (size_t i = 0; i < it->checked; i++) {
         run = it->check[i] == 0 ? run + 1 : 0;
         if (run > longest) longest = run;
     }
-    return longest * 8 * 10 >= RATES[it->carrier] * 3 / 2 * 9 ? it->checked : 0;
+    return longest * 8 * 10 >= rate_of(it->carrier) * 3 / 2 * 9 ? it->checked : 0;
 }
 
 /* The signal that may have been a training check is over. */
@@ -234,10 +241,11 @@ static void hear(terminal *it, const int16_t *in)
     listen(it);
 }
 
-/* Takes what goes on and on for the hiss of the line. */
+/* Takes what goes on and on for the hiss of the line. Where pages are awaited it may be a block that no receiver is trained by. */
 static void hush(terminal *it)
 {
-    int64_t longest = it->trained ? LONGEST_CARRIER : LONGEST_UNREAD;
+    int64_t longest = LONGEST_UNREAD;
+    if (it->listens == G3_HEARS_PAGES) longest += (int64_t)BLOCK_BITS * 1000 / rate_of(it->carrier);
     if (it->quiet == NEVER && it->now - it->began > longest && it->now - it->heard > longest) modem_hush(it->modem);
 }
 
@@ -252,7 +260,7 @@ static int is_past(const terminal *it, uint32_t wait, int64_t since)
 static int wait_is_past(const terminal *it, uint32_t wait)
 {
     if (wait == G3_T1 && it->calls) return is_past(it, wait, it->heard);
-    return is_past(it, wait, it->calm) || (wait == G3_T1 && it->now - it->heard >= LONGEST_CARRIER);
+    return is_past(it, wait, it->calm) || (wait == G3_T1 && it->now - it->heard >= LONGEST_CRACKLE);
 }
 
 /* Tells the library of a wait that is over. Waits are looked at while the line is silent. Of the longer ones T5 runs from when the other

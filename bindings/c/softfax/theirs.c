@@ -32,7 +32,7 @@ static int write_tiff(const trial *kind, const char *name)
         TIFFSetField(file, TIFFTAG_PHOTOMETRIC, PHOTOMETRIC_MINISWHITE);
         TIFFSetField(file, TIFFTAG_FILLORDER, FILLORDER_LSB2MSB);
         TIFFSetField(file, TIFFTAG_COMPRESSION, COMPRESSION_CCITTFAX4);
-        TIFFSetField(file, TIFFTAG_XRESOLUTION, page->width == 2432 ? 203.0 : 204.0);
+        TIFFSetField(file, TIFFTAG_XRESOLUTION, 204.0);
         TIFFSetField(file, TIFFTAG_YRESOLUTION, 196.0);
         TIFFSetField(file, TIFFTAG_RESOLUTIONUNIT, RESUNIT_INCH);
         TIFFSetField(file, TIFFTAG_PAGENUMBER, i, kind->pages);

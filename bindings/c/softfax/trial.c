@@ -76,7 +76,9 @@ static int ours_is_over(void *user)
 
 static const char *ours_ending(void *user)
 {
-    static const char *const ENDS[] = {"no end", "normal", "no answer", "not compatible", "training", "no reply", "unreadable", "still busy"};
+    static const char *const ENDS[] = {
+        "no end", "normal", "no answer", "not compatible", "training", "no reply", "unreadable", "still busy", "peer left", "bad page",
+        "page too long", "stopped", "line lost"};
     ours *it = user;
     g3_state state;
     if (g3_terminal_state(&it->station, &state) != G3_OK) return "no state";
