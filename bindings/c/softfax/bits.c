@@ -2,7 +2,7 @@
  * has up to two bits. No telephone line carries it. It is as strict as a real one: a page receiver is trained only where it listened for
  * that carrier, and in that way, long or brief, before the carrier began.
  *
- *     bit 14: 1   bits 12, 13: the state   bits 8 to 11: the carrier   bits 4 to 7: a check   bits 2, 3: how many bits   bits 0, 1: the bits
+ *     bit 14: 1; 12, 13: the state; 8 to 11: the carrier; 4 to 7: a check; 2, 3: how many bits; 0, 1: the bits
  *
  * A sample with a wrong check is noise. Silence is zeros. */
 #include "modem.h"

@@ -55,7 +55,8 @@ out.append(f'<rect width="{WIDTH}" height="{height:.0f}" fill="white"/>')
 out.append(f'<text x="{LEFT}" y="20" text-anchor="middle">caller</text><text x="{RIGHT}" y="20" text-anchor="middle">answerer</text>')
 for second in range(0, int(seconds) + 1, 2):
     y = TOP + second * SECOND
-    out.append(f'<line x1="40" y1="{y}" x2="{WIDTH - 20}" y2="{y}" stroke="#ddd"/><text x="34" y="{y + 4}" text-anchor="end">{second} s</text>')
+    out.append(f'<line x1="40" y1="{y}" x2="{WIDTH - 20}" y2="{y}" stroke="#ddd"/>')
+    out.append(f'<text x="34" y="{y + 4}" text-anchor="end">{second} s</text>')
 out += [shape(LEFT, sound[0::2]), shape(RIGHT, sound[1::2])]
 for at, goes_right, text in frames(open(sys.argv[2])):
     y = TOP + at * SECOND

@@ -51,7 +51,8 @@ for page in 1 2; do { printf 'P4\n1728 200\n'; seq "$page"0000 99999 | head -c 4
 mkdir "$work/got"
 joins 0 0 "$OUT/softfax" -- "$work/1.pbm" "$work/2.pbm" --wav "$work/call.wav"
 for page in 1 2; do cmp "$work/$page.pbm" "$work/got/page-$page.pbm" || fails "page $page is another"; done
-[ "$(cat "$work/caller" "$work/answerer" | tr '\n' ' ')" = "end normal confirmed 2 end normal pages 2 " ] || fails "ends: $(cat "$work/caller")"
+ends=$(cat "$work/caller" "$work/answerer" | tr '\n' ' ')
+[ "$ends" = "end normal confirmed 2 end normal pages 2 " ] || fails "the ends are $ends"
 [ "$(head -c 4 "$work/call.wav")" = RIFF ] || fails "call.wav"
 
 # a page that can't be written: files may have 512 octets here, which is as if the disk were full

@@ -36,7 +36,8 @@ typedef struct pair {
     int caller_is_ours, answerer_is_ours;
     int ctc; /* our answerer answers CTC */
 } pair;
-static const pair PAIRS[] = {{"it:it", 0, 0, 0}, {"it:ours", 0, 1, 0}, {"it:ours+ctc", 0, 1, 1}, {"ours:it", 1, 0, 0}, {"ours:ours", 1, 1, 0}};
+static const pair PAIRS[] = {
+    {"it:it", 0, 0, 0}, {"it:ours", 0, 1, 0}, {"it:ours+ctc", 0, 1, 1}, {"ours:it", 1, 0, 0}, {"ours:ours", 1, 1, 0}};
 
 typedef struct tally { uint32_t calls, well, broken; } tally;
 
@@ -119,7 +120,8 @@ static int try_one(char **words, const paper *papers, const char *folder)
     while (line < LINES_COUNT && strcmp(LINES[line].name, words[1]) != 0) line++;
     while (who < PAIRS_COUNT && strcmp(PAIRS[who].name, words[0]) != 0) who++;
     if (line == LINES_COUNT || who == PAIRS_COUNT) return 0;
-    trial kind = {LINES[line], (uint32_t)atoi(words[2]), (uint32_t)atoi(words[3]), (uint32_t)atoi(words[4]), 2, (uint64_t)atoi(words[5]), papers, PAIRS[who].ctc, "told"};
+    uint32_t modems = (uint32_t)atoi(words[2]), coding = (uint32_t)atoi(words[3]), pages = (uint32_t)atoi(words[4]);
+    trial kind = {LINES[line], modems, coding, pages, 2, (uint64_t)atoi(words[5]), papers, PAIRS[who].ctc, "told"};
     return kind.pages <= MOST_PAGES && try_call(&PAIRS[who], &kind, folder, &all) && all.well == all.calls;
 }
 

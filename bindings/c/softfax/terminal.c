@@ -6,14 +6,15 @@
 
 /* Durations in milliseconds. The waits of T.30 are those of the library, g3_wait_millis. */
 enum {
-    BEFORE_CED = 1800,        /* an answerer is silent at first (T.30, 4) */
-    CED = 2600,               /* (T.30, 4.3.3) */
+    BEFORE_CED = 1800,        /* an answerer is silent at first, and then says CED (T.30, 4) */
+    CED = 2600,
     BEFORE_CARRIER = 75,      /* silence (T.30, 5.3) */
     AFTER_CALL = 200,         /* silence after the last carrier, so that the line carries all of it */
     LONGEST_UNREAD = 6000,    /* a signal with no frame where no page is awaited: after that it is the line's hiss */
     LONGEST_CRACKLE = 300000, /* a line that is never silent for long, with no frame: T1 is over, whatever else is heard */
     LEAST_CHECK = 1000,       /* a signal that may have been a training check that couldn't be read */
-    LEAST_SIGNAL = 400        /* a shorter one without a frame is a crackle, and no wait runs anew from it */
+    LEAST_SIGNAL = 400,       /* a shorter one without a frame is a crackle, and no wait runs anew from it */
+    LONGEST_ECHO = 700        /* a longer signal is no echo of our own CNG, which lasts 500 */
 };
 enum { NEVER = -1 };
 enum { BLOCK_BITS = 660000 }; /* the longest block: 256 frames of 262 octets with a flag each and as many 0 bits stuffed as can be */
@@ -32,7 +33,7 @@ struct terminal {
     int64_t heard;                  /* when the last good frame or training check came */
     int64_t asked;                  /* the last time at which T5 didn't run */
     int64_t began;                  /* when the last signal began */
-    int rings;                      /* CNG goes out in silences */
+    int rings;                      /* CNG goes out while nothing is heard */
     int reads;                      /* frames have come in this signal */
     int trained;                    /* the page receiver is, in this signal */
     uint32_t listens, carrier;      /* what is listened for, as the library has said it */
@@ -89,7 +90,8 @@ terminal *terminal_new(g3_terminal *station, const terminal_pages *pages)
     it->check_room = 4096; /* 1.5 s at 14,400 bit/s are 2,700 octets */
     it->check = malloc(it->check_room);
     it->modem = modem_new();
-    if (it->check != NULL && it->modem != NULL && g3_deframer_new(&it->frames[BY_V21]) == G3_OK && g3_deframer_new(&it->frames[BY_PAGE]) == G3_OK) {
+    if (it->check != NULL && it->modem != NULL && g3_deframer_new(&it->frames[BY_V21]) == G3_OK
+        && g3_deframer_new(&it->frames[BY_PAGE]) == G3_OK) {
         if (it->calls) modem_begin_tone(it->modem, TONE_CNG);
         return it;
     }
@@ -135,8 +137,8 @@ static void listen(terminal *it)
     modem_listen(it->modem, it->carrier, state.listens == G3_HEARS_PAGES && !it->trains_anew);
 }
 
-/* Notes CTC, and the DCS that ends what it said. The third octet is the kind of the frame; the fifth has the speed, as in a DCS (T.30, table
- * 2, bits 11 to 14). */
+/* Notes CTC, and the DCS that ends what it said. The third octet is the kind of the frame; the fifth has the speed, as in a DCS (T.30,
+ * table 2, bits 11 to 14). */
 static void note_ctc(terminal *it, const uint8_t *content, uint64_t length)
 {
     static const uint32_t CARRIERS[16] = {
@@ -278,17 +280,21 @@ static void end_waits(terminal *it)
     is_done(it, g3_terminal_wait_over(it->station, over));
 }
 
-/* Hands over the pages that were stored; where one isn't kept, DCN takes the place of what was to be said. */
-static void hand_over(terminal *it)
+/* Hands over the pages that were stored; where one isn't kept, DCN takes the place of what was to be said. Whether all were handed over:
+ * memory may be refused, and it can be tried again. */
+static int hand_over(terminal *it)
 {
     g3_page page = G3_EMPTY;
-    while (!it->calls && g3_terminal_take_page(it->station, &page) == G3_OK) {
+    g3_status status = G3_OK;
+    if (it->calls) return 1;
+    while ((status = g3_terminal_take_page(it->station, &page)) == G3_OK) {
         int kept = it->pages.keep(it->pages.user, &page);
         g3_page_free(&page);
         if (kept) continue;
         tell(it, "can't keep a page", NULL, 0);
         is_done(it, g3_terminal_hang_up(it->station));
     }
+    return status == G3_NOTHING || is_done(it, status);
 }
 
 static void tell_burst(const terminal *it, uint64_t length)
@@ -352,8 +358,7 @@ static int has_ended(const terminal *it)
  * said: the last turn may be DCN. */
 static void speak(terminal *it)
 {
-    if (it->quiet == NEVER || it->now - it->quiet < BEFORE_CARRIER) return;
-    hand_over(it);
+    if (it->quiet == NEVER || it->now - it->quiet < BEFORE_CARRIER || !hand_over(it)) return;
     if (it->ctr) {
         say_ctr(it);
         return;
@@ -382,7 +387,7 @@ static void end_carrier(terminal *it)
 
 static void listen_and_speak(terminal *it, const int16_t *in, int16_t *out)
 {
-    if (it->rings && it->quiet != NEVER) modem_say(it->modem, out);
+    if (it->rings && (it->quiet != NEVER || it->now - it->began <= LONGEST_ECHO)) modem_say(it->modem, out);
     hear(it, in);
     hush(it);
     end_waits(it);

@@ -1,5 +1,5 @@
-/* A fax terminal: a g3_terminal of libg3fax joined to a modem. What is said, what is listened for and which wait runs the library decides; when,
- * by a clock of samples, is decided here. It knows no signal processing. */
+/* A fax terminal: a g3_terminal of libg3fax joined to a modem. What is said, what is listened for and which wait runs the library decides;
+ * when, by a clock of samples, is decided here. It knows no signal processing. */
 #ifndef TERMINAL_H
 #define TERMINAL_H
 #include "g3fax.h"

@@ -80,7 +80,8 @@ static void on_frame(t30_state_t *t30, void *user, int hears, const uint8_t *con
     theirs *it = user;
     (void)t30;
     if (it->kind->tells == NULL) return;
-    fprintf(stderr, "%u libspandsp's %s %s %s", it->millis, it->calls ? "caller" : "answerer", hears ? "hears" : "says", t30_frametype(content[2]));
+    fprintf(stderr, "%u libspandsp's %s %s %s", it->millis, it->calls ? "caller" : "answerer", hears ? "hears" : "says",
+            t30_frametype(content[2]));
     for (int i = 0; i < length && i < 12; i++) fprintf(stderr, " %02x", content[i]);
     fprintf(stderr, "\n");
 }
@@ -97,8 +98,8 @@ static void set_up(theirs *it)
     t30_set_supported_modems(t30, MODEMS[it->kind->modems]);
     t30_set_supported_compressions(t30, it->kind->coding == G3_MMR ? all : t4);
     t30_set_supported_resolutions(t30, T30_SUPPORT_STANDARD_RESOLUTION | T30_SUPPORT_FINE_RESOLUTION | T30_SUPPORT_R8_RESOLUTION);
-    t30_set_supported_image_sizes(t30, T30_SUPPORT_215MM_WIDTH | T30_SUPPORT_255MM_WIDTH | T30_SUPPORT_303MM_WIDTH | T30_SUPPORT_UNLIMITED_LENGTH
-        | T30_SUPPORT_A4_LENGTH | T30_SUPPORT_B4_LENGTH);
+    t30_set_supported_image_sizes(t30, T30_SUPPORT_215MM_WIDTH | T30_SUPPORT_255MM_WIDTH | T30_SUPPORT_303MM_WIDTH
+        | T30_SUPPORT_UNLIMITED_LENGTH | T30_SUPPORT_A4_LENGTH | T30_SUPPORT_B4_LENGTH);
     t30_set_ecm_capability(t30, TRUE);
     t30_set_rx_encoding(t30, T4_COMPRESSION_ITU_T6);
     t30_set_phase_e_handler(t30, on_end, it);
