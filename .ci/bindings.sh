@@ -1,7 +1,8 @@
 #!/bin/sh
 # Builds the library for C, and its examples with the kit's clang under the address sanitizer and with traps for what C doesn't define;
-# runs them on files that other programs wrote, and compares octets and texts. Then it installs the library, and tests the module for
-# Python. Ends with status 1 at the first difference. It needs the kit and Python's standard library alone.
+# runs them on files that other programs wrote, and compares octets and texts. Then it installs the library, tries the fax terminal over it,
+# and tests the module for Python. Ends with status 1 at the first difference. It needs the kit and Python's standard library alone; calls
+# over real modems are tried where libspandsp-dev is installed.
 set -e
 top=$(cd "$(dirname "$0")/.." && pwd)
 kit=${KIT:-/opt/rattle}
@@ -100,6 +101,7 @@ growths=$(sed -n 's/^growths //p' "$work/output")
 gives 0 random 200000
 [ ! -s "$work/output" ] || fails "random printed: $(head -3 "$work/output")"
 "$top/.ci/installed.sh" "$work"
+"$top/.ci/softfax.sh" "$work"
 
 # the module for Python, over the shared library
 PYTHONDONTWRITEBYTECODE=1 G3FAX_LIBRARY=$work/libg3fax.so.0 timeout 120 python3 -W error "$top/bindings/python/test_g3fax.py" \

@@ -2,7 +2,7 @@
  * training checks and pages. It carries bits and knows no frame. Two files have these functions, and a program is linked with one of them:
  * modem.c, over the signal processing of libspandsp, and bits.c, for tests where that isn't installed.
  *
- * Sound is signed samples of 16 bits, 8,000 a second, and goes in slices of 5 ms. Carriers have the numbers of g3fax.h: G3_V21 and so on. */
+ * Sound is signed samples of 16 bits, 8,000 a second, in slices of 5 ms. Carriers have the numbers of g3fax.h: G3_V21 and so on. */
 #ifndef MODEM_H
 #define MODEM_H
 #include <stdint.h>
