@@ -13,8 +13,8 @@ enum {
     LONGEST_UNREAD = 6000,    /* a signal with no frame where no page is awaited: after that it is the line's hiss */
     LONGEST_CRACKLE = 300000, /* a line that is never silent for long, with no frame: T1 is over, whatever else is heard */
     LEAST_CHECK = 1000,       /* a signal that may have been a training check that couldn't be read */
-    LEAST_SIGNAL = 400,       /* a shorter one without a frame is a crackle, and no wait runs anew from it */
-    LONGEST_ECHO = 700        /* a longer signal is no echo of our own CNG, which lasts 500 */
+    LEAST_SIGNAL = 700,       /* a shorter one without a frame is a crackle, or the echo of our own CNG: no wait runs anew from it */
+    BEFORE_CNG = 1000         /* silence */
 };
 enum { NEVER = -1 };
 enum { BLOCK_BITS = 660000 }; /* the longest block: 256 frames of 262 octets with a flag each and as many 0 bits stuffed as can be */
@@ -385,9 +385,16 @@ static void end_carrier(terminal *it)
     if (it->burst.last) end_turn(it);
 }
 
+/* A caller's CNG goes on while only its own echo is heard. */
+static void ring(terminal *it, int16_t *out)
+{
+    int hears_signal = it->quiet == NEVER && it->now - it->began >= LEAST_SIGNAL;
+    if (it->rings && !hears_signal && it->now - it->calm >= BEFORE_CNG) modem_say(it->modem, out);
+}
+
 static void listen_and_speak(terminal *it, const int16_t *in, int16_t *out)
 {
-    if (it->rings && (it->quiet != NEVER || it->now - it->began <= LONGEST_ECHO)) modem_say(it->modem, out);
+    ring(it, out);
     hear(it, in);
     hush(it);
     end_waits(it);
