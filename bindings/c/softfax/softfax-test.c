@@ -67,11 +67,11 @@ static int try_call(const pair *who, const trial *kind, const char *folder, tall
     return 1;
 }
 
-/* A cell of the table: twelve kinds of calls, with each seed. */
+/* A cell of the table: twelve kinds of calls, with so many seeds each; no two have the same. */
 static int try_cell(const pair *who, const line_kind *line, uint32_t seeds, const paper *papers, const char *folder, tally *out)
 {
     for (uint32_t i = 0; i < 12 * seeds; i++) {
-        trial kind = {*line, 1 + i % 3, i / 3 % 2 ? G3_MMR : G3_MH, i / 6 % 2 ? 3 : 1, 2, i / 12, papers, who->ctc, NULL};
+        trial kind = {*line, 1 + i % 3, i / 3 % 2 ? G3_MMR : G3_MH, i / 6 % 2 ? 3 : 1, 2, i, papers, who->ctc, NULL};
         if (!try_call(who, &kind, folder, out)) return 0;
     }
     return 1;

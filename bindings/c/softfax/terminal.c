@@ -29,7 +29,7 @@ struct terminal {
     int calls, phase;
     int64_t now, until;             /* until: when a silence or a tone is over */
     int64_t quiet;                  /* since when the line is silent; NEVER while there is a signal */
-    int64_t calm;                   /* when our last turn ended, or the last signal that was no crackle */
+    int64_t calm;                   /* when our last turn ended, or the last wait, or the last signal that was no crackle */
     int64_t heard;                  /* when the last good frame or training check came */
     int64_t asked;                  /* the last time at which T5 didn't run */
     int64_t began;                  /* when the last signal began */
@@ -277,7 +277,7 @@ static void end_waits(terminal *it)
     else if (wait_is_past(it, state.wait)) over = state.wait;
     if (over == 0) return;
     tell(it, "has waited: T", NULL, over);
-    is_done(it, g3_terminal_wait_over(it->station, over));
+    if (is_done(it, g3_terminal_wait_over(it->station, over))) it->calm = it->now; /* what is to be said now may have to wait for silence */
 }
 
 /* Hands over the pages that were stored; where one isn't kept, DCN takes the place of what was to be said. Whether all were handed over:
