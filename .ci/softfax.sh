@@ -4,8 +4,9 @@
 #     .ci/softfax.sh FOLDER
 #
 # The terminal over modems of plain bits is built with the kit's clang under the address sanitizer and with traps for what C doesn't
-# define, and always run. The rest wants libspandsp-dev and a C compiler, the one that CC names or cc: calls over its modems, with its own
-# terminal each way, two processes, and wrong files. Ends with status 1 at the first fault.
+# define, and always run, also with each growth of memory refused in turn. The rest wants libspandsp-dev and a C compiler, the one that
+# CC names or cc: calls over its modems, with its own terminal each way, two processes, and wrong files. Ends with status 1 at the first
+# fault.
 set -e
 top=$(cd "$(dirname "$0")/.." && pwd)
 kit=${KIT:-/opt/rattle}
@@ -13,19 +14,35 @@ work=$(cd "$1" && pwd)
 here=$top/bindings/c/softfax
 lib=$kit/toolchain/lib
 
-objects=
-for name in bits-test trial line paper terminal bits; do
-    "$kit/toolchain/bin/clang" -std=c11 -Wall -Wextra -Werror -O2 -g -fPIE -fsanitize=address,undefined -fsanitize-trap=undefined \
-        -nostdinc -isystem "$top/bindings/include" -I "$work" -c "$here/$name.c" -o "$work/softfax-$name.o"
-    objects="$objects $work/softfax-$name.o"
-done
-# the words have no spaces of their own, unless TMPDIR has
-# shellcheck disable=SC2086
-"$kit/toolchain/bin/ld.lld" -pie --eh-frame-hdr -dynamic-linker /lib64/ld-linux-x86-64.so.2 -o "$work/bits-test" "$lib/Scrt1.o" \
-    "$lib/crtbeginS.o" $objects "$work/libg3fax.a" --whole-archive "$kit/c/asan.a" --no-whole-archive "$lib/libc.so.6" \
-    "$lib/libc_nonshared.a" "$lib/libm.so.6" "$lib/ld-linux-x86-64.so.2" "$lib/libgcc_s.so.1" "$lib/libgcc.a" "$lib/crtendS.o"
-timeout 600 "$work/bits-test" > "$work/output" || { cat "$work/output" >&2; echo "softfax: FAILED: bits-test" >&2; exit 1; }
-echo "softfax: $(grep -c 24.of.24 "$work/output") lines of plain bits carry all calls"
+fails() {
+    cat "$work/output" >&2
+    echo "softfax: FAILED: $*" >&2
+    exit 1
+}
+
+# builds NAME WORDS: a test of the terminal over plain bits, linked with these words
+builds() {
+    name=$1
+    shift
+    objects=
+    for part in "$name" trial line paper terminal bits; do
+        "$kit/toolchain/bin/clang" -std=c11 -Wall -Wextra -Werror -O2 -g -fPIE -fsanitize=address,undefined -fsanitize-trap=undefined \
+            -nostdinc -isystem "$top/bindings/include" -I "$work" -c "$here/$part.c" -o "$work/softfax-$part.o"
+        objects="$objects $work/softfax-$part.o"
+    done
+    # the words have no spaces of their own, unless TMPDIR has
+    # shellcheck disable=SC2086
+    "$kit/toolchain/bin/ld.lld" -pie --eh-frame-hdr -dynamic-linker /lib64/ld-linux-x86-64.so.2 -o "$work/$name" "$@" "$lib/Scrt1.o" \
+        "$lib/crtbeginS.o" $objects "$work/libg3fax.a" --whole-archive "$kit/c/asan.a" --no-whole-archive "$lib/libc.so.6" \
+        "$lib/libc_nonshared.a" "$lib/libm.so.6" "$lib/ld-linux-x86-64.so.2" "$lib/libgcc_s.so.1" "$lib/libgcc.a" "$lib/crtendS.o"
+}
+
+builds bits-test
+timeout 600 "$work/bits-test" > "$work/output" || fails bits-test
+echo "softfax: $(grep -c '24 of 24' "$work/output") lines of plain bits carry all calls"
+builds memory-test --wrap=malloc --wrap=realloc --wrap=free
+timeout 600 "$work/memory-test" > "$work/output" || fails memory-test
+echo "softfax: $(cat "$work/output")"
 
 CC=${CC:-cc}
 if ! command -v "$CC" > /dev/null; then
@@ -33,6 +50,6 @@ if ! command -v "$CC" > /dev/null; then
 elif ! echo '#include <spandsp.h>' | "$CC" -E - > /dev/null 2>&1; then
     echo "softfax: not run, libspandsp-dev is not installed"
 else
-    LIB=$work OUT=$work/softfax CC=$CC "$here/run.sh" > "$work/output" 2>&1 || { cat "$work/output" >&2; exit 1; }
+    LIB=$work OUT=$work/softfax CC=$CC "$here/run.sh" > "$work/output" 2>&1 || fails run.sh
     tail -n 2 "$work/output"
 fi

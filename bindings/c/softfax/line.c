@@ -23,6 +23,8 @@ void line_new(line *out, const line_kind *kind, uint64_t seed)
     out->echo = kind->echo != 0 ? height(kind->echo) / height(0) : 0;
     out->chance = seed * 2 + 1;
     for (int i = 0; i < 8; i++) draw(&out->chance);
+    out->caller.delay = draw(&out->chance) % SLICE;
+    out->answerer.delay = draw(&out->chance) % SLICE;
     if (kind->hum != 0) out->caller.hum[1] = out->answerer.hum[1] = -height(kind->hum) * 0.03925980; /* the sine of its step */
 }
 
@@ -77,19 +79,20 @@ static int16_t clipped(double sample)
     return sample > FULL ? 32767 : sample < -FULL ? -32767 : (int16_t)(sample < 0 ? sample - 0.5 : sample + 0.5);
 }
 
-/* Keeps what is said, for its echo. */
+/* Keeps what is said: it is heard later, and its echo later still. */
 static void keep(wire *it, const int16_t *said)
 {
     for (int i = 0; i < SLICE; i++) it->past[it->at++ % PAST] = said[i];
 }
 
 /* A slice of one direction, with the echo of the other one. */
-static void carry(line *it, wire *direction, const wire *other, const int16_t *said, int hit, int16_t *heard)
+static void carry(line *it, wire *direction, const wire *other, int hit, int16_t *heard)
 {
-    uint32_t echo_at = other->at - SLICE - (uint32_t)it->kind.late * 8;
+    uint32_t at = direction->at - SLICE - direction->delay, echo_at = other->at - SLICE - (uint32_t)it->kind.late * 8;
     for (int i = 0; i < SLICE; i++) {
-        double sample = said[i];
-        if (it->noise > 0 && (it->kind.always || said[i] != 0)) sample += it->noise * normal(it);
+        int16_t said = direction->past[(at + (uint32_t)i) % PAST];
+        double sample = said;
+        if (it->noise > 0 && (it->kind.always || said != 0)) sample += it->noise * normal(it);
         if (hit) sample += it->strike * normal(it);
         if (it->kind.hum != 0) sample += hum_sample(direction);
         sample += it->echo * other->past[(echo_at + (uint32_t)i) % PAST];
@@ -105,6 +108,6 @@ void line_carry(line *it, const int16_t *caller, const int16_t *answerer, int16_
     int cut = is_cut(it), hit = is_hit(it, &it->caller);
     keep(&it->caller, caller);
     keep(&it->answerer, answerer);
-    carry(it, &it->caller, &it->answerer, caller, cut || hit, to_answerer);
-    carry(it, &it->answerer, &it->caller, answerer, is_hit(it, &it->answerer), to_caller);
+    carry(it, &it->caller, &it->answerer, cut || hit, to_answerer);
+    carry(it, &it->answerer, &it->caller, is_hit(it, &it->answerer), to_caller);
 }

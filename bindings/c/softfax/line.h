@@ -20,7 +20,8 @@ enum { PAST = 4096 }; /* samples */
 /* A direction of the line. */
 typedef struct wire {
     int16_t past[PAST];
-    uint32_t at;  /* where the next sample goes */
+    uint32_t at;    /* where the next sample goes */
+    uint32_t delay; /* samples, less than a slice: two ends have no slices in common */
     int silent;   /* slices of silence, one after the other */
     int signals;  /* how many signals there have been */
     int lasted;   /* slices of the last one */

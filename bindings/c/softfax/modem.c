@@ -8,6 +8,7 @@
 #include <string.h>
 
 enum { V21, V27TER, V29, V17, NO_KIND };
+enum { MOST_TRIES = 2 };
 static const struct { int kind, rate; } CARRIERS[] = {
     [0] = {NO_KIND, 0}, [G3_V21] = {V21, 300}, [G3_V27TER_2400] = {V27TER, 2400}, [G3_V27TER_4800] = {V27TER, 4800},
     [G3_V29_7200] = {V29, 7200}, [G3_V29_9600] = {V29, 9600}, [G3_V17_7200] = {V17, 7200}, [G3_V17_9600] = {V17, 9600},
@@ -24,6 +25,7 @@ struct modem {
     v17_rx_state_t *v17_rx;
     modem_connect_tones_tx_state_t *tone; /* the tone that goes out; NULL where it is a carrier */
     uint32_t says, listens;               /* carriers */
+    int brief, tries;                     /* how the page receiver is trained, and how often that was begun anew in this signal */
     const uint8_t *octets;                /* what the carrier carries */
     uint64_t bits, at;
     gate gate;
@@ -158,16 +160,32 @@ int modem_say(modem *it, int16_t *out)
     return count == SLICE;
 }
 
-void modem_listen(modem *it, uint32_t carrier, int brief)
+static void start_receiver(modem *it)
 {
-    int rate = CARRIERS[carrier].rate;
-    it->listens = carrier;
+    int rate = CARRIERS[it->listens].rate;
     drop_bits(it, BY_PAGE);
-    switch (CARRIERS[carrier].kind) {
+    switch (CARRIERS[it->listens].kind) {
     case V27TER: v27ter_rx_restart(it->v27ter_rx, rate, FALSE); break;
     case V29: v29_rx_restart(it->v29_rx, rate, FALSE); break;
-    case V17: v17_rx_restart(it->v17_rx, rate, brief); break; /* the same receiver: its equalizer is trained */
+    case V17: v17_rx_restart(it->v17_rx, rate, it->brief); break; /* the same receiver: its equalizer is trained */
     }
+}
+
+void modem_listen(modem *it, uint32_t carrier, int brief)
+{
+    it->listens = carrier;
+    it->brief = brief;
+    start_receiver(it);
+}
+
+/* The short training of V.17 fails in a fifth of all bursts on a line with the least noise, by how the carrier's phase happens to lie. It
+ * does so halfway through the training, and what is left of that is enough for another try. */
+static void try_again(modem *it)
+{
+    if (!it->heard->fails || !it->brief || CARRIERS[it->listens].kind != V17 || it->tries == MOST_TRIES) return;
+    it->tries++;
+    it->heard->fails = 0;
+    start_receiver(it);
 }
 
 static void receive(modem *it, const int16_t *in)
@@ -189,7 +207,9 @@ void modem_hear(modem *it, const int16_t *in, modem_heard *heard)
     heard->begins = edge > 0;
     heard->ends = edge < 0;
     it->heard = heard;
+    if (heard->begins) it->tries = 0;
     receive(it, it->gate.is_open || edge < 0 ? it->late : silence);
+    try_again(it);
     memcpy(it->late, in, sizeof it->late);
     for (int receiver = 0; heard->ends && receiver < RECEIVERS; receiver++) {
         while (it->filled[receiver] > 0) take_bit(it, receiver, 1);

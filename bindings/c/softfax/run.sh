@@ -1,6 +1,7 @@
 #!/bin/sh
-# Builds softfax and its tests, and runs them: calls of the terminal with itself over plain bits; calls over libspandsp's modems, with its
-# own terminal each way and with itself; two processes that are joined by two pipes; and what softfax says of wrong files.
+# Builds softfax and its tests, and runs them: calls of the terminal with itself over plain bits, also with each growth of memory refused in
+# turn; calls over libspandsp's modems, with its own terminal each way and with itself; two processes that are joined by two pipes; and what
+# softfax says of wrong files.
 #
 #     bindings/c/softfax/run.sh [--table SEEDS]
 #
@@ -44,6 +45,7 @@ refuses() {
 
 make -s -C "$here" LIB="$LIB" OUT="$OUT" all
 "$OUT/bits-test"
+"$OUT/memory-test"
 "$OUT/softfax-test" "$work"
 
 # pages whose pixels are text

@@ -21,7 +21,7 @@ void trial_judge(const trial *kind, outcome *out, uint32_t width, uint32_t rows,
     out->wrong += !is_equal;
 }
 
-/* Compares a stored page with its paper; it is kept in any case. */
+/* Compares a stored page with its paper. It is kept in any case, unless memory is refused. */
 static int keep(void *user, g3_page *page)
 {
     ours *it = user;
@@ -30,10 +30,10 @@ static int keep(void *user, g3_page *page)
     if (g3_page_size(page, &size) != G3_OK) return 0;
     uint64_t stride = (size.width + 7) / 8, room = stride * size.rows;
     uint8_t *pixels = malloc(room + 1);
-    if (pixels == NULL || g3_page_write_raster(page, stride, pixels, room, &count) != G3_OK) size.rows = 0;
-    trial_judge(it->kind, &it->counted, size.width, size.rows, pixels);
+    int is_there = pixels != NULL && g3_page_write_raster(page, stride, pixels, room, &count) == G3_OK;
+    if (is_there) trial_judge(it->kind, &it->counted, size.width, size.rows, pixels);
     free(pixels);
-    return 1;
+    return is_there;
 }
 
 static g3_status new_document(const trial *kind, g3_document *out)
