@@ -8,7 +8,7 @@
 #include <string.h>
 
 enum { V21, V27TER, V29, V17, NO_KIND };
-enum { MOST_TRIES = 2 };
+enum { MOST_TRIES = 2, MOST_SYMBOLS = 3000 /* 1.25 s */ };
 static const struct { int kind, rate; } CARRIERS[] = {
     [0] = {NO_KIND, 0}, [G3_V21] = {V21, 300}, [G3_V27TER_2400] = {V27TER, 2400}, [G3_V27TER_4800] = {V27TER, 4800},
     [G3_V29_7200] = {V29, 7200}, [G3_V29_9600] = {V29, 9600}, [G3_V17_7200] = {V17, 7200}, [G3_V17_9600] = {V17, 9600},
@@ -30,6 +30,8 @@ struct modem {
     uint64_t bits, at;
     gate gate;
     int16_t late[SLICE];                  /* the slice before: receivers hear 5 ms late, so that they hear a signal from its beginning */
+    double off;                           /* how far symbols of V.17 lay from their points since the training, squares added up */
+    int symbols;                          /* how many */
     modem_heard *heard;                   /* where the receivers write */
     uint8_t partial[RECEIVERS], filled[RECEIVERS];
 };
@@ -72,8 +74,20 @@ static void from_page(void *user, int bit)
     else if (bit == SIG_STATUS_TRAINING_SUCCEEDED) {
         it->heard->trains = 1;
         it->heard->count[BY_PAGE] = 0;
+        it->off = it->symbols = 0;
         drop_bits(it, BY_PAGE);
     }
+}
+
+/* A symbol of V.17, and the point that it is taken for. */
+static void from_symbols(void *user, const complexf_t *got, const complexf_t *point, int number)
+{
+    modem *it = user;
+    (void)number;
+    if (got == NULL || point == NULL || it->symbols == MOST_SYMBOLS) return;
+    double across = got->re - point->re, along = got->im - point->im;
+    it->off += across * across + along * along;
+    it->symbols++;
 }
 
 modem *modem_new(void)
@@ -92,6 +106,7 @@ modem *modem_new(void)
         modem_free(it);
         return NULL;
     }
+    v17_rx_set_qam_report_handler(it->v17_rx, from_symbols, it);
     gate_reset(&it->gate);
     modem_forget(it);
     return it;
@@ -214,6 +229,15 @@ void modem_hear(modem *it, const int16_t *in, modem_heard *heard)
     for (int receiver = 0; heard->ends && receiver < RECEIVERS; receiver++) {
         while (it->filled[receiver] > 0) take_bit(it, receiver, 1);
     }
+}
+
+/* Frames begin to be lost where the symbols are off by a quarter of the distance between points, at each speed. */
+int modem_is_noisy(const modem *it)
+{
+    static const double BETWEEN_POINTS[] = {[G3_V17_7200] = 4, [G3_V17_9600] = 2.83, [G3_V17_12000] = 2, [G3_V17_14400] = 1.41};
+    if (CARRIERS[it->listens].kind != V17 || it->symbols == 0) return 0;
+    double most = BETWEEN_POINTS[it->listens] / 4;
+    return it->off > most * most * it->symbols;
 }
 
 void modem_hush(modem *it)

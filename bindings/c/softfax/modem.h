@@ -38,6 +38,8 @@ int modem_say(modem *it, int16_t *out);
 /* What the page receiver listens for, from the next signal on; carrier 0: for nothing. It forgets what is on the line. */
 void modem_listen(modem *it, uint32_t carrier, int brief);
 void modem_hear(modem *it, const int16_t *in, modem_heard *heard);
+/* Whether the page carrier, since the receiver was trained, was so noisy that frames would be lost, though a check may have come well. */
+int modem_is_noisy(const modem *it);
 /* What is on the line now is no signal but its hiss: the signal ends. */
 void modem_hush(modem *it);
 /* Forgets what was heard: the line is silent as far as is known. For after a turn of one's own. */

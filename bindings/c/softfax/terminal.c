@@ -197,7 +197,7 @@ static uint32_t rate_of(uint32_t carrier)
 }
 
 /* How many octets of the check that came are given to the library: all, if nine tenths of its 1.5 s were zeros with nothing wrong between
- * them, else none. On a line that spoils an octet each second few frames would come whole. */
+ * them and the modem takes the carrier for good, else none. On a line that spoils an octet each second few frames would come whole. */
 static size_t good_check(const terminal *it)
 {
     size_t run = 0, longest = 0;
@@ -205,7 +205,8 @@ static size_t good_check(const terminal *it)
         run = it->check[i] == 0 ? run + 1 : 0;
         if (run > longest) longest = run;
     }
-    return longest * 8 * 10 >= rate_of(it->carrier) * 3 / 2 * 9 ? it->checked : 0;
+    int is_good = longest * 8 * 10 >= rate_of(it->carrier) * 3 / 2 * 9 && !modem_is_noisy(it->modem);
+    return is_good ? it->checked : 0;
 }
 
 /* The signal that may have been a training check is over. */
