@@ -1,5 +1,5 @@
-/* memory-test: a call of the terminal with itself over modems of plain bits, with each growth of memory refused in turn. Status 1: a page is
- * stored that isn't the document's, a confirmed one is missing, an end doesn't hang up, or a block is left. Linked with --wrap=malloc,
+/* memory-test: a call of the terminal with itself over modems of plain bits, with each growth of memory refused in turn. Status 1: a page
+ * is stored that isn't the document's, a confirmed one is missing, an end doesn't hang up, or a block is left. Linked with --wrap=malloc,
  * --wrap=realloc and --wrap=free. */
 #include "trial.h"
 #include "../../tests/heap.h"
