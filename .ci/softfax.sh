@@ -50,6 +50,6 @@ if ! command -v "$CC" > /dev/null; then
 elif ! echo '#include <spandsp.h>' | "$CC" -E - > /dev/null 2>&1; then
     echo "softfax: not run, libspandsp-dev is not installed"
 else
-    LIB=$work OUT=$work/softfax CC=$CC "$here/run.sh" > "$work/output" 2>&1 || fails run.sh
+    LIB=$work OUT=$work/softfax CC=$CC "$here/run.sh" --audio > "$work/output" 2>&1 || fails run.sh
     tail -n 2 "$work/output"
 fi

@@ -3,9 +3,9 @@
 # turn; calls over libspandsp's modems, with its own terminal each way and with itself; two processes that are joined by two pipes; and what
 # softfax says of wrong files.
 #
-#     bindings/c/softfax/run.sh [--table SEEDS]
+#     bindings/c/softfax/run.sh [--audio | --table SEEDS]
 #
-# --table adds the table of docs/AUDIO.md, with so many calls by chance of each kind. It wants libspandsp-dev (apt-get install
+# --audio leaves out plain bits; --table adds the table of docs/AUDIO.md, with so many calls by chance of each kind. It wants libspandsp-dev (apt-get install
 # libspandsp-dev), and the library that bindings/build.sh left in the folder LIB, if not bindings/build. OUT is where the programs go.
 set -e
 here=$(cd "$(dirname "$0")" && pwd)
@@ -43,9 +43,12 @@ refuses() {
     grep -q "$text" "$work/said" || fails "softfax $* said: $(cat "$work/said")"
 }
 
-make -s -C "$here" LIB="$LIB" OUT="$OUT" all
-"$OUT/bits-test"
-"$OUT/memory-test"
+make -s -C "$here" LIB="$LIB" OUT="$OUT" softfax softfax-test
+if [ "$1" != --audio ]; then
+    make -s -C "$here" LIB="$LIB" OUT="$OUT" bits-test memory-test
+    "$OUT/bits-test"
+    "$OUT/memory-test"
+fi
 "$OUT/softfax-test" "$work"
 
 # pages whose pixels are text
