@@ -1,7 +1,11 @@
 #!/bin/sh
 # Builds the library for C, and its examples with the kit's clang under the address sanitizer and with traps for what C doesn't define;
 # runs them on files that other programs wrote, and compares octets and texts. Then it installs the library, tries the fax terminal over it,
-# and tests the module for Python. Ends with status 1 at the first difference. It needs the kit and Python's standard library alone; calls
+# and tests the module for Python. Ends with status 1 at the first difference.
+#
+#     .ci/bindings.sh [CALLS]
+#
+# CALLS is how many random calls are made, 200000 where it isn't said. It needs the kit and Python's standard library alone; calls
 # over real modems are tried where libspandsp-dev is installed.
 set -e
 top=$(cd "$(dirname "$0")/.." && pwd)
@@ -32,7 +36,7 @@ builds() {
 gives() {
     end=$1 name=$2 status=0
     shift 2
-    timeout 60 "$work/$name" "$@" > "$work/output" 2> "$work/error" || status=$?
+    timeout 600 "$work/$name" "$@" > "$work/output" 2> "$work/error" || status=$?
     [ "$status" = "$end" ] || { head -5 "$work/error" >&2; fails "$name $* ended with status $status, and not $end"; }
     runs=$((runs + 1))
 }
@@ -98,7 +102,7 @@ gives 0 misuse
 gives 0 memory "$data/page.pbm" "$data/line.bits"
 growths=$(sed -n 's/^growths //p' "$work/output")
 [ "${growths:-0}" -gt 50 ] || fails "memory refused $growths growths"
-gives 0 random 200000
+gives 0 random "${1:-200000}"
 [ ! -s "$work/output" ] || fails "random printed: $(head -3 "$work/output")"
 "$top/.ci/installed.sh" "$work"
 "$top/.ci/softfax.sh" "$work"
