@@ -7,7 +7,7 @@
 #include <stdlib.h>
 #include <string.h>
 
-enum { ROWS = 96 };
+enum { ROWS = 48 };
 
 static const line_kind LINES[] = {
     {.name = "clean"},

@@ -28,7 +28,7 @@ static const line_kind LINES[] = {
     {.name = "cut-page", .cut = 3, .from = 1000, .lasts = 100},
     {.name = "cut-PPS", .cut = 4, .lasts = 4000},
 };
-enum { LINES_COUNT = sizeof LINES / sizeof LINES[0], PAIRS_COUNT = 5, ROWS = 576 };
+enum { LINES_COUNT = sizeof LINES / sizeof LINES[0], PAIRS_COUNT = 5, ROWS = 288 };
 
 /* Who calls and who answers. */
 typedef struct pair {
