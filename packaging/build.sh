@@ -14,6 +14,11 @@ export KIT
 cd "$top"
 program=crates/faxtool/out/faxtool
 [ $# = 0 ] || [ "$*" = --built ] || { echo "usage: build.sh [--built]" >&2; exit 2; }
+if [ $# = 0 ] && [ -f $program ] && [ -f bindings/build/libg3fax.so.0 ] && [ -f bindings/build/SOURCES ] \
+    && [ "$(cat bindings/build/SOURCES)" = "$(packaging/trust.py --sources)" ]; then
+    echo "$program and bindings/build are built already"
+    exit 0
+fi
 if [ $# = 1 ]; then
     [ -f $program ] || ends "$program is missing: .ci/run, or make, proves and builds it"
     newer=$(find crates/*/src crates/*/specs crates/*/proofs crates.txt -type f -newer $program | head -n 3 | tr '\n' ' ')
