@@ -125,6 +125,8 @@ Description: Group 3 fax pages, frames and calls, proved
  repairs such pages, lists the HDLC frames in a capture of a line, runs calls
  of T.30 over a simulated line, and is one end of a call for a program that
  has a modem. Each of its functions has a contract that a prover has checked.
+ .
+ It needs a processor of x86-64-v2, which has SSE4.2.
 TEXT
 mkdir -p "$work/libg3fax0/DEBIAN"
 echo "activate-noawait ldconfig" > "$work/libg3fax0/DEBIAN/triggers"
@@ -135,6 +137,8 @@ Description: Group 3 fax pages and frames for C, proved: shared library
  libg3fax has page codes of ITU-T T.4 and T.6, raw PBM in memory, salvage and
  repair of broken pages, and HDLC frames. It opens no file and keeps no state
  of its own. Each of its functions has a contract that a prover has checked.
+ .
+ It needs a processor of x86-64-v2, which has SSE4.2.
 TEXT
 control libg3fax-dev libdevel "libg3fax0 (= $version)" "Multi-Arch: same
 " << TEXT
