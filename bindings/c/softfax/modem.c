@@ -193,7 +193,7 @@ void modem_listen(modem *it, uint32_t carrier, int brief)
     start_receiver(it);
 }
 
-/* The short training of V.17 fails in a fifth of all bursts on a line with the least noise, by how the carrier's phase happens to lie. It
+/* The short training of V.17 fails in up to a fifth of all bursts on a line with some noise, by how the carrier's phase happens to lie. It
  * does so halfway through the training, and what is left of that is enough for another try. */
 static void try_again(modem *it)
 {
