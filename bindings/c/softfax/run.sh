@@ -5,8 +5,9 @@
 #
 #     bindings/c/softfax/run.sh [--audio | --table SEEDS]
 #
-# --audio leaves out plain bits; --table adds the table of docs/AUDIO.md, with so many calls by chance of each kind. It wants libspandsp-dev (apt-get install
-# libspandsp-dev), and the library that bindings/build.sh left in the folder LIB, if not bindings/build. OUT is where the programs go.
+# --audio leaves out plain bits; --table adds the table of docs/AUDIO.md, with so many calls by chance of each kind. It wants
+# libspandsp-dev (apt-get install libspandsp-dev), and the library that bindings/build.sh left in the folder LIB, if not bindings/build.
+# OUT is where the programs go.
 set -e
 here=$(cd "$(dirname "$0")" && pwd)
 LIB=${LIB:-$here/../../build}
