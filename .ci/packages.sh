@@ -6,7 +6,7 @@
 #     .ci/packages.sh
 #
 # The program and the library are those that .ci/run has proved and built; FAXTOOL and G3FAX name others, as for `make install`. It needs
-# the kit, make, GNU tar and Python's standard library; what it doesn't find of cc, pkg-config and dpkg it names, and leaves that out.
+# the kit, GNU tar and Python's standard library; what it doesn't find of make, cc, pkg-config and dpkg it names, and leaves that out.
 set -e
 top=$(cd "$(dirname "$0")/.." && pwd)
 cd "$top"
@@ -145,6 +145,7 @@ try_packed() {
 }
 
 packaging/trust.py --check
+command -v make > /dev/null || { echo "packages: not run, there is no make"; exit 0; }
 [ -n "$FAXTOOL$G3FAX" ] || packaging/build.sh --built > "$work/said" 2>&1 || { cat "$work/said" >&2; fails "packaging/build.sh --built"; }
 try_refused
 try_install
