@@ -3,9 +3,10 @@
 
     .ci/edits.py
 
-Each `old:` text of crates/*/must-fail/*.edit stands exactly once in the file that the edit names, after the pairs before it; each .rt and
-.antt file is as the kit's formatter writes it; and no module has the name of a library that its crate uses. Prints what is wrong and ends with status 1, or prints one line of counts. It needs
-Python's standard library and the kit's `rattle`."""
+Each `old:` text of crates/*/must-fail/*.edit, and of bench/plant/edits/*/*.edit, which the gate doesn't try, stands exactly once in the
+file that the edit names, after the pairs before it; each .rt and .antt file is as the kit's formatter writes it; and no module has the
+name of a library that its crate uses. Prints what is wrong and ends with status 1, or prints one line of counts. It needs Python's
+standard library and the kit's `rattle`."""
 
 import os
 import shutil
@@ -56,7 +57,8 @@ def shadowed(line):
 
 def main():
     crates = sorted(path for path in (TOP / "crates").iterdir() if path.is_dir())
-    edits = [(edit, crate) for crate in crates for edit in sorted((crate / "must-fail").glob("*.edit"))]
+    folders = [(folder, crate) for crate in crates for folder in (crate / "must-fail", TOP / "bench" / "plant" / "edits" / crate.name)]
+    edits = [(edit, crate) for folder, crate in folders for edit in sorted(folder.glob("*.edit"))]
     wrong = [f"{crate.name}/{edit.name}: {fault}" for edit, crate in edits for fault in faults_of(edit, crate)]
     for crate in crates:
         wrong += unformatted(crate)
