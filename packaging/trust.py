@@ -2,7 +2,8 @@
 """Writes what docs/TRUST.md has of the kit, of the public clauses and of the built files:
 
     packaging/trust.py --write           writes these parts of docs/TRUST.md anew; those of the kit by the kit's own file
-    packaging/trust.py --check           compares them, names what is other, and ends with status 1 then
+    packaging/trust.py --check           compares them, names what is other, and ends with status 1 then; a kit of another name that
+                                         has the same rules, sources and compiler is the same kit
     packaging/trust.py --sources         prints the sum of the sources that the built files depend on
     packaging/trust.py --package NAME=FILE..   prints the page for a package that has these files
 
@@ -62,6 +63,12 @@ def kit_part():
     return f"\n```text\n{lines}```\n\n"
 
 
+def kit_name(text):
+    """What the kit is called, and the rest of what it says of itself: the rules that it proves by, its sources and its compiler."""
+    name, rest = re.search(r"(rattle-kit-\w+)((?: .*)?(?:\n.*)*)", text).groups()
+    return name, rest
+
+
 def clauses_part():
     """How many public clauses each crate has, and the sum of their list."""
     counts = Counter(line.split()[0] for line in CLAUSES.read_text().splitlines())
@@ -88,9 +95,13 @@ def check():
     """What is other than the page says."""
     parts = parts_of(PAGE.read_text())
     wrong = []
-    if parts["kit"] != kit_part():
+    here, rules = kit_name(kit_part())
+    named, stated = kit_name(parts["kit"])
+    if stated != rules:
         wrong.append("the kit")
-    if (KIT / "KIT-ID").read_text().split("\n")[0] not in (TOP / "README.md").read_text():
+    elif named != here:
+        print(f"trust: this kit is called {here}, and {named} in docs/TRUST.md; the rules, the sources and the compiler are the same")
+    if f"{named}{stated.splitlines()[0]}" not in (TOP / "README.md").read_text():
         wrong.append("the kit that the README names")
     if parts["clauses"] != clauses_part():
         wrong.append("the public clauses")

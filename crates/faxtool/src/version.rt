@@ -12,7 +12,7 @@ use std::io::Write;
 const VERSION: &str = "0.1.0";
 
 /// The kit that proves the program, as `rt version` names it.
-const KIT: &str = "rattle-kit-13b logic dac8208d650f15bf";
+const KIT: &str = "rattle-kit-13f logic dac8208d650f15bf";
 
 /// Prints the program's version, or the kit where its proof is asked for.
 pub fn print_version(rt: &HostRuntime, proof: bool, notes: &mut Notes) -> Result<(), ToolFault>
