@@ -1,23 +1,23 @@
--- One bit more in an assembler.
+-- One bit more in an octet buffer.
 use Rattle.std.proofs.Common.{◌≡◌, ℕ, suc, ◌+◌, ◌/◌, ◌%◌, ◌<◌, ◌≤◌, Bool, true, false, List, [], ◌∷◌, ◌++◌, length, take, cond, refl, ap}
 use Rattle.std.proofs.Common.{sym, ◌∙◌, arith, nat_eq, nat_lt}
 use Rattle.std.proofs.lemmas.List.{take-append-le, take_all, length-take, length-append, append-nil}
 use Rattle.std.proofs.lemmas.Bool.{ne_eqb, eq-eqb, lt-ltb, le-ltb}
-use Rattle.hdlc.specs.declared.assembler.Assembler.{Assembler}
+use Rattle.hdlc.specs.declared.octet_buffer.OctetBuffer.{OctetBuffer}
 use Rattle.raster.specs.Octets.{number, octets_of}
 use Rattle.hdlc.specs.OpenGap.{recent}
 use Rattle.hdlc.specs.Assembles.{Assembles}
 use Rattle.hdlc.proofs.UnstuffedLemmas.{octets_of-more, number-recent, length-more}
 
-pub none_yet : (a : Assembler) → a.part ≡ 0 → a.window ≡ 0 → a.whole.items ≡ [] → a.long ≡ false → Assembles a []
+pub none_yet : (a : OctetBuffer) → a.part ≡ 0 → a.window ≡ 0 → a.whole.items ≡ [] → a.long ≡ false → Assembles a []
 unfolding octets_of recent
 none_yet a part window whole long = record { part = part; window = window; whole = whole; long = long }
 
-window_more : (a : Assembler) (bits : List Bool) (b : Bool) (w : ℕ) → Assembles a bits → w ≡ a.window / 2 + cond b 128 0
+window_more : (a : OctetBuffer) (bits : List Bool) (b : Bool) (w : ℕ) → Assembles a bits → w ≡ a.window / 2 + cond b 128 0
     → w ≡ number (recent false (bits ++ b ∷ []))
 window_more a bits b w old e = e ∙ (ap (λ n. n / 2 + cond b 128 0) old.window ∙ sym (number-recent false bits b))
 
-pub in_octet : (a new : Assembler) (bits : List Bool) (b : Bool) → Assembles a bits → a.part < 7 → new.part ≡ a.part + 1
+pub in_octet : (a new : OctetBuffer) (bits : List Bool) (b : Bool) → Assembles a bits → a.part < 7 → new.part ≡ a.part + 1
     → new.window ≡ a.window / 2 + cond b 128 0 → new.whole.items ≡ a.whole.items → new.long ≡ a.long → Assembles new (bits ++ b ∷ [])
 in_octet a new bits b old few part window whole long =
     let is : a.part ≡ length bits % 8 = old.part in
@@ -35,7 +35,7 @@ pub ends_octet : (bits : List Bool) (b : Bool) → length bits % 8 ≡ 7
     → octets_of (bits ++ b ∷ []) ≡ octets_of bits ++ number (recent false (bits ++ b ∷ [])) ∷ []
 ends_octet bits b e = let is : nat_eq (length bits % 8) 7 ≡ true = eq-eqb (length bits % 8) 7 e in octets_of-more bits b ∙ (rw is refl)
 
-pub past_octet : (a new : Assembler) (bits : List Bool) (b : Bool) → Assembles a bits → 7 ≤ a.part → length a.whole.items ≡ 302
+pub past_octet : (a new : OctetBuffer) (bits : List Bool) (b : Bool) → Assembles a bits → 7 ≤ a.part → length a.whole.items ≡ 302
     → new.part ≡ 0 → new.window ≡ a.window / 2 + cond b 128 0 → new.whole.items ≡ a.whole.items → new.long ≡ true
     → Assembles new (bits ++ b ∷ [])
 past_octet a new bits b old most full part window whole long =
@@ -57,7 +57,7 @@ past_octet a new bits b old most full part window whole long =
           ∙ ap (λ xs. nat_lt 302 (length xs)) (sym more));
     }
 
-pub one_octet : (a new : Assembler) (bits : List Bool) (b : Bool) → Assembles a bits → 7 ≤ a.part → length a.whole.items < 302
+pub one_octet : (a new : OctetBuffer) (bits : List Bool) (b : Bool) → Assembles a bits → 7 ≤ a.part → length a.whole.items < 302
     → new.part ≡ 0 → new.window ≡ a.window / 2 + cond b 128 0 → new.whole.items ≡ a.whole.items ++ new.window ∷ [] → new.long ≡ a.long
     → Assembles new (bits ++ b ∷ [])
 one_octet a new bits b old most few part window whole long =

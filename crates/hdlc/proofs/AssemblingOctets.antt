@@ -1,4 +1,4 @@
--- Up to eight bits more in an assembler.
+-- Up to eight bits more in an octet buffer.
 use Rattle.std.proofs.Common.{◌≡◌, ℕ, suc, ◌+◌, ◌-◌, ◌*◌, ◌/◌, ◌%◌, ◌^◌, ◌<◌, ◌≤◌, Bool, true, false, List, [], ◌∷◌, ◌++◌, length, take}
 use Rattle.std.proofs.Common.{drop, map, refl, ap, sym, ◌∙◌, arith, nat_lt}
 use Rattle.std.specs.List.{range_with_len}
@@ -6,7 +6,7 @@ use Rattle.std.proofs.lemmas.List.{take-append-le, take_all, length-take, length
 use Rattle.std.proofs.lemmas.List.{take-append-drop, length-take-le, length-drop}
 use Rattle.std.proofs.lemmas.Bool.{lt-ltb, le-ltb}
 use Rattle.std.proofs.lemmas.Nat.{div-mul-add}
-use Rattle.hdlc.specs.declared.assembler.Assembler.{Assembler}
+use Rattle.hdlc.specs.declared.octet_buffer.OctetBuffer.{OctetBuffer}
 use Rattle.raster.specs.Octets.{number, octet_at, octets_of}
 use Rattle.hdlc.specs.OpenGap.{recent}
 use Rattle.hdlc.specs.Assembles.{Assembles}
@@ -88,7 +88,7 @@ number_inside xs m h =
     ap number (sym (take-append-drop 8 rest)) ∙ number-append (take 8 rest) (drop 8 rest) 8 eight in
     sym (ap (λ n. n % 256) high ∙ omega arith)
 
-completed_is : (a : Assembler) (bits eight : List Bool) (o x : ℕ) → Assembles a bits → 8 ≤ length bits % 8 + length eight
+completed_is : (a : OctetBuffer) (bits eight : List Bool) (o x : ℕ) → Assembles a bits → 8 ≤ length bits % 8 + length eight
     → number eight ≡ o → x ≡ (o * 256 + a.window) / 2 ^ (8 - a.part % 8) % 256
     → number (take 8 (drop (8 - length bits % 8) (recent false bits ++ eight))) ≡ x
 completed_is a bits eight o x old fill e is =
@@ -103,7 +103,7 @@ completed_is a bits eight o x old fill e is =
     ∙ (ap (λ n. n / 2 ^ (8 - length bits % 8) % 256) both ∙ (ap (λ s. (o * 256 + a.window) / 2 ^ s % 256) shift ∙ sym is))
 
 -- the register of the last eight bits
-window_is : (a : Assembler) (bits more : List Bool) (v w : ℕ) → Assembles a bits → length more ≤ 8 → number more ≡ v
+window_is : (a : OctetBuffer) (bits more : List Bool) (v w : ℕ) → Assembles a bits → length more ≤ 8 → number more ≡ v
     → w ≡ (v * 256 + a.window) / 2 ^ length more % 256 → w ≡ number (recent false (bits ++ more))
 window_is a bits more v w old few e is =
     let eight : length (recent false bits) ≡ 8 = length-recent false bits in
@@ -118,7 +118,7 @@ window_is a bits more v w old few e is =
     ∙ (ap number (take_all 8 left rest) ∙ sym (ap number (recent-append false bits more)))))
 
 -- no octet is whole
-pub bits_kept : (a new : Assembler) (bits more : List Bool) (v : ℕ) → Assembles a bits → length more ≤ 8 → number more ≡ v
+pub bits_kept : (a new : OctetBuffer) (bits more : List Bool) (v : ℕ) → Assembles a bits → length more ≤ 8 → number more ≡ v
     → a.part % 8 + length more < 8 → new.part ≡ a.part % 8 + length more → new.window ≡ (v * 256 + a.window) / 2 ^ length more % 256
     → new.whole.items ≡ a.whole.items → new.long ≡ a.long → Assembles new (bits ++ more)
 bits_kept a new bits more v old h e few part window whole long =
@@ -133,7 +133,7 @@ bits_kept a new bits more v old h e few part window whole long =
     }
 
 -- there is room for the octet
-pub octet_kept : (a new : Assembler) (bits eight : List Bool) (o x : ℕ) → Assembles a bits → length eight ≤ 8 → number eight ≡ o
+pub octet_kept : (a new : OctetBuffer) (bits eight : List Bool) (o x : ℕ) → Assembles a bits → length eight ≤ 8 → number eight ≡ o
     → 8 ≤ a.part % 8 + length eight → x ≡ (o * 256 + a.window) / 2 ^ (8 - a.part % 8) % 256 → new.part ≡ a.part % 8 + length eight - 8
     → new.window ≡ (o * 256 + a.window) / 2 ^ length eight % 256 → length a.whole.items < 302
     → new.whole.items ≡ a.whole.items ++ x ∷ [] → new.long ≡ a.long → Assembles new (bits ++ eight)
@@ -158,7 +158,7 @@ octet_kept a new bits eight o x old h e fill is part window few whole long =
     }
 
 -- there is none
-pub octet_past : (a new : Assembler) (bits eight : List Bool) (o : ℕ) → Assembles a bits → length eight ≤ 8 → number eight ≡ o
+pub octet_past : (a new : OctetBuffer) (bits eight : List Bool) (o : ℕ) → Assembles a bits → length eight ≤ 8 → number eight ≡ o
     → 8 ≤ a.part % 8 + length eight → new.part ≡ a.part % 8 + length eight - 8
     → new.window ≡ (o * 256 + a.window) / 2 ^ length eight % 256 → length a.whole.items ≡ 302
     → new.whole.items ≡ a.whole.items → new.long ≡ true → Assembles new (bits ++ eight)

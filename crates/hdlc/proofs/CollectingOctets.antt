@@ -1,11 +1,11 @@
--- Eight bits more in a collector, by the table of unstuffed bits.
+-- Eight bits more of a gap, by the table of unstuffed bits.
 use Rattle.std.proofs.Common.{◌≡◌, ℕ, ◌+◌, ◌*◌, ◌/◌, ◌%◌, ◌<◌, ◌≤◌, Bool, true, false, not, ◌||◌, ◌&&◌, List, [], ◌∷◌, ◌++◌}
 use Rattle.std.proofs.Common.{length, cond, min, refl, ap, sym, ◌∙◌, arith, nat_eq, nat_lt, append_assoc, get_or, inl, inr}
 use Rattle.std.proofs.lemmas.List.{append-nil, length-append}
 use Rattle.std.proofs.lemmas.List.FromFn.{get_or-map-range_with_len}
 use Rattle.std.proofs.lemmas.Bool.{lt-ltb, le-ltb, cases_lt, eq-eqb, ne_eqb}
-use Rattle.hdlc.specs.declared.assembler.Pending.{Pending}
-use Rattle.hdlc.specs.declared.collector.Collector.{Collector}
+use Rattle.hdlc.specs.declared.octet_buffer.Pending.{Pending}
+use Rattle.hdlc.specs.declared.gap.Gap.{Gap}
 use Rattle.raster.specs.Octets.{number}
 use Rattle.hdlc.specs.Gaps.{unstuffed, has_six}
 use Rattle.hdlc.specs.Assembles.{Assembles}
@@ -121,7 +121,7 @@ entry_parts row octet d e whole most small is =
     (six_from (min 5 (row / 256)) (octet_bits octet)) (number_fits left 8 few) (omega arith)
     (is ∙ entry_is row octet d whole most small)
 
-pub collects_octet : (c new : Collector) (gap : List Bool) (octet : ℕ) → Collects c gap → octet < 256 → new.seen ≡ 8
+pub collects_octet : (c new : Gap) (gap : List Bool) (octet : ℕ) → Collects c gap → octet < 256 → new.seen ≡ 8
     → new.ones ≡ min 6 (ones_at_end c.ones (octet_bits octet))
     → new.aborted ≡ (c.aborted || six_from (min 5 c.ones) (octet_bits octet))
     → Assembles new.unstuffed (unstuffed gap ++ unstuffed_from (min 5 c.ones) (octet_bits octet)) → Collects new (gap ++ octet_bits octet)
@@ -139,8 +139,8 @@ collects_octet c new gap octet old small seen last aborted more =
       unstuffed = rw (unstuffed_run gap eight (min 5 c.ones) n) more;
     }
 
--- a collector with other counts and other bits after the whole octets
-abbrev pub with_ending : Collector → ℕ → ℕ → Bool → Pending → Collector
+-- a gap with other counts and other bits after the whole octets
+abbrev pub with_ending : Gap → ℕ → ℕ → Bool → Pending → Gap
 with_ending c seen ones aborted pending = record c {
   seen = seen;
   ones = ones;

@@ -1,4 +1,4 @@
--- One bit more in a cutter, with its counts and queue.
+-- One bit more in a flag finder, with its counts and queue.
 use Rattle.std.proofs.Common.{◌≡◌, ℕ, zero, suc, ◌+◌, ◌-◌, ◌/◌, ◌%◌, ◌^◌, ◌<◌, ◌≤◌, Bool, true, false, ◌&&◌, List, [], ◌∷◌, ◌++◌, length}
 use Rattle.std.proofs.Common.{take, drop, cond, min, refl, ap, sym, ◌∙◌, arith, nat_eq, nat_lt, append_assoc, Option, Some, None, slice_get}
 use Rattle.std.specs.Prelude.{Vec, IfSome, IfNone}
@@ -11,7 +11,7 @@ use Rattle.std.proofs.lemmas.Bool.{ne_eqb, eq-eqb, false≢true}
 use Rattle.hdlc.specs.declared.counts.Class.{Class}
 use Rattle.hdlc.specs.declared.counts.Class.TheVariants.{Good, Aborted, Ragged, Short, Long, Damaged}
 use Rattle.hdlc.specs.declared.counts.Counts.{Counts}
-use Rattle.hdlc.specs.declared.cutter.Cutter.{Cutter}
+use Rattle.hdlc.specs.declared.flag_finder.FlagFinder.{FlagFinder}
 use Rattle.raster.specs.Packed.{bits_in, bit_in}
 use Rattle.raster.specs.declared.packed.Order.TheVariants.{LsbFirst}
 use Rattle.raster.proofs.PackedLemmas.{bits_in-none}
@@ -28,32 +28,32 @@ use Rattle.hdlc.proofs.BitPlaces.{bits_in-next}
 use Rattle.hdlc.proofs.UnstuffedLemmas.{number-recent, at_flag_is, oldest_is}
 use Rattle.hdlc.proofs.Gaps.{settled_is, unclosed-more, held-more, begun-more, good-more, count-more}
 
-pub cuts_none : (cutter : Cutter) → cutter.begun ≡ false → cutter.held ≡ 0 → cutter.window ≡ 255 → Collects cutter.gap [] → Cuts cutter []
+pub cuts_none : (finder : FlagFinder) → finder.begun ≡ false → finder.held ≡ 0 → finder.window ≡ 255 → Collects finder.gap [] → Cuts finder []
 unfolding flags recent
-cuts_none cutter begun held window gap = record { begun = begun; held = held; window = window; gap = gap }
+cuts_none finder begun held window gap = record { begun = begun; held = held; window = window; gap = gap }
 
 -- what leaves a full register joins the gap
-pub settled_full : (cutter : Cutter) (bits : List Bool) → Cuts cutter bits → cutter.held ≡ 8
-    → settled bits ≡ unclosed bits ++ nat_eq (cutter.window % 2) 1 ∷ []
-settled_full cutter bits cuts full =
+pub settled_full : (finder : FlagFinder) (bits : List Bool) → Cuts finder bits → finder.held ≡ 8
+    → settled bits ≡ unclosed bits ++ nat_eq (finder.window % 2) 1 ∷ []
+settled_full finder bits cuts full =
     let e : nat_eq (held bits) 8 ≡ true = eq-eqb (held bits) 8 (sym cuts.held ∙ full) in
     settled_is bits ∙ (rw (e, oldest_is bits, cuts.window) refl)
 
-pub settled_early : (cutter : Cutter) (bits : List Bool) → Cuts cutter bits → (cutter.held ≡ 8 → ⊥) → settled bits ≡ unclosed bits
-settled_early cutter bits cuts early =
+pub settled_early : (finder : FlagFinder) (bits : List Bool) → Cuts finder bits → (finder.held ≡ 8 → ⊥) → settled bits ≡ unclosed bits
+settled_early finder bits cuts early =
     let e : nat_eq (held bits) 8 ≡ false = ne_eqb (held bits) 8 (λ h. early (cuts.held ∙ h)) in
     settled_is bits ∙ (rw e (append-nil (unclosed bits)))
 
 -- a bit came into the register
-pub record Shifted (cutter : Cutter) (b : Bool) (mid : Cutter) : Type 0 where
-  pub begun : mid.begun ≡ cutter.begun
-  pub held : mid.held ≡ cutter.held
-  pub window : mid.window ≡ cutter.window / 2 + cond b 128 0
-  pub gap : (bits : List Bool) → Cuts cutter bits → Collects mid.gap (settled bits)
+pub record Shifted (finder : FlagFinder) (b : Bool) (mid : FlagFinder) : Type 0 where
+  pub begun : mid.begun ≡ finder.begun
+  pub held : mid.held ≡ finder.held
+  pub window : mid.window ≡ finder.window / 2 + cond b 128 0
+  pub gap : (bits : List Bool) → Cuts finder bits → Collects mid.gap (settled bits)
 
-window_more : (cutter mid : Cutter) (b : Bool) (bits : List Bool) → Cuts cutter bits → Shifted cutter b mid
+window_more : (finder mid : FlagFinder) (b : Bool) (bits : List Bool) → Cuts finder bits → Shifted finder b mid
     → mid.window ≡ number (recent true (bits ++ b ∷ []))
-window_more cutter mid b bits cuts shifted = shifted.window ∙ (ap (λ n. n / 2 + cond b 128 0) cuts.window ∙ sym (number-recent true bits b))
+window_more finder mid b bits cuts shifted = shifted.window ∙ (ap (λ n. n / 2 + cond b 128 0) cuts.window ∙ sym (number-recent true bits b))
 
 held_small : (bits : List Bool) → held bits ≤ 8
 held_small bits = go (last_flag bits)
@@ -62,24 +62,24 @@ held_small bits = go (last_flag bits)
     go None = omega arith
     go (Some p) = omega arith
 
-held_le : (bits : List Bool) (cutter : Cutter) → Cuts cutter bits → cutter.held ≤ 8
-held_le bits cutter cuts = rw cuts.held (held_small bits)
+held_le : (bits : List Bool) (finder : FlagFinder) → Cuts finder bits → finder.held ≤ 8
+held_le bits finder cuts = rw cuts.held (held_small bits)
 
 counts_more : (class : Class) (old n d new m : ℕ) → old ≡ min (2 ^ 64 - 1) n → (old ≤ 2 ^ 64 - 1 → new ≡ min (2 ^ 64 - 1) (old + d))
     → m ≡ n + d → new ≡ min (2 ^ 64 - 1) m
 counts_more class old n d new m e f g = let h : new ≡ min (2 ^ 64 - 1) (old + d) = f (omega arith) in omega arith
 
 -- no flag ends with the bit
-pub parts_wait : (cutter mid new : Cutter) (counts : Counts) (queue : List (List ℕ)) (b : Bool) (bits : List Bool) (handed : ℕ)
-    → PartsAfter cutter counts queue bits handed → Shifted cutter b mid → (mid.window ≡ 126 → ⊥) → new.begun ≡ mid.begun
+pub parts_wait : (finder mid new : FlagFinder) (counts : Counts) (queue : List (List ℕ)) (b : Bool) (bits : List Bool) (handed : ℕ)
+    → PartsAfter finder counts queue bits handed → Shifted finder b mid → (mid.window ≡ 126 → ⊥) → new.begun ≡ mid.begun
     → (mid.held ≤ 8 → new.held ≡ cond mid.begun (min 8 (mid.held + 1)) 0) → new.window ≡ mid.window → new.gap ≡ mid.gap
     → PartsAfter new counts queue (bits ++ b ∷ []) handed
-parts_wait cutter mid new counts queue b bits handed old shifted isnt new_begun new_held new_window new_gap =
-    let cuts : Cuts cutter bits = old.cuts in
-    let window : mid.window ≡ number (recent true (bits ++ b ∷ [])) = window_more cutter mid b bits cuts shifted in
+parts_wait finder mid new counts queue b bits handed old shifted isnt new_begun new_held new_window new_gap =
+    let cuts : Cuts finder bits = old.cuts in
+    let window : mid.window ≡ number (recent true (bits ++ b ∷ [])) = window_more finder mid b bits cuts shifted in
     let no : at_flag (bits ++ b ∷ []) ≡ false =
     at_flag_is (bits ++ b ∷ []) ∙ ne_eqb (number (recent true (bits ++ b ∷ []))) 126 (λ e. isnt (window ∙ e)) in
-    let le : mid.held ≤ 8 = rw shifted.held (held_le bits cutter cuts) in
+    let le : mid.held ≤ 8 = rw shifted.held (held_le bits finder cuts) in
     let good_same : good (bits ++ b ∷ []) ≡ good bits = good-more bits b ∙ (rw no (append-nil (good bits))) in
     record {
       cuts = record {
@@ -102,13 +102,13 @@ pub record Closes (gap : List Bool) (counts new_counts : Counts) (queue new_queu
   pub queued : new_queue ≡ queue ++ cond (nat_lt 7 (length gap) && is_class Good (class_of gap)) (content gap ∷ []) []
 
 -- a flag ends with the bit
-pub parts_flag : (cutter mid new : Cutter) (counts new_counts : Counts) (queue new_queue : List (List ℕ)) (b : Bool) (bits : List Bool)
-    (handed : ℕ) → PartsAfter cutter counts queue bits handed → Shifted cutter b mid → mid.window ≡ 126 → new.begun ≡ true → new.held ≡ 0
+pub parts_flag : (finder mid new : FlagFinder) (counts new_counts : Counts) (queue new_queue : List (List ℕ)) (b : Bool) (bits : List Bool)
+    (handed : ℕ) → PartsAfter finder counts queue bits handed → Shifted finder b mid → mid.window ≡ 126 → new.begun ≡ true → new.held ≡ 0
     → new.window ≡ mid.window → Collects new.gap [] → Closes (settled bits) counts new_counts queue new_queue
     → PartsAfter new new_counts new_queue (bits ++ b ∷ []) handed
-parts_flag cutter mid new counts new_counts queue new_queue b bits handed old shifted is new_begun new_held new_window new_gap closes_ =
-    let cuts : Cuts cutter bits = old.cuts in
-    let window : mid.window ≡ number (recent true (bits ++ b ∷ [])) = window_more cutter mid b bits cuts shifted in
+parts_flag finder mid new counts new_counts queue new_queue b bits handed old shifted is new_begun new_held new_window new_gap closes_ =
+    let cuts : Cuts finder bits = old.cuts in
+    let window : mid.window ≡ number (recent true (bits ++ b ∷ [])) = window_more finder mid b bits cuts shifted in
     let yes_ : at_flag (bits ++ b ∷ []) ≡ true =
     at_flag_is (bits ++ b ∷ []) ∙ eq-eqb (number (recent true (bits ++ b ∷ []))) 126 (sym window ∙ is) in
     let added : List (List ℕ) =
@@ -168,10 +168,10 @@ piece_more bits octets place = ap (λ xs. bits ++ xs) (bits_in-next octets place
 pub piece_none : (bits : List Bool) (octets : List ℕ) → bits ++ bits_in LsbFirst octets 0 ≡ bits
 piece_none bits octets = rw (bits_in-none LsbFirst octets) (append-nil bits)
 
-pub parts_none : (cutter : Cutter) (counts : Counts) (queue : List (List ℕ)) → Cuts cutter []
-    → ((class : Class) → count_in counts class ≡ 0) → queue ≡ [] → PartsAfter cutter counts queue [] 0
+pub parts_none : (finder : FlagFinder) (counts : Counts) (queue : List (List ℕ)) → Cuts finder []
+    → ((class : Class) → count_in counts class ≡ 0) → queue ≡ [] → PartsAfter finder counts queue [] 0
 unfolding flags gaps
-parts_none cutter counts queue cuts zeros none = record { cuts = cuts; counted = zeros; within = omega arith; queued = none }
+parts_none finder counts queue cuts zeros none = record { cuts = cuts; counted = zeros; within = omega arith; queued = none }
 
 -- the next content, and what is left of them
 pub next_content : (state : DeframerState) (bits : List Bool) (handed : ℕ) → IsAfter state bits handed

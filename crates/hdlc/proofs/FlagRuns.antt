@@ -1,11 +1,11 @@
--- Eight bits that repeat flags leave a cutter as it was.
+-- Eight bits that repeat flags leave a flag finder as it was.
 use Rattle.std.proofs.Common.{◌≡◌, ℕ, zero, suc, ◌+◌, ◌-◌, ◌/◌, ◌^◌, ◌<◌, ◌≤◌, Bool, true, false, ◌||◌, List, [], ◌∷◌, ◌++◌, length, take}
 use Rattle.std.proofs.Common.{drop, cond, min, refl, ap, sym, ◌∙◌, arith, nat_eq, nat_lt, append_assoc, Option, Some, None, subst, get_or}
 use Rattle.std.proofs.lemmas.List.{append-nil, drop_all, length-take-le}
 use Rattle.std.proofs.lemmas.Bool.{ne_eqb, eqb-true, ltb-true, and_parts, and_right}
 use Rattle.hdlc.specs.declared.counts.Class.{Class}
 use Rattle.hdlc.specs.declared.counts.Counts.{Counts}
-use Rattle.hdlc.specs.declared.cutter.Cutter.{Cutter}
+use Rattle.hdlc.specs.declared.flag_finder.FlagFinder.{FlagFinder}
 use Rattle.raster.specs.Octets.{number}
 use Rattle.raster.proofs.OctetBits.{octet_bits}
 use Rattle.hdlc.specs.Gaps.{good, count_of}
@@ -106,21 +106,21 @@ unclosed_none bits h = go (last_flag bits) h
         let cut : length (take (length bits - 8) bits) ≤ p + 8 = rw (length-take-le (length bits - 8) bits (omega arith)) (omega arith) in
         drop_all (p + 8) (take (length bits - 8) bits) cut
 
-pub flags_repeat : (cutter : Cutter) (counts : Counts) (queue : List (List ℕ)) (bits eight : List Bool) (handed : ℕ)
-    → PartsAfter cutter counts queue bits handed → cutter.begun ≡ true → cutter.held < 8
-    → leads_to cutter.held cutter.window eight cutter.held cutter.window ≡ true → PartsAfter cutter counts queue (bits ++ eight) handed
-flags_repeat cutter counts queue bits eight handed old yes_ few leads =
-    let cuts : Cuts cutter bits = old.cuts in
+pub flags_repeat : (finder : FlagFinder) (counts : Counts) (queue : List (List ℕ)) (bits eight : List Bool) (handed : ℕ)
+    → PartsAfter finder counts queue bits handed → finder.begun ≡ true → finder.held < 8
+    → leads_to finder.held finder.window eight finder.held finder.window ≡ true → PartsAfter finder counts queue (bits ++ eight) handed
+flags_repeat finder counts queue bits eight handed old yes_ few leads =
+    let cuts : Cuts finder bits = old.cuts in
     let none : unclosed bits ≡ [] = unclosed_none bits (rw (← cuts.held) few) in
-    let idle : Idle cutter.held cutter.window bits =
+    let idle : Idle finder.held finder.window bits =
     record { begun_ = sym cuts.begun ∙ yes_; held_ = sym cuts.held; window_ = sym cuts.window; none = none } in
-    let run = idle_run eight cutter.held cutter.window bits cutter.held cutter.window idle leads in
+    let run = idle_run eight finder.held finder.window bits finder.held finder.window idle leads in
     record {
       cuts = record {
         begun = yes_ ∙ sym run.0.begun_;
         held = sym run.0.held_;
         window = sym run.0.window_;
-        gap = subst (Collects cutter.gap) (none ∙ sym run.0.none) cuts.gap;
+        gap = subst (Collects finder.gap) (none ∙ sym run.0.none) cuts.gap;
       };
       counted = λ class. old.counted class ∙ ap (min (2 ^ 64 - 1)) (sym (run.1.counts class));
       within = rw run.1.good_same old.within;

@@ -1,17 +1,17 @@
 -- What the registers have is what is kept of the bits.
 use Rattle.std.proofs.Common.{◌≡◌, ℕ, Bool, List, refl, ap, sym, subst}
 use Rattle.hdlc.specs.declared.counts.Counts.{Counts}
-use Rattle.hdlc.specs.declared.cutter.Cutter.{Cutter}
+use Rattle.hdlc.specs.declared.flag_finder.FlagFinder.{FlagFinder}
 use Rattle.hdlc.specs.Collects.{Collects}
 use Rattle.hdlc.specs.DeframerState.{DeframerState, IsAfter}
 use Rattle.hdlc.specs.Kept.{Kept, kept_of}
 use Rattle.hdlc.specs.OpenGap.{unclosed}
 use Rattle.hdlc.specs.DeframerParts.{Cuts, PartsAfter, kept_in}
 
-kept_is : (cutter : Cutter) (bits : List Bool) → Cuts cutter bits → kept_in cutter ≡ kept_of bits
+kept_is : (finder : FlagFinder) (bits : List Bool) → Cuts finder bits → kept_in finder ≡ kept_of bits
 unfolding kept_of
-kept_is cutter bits cuts =
-    let gap : Collects cutter.gap (unclosed bits) = cuts.gap in
+kept_is finder bits cuts =
+    let gap : Collects finder.gap (unclosed bits) = cuts.gap in
     let unstuffed = gap.unstuffed in
     rw (
       cuts.begun,
@@ -26,9 +26,9 @@ kept_is cutter bits cuts =
       unstuffed.window,
     ) refl
 
-cuts_are : (cutter : Cutter) (bits : List Bool) → kept_in cutter ≡ kept_of bits → Cuts cutter bits
+cuts_are : (finder : FlagFinder) (bits : List Bool) → kept_in finder ≡ kept_of bits → Cuts finder bits
 unfolding kept_of
-cuts_are cutter bits e = record {
+cuts_are finder bits e = record {
   begun = ap (λ (k : Kept). k.begun) e;
   held = ap (λ (k : Kept). k.held) e;
   window = ap (λ (k : Kept). k.last) e;
@@ -46,21 +46,21 @@ cuts_are cutter bits e = record {
 }
 
 -- a deframer with these registers
-abbrev pub state_of : Cutter → Counts → List (List ℕ) → DeframerState
-state_of cutter counts queue = record { kept = kept_in cutter; counts = counts; queue = queue }
+abbrev pub state_of : FlagFinder → Counts → List (List ℕ) → DeframerState
+state_of finder counts queue = record { kept = kept_in finder; counts = counts; queue = queue }
 
-pub parts_seen : (cutter : Cutter) (counts : Counts) (queue : List (List ℕ)) (bits : List Bool) (handed : ℕ)
-    → PartsAfter cutter counts queue bits handed → IsAfter (state_of cutter counts queue) bits handed
-parts_seen cutter counts queue bits handed s = record {
-  kept = kept_is cutter bits s.cuts;
+pub parts_seen : (finder : FlagFinder) (counts : Counts) (queue : List (List ℕ)) (bits : List Bool) (handed : ℕ)
+    → PartsAfter finder counts queue bits handed → IsAfter (state_of finder counts queue) bits handed
+parts_seen finder counts queue bits handed s = record {
+  kept = kept_is finder bits s.cuts;
   counted = s.counted;
   within = s.within;
   queued = s.queued;
 }
 
-pub parts_inside : (cutter : Cutter) (counts : Counts) (queue : List (List ℕ)) (bits : List Bool) (handed : ℕ) (state : DeframerState)
-    → state_of cutter counts queue ≡ state → IsAfter state bits handed → PartsAfter cutter counts queue bits handed
-parts_inside cutter counts queue bits handed state view taken =
+pub parts_inside : (finder : FlagFinder) (counts : Counts) (queue : List (List ℕ)) (bits : List Bool) (handed : ℕ) (state : DeframerState)
+    → state_of finder counts queue ≡ state → IsAfter state bits handed → PartsAfter finder counts queue bits handed
+parts_inside finder counts queue bits handed state view taken =
     let P : DeframerState → Type 0 = λ f. IsAfter f bits handed in
-    let s : IsAfter (state_of cutter counts queue) bits handed = subst P (sym view) taken in
-    record { cuts = cuts_are cutter bits s.kept; counted = s.counted; within = s.within; queued = s.queued }
+    let s : IsAfter (state_of finder counts queue) bits handed = subst P (sym view) taken in
+    record { cuts = cuts_are finder bits s.kept; counted = s.counted; within = s.within; queued = s.queued }

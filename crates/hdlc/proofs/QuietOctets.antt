@@ -1,4 +1,4 @@
--- Eight bits more in a cutter: those that end no flag, and those that repeat flags.
+-- Eight bits more in a flag finder: those that end no flag, and those that repeat flags.
 use Rattle.std.proofs.Common.{◌≡◌, ℕ, zero, suc, ◌+◌, ◌-◌, ◌*◌, ◌/◌, ◌%◌, ◌^◌, ◌<◌, ◌≤◌, Bool, true, false, not, ◌&&◌, List, [], ◌∷◌, ◌++◌}
 use Rattle.std.proofs.Common.{length, take, drop, cond, min, refl, ap, sym, ◌∙◌, arith, nat_eq, bit_and, inl, inr, append_assoc, Option}
 use Rattle.std.proofs.Common.{Some, None}
@@ -12,7 +12,7 @@ use Rattle.std.proofs.lemmas.Nat.Bits.{bit_at_and}
 use Rattle.std.proofs.lemmas.Bool.{and_parts, cases_eq, ne_eqb}
 use Rattle.hdlc.specs.declared.counts.Class.{Class}
 use Rattle.hdlc.specs.declared.counts.Counts.{Counts}
-use Rattle.hdlc.specs.declared.cutter.Cutter.{Cutter}
+use Rattle.hdlc.specs.declared.flag_finder.FlagFinder.{FlagFinder}
 use Rattle.raster.specs.Octets.{number}
 use Rattle.raster.specs.Packed.{bits_of}
 use Rattle.raster.specs.declared.packed.Order.TheVariants.{LsbFirst}
@@ -118,21 +118,21 @@ begun_if_full bits h = go (last_flag bits) h
     go None h = absurd (omega arith)
     go (Some p) h = refl
 
-quiet_from : (cutter : Cutter) (bits eight : List Bool) → Cuts cutter bits → ends_no_flag cutter.window eight ≡ true → Unflagged bits eight
-quiet_from cutter bits eight cuts quiet = unflagged bits eight (rw (← cuts.window) quiet)
+quiet_from : (finder : FlagFinder) (bits eight : List Bool) → Cuts finder bits → ends_no_flag finder.window eight ≡ true → Unflagged bits eight
+quiet_from finder bits eight cuts quiet = unflagged bits eight (rw (← cuts.window) quiet)
 
 -- what was in the register goes to the gap
-pub cuts_full : (cutter new : Cutter) (bits : List Bool) (octet : ℕ) → octet < 256 → Cuts cutter bits
-    → ends_no_flag cutter.window (bits_of LsbFirst (octet ∷ [])) ≡ true → cutter.held ≡ 8 → new.begun ≡ cutter.begun → new.held ≡ 8
-    → new.window ≡ octet → Collects new.gap (unclosed bits ++ bits_of LsbFirst (cutter.window ∷ []))
+pub cuts_full : (finder new : FlagFinder) (bits : List Bool) (octet : ℕ) → octet < 256 → Cuts finder bits
+    → ends_no_flag finder.window (bits_of LsbFirst (octet ∷ [])) ≡ true → finder.held ≡ 8 → new.begun ≡ finder.begun → new.held ≡ 8
+    → new.window ≡ octet → Collects new.gap (unclosed bits ++ bits_of LsbFirst (finder.window ∷ []))
     → Cuts new (bits ++ bits_of LsbFirst (octet ∷ []))
-cuts_full cutter new bits octet small cuts quiet full new_begun new_held new_window gap =
+cuts_full finder new bits octet small cuts quiet full new_begun new_held new_window gap =
     let eight : List Bool = octet_bits octet in
     let is : bits_of LsbFirst (octet ∷ []) ≡ eight = bits_of-one octet in
-    let u : Unflagged bits eight = quiet_from cutter bits eight cuts (ap (ends_no_flag cutter.window) (sym is) ∙ quiet) in
+    let u : Unflagged bits eight = quiet_from finder bits eight cuts (ap (ends_no_flag finder.window) (sym is) ∙ quiet) in
     let h : held bits ≡ 8 = sym cuts.held ∙ full in
-    let left : bits_of LsbFirst (cutter.window ∷ []) ≡ recent true bits =
-    bits_of-one cutter.window ∙ (ap octet_bits cuts.window ∙ octet_bits-number (recent true bits) (length-recent true bits)) in
+    let left : bits_of LsbFirst (finder.window ∷ []) ≡ recent true bits =
+    bits_of-one finder.window ∙ (ap octet_bits cuts.window ∙ octet_bits-number (recent true bits) (length-recent true bits)) in
     rw is (record {
       begun = new_begun ∙ (cuts.begun ∙ sym (same_begun bits eight refl u));
       held = new_held ∙ sym (next_held bits eight refl u ∙ (rw (begun_if_full bits h) refl));
@@ -141,13 +141,13 @@ cuts_full cutter new bits octet small cuts quiet full new_begun new_held new_win
     })
 
 -- none of what was in the register does
-pub cuts_empty : (cutter new : Cutter) (bits : List Bool) (octet : ℕ) → octet < 256 → Cuts cutter bits
-    → ends_no_flag cutter.window (bits_of LsbFirst (octet ∷ [])) ≡ true → cutter.held ≡ 0 → new.begun ≡ cutter.begun
-    → new.held ≡ cond cutter.begun 8 0 → new.window ≡ octet → new.gap ≡ cutter.gap → Cuts new (bits ++ bits_of LsbFirst (octet ∷ []))
-cuts_empty cutter new bits octet small cuts quiet empty new_begun new_held new_window gap =
+pub cuts_empty : (finder new : FlagFinder) (bits : List Bool) (octet : ℕ) → octet < 256 → Cuts finder bits
+    → ends_no_flag finder.window (bits_of LsbFirst (octet ∷ [])) ≡ true → finder.held ≡ 0 → new.begun ≡ finder.begun
+    → new.held ≡ cond finder.begun 8 0 → new.window ≡ octet → new.gap ≡ finder.gap → Cuts new (bits ++ bits_of LsbFirst (octet ∷ []))
+cuts_empty finder new bits octet small cuts quiet empty new_begun new_held new_window gap =
     let eight : List Bool = octet_bits octet in
     let is : bits_of LsbFirst (octet ∷ []) ≡ eight = bits_of-one octet in
-    let u : Unflagged bits eight = quiet_from cutter bits eight cuts (ap (ends_no_flag cutter.window) (sym is) ∙ quiet) in
+    let u : Unflagged bits eight = quiet_from finder bits eight cuts (ap (ends_no_flag finder.window) (sym is) ∙ quiet) in
     let h : held bits ≡ 0 = sym cuts.held ∙ empty in
     rw is (record {
       begun = new_begun ∙ (cuts.begun ∙ sym (same_begun bits eight refl u));
@@ -164,19 +164,19 @@ held_at_most bits = go (last_flag bits)
     go (Some p) = omega arith
 
 -- of none or eight bits, those that aren't eight are none
-pub none_if_not_full : (cutter : Cutter) (bits : List Bool) → Cuts cutter bits → cutter.held % 8 ≡ 0 → (cutter.held ≡ 8 → ⊥)
-    → cutter.held ≡ 0
-none_if_not_full cutter bits cuts e ne =
+pub none_if_not_full : (finder : FlagFinder) (bits : List Bool) → Cuts finder bits → finder.held % 8 ≡ 0 → (finder.held ≡ 8 → ⊥)
+    → finder.held ≡ 0
+none_if_not_full finder bits cuts e ne =
     let most : held bits ≤ 8 = held_at_most bits in
-    let is : cutter.held ≡ held bits = cuts.held in
+    let is : finder.held ≡ held bits = cuts.held in
     omega (arith, ne)
 
 -- an octet that ends no flag adds nothing to the counts and the queue
-pub parts_quiet : (cutter new : Cutter) (counts : Counts) (queue : List (List ℕ)) (bits eight : List Bool) (handed : ℕ)
-    → PartsAfter cutter counts queue bits handed → ends_no_flag cutter.window eight ≡ true → Cuts new (bits ++ eight)
+pub parts_quiet : (finder new : FlagFinder) (counts : Counts) (queue : List (List ℕ)) (bits eight : List Bool) (handed : ℕ)
+    → PartsAfter finder counts queue bits handed → ends_no_flag finder.window eight ≡ true → Cuts new (bits ++ eight)
     → PartsAfter new counts queue (bits ++ eight) handed
-parts_quiet cutter new counts queue bits eight handed old quiet cuts =
-    let u : Unflagged bits eight = quiet_from cutter bits eight old.cuts quiet in
+parts_quiet finder new counts queue bits eight handed old quiet cuts =
+    let u : Unflagged bits eight = quiet_from finder bits eight old.cuts quiet in
     record {
       cuts = cuts;
       counted = λ class. old.counted class ∙ ap (min (2 ^ 64 - 1)) (sym (u.counts class));

@@ -9,7 +9,7 @@ use Rattle.std.specs.Prelude.{is_some}
 use Rattle.std.proofs.lemmas.List.{take_more, take_all}
 use Rattle.std.proofs.lemmas.Nat.{and_shr, shr-shr}
 use Rattle.std.proofs.lemmas.Bool.{and_parts}
-use Rattle.hdlc.specs.declared.cutter.Cutter.{Cutter}
+use Rattle.hdlc.specs.declared.flag_finder.FlagFinder.{FlagFinder}
 use Rattle.raster.specs.Octets.{number, AreOctets}
 use Rattle.raster.specs.Packed.{bits_of}
 use Rattle.raster.specs.declared.packed.Order.TheVariants.{LsbFirst}
@@ -235,27 +235,27 @@ empty_run (x ∷ xs) o bits window yes_ empty last small fit quiet =
       gap_ = rest.gap_ ∙ ap (λ g. g ++ bits_of LsbFirst (x ∷ xs)) one.gap_;
     })
 
--- ---- a cutter after them
+-- ---- a flag finder after them
 
--- octets, none of whose bits ends a flag, come to a cutter
-pub record Comes (cutter : Cutter) (bits : List Bool) (octets : List ℕ) : Type 0 where
-  pub cuts : Cuts cutter bits
+-- octets, none of whose bits ends a flag, come to a flag finder
+pub record Comes (finder : FlagFinder) (bits : List Bool) (octets : List ℕ) : Type 0 where
+  pub cuts : Cuts finder bits
   pub fit : AreOctets octets
-  pub quiet : end_no_flag cutter.window octets ≡ true
+  pub quiet : end_no_flag finder.window octets ≡ true
 
-window_small : (cutter : Cutter) (bits : List Bool) → Cuts cutter bits → cutter.window < 256
-window_small cutter bits cuts = rw cuts.window (number_fits (recent true bits) 8 (rw (length-recent true bits) (omega arith)))
+window_small : (finder : FlagFinder) (bits : List Bool) → Cuts finder bits → finder.window < 256
+window_small finder bits cuts = rw cuts.window (number_fits (recent true bits) 8 (rw (length-recent true bits) (omega arith)))
 
-window_bits : (cutter : Cutter) (bits : List Bool) → Cuts cutter bits → recent true bits ≡ octet_bits cutter.window
-window_bits cutter bits cuts = sym (ap octet_bits cuts.window ∙ octet_bits-number (recent true bits) (length-recent true bits))
+window_bits : (finder : FlagFinder) (bits : List Bool) → Cuts finder bits → recent true bits ≡ octet_bits finder.window
+window_bits finder bits cuts = sym (ap octet_bits cuts.window ∙ octet_bits-number (recent true bits) (length-recent true bits))
 
-pub no_flag_comes : (cutter : Cutter) (bits : List Bool) (octets : List ℕ) → Comes cutter bits octets
-    → ends_no_flag cutter.window (bits_of LsbFirst octets) ≡ true
-no_flag_comes cutter bits octets come = end_split octets cutter.window (window_small cutter bits come.cuts) come.fit ∙ come.quiet
+pub no_flag_comes : (finder : FlagFinder) (bits : List Bool) (octets : List ℕ) → Comes finder bits octets
+    → ends_no_flag finder.window (bits_of LsbFirst octets) ≡ true
+no_flag_comes finder bits octets come = end_split octets finder.window (window_small finder bits come.cuts) come.fit ∙ come.quiet
 
-all_unflagged : (cutter : Cutter) (bits : List Bool) (octets : List ℕ) → Comes cutter bits octets → Unflagged bits (bits_of LsbFirst octets)
-all_unflagged cutter bits octets come =
-    unflagged bits (bits_of LsbFirst octets) (rw (← come.cuts.window) (no_flag_comes cutter bits octets come))
+all_unflagged : (finder : FlagFinder) (bits : List Bool) (octets : List ℕ) → Comes finder bits octets → Unflagged bits (bits_of LsbFirst octets)
+all_unflagged finder bits octets come =
+    unflagged bits (bits_of LsbFirst octets) (rw (← come.cuts.window) (no_flag_comes finder bits octets come))
 
 fit_front : (xs ys : List ℕ) → AreOctets (xs ++ ys) → AreOctets xs
 fit_front [] ys fit = tt
@@ -274,10 +274,10 @@ last_window xs o bits fits =
 split_last : (xs : List ℕ) (n : ℕ) → n + 1 ≡ length xs → xs ≡ take n xs ++ get_or xs n 0 ∷ []
 split_last xs n e = sym (sym (take_more xs n 0 (omega arith)) ∙ take_all (n + 1) xs (omega arith))
 
-module _ (cutter new : Cutter) (bits : List Bool) (xs : List ℕ) (o : ℕ) (come : Comes cutter bits (xs ++ o ∷ []))
-    (begun_ : new.begun ≡ cutter.begun) (window_ : new.window ≡ o) where
+module _ (finder new : FlagFinder) (bits : List Bool) (xs : List ℕ) (o : ℕ) (come : Comes finder bits (xs ++ o ∷ []))
+    (begun_ : new.begun ≡ finder.begun) (window_ : new.window ≡ o) where
   same_begun : begun (bits ++ bits_of LsbFirst (xs ++ o ∷ [])) ≡ begun bits
-  same_begun = ap is_some (all_unflagged cutter bits (xs ++ o ∷ []) come).last
+  same_begun = ap is_some (all_unflagged finder bits (xs ++ o ∷ []) come).last
 
   new_window : new.window ≡ number (recent true (bits ++ bits_of LsbFirst (xs ++ o ∷ [])))
   new_window = window_ ∙ sym (last_window xs o bits (fit_last xs o come.fit))
@@ -291,19 +291,19 @@ module _ (cutter new : Cutter) (bits : List Bool) (xs : List ℕ) (o : ℕ) (com
     gap = rw run.gap_ more;
   }
 
-  cuts_after_full : cutter.held ≡ 8 → new.held ≡ 8 → Collects new.gap (unclosed bits ++ bits_of LsbFirst (cutter.window ∷ xs))
+  cuts_after_full : finder.held ≡ 8 → new.held ≡ 8 → Collects new.gap (unclosed bits ++ bits_of LsbFirst (finder.window ∷ xs))
       → Cuts new (bits ++ bits_of LsbFirst (xs ++ o ∷ []))
   cuts_after_full full held_ more =
-      cuts_run _ (full_run xs o bits cutter.window (sym come.cuts.held ∙ full) (window_bits cutter bits come.cuts)
-      (window_small cutter bits come.cuts) (fit_front xs (o ∷ []) come.fit) come.quiet) held_ more
+      cuts_run _ (full_run xs o bits finder.window (sym come.cuts.held ∙ full) (window_bits finder bits come.cuts)
+      (window_small finder bits come.cuts) (fit_front xs (o ∷ []) come.fit) come.quiet) held_ more
 
-  cuts_after_empty : cutter.begun ≡ true → cutter.held ≡ 0 → new.held ≡ 8 → Collects new.gap (unclosed bits ++ bits_of LsbFirst xs)
+  cuts_after_empty : finder.begun ≡ true → finder.held ≡ 0 → new.held ≡ 8 → Collects new.gap (unclosed bits ++ bits_of LsbFirst xs)
       → Cuts new (bits ++ bits_of LsbFirst (xs ++ o ∷ []))
   cuts_after_empty yes_ empty held_ more =
-      cuts_run _ (empty_run xs o bits cutter.window (sym come.cuts.begun ∙ yes_) (sym come.cuts.held ∙ empty)
-      (window_bits cutter bits come.cuts) (window_small cutter bits come.cuts) (fit_front xs (o ∷ []) come.fit) come.quiet) held_ more
+      cuts_run _ (empty_run xs o bits finder.window (sym come.cuts.begun ∙ yes_) (sym come.cuts.held ∙ empty)
+      (window_bits finder bits come.cuts) (window_small finder bits come.cuts) (fit_front xs (o ∷ []) come.fit) come.quiet) held_ more
 
-  cuts_unbegun : cutter.begun ≡ false → new.held ≡ cutter.held → new.gap ≡ cutter.gap
+  cuts_unbegun : finder.begun ≡ false → new.held ≡ finder.held → new.gap ≡ finder.gap
       → Cuts new (bits ++ bits_of LsbFirst (xs ++ o ∷ []))
   cuts_unbegun not_yet held_ gap_ = record {
     begun = begun_ ∙ (come.cuts.begun ∙ sym same_begun);
@@ -319,7 +319,7 @@ module _ (cutter new : Cutter) (bits : List Bool) (xs : List ℕ) (o : ℕ) (com
       none = sym come.cuts.begun ∙ not_yet
 
       same : last_flag all ≡ last_flag bits
-      same = (all_unflagged cutter bits (xs ++ o ∷ []) come).last
+      same = (all_unflagged finder bits (xs ++ o ∷ []) come).last
 
       held_none : (f : Option ℕ) → is_some f ≡ false → held_after all f ≡ held_after bits f
       held_none None e = refl
@@ -331,30 +331,30 @@ module _ (cutter new : Cutter) (bits : List Bool) (xs : List ℕ) (o : ℕ) (com
 
 -- the same of a list of octets with its last one
 
-pub after_full : (cutter new : Cutter) (bits : List Bool) (octets : List ℕ) (n : ℕ) → n + 1 ≡ length octets → Comes cutter bits octets
-    → new.begun ≡ cutter.begun → new.window ≡ get_or octets n 0 → cutter.held ≡ 8 → new.held ≡ 8
-    → Collects new.gap ((unclosed bits ++ bits_of LsbFirst (cutter.window ∷ [])) ++ bits_of LsbFirst (take n octets))
+pub after_full : (finder new : FlagFinder) (bits : List Bool) (octets : List ℕ) (n : ℕ) → n + 1 ≡ length octets → Comes finder bits octets
+    → new.begun ≡ finder.begun → new.window ≡ get_or octets n 0 → finder.held ≡ 8 → new.held ≡ 8
+    → Collects new.gap ((unclosed bits ++ bits_of LsbFirst (finder.window ∷ [])) ++ bits_of LsbFirst (take n octets))
     → Cuts new (bits ++ bits_of LsbFirst octets)
-after_full cutter new bits octets n size come begun_ window_ full held_ more =
+after_full finder new bits octets n size come begun_ window_ full held_ more =
     let is : octets ≡ take n octets ++ get_or octets n 0 ∷ [] = split_last octets n size in
     subst (λ all. Cuts new (bits ++ bits_of LsbFirst all)) (sym is)
-    (cuts_after_full cutter new bits (take n octets) (get_or octets n 0) (subst (Comes cutter bits) is come) begun_ window_ full held_
-    (subst (Collects new.gap) (joined (unclosed bits) cutter.window (take n octets)) more))
+    (cuts_after_full finder new bits (take n octets) (get_or octets n 0) (subst (Comes finder bits) is come) begun_ window_ full held_
+    (subst (Collects new.gap) (joined (unclosed bits) finder.window (take n octets)) more))
 
-pub after_empty : (cutter new : Cutter) (bits : List Bool) (octets : List ℕ) (n : ℕ) → n + 1 ≡ length octets → Comes cutter bits octets
-    → new.begun ≡ cutter.begun → new.window ≡ get_or octets n 0 → cutter.begun ≡ true → cutter.held ≡ 0 → new.held ≡ 8
+pub after_empty : (finder new : FlagFinder) (bits : List Bool) (octets : List ℕ) (n : ℕ) → n + 1 ≡ length octets → Comes finder bits octets
+    → new.begun ≡ finder.begun → new.window ≡ get_or octets n 0 → finder.begun ≡ true → finder.held ≡ 0 → new.held ≡ 8
     → Collects new.gap (unclosed bits ++ bits_of LsbFirst (take n octets)) → Cuts new (bits ++ bits_of LsbFirst octets)
-after_empty cutter new bits octets n size come begun_ window_ yes_ empty held_ more =
+after_empty finder new bits octets n size come begun_ window_ yes_ empty held_ more =
     let is : octets ≡ take n octets ++ get_or octets n 0 ∷ [] = split_last octets n size in
     subst (λ all. Cuts new (bits ++ bits_of LsbFirst all)) (sym is)
-    (cuts_after_empty cutter new bits (take n octets) (get_or octets n 0)
-    (subst (Comes cutter bits) is come) begun_ window_ yes_ empty held_
+    (cuts_after_empty finder new bits (take n octets) (get_or octets n 0)
+    (subst (Comes finder bits) is come) begun_ window_ yes_ empty held_
     more)
 
-pub after_unbegun : (cutter new : Cutter) (bits : List Bool) (octets : List ℕ) (n : ℕ) → n + 1 ≡ length octets → Comes cutter bits octets
-    → new.begun ≡ cutter.begun → new.window ≡ get_or octets n 0 → cutter.begun ≡ false → new.held ≡ cutter.held → new.gap ≡ cutter.gap
+pub after_unbegun : (finder new : FlagFinder) (bits : List Bool) (octets : List ℕ) (n : ℕ) → n + 1 ≡ length octets → Comes finder bits octets
+    → new.begun ≡ finder.begun → new.window ≡ get_or octets n 0 → finder.begun ≡ false → new.held ≡ finder.held → new.gap ≡ finder.gap
     → Cuts new (bits ++ bits_of LsbFirst octets)
-after_unbegun cutter new bits octets n size come begun_ window_ not_yet held_ gap_ =
+after_unbegun finder new bits octets n size come begun_ window_ not_yet held_ gap_ =
     let is : octets ≡ take n octets ++ get_or octets n 0 ∷ [] = split_last octets n size in
     subst (λ all. Cuts new (bits ++ bits_of LsbFirst all)) (sym is)
-    (cuts_unbegun cutter new bits (take n octets) (get_or octets n 0) (subst (Comes cutter bits) is come) begun_ window_ not_yet held_ gap_)
+    (cuts_unbegun finder new bits (take n octets) (get_or octets n 0) (subst (Comes finder bits) is come) begun_ window_ not_yet held_ gap_)

@@ -14,7 +14,7 @@ use Rattle.raster.proofs.OctetBits.{octet_bits}
 use Rattle.run_tables.specs.Numbers.{number_text}
 use Rattle.run_tables.specs.Texts.{begins}
 use Rattle.run_tables.proofs.NumberLemmas.{number_append, length-number_text}
-use Rattle.hdlc.specs.declared.waiting.Waiting.{Waiting}
+use Rattle.hdlc.specs.declared.bit_buffer.BitBuffer.{BitBuffer}
 use Rattle.hdlc.specs.Flags.{flag}
 use Rattle.hdlc.specs.Writing.{IsWriting}
 use Rattle.hdlc.specs.Stuffing.{stuffed_bit, run_sent, stuffed_from, run_after_all, waiting_bits}
@@ -45,7 +45,7 @@ writes_bits all start bits (b ∷ more) count w =
     (writes_bits (all ++ stuffed_bit count b) start (bits ++ b ∷ []) more (run_sent count b) (writes_bit all start bits count b w))
 
 -- a flag has come, and nothing waits
-pub writes_first : (old new : List Bool) (w : Waiting) → w ≡ record { value = 0; count = 0; ones = 0 } → new ≡ old ++ flag
+pub writes_first : (old new : List Bool) (w : BitBuffer) → w ≡ record { value = 0; count = 0; ones = 0 } → new ≡ old ++ flag
     → IsWriting (new ++ waiting_bits w) old [] w.ones
 writes_first old new w e is =
     let one : IsWriting (new ++ []) old [] 0 = rw (append-nil new) (writes_none old new is) in rw e one

@@ -1,9 +1,9 @@
--- What the parts of a deframer, its cutter, counts and queue, have of the bits so far.
+-- What the parts of a deframer, its finder, counts and queue, have of the bits so far.
 use Rattle.std.specs.Prelude.{ℕ, ◌≡◌, ◌-◌, ◌^◌, ◌≤◌, Bool, true, List, ◌++◌, length, min, drop}
 use Rattle.hdlc.specs.declared.counts.Class.{Class}
 use Rattle.hdlc.specs.declared.counts.Class.TheVariants.{Good, Aborted, Ragged, Short, Long, Damaged}
 use Rattle.hdlc.specs.declared.counts.Counts.{Counts}
-use Rattle.hdlc.specs.declared.cutter.Cutter.{Cutter}
+use Rattle.hdlc.specs.declared.flag_finder.FlagFinder.{FlagFinder}
 use Rattle.raster.specs.Octets.{number}
 use Rattle.hdlc.specs.Gaps.{good, count_of}
 use Rattle.hdlc.specs.OpenGap.{begun, held, recent, unclosed}
@@ -19,32 +19,32 @@ count_in counts Short = counts.short
 count_in counts Long = counts.long
 count_in counts Damaged = counts.damaged
 
--- what a cutter keeps of the bits so far
-pub record Cuts (cutter : Cutter) (bits : List Bool) : Type 0 where
-  pub begun : cutter.begun ≡ begun bits
-  pub held : cutter.held ≡ held bits
-  pub window : cutter.window ≡ number (recent true bits)
-  pub gap : Collects cutter.gap (unclosed bits)
+-- what a flag finder keeps of the bits so far
+pub record Cuts (finder : FlagFinder) (bits : List Bool) : Type 0 where
+  pub begun : finder.begun ≡ begun bits
+  pub held : finder.held ≡ held bits
+  pub window : finder.window ≡ number (recent true bits)
+  pub gap : Collects finder.gap (unclosed bits)
 
--- what a cutter keeps, as clauses see it
-abbrev pub kept_in : Cutter → Kept
-kept_in cutter = record {
-  begun = cutter.begun;
-  held = cutter.held;
-  last = cutter.window;
-  seen = cutter.gap.seen;
-  ones = cutter.gap.ones;
-  aborted = cutter.gap.aborted;
-  octets = cutter.gap.unstuffed.whole.items;
-  long = cutter.gap.unstuffed.long;
-  part = cutter.gap.unstuffed.part;
-  ending = cutter.gap.unstuffed.window;
+-- what a flag finder keeps, as clauses see it
+abbrev pub kept_in : FlagFinder → Kept
+kept_in finder = record {
+  begun = finder.begun;
+  held = finder.held;
+  last = finder.window;
+  seen = finder.gap.seen;
+  ones = finder.gap.ones;
+  aborted = finder.gap.aborted;
+  octets = finder.gap.unstuffed.whole.items;
+  long = finder.gap.unstuffed.long;
+  part = finder.gap.unstuffed.part;
+  ending = finder.gap.unstuffed.window;
 }
 
 -- After these bits, of whose good contents `handed` were handed out, this is kept, these are the counts, and these
 -- contents wait.
-pub record PartsAfter (cutter : Cutter) (counts : Counts) (queue : List (List ℕ)) (bits : List Bool) (handed : ℕ) : Type 0 where
-  pub cuts : Cuts cutter bits
+pub record PartsAfter (finder : FlagFinder) (counts : Counts) (queue : List (List ℕ)) (bits : List Bool) (handed : ℕ) : Type 0 where
+  pub cuts : Cuts finder bits
   pub counted : (class : Class) → count_in counts class ≡ min (2 ^ 64 - 1) (count_of class bits)
   pub within : handed ≤ length (good bits)
   pub queued : queue ≡ drop handed (good bits)

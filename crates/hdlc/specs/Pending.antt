@@ -1,6 +1,6 @@
 -- The bits after the whole octets, while more come. The clauses of private functions name this.
 use Rattle.std.specs.Prelude.{ℕ, ◌+◌, ◌*◌, ◌/◌, ◌%◌, ◌^◌, ◌<◌}
-use Rattle.hdlc.specs.declared.assembler.Pending.{Pending}
+use Rattle.hdlc.specs.declared.octet_buffer.Pending.{Pending}
 
 -- the last eight bits, the newest the most significant
 abbrev pub window_of : Pending → ℕ

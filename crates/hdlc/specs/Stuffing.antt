@@ -6,7 +6,7 @@ use Rattle.std.specs.Int.{bit_at}
 use Rattle.std.specs.List.{range_with_len}
 use Rattle.raster.specs.Octets.{number}
 use Rattle.raster.specs.Words.{number_bits}
-use Rattle.hdlc.specs.declared.waiting.Waiting.{Waiting}
+use Rattle.hdlc.specs.declared.bit_buffer.BitBuffer.{BitBuffer}
 
 -- one bit as it is sent after a number of 1 bits in a row: a 0 bit comes after the fifth
 abbrev pub stuffed_bit : ℕ → Bool → List Bool
@@ -39,11 +39,11 @@ abbrev pub stuffed_numbers : List ℕ
 stuffed_numbers = map (λ place. number (reverse (stuffed_at place))) (range_with_len 0 1280)
 
 -- the bits that wait to be written
-abbrev pub waiting_bits : Waiting → List Bool
+abbrev pub waiting_bits : BitBuffer → List Bool
 waiting_bits w = number_bits w.count w.value
 
 -- at most `most` bits wait
-pub record IsWaiting (most : ℕ) (w : Waiting) : Type 0 where
+pub record IsWaiting (most : ℕ) (w : BitBuffer) : Type 0 where
   pub fits : w.value < 2 ^ w.count
   pub few : w.count ≤ most
   pub ones : w.ones ≤ 4

@@ -12,7 +12,7 @@ ghost use Rattle.std.specs.Io.BufRead.{Rests};
 ghost use Rattle.std.specs.Prelude.{ℕ, ◌≡◌, ◌++◌, [], List, Bool, true, false, min, length, OnOk, OnErr, IfSome, IfNone, slice_get, drop};
 
 use crate::counts::Counts;
-use crate::cutter::{Cutter, take_octets};
+use crate::flag_finder::{FlagFinder, take_octets};
 use std::alloc::{AllocError, Global};
 use std::collections::VecDeque;
 use std::marker::Model;
@@ -23,7 +23,7 @@ use std::marker::Model;
 #[derive(Debug, Drop)]
 pub struct Deframer {
     alloc: Global,
-    cutter: Cutter,
+    finder: FlagFinder,
     counts: Counts,
     queue: VecDeque<Vec<u8>>,
     lent: Option<Vec<u8>>,
@@ -37,7 +37,7 @@ impl Model for Deframer {
     ghost use Rattle.hdlc.specs.Contents.{contents_of};
     ghost use Rattle.hdlc.specs.DeframerParts.{kept_in};
 
-    ghost view = { λ d. record { kept = kept_in d.cutter; counts = d.counts; queue = contents_of d.queue.items } };
+    ghost view = { λ d. record { kept = kept_in d.finder; counts = d.counts; queue = contents_of d.queue.items } };
 }
 
 impl Deframer {
@@ -47,7 +47,7 @@ impl Deframer {
     {
         Deframer {
             alloc,
-            cutter: Cutter::new(),
+            finder: FlagFinder::new(),
             counts: Counts::zero(),
             queue: VecDeque::new(alloc),
             lent: None,
@@ -60,7 +60,7 @@ impl Deframer {
             → IsAfter self.new (bits ++ bits_of LsbFirst piece.now) handed }
         ensures left { result ≡ false → self.new ≡ self.old }
     {
-        self.cutter.take_piece(piece)
+        self.finder.take_piece(piece)
     }
 
     /// Takes a piece of any octets.
@@ -69,13 +69,13 @@ impl Deframer {
             → IsAfter self.new (bits ++ bits_of LsbFirst piece.now) handed) }
         ensures err { OnErr result (self.new ≡ self.old) }
     {
-        let mut cutter = self.cutter.copy();
+        let mut finder = self.finder.copy();
         let mut counts = self.counts;
         let before = self.queue.len();
         let mut at = 0;
         while at < piece.len() {
             match take_octets(
-                &mut cutter,
+                &mut finder,
                 &mut counts,
                 &mut self.queue,
                 self.alloc,
@@ -88,7 +88,7 @@ impl Deframer {
                 }
             }
         }
-        self.cutter = cutter;
+        self.finder = finder;
         self.counts = counts;
         Ok(())
     }

@@ -9,8 +9,8 @@ ghost use Rattle.hdlc.specs.Stuffing.{IsWaiting, waiting_bits};
 ghost use Rattle.hdlc.specs.Writing.{IsWriting, Extends};
 ghost use Rattle.std.specs.Prelude.{◌≡◌, ◌≤◌, ◌++◌, List, Bool, length, IfOk, OnOk, OnErr};
 
+use crate::bit_buffer::BitBuffer;
 use crate::check_sequence::fcs;
-use crate::waiting::Waiting;
 use byteorder::{ByteOrder, LittleEndian};
 use run_tables::BitWriter;
 use std::alloc::AllocError;
@@ -19,9 +19,9 @@ use std::alloc::AllocError;
 /// in a row, after those that wait, and answers what then waits.
 fn write_octets(
     writer: &mut BitWriter,
-    before: Waiting,
+    before: BitBuffer,
     octets: &[u8],
-) -> Result<Waiting, AllocError>
+) -> Result<BitBuffer, AllocError>
     requires { IsWaiting 32 before }
     ensures keeps { Extends writer.old writer.new }
     ensures waits { IfOk result (IsWaiting 32) }
@@ -55,7 +55,7 @@ fn write_all(writer: &mut BitWriter, content: &[u8]) -> Result<(), AllocError>
     let mut sent = [0; 2];
     LittleEndian::write_u16(&mut sent, fcs(content));
     write_flag(writer)?;
-    let first = write_octets(writer, Waiting::new(), content)?;
+    let first = write_octets(writer, BitBuffer::new(), content)?;
     let last = write_octets(writer, first, &sent)?;
     let _none = last.write(writer)?;
     write_flag(writer)?;

@@ -3,18 +3,18 @@
 //! `run_tables`.
 #![tactic(auto)]
 
-mod assembler;
+mod bit_buffer;
 mod check_sequence;
-mod collector;
 mod counts;
-mod cutter;
 mod deframer;
+mod flag_finder;
 mod frame;
+mod gap;
 pub mod laws;
+mod octet_buffer;
 mod remainders;
 mod stuffing;
 mod unstuffing;
-mod waiting;
 
 pub use crate::check_sequence::fcs;
 pub use crate::counts::{Class, Counts};

@@ -172,7 +172,7 @@ fn unstuffed_entries() -> &'static [u16]
 
 /// What is left of an octet without its stuffed bits.
 #[derive(Clone, Copy)]
-pub struct Left {
+pub struct UnstuffedBits {
     /// The bits that are left as a number, the first the least significant.
     pub(crate) value: u8,
     /// How many they are.
@@ -185,7 +185,7 @@ pub struct Left {
 
 /// An octet without its stuffed bits, by the table's row: 256 for each 1 bit in a row before it, up to
 /// six.
-pub fn unstuffed(row: usize, octet: u8) -> Left
+pub fn unstuffed(row: usize, octet: u8) -> UnstuffedBits
     requires whole { row % 256 ≡ 0 }
     requires most { row ≤ 1536 }
     ensures number { result.value ≡ number (unstuffed_from (min 5 (row / 256)) (bits_of LsbFirst (octet ∷ []))) }
@@ -194,7 +194,7 @@ pub fn unstuffed(row: usize, octet: u8) -> Left
     ensures sixth { result.sixth ≡ six_from (min 5 (row / 256)) (bits_of LsbFirst (octet ∷ [])) }
 {
     let entry = unstuffed_entries()[row + octet as usize];
-    Left {
+    UnstuffedBits {
         value: (entry % 256) as u8,
         count: u32::from(entry / 4096),
         row: entry as usize / 256 % 8 * 256,

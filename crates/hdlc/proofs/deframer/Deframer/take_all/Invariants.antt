@@ -10,9 +10,9 @@ abbrev pub invariant-loop-at : goal.invariant-loop-at
 invariant-loop-at l = record {
   within : l.at ≤ length l.piece;
   taken : (bits : List Bool) (handed : ℕ) → IsAfter l.fn.self bits handed
-      → PartsAfter l.cutter l.counts (contents_of l.self-inside.queue.items) (bits ++ bits_of LsbFirst (take l.at l.piece)) handed;
+      → PartsAfter l.finder l.counts (contents_of l.self-inside.queue.items) (bits ++ bits_of LsbFirst (take l.at l.piece)) handed;
   keeps : Grows l.initial.self-inside.queue.items l.self-inside.queue.items;
-  cutter : l.self-inside.cutter ≡ l.initial.self-inside.cutter;
+  finder : l.self-inside.finder ≡ l.initial.self-inside.finder;
   counts : l.self-inside.counts ≡ l.initial.self-inside.counts;
 }
 

@@ -10,4 +10,4 @@ returns-clause-taken c e bits handed old =
     let queue : List (List ℕ) = contents_of c.self.inside.queue.items in
     parts_seen c.take_piece.new.self c.self.inside.counts queue (bits ++ bits_of LsbFirst c.args.piece.now) handed
     (c.take_piece.ensures.taken e c.self.inside.counts queue bits handed
-    (parts_inside c.self.inside.cutter c.self.inside.counts queue bits handed c.args.self.now c.self.view_is old))
+    (parts_inside c.self.inside.finder c.self.inside.counts queue bits handed c.args.self.now c.self.view_is old))

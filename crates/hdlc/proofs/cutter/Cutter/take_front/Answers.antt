@@ -1,5 +1,0 @@
-use Rattle.hdlc.proofs.BitPlaces.{octets-none}
-use Rattle.hdlc.proofs.cutter.Cutter.take_front.Goals as goal
-
-pub returns-then-self-ne0-clause-taken : goal.returns-then-self-ne0-clause-taken
-returns-then-self-ne0-clause-taken c counts queue bits handed old = rw (octets-none bits) old

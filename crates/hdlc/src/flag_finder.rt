@@ -1,0 +1,381 @@
+//! Bits cut into gaps at the flags, one bit after the other.
+
+ghost use Rattle.raster.specs.Packed.{bits_of};
+ghost use Rattle.raster.specs.declared.packed.Order.TheVariants.{LsbFirst};
+ghost use Rattle.hdlc.specs.Collects.{Collects};
+ghost use Rattle.hdlc.specs.Contents.{contents_of};
+ghost use Rattle.hdlc.specs.Gaps.{class_of, is_class, content};
+ghost use Rattle.hdlc.specs.OpenGap.{settled};
+ghost use Rattle.hdlc.specs.DeframerParts.{Cuts, PartsAfter, Grows, count_in};
+ghost use Rattle.hdlc.specs.EightBits.{ends_no_flag, end_no_flag, repeated};
+ghost use Rattle.hdlc.specs.declared.counts.Class.{Class as AnyClass};
+ghost use Rattle.hdlc.specs.declared.counts.Counts.{Counts as AnyCounts};
+ghost use Rattle.std.specs.Prelude.{ℕ, ◌≡◌, ◌+◌, ◌/◌, ◌%◌, ◌<◌, ◌≤◌, ◌++◌, ◌∷◌, ◌&&◌, []};
+ghost use Rattle.std.specs.Prelude.{List, Bool, true, false, cond, min, nat_lt, length, take, drop, IfOk, OnOk};
+
+use crate::counts::{Class, Counts};
+use crate::gap::{Gap, bit_at};
+use crate::octet_buffer::shifted;
+use std::alloc::{AllocError, Global};
+use std::collections::VecDeque;
+
+/// What is kept of the bits: the last eight, and what the open gap has of those before them.
+#[derive(Debug, Drop)]
+pub struct FlagFinder {
+    /// A flag has come.
+    pub(crate) begun: bool,
+    /// How many of the last eight bits came after the last flag.
+    pub(crate) held: u8,
+    /// The last eight bits, the newest the most significant; 1 bits before the first.
+    pub(crate) window: u8,
+    /// The bits after the last flag that left the window.
+    pub(crate) gap: Gap,
+}
+
+/// How many bits of the window came after the last flag, with one bit more.
+fn held_after(begun: bool, held: u8) -> u8
+    ensures { held ≤ 8 → result ≡ cond begun (min 8 (held + 1)) 0 }
+{
+    if begun {
+        held.saturating_add(1).min(8)
+    } else {
+        0
+    }
+}
+
+/// The last eight bits where flags alone came, by how many bits are after the last one.
+const REPEATED: [u8; 8] = [0x7E, 0x3F, 0x9F, 0xCF, 0xE7, 0xF3, 0xF9, 0xFC];
+
+/// The same as a slice.
+fn repeated() -> &'static [u8]
+    ensures { result.now ≡ repeated }
+{
+    &REPEATED
+}
+
+/// Whether no bit of an octet, after these last eight bits, ends a flag.
+fn ends_no_flag(window: u8, octet: u8) -> bool
+    ensures { result ≡ ends_no_flag window (bits_of LsbFirst (octet ∷ [])) }
+{
+    let both = u16::from(octet) * 256 + u16::from(window);
+    let pairs = both & (both / 2);
+    let fours = pairs & (pairs / 4);
+    if (fours & (pairs / 16)) / 4 % 256 == 0 {
+        return true; // no six 1 bits in a row
+    }
+    (both / 2 % 256 != 0x7E)
+        & (both / 4 % 256 != 0x7E)
+        & (both / 8 % 256 != 0x7E)
+        & (both / 16 % 256 != 0x7E)
+        & (both / 32 % 256 != 0x7E)
+        & (both / 64 % 256 != 0x7E)
+        & (both / 128 % 256 != 0x7E)
+        & (both / 256 % 256 != 0x7E)
+}
+
+/// Whether seven octets from a place on, after these last eight bits, hold no six 1 bits in a row that
+/// end in them or directly before, so that none of their bits ends a flag; the octet after them is there.
+fn have_no_flag(last: u8, octets: &[u8], at: usize) -> bool
+    requires { at + 8 ≤ length octets.now }
+    ensures { result ≡ true → end_no_flag last (take 7 (drop at octets.now)) ≡ true }
+{
+    let next = u64::from_le_bytes([
+        octets[at],
+        octets[at + 1],
+        octets[at + 2],
+        octets[at + 3],
+        octets[at + 4],
+        octets[at + 5],
+        octets[at + 6],
+        octets[at + 7],
+    ]);
+    let all = next % 0x0100_0000_0000_0000 * 256 + u64::from(last);
+    let pairs = all & (all / 2);
+    let fours = pairs & (pairs / 4);
+    fours & (pairs / 16) == 0
+}
+
+/// How many of the octets from a place on, seven, one or none, end no flag, after these last eight bits.
+fn quiet_step(last: u8, octets: &[u8], at: usize) -> usize
+    requires { at < length octets.now }
+    ensures within { at + result ≤ length octets.now }
+    ensures quiet { end_no_flag last (take result (drop at octets.now)) ≡ true }
+{
+    if octets.len() - at >= 8 {
+        if have_no_flag(last, octets, at) {
+            return 7;
+        }
+    }
+    if ends_no_flag(last, octets[at]) {
+        return 1;
+    }
+    0
+}
+
+/// How many octets from the front end no flag, after these last eight bits.
+fn quiet_front(window: u8, octets: &[u8]) -> usize
+    ensures within { result ≤ length octets.now }
+    ensures quiet { end_no_flag window (take result octets.now) ≡ true }
+{
+    let mut count = 0;
+    let mut last = window;
+    while count < octets.len() {
+        let step = quiet_step(last, octets, count);
+        if step == 0 {
+            return count;
+        }
+        count += step;
+        last = octets[count - 1];
+    }
+    count
+}
+
+impl FlagFinder {
+    /// No bits yet.
+    pub fn new() -> Self
+        ensures { Cuts result [] }
+    {
+        FlagFinder {
+            begun: false,
+            held: 0,
+            window: 0xFF,
+            gap: Gap::new(),
+        }
+    }
+
+    /// A copy, so that a refusal leaves the original as it was.
+    pub fn copy(&self) -> Self
+        ensures { result ≡ self.now }
+    {
+        FlagFinder {
+            begun: self.begun,
+            held: self.held,
+            window: self.window,
+            gap: self.gap.copy(),
+        }
+    }
+
+    /// A bit comes into the window, and the oldest leaves it.
+    fn shift(&mut self, bit: bool)
+        ensures begun { self.new.begun ≡ self.old.begun }
+        ensures held { self.new.held ≡ self.old.held }
+        ensures window { self.new.window ≡ self.old.window / 2 + cond bit 128 0 }
+        ensures gap { (bits : List Bool) → Cuts self.old bits → Collects self.new.gap (settled bits) }
+    {
+        let oldest = self.window % 2 == 1;
+        self.window = shifted(self.window, bit);
+        if self.held != 8 {
+            return;
+        }
+        self.gap.push(oldest);
+    }
+
+    /// Whether flags alone came, so that the last octet once more repeats them, which changes nothing.
+    fn repeats_flags(&self) -> bool
+        ensures { result ≡ true → (counts : AnyCounts) (queue : List (List ℕ)) (bits : List Bool) (handed : ℕ)
+            → PartsAfter self.now counts queue bits handed
+            → PartsAfter self.now counts queue (bits ++ bits_of LsbFirst (self.now.window ∷ [])) handed }
+    {
+        if !self.begun {
+            return false;
+        }
+        if self.held > 7 {
+            return false;
+        }
+        self.window == repeated()[self.held as usize]
+    }
+
+    /// How many octets from the front repeat flags, which changes nothing.
+    fn repeated_front(&self, octets: &[u8]) -> usize
+        ensures within { result ≤ length octets.now }
+        ensures same { (counts : AnyCounts) (queue : List (List ℕ)) (bits : List Bool) (handed : ℕ)
+            → PartsAfter self.now counts queue bits handed
+            → PartsAfter self.now counts queue (bits ++ bits_of LsbFirst (take result octets.now)) handed }
+    {
+        if !self.repeats_flags() {
+            return 0;
+        }
+        let mut count = 0;
+        while count < octets.len() {
+            if octets[count] != self.window {
+                return count;
+            }
+            count += 1;
+        }
+        count
+    }
+
+    /// Takes octets none of whose bits ends a flag, where none or all of the last eight bits came after
+    /// the last flag.
+    fn take_quiet(&mut self, octets: &[u8])
+        requires whole { self.old.held % 8 ≡ 0 }
+        requires quiet { end_no_flag self.old.window octets.now ≡ true }
+        ensures { (counts : AnyCounts) (queue : List (List ℕ)) (bits : List Bool) (handed : ℕ)
+            → PartsAfter self.old counts queue bits handed → PartsAfter self.new counts queue (bits ++ bits_of LsbFirst octets.now) handed }
+    {
+        let count = octets.len();
+        if count == 0 {
+            return;
+        }
+        if self.held == 8 {
+            self.gap.push_octets(&[self.window]);
+            self.gap.push_octets(&octets[..count - 1]);
+            self.window = octets[count - 1];
+            return;
+        }
+        self.window = octets[count - 1];
+        if !self.begun {
+            return;
+        }
+        self.held = 8;
+        self.gap.push_octets(&octets[..count - 1]);
+    }
+
+    /// Takes octets where none of their bits ends a flag. Answers whether they were taken; where they weren't, nothing
+    /// has changed.
+    fn take_unless_flags(&mut self, octets: &[u8]) -> bool
+        ensures taken { result ≡ true → (counts : AnyCounts) (queue : List (List ℕ)) (bits : List Bool) (handed : ℕ)
+            → PartsAfter self.old counts queue bits handed
+            → PartsAfter self.new counts queue (bits ++ bits_of LsbFirst octets.now) handed }
+        ensures left { result ≡ false → self.new ≡ self.old }
+    {
+        if self.held % 8 != 0 {
+            return false;
+        }
+        if quiet_front(self.window, octets) != octets.len() {
+            return false;
+        }
+        self.take_quiet(octets);
+        true
+    }
+
+    /// Takes a piece the short way, where that can be done: no count changes and no content comes. Answers whether the
+    /// piece was taken; where it wasn't, nothing has changed.
+    pub fn take_piece(&mut self, piece: &[u8]) -> bool
+        ensures taken { result ≡ true → (counts : AnyCounts) (queue : List (List ℕ)) (bits : List Bool) (handed : ℕ)
+            → PartsAfter self.old counts queue bits handed
+            → PartsAfter self.new counts queue (bits ++ bits_of LsbFirst piece.now) handed }
+        ensures left { result ≡ false → self.new ≡ self.old }
+    {
+        if self.repeated_front(piece) == piece.len() {
+            return true;
+        }
+        self.take_unless_flags(piece)
+    }
+
+    /// Takes octets from the front that change no count and bring no content, and answers how many.
+    fn take_front(&mut self, octets: &[u8]) -> usize
+        ensures within { result ≤ length octets.now }
+        ensures taken { (counts : AnyCounts) (queue : List (List ℕ)) (bits : List Bool) (handed : ℕ)
+            → PartsAfter self.old counts queue bits handed
+            → PartsAfter self.new counts queue (bits ++ bits_of LsbFirst (take result octets.now)) handed }
+    {
+        let repeated = self.repeated_front(octets);
+        if repeated != 0 {
+            return repeated;
+        }
+        if self.held % 8 != 0 {
+            return 0;
+        }
+        let count = quiet_front(self.window, octets);
+        self.take_quiet(&octets[..count]);
+        count
+    }
+}
+
+/// Counts a gap that a flag has ended, and keeps the content of a good one.
+fn close(
+    gap: &Gap,
+    counts: &mut Counts,
+    queue: &mut VecDeque<Vec<u8>>,
+    alloc: Global,
+) -> Result<(), AllocError>
+    ensures counted { (bits : List Bool) → Collects gap.now bits → (class : AnyClass) → count_in counts.old class ≤ u64.MAX
+        → count_in counts.new class
+        ≡ min u64.MAX (count_in counts.old class + cond (nat_lt 7 (length bits) && is_class class (class_of bits)) 1 0) }
+    ensures ok { OnOk result ((bits : List Bool) → Collects gap.now bits
+        → contents_of queue.new.items
+        ≡ contents_of queue.old.items ++ cond (nat_lt 7 (length bits) && is_class Class.Good (class_of bits)) (content bits ∷ []) []) }
+    ensures keeps { Grows queue.old.items queue.new.items }
+{
+    if gap.seen < 8 {
+        return Ok(()); // fill between flags
+    }
+    let class = gap.class();
+    counts.add(class);
+    if !class.is_good() {
+        return Ok(());
+    }
+    let mut octets = Vec::new(alloc);
+    octets.extend_from_slice(gap.content())?;
+    queue.push_back(octets)?;
+    Ok(())
+}
+
+/// Takes one bit more. An `Err` leaves the queue longer or as it was, and the rest in any state.
+fn take_bit(
+    finder: &mut FlagFinder,
+    counts: &mut Counts,
+    queue: &mut VecDeque<Vec<u8>>,
+    alloc: Global,
+    bit: bool,
+) -> Result<(), AllocError>
+    ensures ok { OnOk result ((bits : List Bool) (handed : ℕ) → PartsAfter finder.old counts.old (contents_of queue.old.items) bits handed
+        → PartsAfter finder.new counts.new (contents_of queue.new.items) (bits ++ bit ∷ []) handed) }
+    ensures keeps { Grows queue.old.items queue.new.items }
+{
+    finder.shift(bit);
+    if finder.window != 0x7E {
+        finder.held = held_after(finder.begun, finder.held);
+        return Ok(());
+    }
+    close(&finder.gap, counts, queue, alloc)?;
+    finder.begun = true;
+    finder.held = 0;
+    finder.gap = Gap::new();
+    Ok(())
+}
+
+/// Takes the eight bits of an octet, the least significant first, bit by bit.
+fn take_each(
+    finder: &mut FlagFinder,
+    counts: &mut Counts,
+    queue: &mut VecDeque<Vec<u8>>,
+    alloc: Global,
+    octet: u8,
+) -> Result<(), AllocError>
+    ensures ok { OnOk result ((bits : List Bool) (handed : ℕ) → PartsAfter finder.old counts.old (contents_of queue.old.items) bits handed
+        → PartsAfter finder.new counts.new (contents_of queue.new.items) (bits ++ bits_of LsbFirst (octet ∷ [])) handed) }
+    ensures keeps { Grows queue.old.items queue.new.items }
+{
+    for place in 0..8 {
+        take_bit(finder, counts, queue, alloc, bit_at(octet, place))?;
+    }
+    Ok(())
+}
+
+/// Takes the first of the octets, and those after it that come at once: none of their bits ends a flag,
+/// or flags alone come. Answers how many it took. An `Err` leaves the queue longer or as it was, and the
+/// rest in any state.
+pub fn take_octets(
+    finder: &mut FlagFinder,
+    counts: &mut Counts,
+    queue: &mut VecDeque<Vec<u8>>,
+    alloc: Global,
+    octets: &[u8],
+) -> Result<usize, AllocError>
+    requires { 0 < length octets.now }
+    ensures least { IfOk result (λ count. 0 < count) }
+    ensures most { IfOk result (λ count. count ≤ length octets.now) }
+    ensures ok { IfOk result (λ count. (bits : List Bool) (handed : ℕ)
+        → PartsAfter finder.old counts.old (contents_of queue.old.items) bits handed
+        → PartsAfter finder.new counts.new (contents_of queue.new.items) (bits ++ bits_of LsbFirst (take count octets.now)) handed) }
+    ensures keeps { Grows queue.old.items queue.new.items }
+{
+    let count = finder.take_front(octets);
+    if count != 0 {
+        return Ok(count);
+    }
+    take_each(finder, counts, queue, alloc, octets[0])?;
+    Ok(1)
+}

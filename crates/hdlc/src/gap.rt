@@ -1,0 +1,150 @@
+//! The bits of one gap, as they come.
+
+ghost use Rattle.hdlc.specs.Collects.{Collects};
+ghost use Rattle.raster.specs.Packed.{bits_of, bit_in};
+ghost use Rattle.raster.specs.declared.packed.Order.TheVariants.{LsbFirst};
+ghost use Rattle.hdlc.specs.Gaps.{class_of, checks, content};
+ghost use Rattle.hdlc.specs.declared.counts.Class.TheVariants.{Good};
+ghost use Rattle.std.specs.Prelude.{◌≡◌, ◌<◌, ◌≤◌, ◌+◌, ◌++◌, ◌∷◌, [], List, Bool, cond, min, length};
+
+use crate::check_sequence::fcs;
+use crate::counts::Class;
+use crate::octet_buffer::OctetBuffer;
+use crate::unstuffing::unstuffed;
+use byteorder::{ByteOrder, LittleEndian};
+
+/// Whether the last two octets are the check sequence of the others, its low octet first.
+fn checked(octets: &[u8]) -> bool
+    requires { 2 ≤ length octets.now }
+    ensures { result ≡ checks octets.now }
+{
+    let (covered, sent) = octets.split_at(octets.len() - 2);
+    LittleEndian::read_u16(sent) == fcs(covered)
+}
+
+/// How many 1 bits in a row there are after one bit more, up to six.
+fn ones_after(ones: u8, bit: bool) -> u8
+    ensures { ones ≤ 6 → result ≡ cond bit (min 6 (ones + 1)) 0 }
+{
+    if bit {
+        ones.saturating_add(1).min(6)
+    } else {
+        0
+    }
+}
+
+/// The bit at a place of an octet, from the least significant.
+pub fn bit_at(octet: u8, place: u32) -> bool
+    requires { place < 8 }
+    ensures { result ≡ bit_in LsbFirst (octet ∷ []) place }
+{
+    (octet >> place) % 2 == 1
+}
+
+/// What is kept of the bits of a gap whose end has not come.
+#[derive(Debug, Drop)]
+pub struct Gap {
+    /// How many bits there are, up to eight.
+    pub(crate) seen: u8,
+    /// How many 1 bits in a row end them, up to six.
+    pub(crate) ones: u8,
+    /// Six 1 bits in a row have come.
+    pub(crate) aborted: bool,
+    /// The bits without the stuffed ones.
+    pub(crate) unstuffed: OctetBuffer,
+}
+
+impl Gap {
+    /// No bits yet.
+    pub fn new() -> Self
+        ensures { Collects result [] }
+    {
+        Gap {
+            seen: 0,
+            ones: 0,
+            aborted: false,
+            unstuffed: OctetBuffer::new(),
+        }
+    }
+
+    /// A copy, so that a refusal leaves the original as it was.
+    pub fn copy(&self) -> Self
+        ensures { result ≡ self.now }
+    {
+        Gap {
+            seen: self.seen,
+            ones: self.ones,
+            aborted: self.aborted,
+            unstuffed: self.unstuffed.copy(),
+        }
+    }
+
+    /// One bit more: stuffed where it comes directly after five 1 bits in a row.
+    pub fn push(&mut self, bit: bool)
+        ensures { (gap : List Bool) → Collects self.old gap → Collects self.new (gap ++ bit ∷ []) }
+    {
+        let stuffed = self.ones >= 5;
+        self.seen = self.seen.saturating_add(1).min(8);
+        self.ones = ones_after(self.ones, bit);
+        self.aborted |= self.ones == 6;
+        if stuffed {
+            return;
+        }
+        self.unstuffed.push(bit);
+    }
+
+    /// The bits of octets more, the least significant of each first.
+    pub fn push_octets(&mut self, octets: &[u8])
+        ensures { (gap : List Bool) → Collects self.old gap → Collects self.new (gap ++ bits_of LsbFirst octets.now) }
+    {
+        let count = octets.len();
+        if count == 0 {
+            return;
+        }
+        let mut seen = self.seen;
+        let mut row = usize::from(self.ones.min(6)) * 256;
+        let mut aborted = self.aborted;
+        let mut pending = self.unstuffed.pending();
+        for octet in octets {
+            let left = unstuffed(row, *octet);
+            seen = 8;
+            row = left.row;
+            aborted |= left.sixth;
+            pending = self.unstuffed.push_after(pending, left.value, left.count);
+        }
+        self.seen = seen;
+        self.ones = (row / 256) as u8;
+        self.aborted = aborted;
+        self.unstuffed.end(pending);
+    }
+
+    /// The class of the gap, if it ends here.
+    pub fn class(&self) -> Class
+        ensures { (gap : List Bool) → Collects self.now gap → result ≡ class_of gap }
+    {
+        if self.aborted {
+            return Class::Aborted;
+        }
+        if self.unstuffed.part != 0 {
+            return Class::Ragged;
+        }
+        if self.unstuffed.whole.len() < 5 {
+            return Class::Short;
+        }
+        if self.unstuffed.long {
+            return Class::Long;
+        }
+        if !checked(self.unstuffed.whole.as_slice()) {
+            return Class::Damaged;
+        }
+        Class::Good
+    }
+
+    /// The octets but the check sequence.
+    pub fn content(&self) -> &[u8]
+        ensures { (gap : List Bool) → Collects self.now gap → class_of gap ≡ Good → result.now ≡ content gap }
+    {
+        let count = self.unstuffed.whole.len();
+        &self.unstuffed.whole.as_slice()[..count.saturating_sub(2)]
+    }
+}
