@@ -22,7 +22,7 @@ use Rattle.stations.specs.AnswererStep.{Frames}
 use Rattle.stations.specs.declared.mark.Mark.{Mark}
 use Rattle.engines.specs.Captured.{found_of, later_one, overlaid, page_in}
 use Rattle.engines.specs.declared.captured.Captured.{Captured}
-use Rattle.engines.specs.declared.captured.Captured.TheVariants.{Page, Unread, Lacks}
+use Rattle.engines.specs.declared.captured.Captured.TheVariants.{Page, Unread, MissingFrame}
 
 -- ---- a page
 
@@ -72,24 +72,25 @@ filter_more p n =
 
 -- the frames below a number that lack
 abbrev pub lacks_below : Mark → Frames → ℕ → List Captured
-lacks_below mark frames n = map (λ number. Lacks mark number) (filter (is_missing frames) (range_with_len 0 n))
+lacks_below mark frames n = map (λ number. MissingFrame mark number) (filter (is_missing frames) (range_with_len 0 n))
 
 pub one_lacks : (mark : Mark) (frames : Frames) (n : ℕ) (before old new : List Captured) → old ≡ before ++ lacks_below mark frames n
-    → new ≡ old ++ cond (is_missing frames n) (Lacks mark n ∷ []) []
+    → new ≡ old ++ cond (is_missing frames n) (MissingFrame mark n ∷ []) []
     → new ≡ before ++ lacks_below mark frames (n + 1)
 one_lacks mark frames n before old new was is =
-    is ∙ (ap (λ (xs : List Captured). xs ++ cond (is_missing frames n) (Lacks mark n ∷ []) []) was
-    ∙ (append_assoc before (lacks_below mark frames n) (cond (is_missing frames n) (Lacks mark n ∷ []) [])
+    is ∙ (ap (λ (xs : List Captured). xs ++ cond (is_missing frames n) (MissingFrame mark n ∷ []) []) was
+    ∙ (append_assoc before (lacks_below mark frames n) (cond (is_missing frames n) (MissingFrame mark n ∷ []) [])
     ∙ ap (λ (xs : List Captured). before ++ xs) (sym grown)))
   where
-    named : (b : Bool) → map (λ number. Lacks mark number) (cond b (n ∷ []) []) ≡ cond b (Lacks mark n ∷ []) []
+    named : (b : Bool) → map (λ number. MissingFrame mark number) (cond b (n ∷ []) []) ≡ cond b (MissingFrame mark n ∷ []) []
     named true = refl
     named false = refl
 
-    grown : lacks_below mark frames (n + 1) ≡ lacks_below mark frames n ++ cond (is_missing frames n) (Lacks mark n ∷ []) []
-    grown = ap (map (λ number. Lacks mark number)) (filter_more (is_missing frames) n)
-        ∙ (map-append (λ number. Lacks mark number) (filter (is_missing frames) (range_with_len 0 n)) (cond (is_missing frames n) (n ∷ [])
-        []) ∙ ap (λ (xs : List Captured). lacks_below mark frames n ++ xs) (named (is_missing frames n)))
+    grown : lacks_below mark frames (n + 1) ≡ lacks_below mark frames n ++ cond (is_missing frames n) (MissingFrame mark n ∷ []) []
+    grown = ap (map (λ number. MissingFrame mark number)) (filter_more (is_missing frames) n)
+        ∙ (map-append (λ number. MissingFrame mark number) (filter (is_missing frames) (range_with_len 0 n))
+        (cond (is_missing frames n) (n ∷ []) [])
+        ∙ ap (λ (xs : List Captured). lacks_below mark frames n ++ xs) (named (is_missing frames n)))
 
 -- ---- frames over others
 

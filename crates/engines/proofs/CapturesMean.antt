@@ -23,7 +23,7 @@ use Rattle.engines.specs.Captured.{is_waiting, judges, left_open, overlaid, page
 use Rattle.engines.specs.CapturesMean.{BlocksEnd, CapturesMean, FramesAreKept, IsAfterBlock, IsAwaited, OthersChangeNothing}
 use Rattle.engines.specs.CapturesMean.{found_in, hears_signals, mark_of}
 use Rattle.engines.specs.declared.captured.Captured.{Captured}
-use Rattle.engines.specs.declared.captured.Captured.TheVariants.{Lacks, Skipped, Unended, NoDcs}
+use Rattle.engines.specs.declared.captured.Captured.TheVariants.{MissingFrame, MissingBlocks, Unfinished, BlockBeforeDcs}
 use Rattle.engines.specs.declared.captured.Waiting.{Waiting}
 
 -- ---- sequences
@@ -161,13 +161,13 @@ captures_mean params next a b la lb = record {
   ) ∙ ap (λ (octets : List ℕ). page_in params (mark_of 0 0) octets ∷ []) (joined b a);
   never_came = never;
   page_after = found_is (dcs params ∷ fcd 1 b ∷ pps Mps 0 0 1 ∷ fcd 0 a ∷ pps Eop 1 0 0 ∷ []) (tt, (lb, (tt, (la, (tt, tt)))))
-      ∙ ap (λ (octets : List ℕ). Lacks (mark_of 0 0) 0 ∷ page_in params (mark_of 1 0) octets ∷ []) (append-nil a);
+      ∙ ap (λ (octets : List ℕ). MissingFrame (mark_of 0 0) 0 ∷ page_in params (mark_of 1 0) octets ∷ []) (append-nil a);
   block_after = found_is (dcs params ∷ fcd 1 b ∷ pps Null 0 0 1 ∷ fcd 0 a ∷ pps Eop 0 1 0 ∷ []) (tt, (lb, (tt, (la, (tt, tt)))));
   no_block = found_is (dcs params ∷ fcd 0 a ∷ pps Mps 0 1 0 ∷ fcd 0 b ∷ pps Eop 1 0 0 ∷ []) (tt, (la, (tt, (lb, (tt, tt)))))
-      ∙ ap (λ (octets : List ℕ). Skipped (mark_of 0 1) ∷ page_in params (mark_of 1 0) octets ∷ []) (append-nil b);
+      ∙ ap (λ (octets : List ℕ). MissingBlocks (mark_of 0 1) ∷ page_in params (mark_of 1 0) octets ∷ []) (append-nil b);
   no_end = found_is (dcs params ∷ fcd 0 a ∷ []) (tt, (la, tt));
   dcs_in_block = found_is (dcs params ∷ fcd 0 a ∷ dcs next ∷ fcd 0 b ∷ pps Eop 0 0 0 ∷ []) (tt, (la, (tt, (lb, (tt, tt)))))
-      ∙ ap (λ (octets : List ℕ). Unended ∷ page_in next (mark_of 0 0) octets ∷ []) (append-nil b);
+      ∙ ap (λ (octets : List ℕ). Unfinished ∷ page_in next (mark_of 0 0) octets ∷ []) (append-nil b);
   dcs_in_page = λ some. found_is (dcs params ∷ fcd 0 a ∷ pps Null 0 0 0 ∷ dcs next ∷ fcd 0 b ∷ pps Eop 0 0 0 ∷ []) (
     tt,
     (
@@ -180,8 +180,8 @@ captures_mean params next a b la lb = record {
         ),
       ),
     ),
-  ) ∙ (ap (λ (empty : Bool). (cond (not empty) (Unended ∷ []) [] ++ page_in next (mark_of 0 0) (b ++ [])
-      ∷ []) ++ []) (filled a some) ∙ ap (λ (octets : List ℕ). Unended ∷ page_in next (mark_of 0 0) octets ∷ []) (append-nil b));
+  ) ∙ (ap (λ (empty : Bool). (cond (not empty) (Unfinished ∷ []) [] ++ page_in next (mark_of 0 0) (b ++ [])
+      ∷ []) ++ []) (filled a some) ∙ ap (λ (octets : List ℕ). Unfinished ∷ page_in next (mark_of 0 0) octets ∷ []) (append-nil b));
   dcs_in_resend = found_is (dcs params ∷ fcd 0 a ∷ pps Eop 0 0 1 ∷ dcs next ∷ fcd 1 b ∷ pps Eop 0 0 1 ∷ []) (
     tt,
     (
@@ -239,13 +239,13 @@ captures_mean params next a b la lb = record {
     again Eop other = found_is (dcs params ∷ fcd 0 a ∷ pps Eop 0 0 0 ∷ fcd 0 a ∷ pps Eop 0 0 0 ∷ []) (tt, (la, (tt, (la, (tt, tt)))))
         ∙ ap (λ (octets : List ℕ). page_in params (mark_of 0 0) octets ∷ []) (append-nil a)
 
-    never : (ends : PageEnd) → found_in (dcs params ∷ fcd 1 b ∷ pps ends 0 0 1 ∷ []) ≡ Lacks (mark_of 0 0) 0 ∷ []
+    never : (ends : PageEnd) → found_in (dcs params ∷ fcd 1 b ∷ pps ends 0 0 1 ∷ []) ≡ MissingFrame (mark_of 0 0) 0 ∷ []
     never Null = found_is (dcs params ∷ fcd 1 b ∷ pps Null 0 0 1 ∷ []) (tt, (lb, (tt, tt)))
     never Mps = found_is (dcs params ∷ fcd 1 b ∷ pps Mps 0 0 1 ∷ []) (tt, (lb, (tt, tt)))
     never Eom = found_is (dcs params ∷ fcd 1 b ∷ pps Eom 0 0 1 ∷ []) (tt, (lb, (tt, tt)))
     never Eop = found_is (dcs params ∷ fcd 1 b ∷ pps Eop 0 0 1 ∷ []) (tt, (lb, (tt, tt)))
 
-    unread : (ends : PageEnd) → found_in (fcd 0 a ∷ pps ends 0 0 0 ∷ []) ≡ NoDcs (mark_of 0 0) ∷ []
+    unread : (ends : PageEnd) → found_in (fcd 0 a ∷ pps ends 0 0 0 ∷ []) ≡ BlockBeforeDcs (mark_of 0 0) ∷ []
     unread Null = found_is (fcd 0 a ∷ pps Null 0 0 0 ∷ []) (la, (tt, tt))
     unread Mps = found_is (fcd 0 a ∷ pps Mps 0 0 0 ∷ []) (la, (tt, tt))
     unread Eom = found_is (fcd 0 a ∷ pps Eom 0 0 0 ∷ []) (la, (tt, tt))
@@ -344,7 +344,7 @@ still_waits mark s same =
   where
     stays : (b : Bool) → (cond b (finds_none s) (record {
       then = record s { octets = []; next = mark.block; spoiled = true };
-      found = Skipped mark ∷ [];
+      found = MissingBlocks mark ∷ [];
     })).then.waiting ≡ s.waiting
     stays true = refl
     stays false = refl

@@ -20,7 +20,7 @@ use Rattle.stations.specs.AnswererStep.{Frames, all_there, same_mark}
 use Rattle.stations.specs.Layers.{within_frame_size}
 use Rattle.stations.specs.declared.mark.Mark.{Mark}
 use Rattle.engines.specs.declared.captured.Captured.{Captured}
-use Rattle.engines.specs.declared.captured.Captured.TheVariants.{Page, Unread, Lacks, Skipped, Unended, NoDcs}
+use Rattle.engines.specs.declared.captured.Captured.TheVariants.{Page, Unread, MissingFrame, MissingBlocks, Unfinished, BlockBeforeDcs}
 use Rattle.engines.specs.declared.captured.Waiting.{Waiting}
 
 -- ---- what is known while signals come
@@ -87,7 +87,7 @@ unfoldable pub gives_up : Capture → Option Waiting → Step
 gives_up s None = finds_none s
 gives_up s (Some waiting) = record {
   then = after_lack waiting.ends waiting.mark (record s { waiting = None; kept = no_frames });
-  found = map (λ number. Lacks waiting.mark number) (lacking s.kept waiting.last);
+  found = map (λ number. MissingFrame waiting.mark number) (lacking s.kept waiting.last);
 }
 
 -- a block is the one that waits for frames
@@ -103,7 +103,7 @@ turns_from mark s = cond (is_waiting s.waiting mark) (finds_none s) (gives_up s 
 abbrev pub turns_to : Mark → Capture → Step
 turns_to mark s = cond (nat_eq mark.block s.next) (finds_none s) (record {
   then = record s { octets = []; next = mark.block; spoiled = true };
-  found = Skipped mark ∷ [];
+  found = MissingBlocks mark ∷ [];
 })
 
 -- of two frames of one number the later one, where there is one
@@ -164,7 +164,7 @@ judges params ends mark last s =
 
 -- a page or a block that has no end, where there is one
 unfoldable pub left_open : Capture → List Captured
-left_open s = cond (s.begun || not (nat_eq (length s.octets) 0)) (Unended ∷ []) []
+left_open s = cond (s.begun || not (nat_eq (length s.octets) 0)) (Unfinished ∷ []) []
 
 -- what there is at the end of a document: the frames that are missing, and whether a page has no end
 unfoldable pub at_end : Capture → List Captured
@@ -192,7 +192,7 @@ hears_block params ends mark last s = turns_from mark s >>> turns_to mark
 
 -- a PPS: its block is the frames since the PPS before. One that is sent again after it was whole changes nothing
 abbrev pub hears_pps : Option Params → PageEnd → Mark → ℕ → Capture → Step
-hears_pps None ends mark last s = record { then = s; found = NoDcs mark ∷ [] }
+hears_pps None ends mark last s = record { then = s; found = BlockBeforeDcs mark ∷ [] }
 hears_pps (Some params) ends mark last s =
     cond (is_taken s.taken mark) (finds_none (record s { coming = no_frames; begun = false })) (hears_block params ends mark last s)
 

@@ -9,7 +9,7 @@ use Rattle.stations.specs.TurnsMean.{IsTooLong}
 use Rattle.stations.specs.declared.mark.Mark.{Mark}
 use Rattle.engines.specs.Captured.{Capture, Step, at_end, empty_capture, finds_none, hears, is_taken, is_waiting, page_in, ◌>>>◌}
 use Rattle.engines.specs.declared.captured.Captured.{Captured}
-use Rattle.engines.specs.declared.captured.Captured.TheVariants.{Lacks, Skipped, Unended, NoDcs}
+use Rattle.engines.specs.declared.captured.Captured.TheVariants.{MissingFrame, MissingBlocks, Unfinished, BlockBeforeDcs}
 use Rattle.engines.specs.declared.captured.Waiting.{Waiting}
 
 -- signals, one after the other
@@ -56,24 +56,24 @@ pub record SequencesMean (params next : Params) (a b : List ℕ) : Type 0 where
   pub later_block : found_in (dcs params ∷ fcd 0 a ∷ pps Eop 0 0 1 ∷ fcd 0 b ∷ fcd 1 a ∷ pps Eop 0 0 1 ∷ []) ≡
       page_in params (mark_of 0 0) (b ++ a) ∷ []
   -- a frame that never comes is named, where the signals end and where another page comes, which is found
-  pub never_came : (ends : PageEnd) → found_in (dcs params ∷ fcd 1 b ∷ pps ends 0 0 1 ∷ []) ≡ Lacks (mark_of 0 0) 0 ∷ []
+  pub never_came : (ends : PageEnd) → found_in (dcs params ∷ fcd 1 b ∷ pps ends 0 0 1 ∷ []) ≡ MissingFrame (mark_of 0 0) 0 ∷ []
   pub page_after : found_in (dcs params ∷ fcd 1 b ∷ pps Mps 0 0 1 ∷ fcd 0 a ∷ pps Eop 1 0 0 ∷ []) ≡
-      Lacks (mark_of 0 0) 0 ∷ page_in params (mark_of 1 0) a ∷ []
+      MissingFrame (mark_of 0 0) 0 ∷ page_in params (mark_of 1 0) a ∷ []
   -- a page without one of its blocks isn't read, and the next one is
-  pub block_after : found_in (dcs params ∷ fcd 1 b ∷ pps Null 0 0 1 ∷ fcd 0 a ∷ pps Eop 0 1 0 ∷ []) ≡ Lacks (mark_of 0 0) 0 ∷ []
+  pub block_after : found_in (dcs params ∷ fcd 1 b ∷ pps Null 0 0 1 ∷ fcd 0 a ∷ pps Eop 0 1 0 ∷ []) ≡ MissingFrame (mark_of 0 0) 0 ∷ []
   pub no_block : found_in (dcs params ∷ fcd 0 a ∷ pps Mps 0 1 0 ∷ fcd 0 b ∷ pps Eop 1 0 0 ∷ []) ≡
-      Skipped (mark_of 0 1) ∷ page_in params (mark_of 1 0) b ∷ []
+      MissingBlocks (mark_of 0 1) ∷ page_in params (mark_of 1 0) b ∷ []
   -- what no PPS ends is named at a DCS, which begins anew, and where the signals end
-  pub no_end : found_in (dcs params ∷ fcd 0 a ∷ []) ≡ Unended ∷ []
+  pub no_end : found_in (dcs params ∷ fcd 0 a ∷ []) ≡ Unfinished ∷ []
   pub dcs_in_block : found_in (dcs params ∷ fcd 0 a ∷ dcs next ∷ fcd 0 b ∷ pps Eop 0 0 0 ∷ []) ≡
-      Unended ∷ page_in next (mark_of 0 0) b ∷ []
+      Unfinished ∷ page_in next (mark_of 0 0) b ∷ []
   pub dcs_in_page : 0 < length a → found_in (dcs params ∷ fcd 0 a ∷ pps Null 0 0 0 ∷ dcs next ∷ fcd 0 b ∷ pps Eop 0 0 0 ∷ []) ≡
-      Unended ∷ page_in next (mark_of 0 0) b ∷ []
+      Unfinished ∷ page_in next (mark_of 0 0) b ∷ []
   -- frames before a DCS are none of a block after it
   pub dcs_in_resend : found_in (dcs params ∷ fcd 0 a ∷ pps Eop 0 0 1 ∷ dcs next ∷ fcd 1 b ∷ pps Eop 0 0 1 ∷ []) ≡
-      Lacks (mark_of 0 0) 1 ∷ Lacks (mark_of 0 0) 0 ∷ []
+      MissingFrame (mark_of 0 0) 1 ∷ MissingFrame (mark_of 0 0) 0 ∷ []
   -- before any DCS nothing can be read
-  pub no_dcs : (ends : PageEnd) → found_in (fcd 0 a ∷ pps ends 0 0 0 ∷ []) ≡ NoDcs (mark_of 0 0) ∷ []
+  pub no_dcs : (ends : PageEnd) → found_in (fcd 0 a ∷ pps ends 0 0 0 ∷ []) ≡ BlockBeforeDcs (mark_of 0 0) ∷ []
 
 -- what is found in these sequences, whatever the parameters and the data are
 abbrev pub CapturesMean : Type 0

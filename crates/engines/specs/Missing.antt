@@ -4,7 +4,7 @@ use Rattle.std.specs.Fmt.{decimal}
 use Rattle.run_tables.specs.Faults.{number_of}
 use Rattle.engines.specs.PageNumbers.{page_missing}
 use Rattle.engines.specs.declared.captured.Captured.{Captured}
-use Rattle.engines.specs.declared.captured.Captured.TheVariants.{Page, Unread, Lacks, Skipped, Unended, NoDcs}
+use Rattle.engines.specs.declared.captured.Captured.TheVariants.{Page, Unread, MissingFrame, MissingBlocks, Unfinished, BlockBeforeDcs}
 
 -- a page by its number from 1
 abbrev pub page_words : ℕ → List ℕ
@@ -19,8 +19,8 @@ abbrev pub missing_text : Captured → List ℕ
 missing_text (Page page) = []
 missing_text (Unread mark fault) = page_words (page_missing (Unread mark fault))
     ++ (codes ": can't be read, fault " ++ (decimal (number_of fault.kind) ++ (codes " at bit " ++ decimal fault.place)))
-missing_text (Lacks mark frame) = block_words (page_missing (Lacks mark frame)) mark.block
+missing_text (MissingFrame mark frame) = block_words (page_missing (MissingFrame mark frame)) mark.block
     ++ (codes ": frame " ++ (decimal frame ++ codes " is missing"))
-missing_text (Skipped mark) = block_words (page_missing (Skipped mark)) mark.block ++ codes ": the blocks before it are missing"
-missing_text Unended = codes "a page has no end"
-missing_text (NoDcs mark) = block_words (page_missing (NoDcs mark)) mark.block ++ codes ": no DCS before it"
+missing_text (MissingBlocks mark) = block_words (page_missing (MissingBlocks mark)) mark.block ++ codes ": the blocks before it are missing"
+missing_text Unfinished = codes "a page has no end"
+missing_text (BlockBeforeDcs mark) = block_words (page_missing (BlockBeforeDcs mark)) mark.block ++ codes ": no DCS before it"

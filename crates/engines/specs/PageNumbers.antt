@@ -1,7 +1,7 @@
 -- The numbers of captured pages and of the files that they go to.
 use Rattle.std.specs.Prelude.{ℕ, ◌+◌, ◌-◌, ◌^◌, max, min}
 use Rattle.engines.specs.declared.captured.Captured.{Captured}
-use Rattle.engines.specs.declared.captured.Captured.TheVariants.{Page, Unread, Lacks, Skipped, Unended, NoDcs}
+use Rattle.engines.specs.declared.captured.Captured.TheVariants.{Page, Unread, MissingFrame, MissingBlocks, Unfinished, BlockBeforeDcs}
 use Rattle.engines.specs.declared.numbers.PageNumbers.{PageNumbers}
 
 -- the number after one, up to 2^64 - 1
@@ -16,7 +16,7 @@ file_from numbers = max numbers.page (after numbers.file)
 abbrev pub page_missing : Captured → ℕ
 page_missing (Page page) = 0
 page_missing (Unread mark fault) = mark.page + 1
-page_missing (Lacks mark frame) = mark.page + 1
-page_missing (Skipped mark) = mark.page + 1
-page_missing Unended = 0
-page_missing (NoDcs mark) = mark.page + 1
+page_missing (MissingFrame mark frame) = mark.page + 1
+page_missing (MissingBlocks mark) = mark.page + 1
+page_missing Unfinished = 0
+page_missing (BlockBeforeDcs mark) = mark.page + 1

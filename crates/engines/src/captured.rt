@@ -39,18 +39,18 @@ pub enum Captured {
         fault: CodeFault,
     },
     /// A frame that is missing.
-    Lacks {
+    MissingFrame {
         /// The mark of its block.
         mark: Mark,
         /// Its number in the block.
         frame: u8,
     },
     /// The blocks before this one are missing.
-    Skipped(Mark),
+    MissingBlocks(Mark),
     /// A page, or a block of it, has no end.
-    Unended,
+    Unfinished,
     /// A block before any DCS.
-    NoDcs(Mark),
+    BlockBeforeDcs(Mark),
 }
 
 /// A block of which frames are missing.
@@ -189,13 +189,13 @@ fn name_one(
     out: &mut Vec<Captured>,
 ) -> Result<(), ToolFault>
     ensures named { OnOk result (out.new.items ≡ out.old.items
-        ++ cond (is_missing frames.now.frames frame) (Captured.Lacks mark frame ∷ []) []) }
+        ++ cond (is_missing frames.now.frames frame) (Captured.MissingFrame mark frame ∷ []) []) }
     ensures fault { IfErr result IsOutside }
 {
     if frames.frame(frame).is_some() {
         return Ok(());
     }
-    tell(out, Captured::Lacks { mark, frame })
+    tell(out, Captured::MissingFrame { mark, frame })
 }
 
 /// Names the frames of a block that are missing.
@@ -205,7 +205,7 @@ fn name_lacking(
     out: &mut Vec<Captured>,
 ) -> Result<(), ToolFault>
     ensures named { OnOk result (out.new.items ≡ out.old.items
-        ++ map (λ number. Captured.Lacks waiting.mark number) (lacking frames.now.frames waiting.last)) }
+        ++ map (λ number. Captured.MissingFrame waiting.mark number) (lacking frames.now.frames waiting.last)) }
     ensures fault { IfErr result IsOutside }
 {
     for number in 0..waiting.last as u16 + 1 {
@@ -338,7 +338,7 @@ impl Capture {
         if mark.block == self.next {
             return Ok(());
         }
-        tell(out, Captured::Skipped(mark))?;
+        tell(out, Captured::MissingBlocks(mark))?;
         self.octets.clear();
         self.next = mark.block;
         self.spoiled = true;
@@ -477,7 +477,7 @@ impl Capture {
         ensures fault { IfErr result IsOutside }
     {
         let Some(params) = self.params else {
-            return tell(out, Captured::NoDcs(waiting.mark));
+            return tell(out, Captured::BlockBeforeDcs(waiting.mark));
         };
         if self.is_taken(waiting.mark) {
             self.drop_coming();
@@ -512,7 +512,7 @@ impl Capture {
         ensures fault { IfErr result IsOutside }
     {
         if self.begun || !self.octets.is_empty() {
-            return tell(out, Captured::Unended);
+            return tell(out, Captured::Unfinished);
         }
         Ok(())
     }

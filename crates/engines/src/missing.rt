@@ -58,16 +58,16 @@ impl fmt::Display for Missing<'_> {
                 fault.kind.number(),
                 fault.place,
             ),
-            Captured::Lacks { mark, frame } => {
+            Captured::MissingFrame { mark, frame } => {
                 write!(f, "{}: frame {frame} is missing", BlockText::of(page, mark))
             }
-            Captured::Skipped(mark) => write!(
+            Captured::MissingBlocks(mark) => write!(
                 f,
                 "{}: the blocks before it are missing",
                 BlockText::of(page, mark),
             ),
-            Captured::Unended => write!(f, "a page has no end"),
-            Captured::NoDcs(mark) => {
+            Captured::Unfinished => write!(f, "a page has no end"),
+            Captured::BlockBeforeDcs(mark) => {
                 write!(f, "{}: no DCS before it", BlockText::of(page, mark))
             }
         }

@@ -57,9 +57,9 @@ pub(crate) fn missing_page(found: &Captured) -> u64
 {
     match found {
         Captured::Unread { mark, .. }
-        | Captured::Lacks { mark, .. }
-        | Captured::Skipped(mark)
-        | Captured::NoDcs(mark) => u64::from(mark.page) + 1,
-        Captured::Page(_) | Captured::Unended => 0,
+        | Captured::MissingFrame { mark, .. }
+        | Captured::MissingBlocks(mark)
+        | Captured::BlockBeforeDcs(mark) => u64::from(mark.page) + 1,
+        Captured::Page(_) | Captured::Unfinished => 0,
     }
 }
