@@ -207,6 +207,7 @@ impl PackedBits {
     }
 
     /// The bits of a painted row.
+    #[inline(always)]
     #[tactic(auto, using(crate::proofs::PackedLemmas::views))]
     pub(crate) fn of_painter(painter: Painter) -> Self
         requires fits { FitsPainter painter }

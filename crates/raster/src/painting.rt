@@ -32,7 +32,7 @@ fn store(octets: &mut [u8], from: u32, word: u64)
 
 /// Sets all bits from one up to another, both at the beginning of a word.
 #[inline(never)]
-fn blacken(octets: &mut [u8], from: u32, end: u32)
+fn blacken_words(octets: &mut [u8], from: u32, end: u32)
     requires order { from ≤ end }
     requires begins { from % 64 ≡ 0 }
     requires ends { end % 64 ≡ 0 }
@@ -47,6 +47,24 @@ fn blacken(octets: &mut [u8], from: u32, end: u32)
         store(octets, at, u64::MAX);
         at += 64;
     }
+}
+
+/// Sets all bits from one up to another, both at the beginning of a word: mostly there are none.
+#[inline(always)]
+fn blacken(octets: &mut [u8], from: u32, end: u32)
+    requires order { from ≤ end }
+    requires begins { from % 64 ≡ 0 }
+    requires ends { end % 64 ≡ 0 }
+    requires within { end ≤ 8 * length octets.old }
+    ensures length { length octets.new ≡ length octets.old }
+    ensures before { (k : ℕ) → k < from → bit_in Order.MsbFirst octets.new k ≡ bit_in Order.MsbFirst octets.old k }
+    ensures set { (k : ℕ) → from ≤ k → k < end → bit_in Order.MsbFirst octets.new k ≡ true }
+    ensures after { (k : ℕ) → end ≤ k → bit_in Order.MsbFirst octets.new k ≡ bit_in Order.MsbFirst octets.old k }
+{
+    if from >= end {
+        return;
+    }
+    blacken_words(octets, from, end);
 }
 
 /// Paints on to the word of a place that is past the brush's word, over octets of 0 bits.

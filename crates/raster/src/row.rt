@@ -146,6 +146,7 @@ impl Row {
     }
 
     /// The row of a painter whose runs fill its width. Takes no memory.
+    #[inline(always)]
     #[tactic(auto, using(crate::proofs::RowLemmas::lengths))]
     pub fn of_painter(painter: Painter) -> Row
         requires fits { FitsPainter painter }

@@ -21,7 +21,8 @@ fn first_highest(order: Order, octet: u8) -> u8
 }
 
 /// The 64 bits of eight octets, the most significant bit of each first.
-fn whole_word(octets: &[u8], at: usize) -> u64
+#[inline(always)]
+pub(crate) fn whole_word(octets: &[u8], at: usize) -> u64
     requires { at + 8 ≤ length octets.now }
     ensures { IsWordAt Order.MsbFirst octets.now (8 * at) result }
 {

@@ -1,7 +1,7 @@
 use Rattle.std.proofs.Common.{arith, refl, ◌∙◌, inl, inr}
 use Rattle.std.proofs.lemmas.Bool.{cases_lt}
 use Rattle.raster.proofs.PaintingLemmas.{stored_ones}
-use Rattle.raster.proofs.painting.blacken.Goals as goal
+use Rattle.raster.proofs.painting.blacken_words.Goals as goal
 
 pub loop-at-init : goal.loop-at-init
 loop-at-init c = record {

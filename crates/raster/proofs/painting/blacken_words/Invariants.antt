@@ -1,7 +1,7 @@
 use Rattle.std.proofs.Common.{ℕ, ◌≡◌, ◌≤◌, ◌<◌, ◌-◌, ◌%◌, length, true}
 use Rattle.raster.specs.Packed.{bit_in}
 use Rattle.raster.specs.declared.packed.Order.TheVariants.{MsbFirst}
-use Rattle.raster.proofs.painting.blacken.Given as goal
+use Rattle.raster.proofs.painting.blacken_words.Given as goal
 
 abbrev pub invariant-loop-at : goal.invariant-loop-at
 invariant-loop-at l = record {

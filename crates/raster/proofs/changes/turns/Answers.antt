@@ -1,7 +1,0 @@
-use Rattle.std.proofs.Common.{rules}
-use Rattle.raster.proofs.ChangeLemmas.{turns_word}
-use Rattle.raster.proofs.changes.turns.Goals as goal
-
-pub returns : goal.returns
-returns c k h = turns_word c.args.octets.now c.args.at c.octet_word-word.result c.last_before-last.result k (search rules)
-    c.octet_word-word.ensures c.last_before-last.ensures.bit h
