@@ -47,7 +47,7 @@ is_same() {
 }
 
 "$top/bindings/build.sh" "$work"
-for name in encode decode raster frames call answer misuse; do builds "c/$name.c"; done
+for name in encode decode raster frames signals call answer misuse; do builds "c/$name.c"; done
 for name in memory random; do builds "tests/$name.c" --wrap=malloc --wrap=realloc --wrap=free; done
 
 for code in mh mmr; do
@@ -76,6 +76,11 @@ is_same "$work/contents" "$work/wanted" "frames"
 tail -n 1 "$data/line.txt" > "$work/wanted"
 tail -n 1 "$work/output" > "$work/counts"
 is_same "$work/counts" "$work/wanted" "the counts of frames"
+
+# what they say, as another program says it by the standard's tables
+gives 0 signals "$data/line.bits"
+grep '^[0-9]' "$data/line.txt" > "$work/wanted"
+is_same "$work/output" "$work/wanted" "signals"
 
 # a call in one process, with each of its bursts lost in turn; and answerers by lines, whose answers another program wrote
 for lost in 0 1 2 3 4 5 6 7 8; do

@@ -40,6 +40,10 @@ g3_status g3_core_terminal_lost(handle *);
 g3_status g3_core_terminal_next_burst(handle *, handle *, g3_burst *);
 g3_status g3_core_terminal_state(handle *, g3_state *);
 g3_status g3_core_terminal_take_page(handle *, handle *);
+/* of a signal these reach what is before its octets, which are passed beside it */
+g3_status g3_core_signal_read(const uint8_t *, size_t, g3_signal *, uint8_t *, size_t);
+g3_status g3_core_signal_write(const g3_signal *, const uint8_t *, size_t, uint32_t, uint32_t, uint8_t *, size_t, uint64_t *);
+g3_status g3_core_agree(const g3_dis *, const g3_wish *, uint32_t, uint32_t, g3_params *, uint32_t *);
 
 #define HANDLE(it) do { if ((it) == NULL) return G3_EMPTY_HANDLE; } while (0)
 #define PLACE(it) do { if ((it) == NULL) return G3_BAD_LENGTH; } while (0)
@@ -225,6 +229,21 @@ g3_status g3_terminal_take_page(g3_terminal *terminal, g3_page *out)
     HANDLE(terminal); HANDLE(out);
     return g3_core_terminal_take_page((handle *)terminal, (handle *)out);
 }
+g3_status g3_signal_read(const uint8_t *content, size_t length, g3_signal *signal)
+{
+    OCTETS(content, length); PLACE(signal);
+    return g3_core_signal_read(content, length, signal, signal->octets, sizeof signal->octets);
+}
+g3_status g3_signal_write(const g3_signal *signal, uint32_t side, uint32_t last, uint8_t *buffer, size_t room, uint64_t *count)
+{
+    PLACE(signal); OCTETS(buffer, room); PLACE(count);
+    return g3_core_signal_write(signal, signal->octets, sizeof signal->octets, side, last, buffer, room, count);
+}
+g3_status g3_agree(const g3_dis *dis, const g3_wish *wish, uint32_t width, uint32_t fine, g3_params *params, uint32_t *reason)
+{
+    PLACE(dis); PLACE(wish); PLACE(params); PLACE(reason);
+    return g3_core_agree(dis, wish, width, fine, params, reason);
+}
 
 const char *g3_version(void) { return G3_VERSION; }
 const char *g3_status_text(g3_status status)
@@ -247,7 +266,11 @@ const char *g3_status_text(g3_status status)
     case G3_EXTENSION: return "an extension code";
     case G3_MISSING_EOFB: return "the end of the facsimile block is missing";
     case G3_TOO_MANY_CODED_ROWS: return "more than 20000 coded rows";
+    case G3_BAD_ADDRESS: return "the address isn't FF";
+    case G3_BAD_CONTROL: return "the control field is neither 03 nor 13";
+    case G3_SHORT_FIELD: return "a field is missing or cut short";
     case G3_NOT_CALLABLE: return "a page isn't 1728, 2048 or 2432 pixels wide, as a call can have it";
+    case G3_NOT_COMPATIBLE: return "the stations are not compatible";
     case G3_EMPTY_HANDLE: return "the handle is empty";
     case G3_OTHER_HANDLE: return "the handle has something of another kind";
     case G3_FULL_HANDLE: return "the handle that is to be filled has something";

@@ -26,8 +26,12 @@ enum {
     /* faults of coded pages, with G3_NO_ROWS */
     G3_BAD_CODE = 10, G3_TRUNCATED = 11, G3_RUN_TOO_LONG = 12, G3_BACKWARDS = 13, G3_PAST_END = 14, G3_EMPTY_HORIZONTAL = 15,
     G3_EXTENSION = 16, G3_MISSING_EOFB = 17, G3_TOO_MANY_CODED_ROWS = 18,
+    /* a content that says no signal: its address isn't FF, its control field is neither 03 nor 13, a field is missing or cut short */
+    G3_BAD_ADDRESS = 20, G3_BAD_CONTROL = 21, G3_SHORT_FIELD = 22,
     /* a document whose page has a width that a call can't have */
     G3_NOT_CALLABLE = 26,
+    /* two stations have no way to send pages */
+    G3_NOT_COMPATIBLE = 28,
     /* wrong use */
     G3_EMPTY_HANDLE = 100, G3_OTHER_HANDLE = 101, G3_FULL_HANDLE = 102, G3_NO_ROOM = 103, G3_BAD_CHOICE = 104, G3_BAD_LENGTH = 105,
     G3_NOTHING = 106,
@@ -226,6 +230,74 @@ g3_status g3_terminal_state(g3_terminal *terminal, g3_state *state);
 /* The oldest page that an answerer has stored and that wasn't taken. G3_NOTHING: there is none. Where none waits in the handle, all stored
  * pages leave the station, which isn't busy for them then: there are never more than 2 * limit - 1 in memory. */
 g3_status g3_terminal_take_page(g3_terminal *terminal, g3_page *out);
+
+/* Signals (T.30, 5.3.6 and A.4): what the contents of frames say. A program that has its own frames reads and writes them by these; a
+ * terminal needs none of it. */
+
+/* the kinds of signals; G3_OTHER is one of another facsimile control field, or a DCS or PPS that says what isn't known here */
+enum {
+    G3_DIS = 1, G3_DCS = 2, G3_CFR = 3, G3_FTT = 4, G3_FCD = 5, G3_RCP = 6, G3_PPS = 7, G3_PPR = 8, G3_MCF = 9, G3_RNR = 10, G3_RR = 11,
+    G3_DCN = 12, G3_OTHER = 13
+};
+/* the modems of a DIS beside G3_V27TER, G3_V29 (with V.27 ter) and G3_V17 (with both) */
+enum { G3_V29_ALONE = 4, G3_V27TER_2400_ALONE = 5 };
+/* what ends with the block of a PPS: nothing more, a page (MPS), the last page of a group (EOM), the last page (EOP) */
+enum { G3_BLOCK_ALONE = 1, G3_MPS = 2, G3_EOM = 3, G3_EOP = 4 };
+/* who sends: the first bit of most facsimile control fields says it */
+enum { G3_CALLER = 1, G3_ANSWERER = 2 };
+
+/* what a station can do, as its DIS says it; 1 is yes, 0 no */
+typedef struct g3_dis {
+    uint32_t receiver; /* it receives pages */
+    uint32_t modems;   /* G3_V27TER, G3_V29, G3_V17, G3_V29_ALONE or G3_V27TER_2400_ALONE */
+    uint32_t fine;     /* it takes pages of 7.7 lines a millimeter */
+    uint32_t widest;   /* the width of its widest page in pixels: 1728, 2048 or 2432 */
+    uint32_t t6;       /* it reads T.6 beside T.4 in one dimension */
+    uint32_t ecm;      /* it has the error correction mode */
+} g3_dis;
+
+/* how pages are sent, as a DCS says it */
+typedef struct g3_params {
+    uint32_t carrier; /* G3_V27TER_2400 to G3_V17_14400 */
+    uint32_t fine;    /* 1: 7.7 lines a millimeter, 0: 3.85 */
+    uint32_t width;   /* pixels: 1728, 2048 or 2432 */
+    uint32_t coding;  /* G3_MH or G3_MMR */
+    uint32_t frame;   /* the octets of data in a frame: 256 or 64 */
+} g3_params;
+
+/* what a PPS says of a block */
+typedef struct g3_block {
+    uint32_t ends;  /* G3_BLOCK_ALONE, G3_MPS, G3_EOM or G3_EOP */
+    uint32_t page;  /* the number of the page modulo 256 */
+    uint32_t block; /* the number of the block in its page modulo 256 */
+    uint32_t last;  /* the number of the block's last frame */
+} g3_block;
+
+typedef struct g3_signal {
+    uint64_t length;     /* how many octets: 1 to 256 of an FCD's data, 32 of a PPR's bits */
+    uint32_t kind;       /* G3_DIS to G3_OTHER; what belongs to other kinds is 0 where a signal was read */
+    g3_dis dis;          /* of a DIS */
+    g3_params dcs;       /* of a DCS */
+    g3_block pps;        /* of a PPS */
+    uint32_t number;     /* of an FCD, the number of its frame in the block */
+    uint32_t control;    /* of G3_OTHER, the octet of the facsimile control field */
+    uint8_t octets[296]; /* an FCD's data, or the 256 bits of a PPR: bit n % 8 of octet n / 8 is 1 where frame n is asked for. More stays */
+} g3_signal;
+
+/* Reads the content of a frame as a signal; what comes after a signal's fields is ignored, save in an FCD. G3_BAD_ADDRESS, G3_BAD_CONTROL,
+ * G3_SHORT_FIELD: it says none. G3_NO_ROOM: an FCD of more than 296 octets of data. */
+g3_status g3_signal_read(const uint8_t *content, size_t length, g3_signal *signal);
+/* Writes the signal as the content of a frame, as G3_CALLER or G3_ANSWERER sends it; `last`: 1 in the last frame of a transmission, 0 in
+ * each other. *count: its octets, 3 to 300, also where G3_NO_ROOM is answered. G3_BAD_CHOICE: a field has another number than those named,
+ * or the kind is G3_OTHER. G3_BAD_LENGTH: an FCD hasn't 1 to 256 octets, or a PPR 32. What was written is read as the signal. */
+g3_status g3_signal_write(const g3_signal *signal, uint32_t side, uint32_t last, uint8_t *buffer, size_t room, uint64_t *count);
+
+/* why two stations don't agree; of several reasons the first one: it doesn't receive, it has no error correction, the page is too wide for
+ * it, it takes no fine lines, no speed is common */
+enum { G3_NO_RECEIVER = 1, G3_NO_ECM = 2, G3_TOO_WIDE = 3, G3_NO_FINE = 4, G3_NO_COMMON_SPEED = 5 };
+/* What a caller of this wish agrees on with a station of this DIS, for pages of a width in pixels, `fine` or not: what its DCS says.
+ * G3_NOT_COMPATIBLE: *reason is why not. G3_NOT_CALLABLE: the width isn't 1728, 2048 or 2432. */
+g3_status g3_agree(const g3_dis *dis, const g3_wish *wish, uint32_t width, uint32_t fine, g3_params *params, uint32_t *reason);
 
 #ifdef __cplusplus
 }

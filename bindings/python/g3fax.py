@@ -1,5 +1,5 @@
-"""Group 3 fax pages and frames, by the library for C, libg3fax.so.0: coding and decoding in T.4 one-dimensional (MH) and T.6 (MMR), salvage
-and repair of broken pages, raw PBM in memory, and HDLC frames.
+"""Group 3 fax pages, frames and stations, by the library for C, libg3fax.so.0: coding and decoding in T.4 one-dimensional (MH) and
+T.6 (MMR), salvage and repair of broken pages, raw PBM in memory, HDLC frames, signals, and the two stations of a call.
 
     import g3fax
     rows = g3fax.decode(octets, width=1728)           # a memoryview, one row of 216 octets after the other
@@ -21,7 +21,7 @@ import sys
 import threading
 import weakref
 from enum import IntEnum
-from typing import Any, Iterator, List, NamedTuple, Optional, Tuple
+from typing import Any, Iterable, Iterator, List, NamedTuple, Optional, Tuple
 
 if sys.version_info >= (3, 12):
     from collections.abc import Buffer
@@ -30,6 +30,8 @@ else:
 
 __all__ = ["Coding", "Order", "Fault", "CodeFault", "NoMemory", "Counts", "Frame", "Page", "Deframer", "decode", "encode", "salvage",
            "repair", "write_frame", "frames", "version"]
+__all__ += ["FrameLost", "NotCompatible", "Modems", "Carrier", "Wait", "Listens", "End", "State", "Burst", "Document", "Terminal", "Caller",
+            "Answerer", "Kind", "Side", "PageEnd", "Reason", "Dis", "Params", "Pps", "Signal", "read_signal", "write_signal", "agree"]
 
 
 class Coding(IntEnum):
@@ -64,7 +66,22 @@ class CodeFault(Fault):
 
 
 class NoMemory(Fault, MemoryError):
-    """Memory was refused; each page and deframer is as it was."""
+    """Memory was refused; what is here is as it was, save where it is FrameLost."""
+
+
+class FrameLost(NoMemory):
+    """Memory was refused after a terminal took octets of the line: frames in them are lost, as on a line, and the call goes on."""
+
+
+class NotCompatible(Fault):
+    """Two stations have no way to send pages: `reason` is the first reason why."""
+
+    def __init__(self, number: int, reason: int) -> None:
+        super().__init__(number)
+        self.reason = Reason(reason)
+
+    def __reduce__(self) -> Tuple[Any, ...]:
+        return type(self), (self.number, int(self.reason))
 
 
 class Counts(NamedTuple):
@@ -87,7 +104,7 @@ class Frame(NamedTuple):
 
 # ---- the library for C
 
-_OK, _NO_ROWS, _NO_MEMORY, _NOTHING = 0, 4, 9, 106
+_OK, _NO_ROWS, _NO_MEMORY, _NOT_COMPATIBLE, _NOTHING, _FRAME_LOST = 0, 4, 9, 28, 106, 108
 _u32, _u64, _size, _address = ctypes.c_uint32, ctypes.c_uint64, ctypes.c_size_t, ctypes.c_void_p
 
 
@@ -111,6 +128,39 @@ class _Counts(ctypes.Structure):
     _fields_ = [(name, _u64) for name in Counts._fields]
 
 
+class _Caps(ctypes.Structure):
+    _fields_ = [(name, _u32) for name in ("modems", "t6", "fine", "widest", "limit")]
+
+
+class _Wish(ctypes.Structure):
+    _fields_ = [(name, _u32) for name in ("modems", "coding", "frame")]
+
+
+class _Burst(ctypes.Structure):
+    _fields_ = [("bits", _u64), ("carrier", _u32), ("check", _u32), ("last", _u32)]
+
+
+class _State(ctypes.Structure):
+    _fields_ = [("pages", _u64), ("frames", _u64)] + [(name, _u32) for name in ("listens", "carrier", "wait", "longer", "end")]
+
+
+class _Dis(ctypes.Structure):
+    _fields_ = [(name, _u32) for name in ("receiver", "modems", "fine", "widest", "t6", "ecm")]
+
+
+class _Params(ctypes.Structure):
+    _fields_ = [(name, _u32) for name in ("carrier", "fine", "width", "coding", "frame")]
+
+
+class _Pps(ctypes.Structure):
+    _fields_ = [(name, _u32) for name in ("ends", "page", "block", "last")]
+
+
+class _Signal(ctypes.Structure):
+    _fields_ = [("length", _u64), ("kind", _u32), ("dis", _Dis), ("dcs", _Params), ("pps", _Pps), ("number", _u32), ("control", _u32),
+                ("octets", ctypes.c_uint8 * 296)]
+
+
 _FUNCTIONS = {
     "g3_page_new": [_address, _u32, _u32],
     "g3_page_push_row": [_address, _address, _size],
@@ -131,6 +181,25 @@ _FUNCTIONS = {
     "g3_deframer_next": [_address, _address, _size, _address],
     "g3_deframer_counts": [_address, _address],
     "g3_frame_write": [_address, _size, _address, _address],
+    "g3_document_new": [_address],
+    "g3_document_push": [_address, _address],
+    "g3_document_pages": [_address, _address],
+    "g3_answerer_new": [_address, _address],
+    "g3_caller_new": [_address, _address, _address],
+    "g3_terminal_hear": [_address, _address, _size],
+    "g3_terminal_hear_training": [_address, _address, _size],
+    "g3_terminal_wait_over": [_address, _u32],
+    "g3_wait_millis": [_u32],
+    "g3_terminal_set_busy": [_address, _u32],
+    "g3_terminal_stop": [_address],
+    "g3_terminal_hang_up": [_address],
+    "g3_terminal_lost": [_address],
+    "g3_terminal_next_burst": [_address, _address, _address],
+    "g3_terminal_state": [_address, _address],
+    "g3_terminal_take_page": [_address, _address],
+    "g3_signal_read": [_address, _size, _address],
+    "g3_signal_write": [_address, _u32, _u32, _address, _size, _address],
+    "g3_agree": [_address, _address, _u32, _u32, _address, _address],
 }
 
 
@@ -139,7 +208,7 @@ def _load() -> ctypes.CDLL:
     for name, words in _FUNCTIONS.items():
         function = getattr(library, name)
         function.argtypes, function.restype = words, _u32
-    for name in "g3_page_free", "g3_octets_free", "g3_deframer_free":
+    for name in "g3_page_free", "g3_octets_free", "g3_deframer_free", "g3_document_free", "g3_terminal_free":
         function = getattr(library, name)
         function.argtypes, function.restype = [_address], None
     library.g3_status_text.argtypes, library.g3_status_text.restype = [_u32], ctypes.c_char_p
@@ -156,6 +225,8 @@ def _done(status: int, bit: Optional[int] = None) -> None:
         return
     if status == _NO_MEMORY:
         raise NoMemory(status)
+    if status == _FRAME_LOST:
+        raise FrameLost(status)
     if status == _NO_ROWS or 10 <= status <= 18:
         raise CodeFault(status, bit)
     raise Fault(status)
@@ -459,6 +530,369 @@ def frames(octets: Buffer) -> Tuple[List[bytes], Counts]:
     with Deframer() as deframer:
         deframer.feed(octets)
         return list(deframer), deframer.counts
+
+
+# ---- calls
+
+
+class Modems(IntEnum):
+    """The modems of a station. The last two are those that a DIS may say, and no station here has."""
+
+    V27TER = 1
+    V29 = 2  #: V.27 ter and V.29
+    V17 = 3  #: V.27 ter, V.29 and V.17
+    V29_ALONE = 4
+    V27TER_2400_ALONE = 5
+
+
+class Carrier(IntEnum):
+    """What a burst goes out on, by its bits a second."""
+
+    V21 = 1
+    V27TER_2400 = 2
+    V27TER_4800 = 3
+    V29_7200 = 4
+    V29_9600 = 5
+    V17_7200 = 6
+    V17_9600 = 7
+    V17_12000 = 8
+    V17_14400 = 9
+
+
+class Wait(IntEnum):
+    """The waits of T.30, 5.4.3.1."""
+
+    T1 = 1
+    T2 = 2
+    T4 = 4
+    T5 = 5
+
+    @property
+    def millis(self) -> int:
+        """How long it runs, in milliseconds."""
+        return _library.g3_wait_millis(self)
+
+
+class Listens(IntEnum):
+    """What a station listens for: V.21 alone; a training check; V.21, and the frames of a page."""
+
+    V21 = 1
+    CHECK = 2
+    PAGES = 3
+
+
+class End(IntEnum):
+    """Why a call ended, as g3fax.h says."""
+
+    NORMAL = 1
+    NO_ANSWER = 2
+    NOT_COMPATIBLE = 3
+    TRAINING = 4
+    NO_REPLY = 5
+    UNREADABLE = 6
+    STILL_BUSY = 7
+    PEER_LEFT = 8
+    BAD_PAGE = 9
+    PAGE_TOO_LONG = 10
+    STOPPED = 11
+    LINE_LOST = 12
+
+
+class State(NamedTuple):
+    """The state of a terminal: `pages` of a caller are confirmed, of an answerer stored and not taken; `frames` are the good ones heard.
+    None: no carrier, no wait, and a call that goes on."""
+
+    pages: int
+    frames: int
+    listens: Listens
+    carrier: Optional[Carrier]
+    wait: Optional[Wait]
+    longer: Optional[Wait]
+    end: Optional[End]
+
+
+class Burst(NamedTuple):
+    """What is to be sent: the bits, the least significant of each octet first; what it goes out on; whether it is a training check, and
+    whether it is the last before the other station has its turn."""
+
+    octets: memoryview
+    bits: int
+    carrier: Carrier
+    check: bool
+    last: bool
+
+
+class Document(_Owner):
+    """The pages of a call, in order."""
+
+    def __init__(self, pages: Iterable[Page] = ()) -> None:
+        super().__init__("g3_document_free")
+        _done(_library.g3_document_new(self._at))
+        for page in pages:
+            self.append(page)
+
+    def append(self, page: Page) -> None:
+        """Moves a page to the end: later calls of the page raise Fault 100."""
+        with self._lock, page._lock:
+            _done(_library.g3_document_push(self._at, page._at))
+
+    def __len__(self) -> int:
+        """The number of pages."""
+        count = _u64()
+        with self._lock:
+            _done(_library.g3_document_pages(self._at, ctypes.byref(count)))
+        return count.value
+
+
+class Terminal(_Owner):
+    """A station of a call with error correction, from octets of the line to octets of the line: a Caller or an Answerer. It has no clock
+    and no modem: bindings/README.md, "A call", says what a program does with it."""
+
+    def __init__(self) -> None:
+        super().__init__("g3_terminal_free")
+
+    def hear(self, octets: Buffer) -> None:
+        """Hears octets that came by V.21 or by the carrier of a page, in pieces of any size. NoMemory: nothing was taken. FrameLost: don't
+        give them again."""
+        address, length = _octets(octets)
+        with self._lock:
+            _done(_library.g3_terminal_hear(self._at, address, length))
+
+    def hear_training(self, octets: Buffer) -> None:
+        """Hears the octets of a training check."""
+        address, length = _octets(octets)
+        with self._lock:
+            _done(_library.g3_terminal_hear_training(self._at, address, length))
+
+    def wait_over(self, wait: Wait) -> None:
+        """A wait is over; one that doesn't run changes nothing."""
+        with self._lock:
+            _done(_library.g3_terminal_wait_over(self._at, _number(wait, "wait")))
+
+    def set_busy(self, is_busy: bool) -> None:
+        """Whether an answerer can't take pages for now."""
+        with self._lock:
+            _done(_library.g3_terminal_set_busy(self._at, bool(is_busy)))
+
+    def stop(self) -> None:
+        """Ends the call in order: DCN is to be sent in place of what was."""
+        with self._lock:
+            _done(_library.g3_terminal_stop(self._at))
+
+    def hang_up(self) -> None:
+        """The same also where the call has ended, so that a page that couldn't be kept isn't confirmed."""
+        with self._lock:
+            _done(_library.g3_terminal_hang_up(self._at))
+
+    def lost(self) -> None:
+        """The line is gone: nothing is left to be sent."""
+        with self._lock:
+            _done(_library.g3_terminal_lost(self._at))
+
+    def next_burst(self) -> Optional[Burst]:
+        """The next burst that is to be sent, or None."""
+        out, told = _Handle(), _Burst()
+        with self._lock:
+            status = _library.g3_terminal_next_burst(self._at, ctypes.byref(out), ctypes.byref(told))
+        if status == _NOTHING:
+            return None
+        _done(status)
+        return Burst(_taken(out), told.bits, Carrier(told.carrier), bool(told.check), bool(told.last))
+
+    def bursts(self) -> Iterator[Burst]:
+        """The bursts of the turn that are left."""
+        return iter(self.next_burst, None)
+
+    @property
+    def state(self) -> State:
+        """What it listens for, its waits, its pages, and why its call ended."""
+        told = _State()
+        with self._lock:
+            _done(_library.g3_terminal_state(self._at, ctypes.byref(told)))
+        return State(told.pages, told.frames, Listens(told.listens), Carrier(told.carrier) if told.carrier else None,
+                     Wait(told.wait) if told.wait else None, Wait(told.longer) if told.longer else None,
+                     End(told.end) if told.end else None)
+
+    def take_page(self) -> Optional[Page]:
+        """The oldest page that an answerer has stored and that wasn't taken, or None."""
+        page = Page._empty()
+        with self._lock:
+            status = _library.g3_terminal_take_page(self._at, page._at)
+        if status == _NOTHING:
+            return None
+        _done(status)
+        return page
+
+    def pages(self) -> Iterator[Page]:
+        """The pages that an answerer has stored and that weren't taken; each is taken out."""
+        return iter(self.take_page, None)
+
+
+class Caller(Terminal):
+    """The station that calls and sends a document."""
+
+    def __init__(self, document: Document, modems: Modems = Modems.V17, coding: Coding = Coding.MMR, frame: int = 256) -> None:
+        """Waits for a DIS. The document moves in. `frame` is the octets of data in a frame, 256 or 64."""
+        super().__init__()
+        wish = _wish(modems, coding, frame)
+        with document._lock:
+            _done(_library.g3_caller_new(self._at, document._at, ctypes.byref(wish)))
+
+
+class Answerer(Terminal):
+    """The station that is called and stores pages."""
+
+    def __init__(self, modems: Modems = Modems.V17, t6: bool = True, fine: bool = True, widest: int = 2432, limit: int = 1) -> None:
+        """Its first burst is DIS. `limit`: how many pages it stores before it is busy."""
+        super().__init__()
+        caps = _Caps(_number(modems, "modems"), bool(t6), bool(fine), _number(widest, "widest"), _number(limit, "limit"))
+        _done(_library.g3_answerer_new(self._at, ctypes.byref(caps)))
+
+
+def _wish(modems: int, coding: int, frame: int) -> _Wish:
+    return _Wish(_number(modems, "modems"), _number(coding, "coding"), _number(frame, "frame"))
+
+
+# ---- signals
+
+
+class Kind(IntEnum):
+    """The kinds of signals. OTHER has another facsimile control field, or is a DCS or PPS that says what isn't known here."""
+
+    DIS = 1
+    DCS = 2
+    CFR = 3
+    FTT = 4
+    FCD = 5
+    RCP = 6
+    PPS = 7
+    PPR = 8
+    MCF = 9
+    RNR = 10
+    RR = 11
+    DCN = 12
+    OTHER = 13
+
+
+class Side(IntEnum):
+    """Who sends a signal."""
+
+    CALLER = 1
+    ANSWERER = 2
+
+
+class PageEnd(IntEnum):
+    """What ends with the block of a PPS: nothing more, a page, the last page of a group, the last page."""
+
+    BLOCK_ALONE = 1
+    MPS = 2
+    EOM = 3
+    EOP = 4
+
+
+class Reason(IntEnum):
+    """Why two stations don't agree; of several reasons the first one."""
+
+    NO_RECEIVER = 1
+    NO_ECM = 2
+    TOO_WIDE = 3
+    NO_FINE = 4
+    NO_COMMON_SPEED = 5
+
+
+class Dis(NamedTuple):
+    """What a station can do, as its DIS says it."""
+
+    receiver: bool = True
+    modems: Modems = Modems.V17
+    fine: bool = True
+    widest: int = 2432
+    t6: bool = True
+    ecm: bool = True
+
+
+class Params(NamedTuple):
+    """How pages are sent, as a DCS says it. `frame` is the octets of data in a frame, 256 or 64."""
+
+    carrier: Carrier
+    fine: bool
+    width: int
+    coding: Coding
+    frame: int
+
+
+class Pps(NamedTuple):
+    """What a PPS says of a block: the page and the block by their numbers modulo 256, and the number of the block's last frame."""
+
+    ends: PageEnd
+    page: int
+    block: int
+    last: int
+
+
+class Signal(NamedTuple):
+    """A signal: `dis`, `dcs` and `pps` where it is of that kind; `number` of an FCD's frame, and `control`, the octet of another one's
+    facsimile control field; `octets` of an FCD's data, or a PPR's 256 bits, of which bit n % 8 of octet n / 8 asks for frame n."""
+
+    kind: Kind
+    dis: Optional[Dis] = None
+    dcs: Optional[Params] = None
+    pps: Optional[Pps] = None
+    number: int = 0
+    control: int = 0
+    octets: bytes = b""
+
+
+def _params(told: _Params) -> Params:
+    return Params(Carrier(told.carrier), bool(told.fine), told.width, Coding(told.coding), told.frame)
+
+
+def _numbers(words: Iterable[int]) -> List[int]:
+    return [_number(int(word), "a field") for word in words]
+
+
+def read_signal(content: Buffer) -> Signal:
+    """The signal that the content of a frame says; what comes after its fields is ignored, save in an FCD. Raises Fault 20, 21 or 22 where
+    it says none."""
+    told, (address, length) = _Signal(), _octets(content)
+    _done(_library.g3_signal_read(address, length, ctypes.byref(told)))
+    kind, dis, pps = Kind(told.kind), told.dis, told.pps
+    return Signal(
+        kind,
+        Dis(bool(dis.receiver), Modems(dis.modems), bool(dis.fine), dis.widest, bool(dis.t6), bool(dis.ecm)) if kind == Kind.DIS else None,
+        _params(told.dcs) if kind == Kind.DCS else None,
+        Pps(PageEnd(pps.ends), pps.page, pps.block, pps.last) if kind == Kind.PPS else None,
+        told.number, told.control, bytes(told.octets[:told.length]))
+
+
+def write_signal(signal: Signal, side: Side, last: bool = True) -> bytes:
+    """The content of the frame that says a signal, as this station sends it; `last` in the last frame of a transmission."""
+    octets, given, count = bytes(signal.octets), _Signal(), _u64()
+    given.length, given.kind = len(octets), _number(signal.kind, "kind")
+    given.number, given.control = _number(signal.number, "number"), _number(signal.control, "control")
+    if signal.dis is not None:
+        given.dis = _Dis(*_numbers(signal.dis))
+    if signal.dcs is not None:
+        given.dcs = _Params(*_numbers(signal.dcs))
+    if signal.pps is not None:
+        given.pps = _Pps(*_numbers(signal.pps))
+    given.octets[:min(len(octets), 296)] = octets[:296]
+    buffer, address = _room(300)
+    _done(_library.g3_signal_write(ctypes.byref(given), _number(side, "side"), bool(last), address, len(buffer), ctypes.byref(count)))
+    return bytes(memoryview(buffer)[:count.value])
+
+
+def agree(dis: Dis, width: int = 1728, fine: bool = False, modems: Modems = Modems.V17, coding: Coding = Coding.MMR,
+          frame: int = 256) -> Params:
+    """What a caller with these modems, this code and these frames agrees on with a station of a DIS, for pages of a width, fine or not.
+    Raises NotCompatible with the reason."""
+    theirs, wish, told, reason = _Dis(*_numbers(dis)), _wish(modems, coding, frame), _Params(), _u32()
+    status = _library.g3_agree(ctypes.byref(theirs), ctypes.byref(wish), _number(width, "width"), bool(fine), ctypes.byref(told),
+                               ctypes.byref(reason))
+    if status == _NOT_COMPATIBLE:
+        raise NotCompatible(status, reason.value)
+    _done(status)
+    return _params(told)
 
 
 def version() -> str:

@@ -6,6 +6,7 @@ import array
 import contextlib
 import gc
 import io
+import itertools
 import pickle
 import re
 import sys
@@ -17,7 +18,7 @@ HERE = Path(__file__).resolve().parent
 DATA = HERE.parent.parent / ".ci" / "data"
 sys.path.insert(0, str(HERE))
 import g3fax  # noqa: E402
-from g3fax import Coding, Order  # noqa: E402
+from g3fax import Carrier, Coding, Dis, Kind, Listens, Modems, Order, Params, Pps, Side, Signal, Wait  # noqa: E402
 
 WIDTH, ROWS, ROW = 315, 30, 40
 PBM = (DATA / "page.pbm").read_bytes()
@@ -195,6 +196,171 @@ class Frames(unittest.TestCase):
             with self.assertRaises(g3fax.Fault) as caught:
                 g3fax.write_frame(bytes(length))
             self.assertEqual(caught.exception.number, 105)
+
+
+class Signals(unittest.TestCase):
+    LINES = [line.split() for line in Frames.LINES if line[:1].isdigit()]
+
+    @staticmethod
+    def words(content):
+        """What a content says, in the words of line.txt, which another program wrote by the standard's tables."""
+        try:
+            signal = g3fax.read_signal(content)
+        except g3fax.Fault as fault:
+            return ["fault", str(fault.number)]
+        names = {1: "v27", 2: "v27v29", 3: "v17", 4: "v29", 5: "fallback"}
+        carriers = ["v27-2400", "v27-4800", "v29-7200", "v29-9600", "v17-7200", "v17-9600", "v17-12000", "v17-14400"]
+        says = [signal.kind.name if signal.kind != Kind.OTHER else "other"]
+        if signal.dis:
+            dis = signal.dis
+            says += ["receiver" if dis.receiver else "noreceiver", names[dis.modems], "fine" if dis.fine else "standard", dis.widest,
+                     "t6" if dis.t6 else "mh", "ecm" if dis.ecm else "noecm"]
+        if signal.dcs:
+            dcs = signal.dcs
+            says += [carriers[dcs.carrier - 2], "fine" if dcs.fine else "standard", dcs.width,
+                     "t6" if dcs.coding == Coding.MMR else "mh", dcs.frame]
+        if signal.pps:
+            end = "NULL" if signal.pps.ends == g3fax.PageEnd.BLOCK_ALONE else signal.pps.ends.name
+            says += [end, "page", signal.pps.page, "block", signal.pps.block, "last", signal.pps.last]
+        says += {Kind.FCD: [signal.number, len(signal.octets)], Kind.PPR: [bin(int.from_bytes(signal.octets, "big")).count("1")],
+                 Kind.OTHER: [f"{signal.control:02x}"]}.get(signal.kind, [])
+        return [str(word) for word in says]
+
+    def test_line(self):
+        self.assertGreater(len(self.LINES), 40)
+        for _, octets, *wanted in self.LINES:
+            content = bytes.fromhex(octets)
+            self.assertEqual(self.words(content), wanted)
+            if wanted[0] in ("fault", "other"):
+                continue
+            signal = g3fax.read_signal(content)
+            for side in Side:
+                self.assertEqual(g3fax.read_signal(g3fax.write_signal(signal, side)), signal)
+
+    def test_written(self):
+        # by the octets of T.30, 5.3.6.1 and A.4
+        for signal, side, last, octets in [
+                (Signal(Kind.DIS, Dis()), Side.ANSWERER, True, "ff1380006efa44"),
+                (Signal(Kind.DCS, dcs=Params(Carrier.V17_14400, False, 1728, Coding.MMR, 256)), Side.CALLER, True, "ff13830022f844"),
+                (Signal(Kind.FCD, number=200, octets=b"\1\2\3"), Side.CALLER, False, "ff0306c8010203"),
+                (Signal(Kind.PPS, pps=Pps(g3fax.PageEnd.EOP, 1, 20, 255)), Side.CALLER, True, "ff13bf2f0114ff"),
+                (Signal(Kind.PPR, octets=b"\xff" * 32), Side.ANSWERER, True, "ff13bc" + "ff" * 32),
+                (Signal(Kind.MCF), Side.ANSWERER, True, "ff138c"), (Signal(Kind.DCN), Side.CALLER, True, "ff13fb"),
+                (Signal(Kind.DCN), Side.ANSWERER, True, "ff13fa")]:
+            self.assertEqual(g3fax.write_signal(signal, side, last).hex(), octets)
+        for number, signal in [(104, Signal(Kind.OTHER)), (104, Signal(Kind.FCD, number=256, octets=b"1")), (105, Signal(Kind.FCD)),
+                               (105, Signal(Kind.FCD, octets=bytes(257))), (105, Signal(Kind.PPR, octets=bytes(31)))]:
+            self.fault(number, g3fax.write_signal, signal, Side.CALLER)
+        self.fault(104, g3fax.write_signal, Signal(Kind.MCF), 3)
+        self.fault(20, g3fax.read_signal, b"\0")
+        self.fault(22, g3fax.read_signal, b"")
+        self.assertRaises(ValueError, g3fax.write_signal, Signal(Kind.FCD, number=-1, octets=b"1"), Side.CALLER)
+
+    def test_agree(self):
+        wanted = Params(Carrier.V17_14400, True, 1728, Coding.MMR, 256)
+        self.assertEqual(g3fax.agree(Dis(), 1728, True), wanted)
+        self.assertEqual(g3fax.agree(Dis(t6=False), modems=Modems.V29, frame=64), Params(Carrier.V29_9600, False, 1728, Coding.MH, 64))
+        for dis, reason in [(Dis(receiver=False, ecm=False), "NO_RECEIVER"), (Dis(ecm=False), "NO_ECM"), (Dis(widest=1728), "TOO_WIDE"),
+                            (Dis(fine=False), "NO_FINE"), (Dis(modems=Modems.V29_ALONE), "NO_COMMON_SPEED")]:
+            with self.assertRaises(g3fax.NotCompatible) as caught:
+                g3fax.agree(dis, 2432, True, Modems.V27TER)
+            fault = pickle.loads(pickle.dumps(caught.exception))
+            self.assertEqual((fault.number, fault.reason.name), (28, reason))
+        self.fault(26, g3fax.agree, Dis(), 1727)
+        self.fault(104, g3fax.agree, Dis(), modems=4)
+
+    fault = Pages.fault
+
+
+class Calls(unittest.TestCase):
+    @staticmethod
+    def say(speaker, hearer, lost):
+        """One station says its turn, and the other one hears what its modem listens for. Answers how many bursts there were."""
+        said = 0
+        for burst in speaker.bursts():
+            said += 1
+            state = hearer.state
+            if next(lost):
+                continue
+            if burst.check and (state.listens, state.carrier) == (Listens.CHECK, burst.carrier):
+                hearer.hear_training(burst.octets)
+            elif burst.carrier == Carrier.V21:
+                hearer.hear(burst.octets)
+            elif not burst.check and (state.listens, state.carrier) == (Listens.PAGES, burst.carrier):
+                hearer.hear(burst.octets)
+        return said
+
+    def talk(self, caller, answerer, lost=()):
+        """The call, to its end: where nothing is on the line, the shorter of the two waits is over."""
+        lost, count = set(lost), itertools.count(1)
+        losses = (number in lost for number in count)
+        for _ in range(200):
+            said = self.say(answerer, caller, losses) + self.say(caller, answerer, losses)
+            here, there = caller.state, answerer.state
+            if here.end and there.end:
+                return here, there
+            if said:
+                continue
+            if here.end:
+                answerer.wait_over(there.longer or there.wait)
+            elif not there.end and there.wait.millis < here.wait.millis:
+                answerer.wait_over(there.wait)
+            else:
+                caller.wait_over(here.wait)
+        self.fail("the call doesn't end")
+
+    @staticmethod
+    def document():
+        rows = [bytes((row * column) % 251 for column in range(216)) for row in range(40)]
+        return g3fax.Page.of_rows(b"".join(rows), fine=True), b"".join(rows)
+
+    def test_call(self):
+        for coding, frame, modems, lost in [(Coding.MMR, 256, Modems.V17, ()), (Coding.MH, 64, Modems.V27TER, ()),
+                                            (Coding.MMR, 256, Modems.V29, (1,)), (Coding.MMR, 64, Modems.V17, (5,))]:
+            with self.subTest(coding=coding, lost=lost):
+                page, rows = self.document()
+                second = g3fax.Page.of_rows(rows[:216 * 3], fine=True)
+                with g3fax.Document([page]) as document, g3fax.Answerer(limit=3) as answerer:
+                    document.append(second)
+                    self.assertEqual(len(document), 2)
+                    self.fault(100, len, page)  # it has moved
+                    with g3fax.Caller(document, modems, coding, frame) as caller:
+                        self.fault(100, len, document)
+                        here, there = self.talk(caller, answerer, lost)
+                    self.assertEqual((here.end, there.end), (g3fax.End.NORMAL, g3fax.End.NORMAL))
+                    self.assertEqual((here.pages, there.pages, here.wait, there.wait), (2, 2, None, None))
+                    stored = list(answerer.pages())
+                    self.assertEqual([page.rows().tobytes() for page in stored], [rows, rows[:216 * 3]])
+                    self.assertEqual([page.fine for page in stored], [True, True])
+                    self.assertIsNone(answerer.take_page())
+
+    def test_ends(self):
+        answerer = g3fax.Answerer()
+        self.assertEqual(answerer.state[2:], (Listens.V21, None, Wait.T2, Wait.T1, None))
+        self.assertEqual([wait.millis for wait in Wait], [35000, 6000, 3000, 60000])
+        bursts = list(answerer.bursts())
+        self.assertEqual([(burst.carrier, burst.check, burst.last) for burst in bursts], [(Carrier.V21, False, True)])
+        contents, _ = g3fax.frames(bursts[0].octets)
+        self.assertEqual([content.hex() for content in contents], ["ff1380006efa44"])  # DIS, by T.30's table 2
+        answerer.set_busy(True)
+        answerer.stop()
+        contents, _ = g3fax.frames(b"".join(burst.octets for burst in answerer.bursts()))
+        self.assertEqual([content.hex() for content in contents], ["ff13fa"])  # DCN
+        self.assertEqual(answerer.state.end, g3fax.End.STOPPED)
+        answerer.hang_up()
+        answerer.lost()
+        self.assertIsNone(answerer.next_burst())
+        self.fault(104, answerer.wait_over, 3)
+        answerer.close()
+        self.fault(100, answerer.hear, b"")
+        self.fault(104, g3fax.Answerer, limit=0)
+        with g3fax.Document() as empty:
+            self.fault(106, g3fax.Caller, empty)
+            self.fault(4, empty.append, g3fax.Page())
+            empty.append(g3fax.Page.of_rows(PACKED, WIDTH))
+            self.fault(26, g3fax.Caller, empty)
+
+    fault = Pages.fault
 
 
 if __name__ == "__main__":

@@ -64,6 +64,26 @@ static void frames(size_t length)
     g3_octets_free(&frame); g3_deframer_free(&deframer);
 }
 
+/* Signals take no memory, so none is refused. */
+static void signals(size_t length)
+{
+    g3_dis dis = {1, G3_V17, 1, 2432, 1, 1};
+    g3_wish wish = {G3_V17, G3_MMR, 256};
+    g3_params params;
+    g3_signal signal;
+    uint64_t count = 0;
+    uint32_t why = 0;
+    unsigned long before = grown;
+    g3_status read = g3_signal_read(line, length, &signal);
+    if (read != G3_BAD_ADDRESS) printf("growth %lu refused: flags were read: %u\n", refused, read), bad = 1;
+    if (g3_agree(&dis, &wish, 1728, 1, &params, &why) != G3_OK) printf("growth %lu refused: nothing is agreed\n", refused), bad = 1;
+    signal.kind = G3_DCS, signal.dcs = params;
+    if (g3_signal_write(&signal, G3_CALLER, 1, again, sizeof again, &count) != G3_OK || g3_signal_read(again, count, &signal) != G3_OK
+        || memcmp(&signal.dcs, &params, sizeof params) != 0)
+        printf("growth %lu refused: another DCS\n", refused), bad = 1;
+    if (grown != before) printf("signals take memory\n"), bad = 1;
+}
+
 /* One station says its turn to the other one. Tells how many bursts there were. */
 static unsigned say(g3_terminal *from, g3_terminal *to)
 {
@@ -134,6 +154,7 @@ int main(int argc, char **argv)
         codes(length, G3_MH);
         codes(length, G3_MMR);
         frames(bits);
+        signals(bits);
         calls();
         if (blocks != before) printf("growth %lu refused: %ld blocks are left\n", refused, blocks - before), bad = 1;
     } while (grown >= refused);

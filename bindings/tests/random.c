@@ -39,6 +39,11 @@ static g3_status call(uint32_t which, void *a, void *b)
     static g3_counts counts;
     static g3_burst burst;
     static g3_state shown;
+    static g3_signal signal;
+    static g3_params params;
+    static uint32_t why;
+    static const uint8_t heads[] = {0x80, 0x83, 0x84, 0x44, 0x06, 0x86, 0xBF, 0xBC, 0x8C, 0xEC, 0x6F, 0xFB};
+    g3_dis dis = {below(9) != 0, 0, below(2), below(9) ? 2432 : below(3000), below(2), below(9) != 0};
     g3_caps caps = {below(5), below(2), below(2), below(8) ? 1728 : below(3000), below(4)};
     g3_wish wish = {below(5), below(4), below(3) ? 64 : below(300)};
     g3_code code = {below(4), below(3), below(2) ? 8 : below(3000), below(3)};
@@ -86,6 +91,17 @@ static g3_status call(uint32_t which, void *a, void *b)
     case 35: return g3_terminal_take_page(a, b);
     case 36: return g3_page_new(a, 1728, below(2));
     case 37: return g3_wait_millis(below(7)) > 60000;
+    case 38: /* contents of signals, and of what isn't one */
+        if (below(8)) buffer[0] = 255, buffer[1] = 3, buffer[2] = heads[below(12)];
+        return g3_signal_read(octets, length, below(50) ? &signal : NULL);
+    case 39: case 40:
+        if (below(2)) signal.kind = below(14);
+        if (below(2)) signal.length = below(4) ? 32 : below(300);
+        if (below(4) == 0) signal.dis.modems = below(7), signal.dcs.frame = below(300), signal.pps.page = below(300);
+        return g3_signal_write(below(50) ? &signal : NULL, below(4), below(2), octets, length, number);
+    case 41:
+        dis.modems = below(7);
+        return g3_agree(below(50) ? &dis : NULL, &wish, below(9) ? 1728 : below(3000), below(2), below(50) ? &params : NULL, &why);
     default: g3_page_free(a); return G3_OK;
     }
 }
@@ -97,8 +113,9 @@ int main(int argc, char **argv)
     for (int calls = argc == 2 ? atoi(argv[1]) : 0; calls > 0; calls--) {
         uint32_t first = below(8), second = (first + 1 + below(7)) % 8;
         if (below(20) == 0) refused = grown + 1 + below(4);
-        g3_status status = call(below(41), below(50) ? &handles[first] : NULL, below(50) ? &handles[second] : NULL);
-        int is_known = status <= G3_TOO_MANY_CODED_ROWS || status == G3_NOT_CALLABLE || status == G3_FRAME_LOST
+        g3_status status = call(below(45), below(50) ? &handles[first] : NULL, below(50) ? &handles[second] : NULL);
+        int is_known = status <= G3_TOO_MANY_CODED_ROWS || (status >= G3_BAD_ADDRESS && status <= G3_SHORT_FIELD)
+            || status == G3_NOT_CALLABLE || status == G3_NOT_COMPATIBLE || status == G3_FRAME_LOST
             || (status >= G3_EMPTY_HANDLE && status <= G3_NOTHING);
         if (!is_known) printf("status %u\n", status), bad = 1;
     }

@@ -1,4 +1,5 @@
 pub mod CopyLemmas
 pub mod LooseValues
 pub mod RasterLemmas
+pub mod SignalLemmas
 pub mod Values

@@ -1,3 +1,4 @@
+pub mod Agreeing
 pub mod Answering
 pub mod Beginning
 pub mod Bursts
@@ -12,6 +13,9 @@ pub mod Owned
 pub mod Pages
 pub mod Rasters
 pub mod Repairs
+pub mod SignalNumbers
+pub mod Signals
+pub mod SignalsMeant
 pub mod States
 pub mod Statuses
 pub mod Taking

@@ -13,6 +13,10 @@ no_memory = 9
 abbrev pub not_callable : ℕ
 not_callable = 26
 
+-- two stations have no way to send pages
+abbrev pub not_compatible : ℕ
+not_compatible = 28
+
 -- the handle has nothing
 abbrev pub empty_handle : ℕ
 empty_handle = 100

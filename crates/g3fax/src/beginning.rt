@@ -48,7 +48,7 @@ pub struct G3Wish {
 }
 
 /// The modems of a number.
-fn modems_of(number: u32) -> Option<Modems>
+pub(crate) fn modems_of(number: u32) -> Option<Modems>
     ensures { result ≡ modems_of number }
 {
     match number {
@@ -60,7 +60,7 @@ fn modems_of(number: u32) -> Option<Modems>
 }
 
 /// Whether frames have 64 octets of data in place of 256; none of another number.
-fn small_of(octets: u32) -> Option<bool>
+pub(crate) fn small_of(octets: u32) -> Option<bool>
     ensures { result ≡ small_of octets }
 {
     match octets {
@@ -87,7 +87,7 @@ fn caps_of(caps: &G3Caps) -> Option<Caps>
 }
 
 /// What a caller wishes.
-fn wish_of(wish: &G3Wish) -> Option<Wish>
+pub(crate) fn wish_of(wish: &G3Wish) -> Option<Wish>
     ensures { result ≡ wish_of wish.now }
 {
     let modems = modems_of(wish.modems)?;

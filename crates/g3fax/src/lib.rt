@@ -2,6 +2,7 @@
 //! status, 0 where it did what it says; results go out through references.
 #![tactic(auto)]
 
+mod agreeing;
 mod answering;
 mod beginning;
 mod bursts;
@@ -11,12 +12,15 @@ mod frames;
 mod handle;
 mod hearing;
 mod images;
+pub mod laws;
 mod loose;
 mod numbers;
 mod octets;
 mod pages;
 mod rasters;
 mod repairs;
+mod signal;
+mod signalling;
 mod states;
 mod status;
 mod taking;
@@ -29,4 +33,5 @@ pub use crate::frames::G3Counts;
 pub use crate::handle::{G3Handle, Kept};
 pub use crate::pages::G3Size;
 pub use crate::rasters::G3Raster;
+pub use crate::signal::{G3Block, G3Dis, G3Params, G3Signal, Kind};
 pub use crate::states::G3State;

@@ -46,7 +46,7 @@ pub extern "C" fn g3_core_wait_millis(wait: u32) -> u32
 }
 
 /// The number of the carrier of a message speed.
-fn speed_number(speed: Speed) -> u32
+pub(crate) fn speed_number(speed: Speed) -> u32
     ensures { result ≡ speed_number speed }
 {
     match speed {

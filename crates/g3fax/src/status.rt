@@ -12,6 +12,8 @@ pub(crate) const NO_ROWS: u32 = 4;
 pub(crate) const NO_MEMORY: u32 = 9;
 /// The width of a page is none that a call can have.
 pub(crate) const NOT_CALLABLE: u32 = 26;
+/// Two stations have no way to send pages.
+pub(crate) const NOT_COMPATIBLE: u32 = 28;
 /// The handle has nothing.
 pub(crate) const EMPTY_HANDLE: u32 = 100;
 /// The handle has something of another kind.
