@@ -16,6 +16,8 @@ them, and the definitions that none of these stands on, which serve the proofs a
 .ci/public_clauses.txt has each public clause by crate, item and name, or by its first words where it has no name: a clause that is
 added or deleted shows there. A public clause that names no definition, or has a part that is `Unit`, says nothing, and is refused.
 The table of docs/TIMERS.md has exactly the waits of each state that the definitions of `crates/stations/specs/Waits.antt` have.
+The table of docs/FAULTS.md has exactly the faults of the program: those of a whole file, of a bit and of a line by the kinds of `FaultKind`,
+and those that the crates number beside them. The table in faxtool's help has the same but those that no command meets.
 Prints what is missing and ends with status 1, or prints one line of counts. It needs Python's standard library alone."""
 
 import collections
@@ -45,6 +47,11 @@ LISTS = re.compile(rf"^(?:{re.escape(ALSO)}|{re.escape(BESIDE)})", re.M)
 TIMERS = TOP / "docs" / "TIMERS.md"
 WAITS = TOP / "crates" / "stations" / "specs" / "Waits.antt"
 WAIT_ROW = re.compile(r"^(caller|answerer)(?:_longer)?_wait (\w+) = (?:Some )?(T\d)$", re.M)
+FAULTS = TOP / "docs" / "FAULTS.md"
+HELP = TOP / "crates" / "faxtool" / "src" / "faults.rt"
+KINDS = TOP / "crates" / "engines" / "specs" / "FaultKinds.antt"
+# The line of what a station refuses, which is no `ToolFault`.
+STATION_LINE = ("at a line", 31)
 SECTION = re.compile(r"^## Definitions\n(.*?)(?=^## |\Z)", re.M | re.S)
 
 
@@ -285,6 +292,40 @@ def timer_faults():
         yield f"{has.relative_to(TOP)} has {wait} in {station}'s {state}, and {hasnt.relative_to(TOP)} hasn't"
 
 
+def kinds_of_faults():
+    """The kinds of faults that have a number, by what they are of: a whole file, a bit or a line."""
+    text = KINDS.read_text()
+    numbers = {kind: int(number) for kind, number in re.findall(r"^number_of (\w+) = (\d+)$", text, re.M)}
+    lists = {name: re.findall(r"\w+", kinds) for name, kinds in re.findall(r"^(whole|page)_kinds = ((?:[\w∷]|\s)+?)∷ \[\]", text, re.M)}
+    whole = {("", numbers.pop(kind)) for kind in lists["whole"]}
+    page = {("at a bit", numbers.pop(kind)) for kind in lists["page"]}
+    return whole | page | {("at a line", number) for number in numbers.values()}
+
+
+def numbered_elsewhere():
+    """The numbers that the crates below give to faults in a table of their specs."""
+    tables = [file.read_text() for file in sorted(TOP.glob("crates/*/specs/Faults.antt"))]
+    return {int(number) for text in tables for number in re.findall(r"^number_of \w+ = (\d+)$", text, re.M)}
+
+
+def fault_faults():
+    """What the tables of faults, in docs/FAULTS.md and in faxtool's help, have that isn't of the kinds of faults, and what they haven't."""
+    kinds = kinds_of_faults() | {STATION_LINE}
+    rows = re.findall(r"^\| ([\d, ]+)(at a bit|at a line)? *\| ([^|]+) \|", FAULTS.read_text(), re.M)
+    written = {(place, int(number)): meets for numbers, place, meets in rows for number in numbers.split(",")}
+    unmet = {fault for fault, meets in written.items() if meets == "no command"}
+    beside = {("", number) for number in numbered_elsewhere()} & unmet
+    texts = re.findall(r"^ +(\d+)  (.*)$", HELP.read_text(), re.M)
+    parts = [(int(number), part) for number, text in texts for part in text.split("; ")]
+    helped = {(next((place for place in ("at a bit", "at a line") if part.startswith(f"{place}: ")), ""), number) for number, part in parts}
+    found = [("docs/FAULTS.md", kinds | beside, set(written)), ("faxtool's help", kinds - unmet, helped)]
+    return [
+        f"{name}: the fault {' '.join([str(number), place]).rstrip()} is {'missing' if (place, number) in wanted else 'of no kind'}"
+        for name, wanted, has in found
+        for place, number in sorted(wanted ^ has)
+    ]
+
+
 def main(words):
     if words not in ([], ["--lists"], ["--clauses"]):
         print(__doc__)
@@ -320,6 +361,7 @@ def main(words):
             faults.append(f"{document.name}: the lists after the table aren't those of the crates; .ci/definitions.py --lists writes them")
     faults.extend(clause_faults(clauses))
     faults.extend(timer_faults())
+    faults.extend(fault_faults())
     faults.extend(f"a public clause says nothing: {clause}" for clause in empty)
     for fault in faults:
         print(f"definitions: {fault}")

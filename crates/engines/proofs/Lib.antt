@@ -5,6 +5,7 @@ mod HexText
 mod DecodedRows
 mod PageEnds
 pub mod OneLine
+mod FaultKinds
 mod FirstImage
 mod CapturedSteps
 mod Capturing

@@ -8,7 +8,7 @@ use Rattle.std.proofs.lemmas.Bool.Decides.{nat_tests}
 use Rattle.std.specs.List.{list_all}
 use Rattle.std.specs.Prelude.{◌==◌, nat_le, not}
 use Rattle.std.specs.declared.io.ErrorKind.{ErrorKind}
-use Rattle.std.specs.declared.io.ErrorKind.TheVariants as kind
+use Rattle.std.specs.declared.io.ErrorKind.TheVariants as io
 use Rattle.raster.specs.declared.packed.Order.{Order}
 use Rattle.raster.specs.declared.packed.Order.TheVariants.{MsbFirst, LsbFirst}
 use Rattle.raster.specs.declared.row.Color.TheVariants.{White, Black}
@@ -21,10 +21,16 @@ use Rattle.engines.specs.declared.refused.Expected.{Expected}
 use Rattle.engines.specs.declared.refused.Expected.TheVariants.{RunOf, Eol}
 use Rattle.engines.specs.declared.fault.ToolFault.{ToolFault}
 use Rattle.engines.specs.declared.fault.ToolFault.TheVariants.{No, AtBit, AtLine}
-use Rattle.engines.specs.Explanations.{IsOneLine, are_shown, code_table, code_words, explained, image_table, image_words, is_at_end}
-use Rattle.engines.specs.Explanations.{is_plain}
-use Rattle.engines.specs.Explanations.{is_shown, line_words, name_text, netpbm_table, no_raw_pbm, other_words, reason_words, row_text}
-use Rattle.engines.specs.Explanations.{tiff_table, try_words, whole_words, words_in}
+use Rattle.engines.specs.declared.fault_kind.FaultKind.{FaultKind}
+use Rattle.engines.specs.declared.fault_kind.FaultKind.TheVariants.{BadWidth, WrongRowWidth, TooManyRows, NoRows, BadHeader, ShortData}
+use Rattle.engines.specs.declared.fault_kind.FaultKind.TheVariants.{NoPages, Io, NoMemory, BadAddress, BadControl, ShortField}
+use Rattle.engines.specs.declared.fault_kind.FaultKind.TheVariants.{WidthNotCallable, SeveralPages, Unknown, NoCodedRows, BadCode}
+use Rattle.engines.specs.declared.fault_kind.FaultKind.TheVariants.{Truncated, RunTooLong, Backwards, PastEnd, EmptyHorizontal}
+use Rattle.engines.specs.declared.fault_kind.FaultKind.TheVariants.{Extension, MissingEofb, TooManyCodedRows, UnknownAtBit, BadLine}
+use Rattle.engines.specs.Explanations.{IsOneLine, are_shown, explained, is_at_end, is_plain, is_shown, line_words, missing_code, name_text}
+use Rattle.engines.specs.Explanations.{netpbm_table, no_raw_pbm, other_words, reason_words, row_text, tiff_table, try_words, words_in}
+use Rattle.engines.specs.Explanations.{wrong_words}
+use Rattle.engines.specs.FaultKinds.{kind_of, words_of}
 
 -- ---- plain texts: characters of ASCII with no control character
 
@@ -96,29 +102,56 @@ words_line (row ∷ rows) others number all other =
     by_test true e on = rw e (grind (arith, common_steps, all))
     by_test false e on = rw e on
 
-image_line : (number : ℕ) → IsPlain (image_words number)
-image_line number = words_line image_table (codes "it can't be used") number refl refl
+-- the words of each kind are plain
+kind_line : (kind : FaultKind) → IsPlain (words_of kind)
+kind_line BadWidth = refl
+kind_line WrongRowWidth = refl
+kind_line TooManyRows = refl
+kind_line NoRows = refl
+kind_line BadHeader = refl
+kind_line ShortData = refl
+kind_line NoPages = refl
+kind_line Io = refl
+kind_line NoMemory = refl
+kind_line BadAddress = refl
+kind_line BadControl = refl
+kind_line ShortField = refl
+kind_line WidthNotCallable = refl
+kind_line SeveralPages = refl
+kind_line (Unknown number) = refl
+kind_line NoCodedRows = refl
+kind_line BadCode = refl
+kind_line Truncated = refl
+kind_line RunTooLong = refl
+kind_line Backwards = refl
+kind_line PastEnd = refl
+kind_line EmptyHorizontal = refl
+kind_line Extension = refl
+kind_line MissingEofb = refl
+kind_line TooManyCodedRows = refl
+kind_line (UnknownAtBit number) = refl
+kind_line BadLine = refl
 
-code_line : (number : ℕ) (expected : Option Expected) → IsPlain (code_words number expected)
-code_line number (Some (RunOf White)) = words_line (code_table (Some (RunOf White))) (codes "no page can go on here") number refl refl
-code_line number (Some (RunOf Black)) = words_line (code_table (Some (RunOf Black))) (codes "no page can go on here") number refl refl
-code_line number (Some Eol) = words_line (code_table (Some Eol)) (codes "no page can go on here") number refl refl
-code_line number None = words_line (code_table None) (codes "no page can go on here") number refl refl
+missing_line : (expected : Option Expected) → IsPlain (missing_code expected)
+missing_line (Some (RunOf White)) = refl
+missing_line (Some (RunOf Black)) = refl
+missing_line (Some Eol) = refl
+missing_line None = refl
 
 reason_line : (reason : Option ErrorKind) → IsPlain (reason_words reason)
-reason_line (Some kind.NotFound) = refl
-reason_line (Some kind.PermissionDenied) = refl
-reason_line (Some kind.IsADirectory) = refl
-reason_line (Some kind.NotADirectory) = refl
-reason_line (Some kind.StorageFull) = refl
-reason_line (Some kind.QuotaExceeded) = refl
-reason_line (Some kind.FileTooLarge) = refl
-reason_line (Some kind.ReadOnlyFilesystem) = refl
-reason_line (Some kind.BrokenPipe) = refl
-reason_line (Some kind.InvalidFilename) = refl
-reason_line (Some kind.FilesystemLoop) = refl
-reason_line (Some kind.ExecutableFileBusy) = refl
-reason_line (Some kind.InvalidData) = refl
+reason_line (Some io.NotFound) = refl
+reason_line (Some io.PermissionDenied) = refl
+reason_line (Some io.IsADirectory) = refl
+reason_line (Some io.NotADirectory) = refl
+reason_line (Some io.StorageFull) = refl
+reason_line (Some io.QuotaExceeded) = refl
+reason_line (Some io.FileTooLarge) = refl
+reason_line (Some io.ReadOnlyFilesystem) = refl
+reason_line (Some io.BrokenPipe) = refl
+reason_line (Some io.InvalidFilename) = refl
+reason_line (Some io.FilesystemLoop) = refl
+reason_line (Some io.ExecutableFileBusy) = refl
+reason_line (Some io.InvalidData) = refl
 reason_line reason = refl
 
 image_header_line : (octets : List ℕ) → IsPlain (no_raw_pbm octets)
@@ -139,17 +172,6 @@ image_header_line (first ∷ (second ∷ rest)) = if_p (first == 80) refl
     if_p true e = rw e (words_line netpbm_table (codes "no raw PBM: it doesn't begin with P4") second refl refl)
     if_p false e = if_i (first == 73) refl e
 
-whole_line : (number : ℕ) (known : Known) → IsPlain (whole_words number known)
-whole_line number known = if_5 (number == 5) refl
-  where
-    if_8 : (test : Bool) → (number == 8) ≡ test → (number == 5) ≡ false → IsPlain (whole_words number known)
-    if_8 true e n = rw (n, e) (reason_line known.reason)
-    if_8 false e n = rw (n, e) (image_line number)
-
-    if_5 : (test : Bool) → (number == 5) ≡ test → IsPlain (whole_words number known)
-    if_5 true e = rw e (image_header_line known.begins.now)
-    if_5 false e = if_8 (number == 8) refl e
-
 row_line : (row : Option ℕ) → IsPlain (row_text row)
 row_line (Some row) = both_lines (codes "row ") (decimal row ++ codes ": ") refl
     (both_lines (decimal row) (codes ": ") (decimal_line row) refl)
@@ -161,14 +183,14 @@ other_line (OneDim, LsbFirst) = refl
 other_line (T6, MsbFirst) = refl
 other_line (T6, LsbFirst) = refl
 
-try_line : (number : ℕ) (row : Option ℕ) (read_as : Option (Coding × Order)) → IsPlain (try_words number row read_as)
-try_line number (Some row) (Some read_as) = by_test (row == 1 && not (is_at_end number)) refl
+try_line : (kind : FaultKind) (row : Option ℕ) (read_as : Option (Coding × Order)) → IsPlain (try_words kind row read_as)
+try_line kind (Some row) (Some read_as) = by_test (row == 1 && not (is_at_end kind)) refl
   where
-    by_test : (test : Bool) → (row == 1 && not (is_at_end number)) ≡ test → IsPlain (try_words number (Some row) (Some read_as))
+    by_test : (test : Bool) → (row == 1 && not (is_at_end kind)) ≡ test → IsPlain (try_words kind (Some row) (Some read_as))
     by_test true e = rw e (other_line read_as)
     by_test false e = rw e refl
-try_line number (Some row) None = refl
-try_line number None read_as = refl
+try_line kind (Some row) None = refl
+try_line kind None read_as = refl
 
 said_line : (line : Option LineFault) → IsPlain (line_words line)
 said_line (Some NotUtf8) = refl
@@ -177,24 +199,34 @@ said_line (Some Word) = refl
 said_line (Some Count) = refl
 said_line None = refl
 
+wrong_line : (kind : FaultKind) (known : Known) → IsPlain (wrong_words kind known)
+wrong_line BadHeader known = image_header_line known.begins.now
+wrong_line Io known = reason_line known.reason
+wrong_line BadCode known = missing_line known.expected
+wrong_line BadLine known = said_line known.line
+wrong_line kind known = kind_line kind
+
 after_name : (name what : List ℕ) → IsPlain what → IsOneLine (name_text name ++ (codes ": " ++ what))
 after_name name what h = shown_then_plain 0 (name_text name) (codes ": " ++ what) (name_line name) (both_lines (codes ": ") what refl h)
 
-place_line : (number : ℕ) (known : Known)
-    → IsPlain (row_text known.row ++ (code_words number known.expected ++ try_words number known.row known.read_as))
-place_line number known = both_lines (row_text known.row) (code_words number known.expected ++ try_words number known.row known.read_as)
+place_line : (kind : FaultKind) (known : Known)
+    → IsPlain (row_text known.row ++ (wrong_words kind known ++ try_words kind known.row known.read_as))
+place_line kind known = both_lines (row_text known.row) (wrong_words kind known ++ try_words kind known.row known.read_as)
     (row_line known.row)
-    (both_lines (code_words number known.expected) (try_words number known.row known.read_as) (code_line number known.expected)
-    (try_line number known.row known.read_as))
+    (both_lines (wrong_words kind known) (try_words kind known.row known.read_as) (wrong_line kind known)
+    (try_line kind known.row known.read_as))
 
 pub explained_line : (fault : ToolFault) (known : Known) → IsOneLine (explained fault known)
-explained_line (No number) known = after_name known.file.now (whole_words number known) (whole_line number known)
+explained_line (No number) known =
+    after_name known.file.now (wrong_words (kind_of (No number)) known) (wrong_line (kind_of (No number)) known)
 explained_line (AtBit number place) known =
-    after_name known.file.now (row_text known.row ++ (code_words number known.expected ++ try_words number known.row known.read_as))
-    (place_line number known)
-explained_line (AtLine number) known =
-    shown_then_plain 0 (name_text known.file.now) (codes ": line " ++ (decimal number ++ rest)) (name_line known.file.now)
-    (both_lines (codes ": line ") (decimal number ++ rest) refl (both_lines (decimal number) rest (decimal_line number)
+    after_name known.file.now (row_text known.row ++ (wrong_words kind known ++ try_words kind known.row known.read_as)) (place_line kind known)
+  where
+    kind : FaultKind
+    kind = kind_of (AtBit number place)
+explained_line (AtLine line) known =
+    shown_then_plain 0 (name_text known.file.now) (codes ": line " ++ (decimal line ++ rest)) (name_line known.file.now)
+    (both_lines (codes ": line ") (decimal line ++ rest) refl (both_lines (decimal line) rest (decimal_line line)
     (both_lines (codes ": ") (line_words known.line) refl (said_line known.line))))
   where
     rest : List ℕ

@@ -1,9 +1,9 @@
 -- What fault lines mean, in words.
-use Rattle.std.specs.Prelude.{ℕ, ◌≡◌, ◌==◌, ◌+◌, ◌++◌, ◌∷◌, ◌&&◌, ◌||◌, [], Bool, true, not, List, Option, Some, None, codes, cond}
+use Rattle.std.specs.Prelude.{ℕ, ◌≡◌, ◌==◌, ◌+◌, ◌++◌, ◌∷◌, ◌&&◌, ◌||◌, [], Bool, true, false, not, List, Option, Some, None, codes, cond}
 use Rattle.std.specs.Prelude.{drop, if◌then◌else◌, length, nat_le, nat_lt}
 use Rattle.std.specs.Fmt.{decimal}
 use Rattle.std.specs.declared.io.ErrorKind.{ErrorKind}
-use Rattle.std.specs.declared.io.ErrorKind.TheVariants as kind
+use Rattle.std.specs.declared.io.ErrorKind.TheVariants as io
 use Rattle.raster.specs.declared.packed.Order.{Order}
 use Rattle.raster.specs.declared.packed.Order.TheVariants.{MsbFirst, LsbFirst}
 use Rattle.raster.specs.declared.row.Color.{Color}
@@ -15,11 +15,14 @@ use Rattle.page_code.specs.declared.Coding.TheVariants.{OneDim, T6}
 use Rattle.run_tables.specs.CodeReading.{RefusesRun}
 use Rattle.run_tables.specs.RowLaws.{ReadsAsRow}
 use Rattle.run_tables.specs.declared.fault.CodeFault.{CodeFault}
+use Rattle.engines.specs.FaultKinds.{kind_of, words_of}
 use Rattle.engines.specs.declared.explain.Known.{Known}
 use Rattle.engines.specs.declared.refused.Expected.{Expected}
 use Rattle.engines.specs.declared.refused.Expected.TheVariants.{RunOf, Eol}
 use Rattle.engines.specs.declared.line_fault.LineFault.{LineFault}
 use Rattle.engines.specs.declared.line_fault.LineFault.TheVariants.{NotUtf8, Blank, Word, Count}
+use Rattle.engines.specs.declared.fault_kind.FaultKind.{FaultKind}
+use Rattle.engines.specs.declared.fault_kind.FaultKind.TheVariants.{BadHeader, Io, BadCode, BadLine, Truncated, MissingEofb}
 use Rattle.engines.specs.declared.fault.ToolFault.{ToolFault}
 use Rattle.engines.specs.declared.fault.ToolFault.TheVariants.{No, AtBit, AtLine}
 
@@ -50,22 +53,6 @@ abbrev pub words_in : List (ℕ × List ℕ) → List ℕ → ℕ → List ℕ
 words_in [] others number = others
 words_in (row ∷ rows) others number = if number == row.0 then row.1 else words_in rows others number
 
--- the words of the faults of images, and of what is done with them, by their numbers
-abbrev pub image_table : List (ℕ × List ℕ)
-image_table = (1, codes "the width isn't 1 to 2432 pixels")
-    ∷ (2, codes "a row isn't as wide as its page")
-    ∷ (3, codes "the image has more than 20000 rows")
-    ∷ (4, codes "the image has no row")
-    ∷ (6, codes "the image is cut short: it has fewer octets than its width and height say")
-    ∷ (7, codes "there is no image: it has no octet")
-    ∷ (9, codes "memory was refused: try it with less input or more memory")
-    ∷ (26, codes "a page's width isn't 1728, 2048 or 2432 pixels, the widths that a call carries")
-    ∷ (27, codes "several images: code takes one") ∷ []
-
--- the words of a fault of images
-abbrev pub image_words : ℕ → List ℕ
-image_words number = words_in image_table (codes "it can't be used") number
-
 -- Netpbm's formats, by the digit after P
 abbrev pub netpbm_table : List (ℕ × List ℕ)
 netpbm_table = (49, codes "a plain PBM (P1): faxtool reads raw ones (P4)")
@@ -90,25 +77,20 @@ no_raw_pbm octets = codes "no raw PBM: it doesn't begin with P4"
 
 -- why the system refuses a file
 abbrev pub reason_words : Option ErrorKind → List ℕ
-reason_words (Some kind.NotFound) = codes "no such file or folder"
-reason_words (Some kind.PermissionDenied) = codes "permission denied"
-reason_words (Some kind.IsADirectory) = codes "it is a folder"
-reason_words (Some kind.NotADirectory) = codes "a part of its path is no folder"
-reason_words (Some kind.StorageFull) = codes "no space left on the device"
-reason_words (Some kind.QuotaExceeded) = codes "the quota is used up"
-reason_words (Some kind.FileTooLarge) = codes "it would be larger than a file may be"
-reason_words (Some kind.ReadOnlyFilesystem) = codes "the file system is read-only"
-reason_words (Some kind.BrokenPipe) = codes "what reads the pipe has closed it"
-reason_words (Some kind.InvalidFilename) = codes "the name is too long"
-reason_words (Some kind.FilesystemLoop) = codes "its links lead in a circle"
-reason_words (Some kind.ExecutableFileBusy) = codes "it is a program that is running"
-reason_words (Some kind.InvalidData) = codes "it isn't UTF-8"
+reason_words (Some io.NotFound) = codes "no such file or folder"
+reason_words (Some io.PermissionDenied) = codes "permission denied"
+reason_words (Some io.IsADirectory) = codes "it is a folder"
+reason_words (Some io.NotADirectory) = codes "a part of its path is no folder"
+reason_words (Some io.StorageFull) = codes "no space left on the device"
+reason_words (Some io.QuotaExceeded) = codes "the quota is used up"
+reason_words (Some io.FileTooLarge) = codes "it would be larger than a file may be"
+reason_words (Some io.ReadOnlyFilesystem) = codes "the file system is read-only"
+reason_words (Some io.BrokenPipe) = codes "what reads the pipe has closed it"
+reason_words (Some io.InvalidFilename) = codes "the name is too long"
+reason_words (Some io.FilesystemLoop) = codes "its links lead in a circle"
+reason_words (Some io.ExecutableFileBusy) = codes "it is a program that is running"
+reason_words (Some io.InvalidData) = codes "it isn't UTF-8"
 reason_words reason = codes "it can't be read or written"
-
--- what is wrong with a file as a whole, or with the system
-abbrev pub whole_words : ℕ → Known → List ℕ
-whole_words number known = if number == 5 then no_raw_pbm known.begins.now
-    else if number == 8 then reason_words known.reason else image_words number
 
 -- what was expected where no code word begins: that of a run of the color, an EOL, or any code
 abbrev pub missing_code : Option Expected → List ℕ
@@ -116,23 +98,6 @@ missing_code (Some (RunOf White)) = codes "no code word of a white run begins he
 missing_code (Some (RunOf Black)) = codes "no code word of a black run begins here"
 missing_code (Some Eol) = codes "an EOL is expected here, and no EOL begins here"
 missing_code None = codes "no valid code begins here"
-
--- what was refused of a coded page, by the fault's number
-abbrev pub code_table : Option Expected → List (ℕ × List ℕ)
-code_table expected = (4, codes "the page ends before its first row")
-    ∷ (10, missing_code expected)
-    ∷ (11, codes "the file ends inside a code or before the next one: it is cut short")
-    ∷ (12, codes "this run goes past the row's width: is --width right?")
-    ∷ (13, codes "this vertical mode doesn't move to the right")
-    ∷ (14, codes "this mode or run goes past the row's width: is --width right?")
-    ∷ (15, codes "a horizontal mode of two runs of 0 pixels")
-    ∷ (16, codes "an extension code, as of uncompressed mode, which faxtool doesn't read")
-    ∷ (17, codes "the page's end (EOFB) is missing: the file is cut short")
-    ∷ (18, codes "one row more than 20000, the most that a page has") ∷ []
-
--- the words of a fault of a coded page
-abbrev pub code_words : ℕ → Option Expected → List ℕ
-code_words number expected = words_in (code_table expected) (codes "no page can go on here") number
 
 -- the row, counted from 1, where it is known
 abbrev pub row_text : Option ℕ → List ℕ
@@ -147,14 +112,16 @@ other_words (T6, MsbFirst) = codes " (try --order lsb, or --code mh)"
 other_words (T6, LsbFirst) = codes " (try --order msb, or --code mh)"
 
 -- the file ends where the page is refused
-abbrev pub is_at_end : ℕ → Bool
-is_at_end number = number == 11 || number == 17
+abbrev pub is_at_end : FaultKind → Bool
+is_at_end Truncated = true
+is_at_end MissingEofb = true
+is_at_end kind = false
 
 -- what to try where the first row of a page is refused, and not because the file ends
-abbrev pub try_words : ℕ → Option ℕ → Option (Coding × Order) → List ℕ
-try_words number (Some row) (Some read_as) = if row == 1 && not (is_at_end number) then other_words read_as else []
-try_words number (Some row) None = []
-try_words number None read_as = []
+abbrev pub try_words : FaultKind → Option ℕ → Option (Coding × Order) → List ℕ
+try_words kind (Some row) (Some read_as) = if row == 1 && not (is_at_end kind) then other_words read_as else []
+try_words kind (Some row) None = []
+try_words kind None read_as = []
 
 -- what is wrong with a line of a script, where it is known
 abbrev pub line_words : Option LineFault → List ℕ
@@ -164,13 +131,25 @@ line_words (Some Word) = codes "no command of a script begins with this word"
 line_words (Some Count) = codes "the count is missing or isn't 1 to 1000000"
 line_words None = codes "no command of a script, or no count that it takes"
 
+-- what is wrong, by the kind of the fault and by what is known of it
+abbrev pub wrong_words : FaultKind → Known → List ℕ
+wrong_words BadHeader known = no_raw_pbm known.begins.now
+wrong_words Io known = reason_words known.reason
+wrong_words BadCode known = missing_code known.expected
+wrong_words BadLine known = line_words known.line
+wrong_words kind known = words_of kind
+
+-- nothing more is known of a fault than the file and the places
+abbrev pub IsBare : Known → Type 0
+IsBare known = (known.begins.now ≡ []) × (known.reason ≡ None) × (known.expected ≡ None) × (known.line ≡ None)
+
 -- a fault in words: the file, the place in it, and what is wrong there
 abbrev pub explained : ToolFault → Known → List ℕ
-explained (No number) known = name_text known.file.now ++ (codes ": " ++ whole_words number known)
-explained (AtBit number place) known = name_text known.file.now
-    ++ (codes ": " ++ (row_text known.row ++ (code_words number known.expected ++ try_words number known.row known.read_as)))
-explained (AtLine number) known =
-    name_text known.file.now ++ (codes ": line " ++ (decimal number ++ (codes ": " ++ line_words known.line)))
+explained (No number) known = name_text known.file.now ++ (codes ": " ++ wrong_words (kind_of (No number)) known)
+explained (AtBit number place) known = name_text known.file.now ++ (codes ": " ++ (row_text known.row
+    ++ (wrong_words (kind_of (AtBit number place)) known ++ try_words (kind_of (AtBit number place)) known.row known.read_as)))
+explained (AtLine line) known =
+    name_text known.file.now ++ (codes ": line " ++ (decimal line ++ (codes ": " ++ wrong_words (kind_of (AtLine line)) known)))
 
 -- the row after all whole rows of the bits, counted from 1
 abbrev pub IsRefusedRow : Coding → ℕ → List Bool → ℕ → Type 0

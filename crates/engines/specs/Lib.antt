@@ -1,5 +1,6 @@
 -- The definitions of the engines.
 pub mod Faults
+pub mod FaultKinds
 pub mod Explanations
 pub mod CodedPages
 pub mod Repairs
@@ -13,3 +14,4 @@ pub mod PageNumbers
 pub mod Missing
 pub mod CapturesMean
 pub mod RepairsMean
+pub mod KindsMean

@@ -177,7 +177,7 @@ fn overlay(frames: &mut BlockStore, later: &BlockStore) -> Result<(), ToolFault>
     for number in 0u16..256 {
         overlay_one(frames, later, number as u8)?;
     }
-    let _ready = frames.ready();
+    let _ready = frames.ready(); // for the proof: what every store keeps to
     Ok(())
 }
 

@@ -1,10 +1,11 @@
 //! What a fault line means, in words: which file, where in it, and what is wrong there.
 
-ghost use Rattle.engines.specs.Explanations.{are_shown, code_words, image_words, is_at_end, is_shown, line_words, missing_code, no_raw_pbm};
-ghost use Rattle.engines.specs.Explanations.{other_words, reason_words, try_words, whole_words};
+ghost use Rattle.engines.specs.Explanations.{are_shown, is_at_end, is_shown, line_words, missing_code, no_raw_pbm};
+ghost use Rattle.engines.specs.Explanations.{other_words, reason_words, try_words, wrong_words};
 ghost use Rattle.std.specs.Prelude.{◌≡◌};
 
 use crate::fault::ToolFault;
+use crate::fault_kind::FaultKind;
 use crate::line_fault::LineFault;
 use crate::refused::Expected;
 use page_code::Coding;
@@ -50,18 +51,17 @@ impl fmt::Display for Explained<'_> {
 
     fn fmt<W: fmt::Write>(&self, f: &mut fmt::Formatter<W>) -> fmt::Result {
         let name = NameText(self.known.file);
+        let kind = self.fault.kind();
+        let wrong = wrong_words(kind, self.known);
         match self.fault {
-            ToolFault::No(no) => write!(f, "{name}: {}", whole_words(no, self.known)),
-            ToolFault::AtBit { no, place: _ } => write!(
+            ToolFault::No(_) => write!(f, "{name}: {wrong}"),
+            ToolFault::AtBit { .. } => write!(
                 f,
-                "{name}: {}{}{}",
+                "{name}: {}{wrong}{}",
                 RowText(self.known.row),
-                code_words(no, self.known.expected),
-                try_words(no, self.known.row, self.known.read_as),
+                try_words(kind, self.known.row, self.known.read_as),
             ),
-            ToolFault::AtLine(line) => {
-                write!(f, "{name}: line {line}: {}", line_words(self.known.line))
-            }
+            ToolFault::AtLine(line) => write!(f, "{name}: line {line}: {wrong}"),
         }
     }
 }
@@ -124,32 +124,38 @@ impl fmt::Display for RowText {
     }
 }
 
-/// What is wrong with a file as a whole, or with the system.
-fn whole_words(no: u8, known: Known<'_>) -> &'static str
-    ensures { result.now ≡ whole_words no known.entry }
+/// What is wrong, by the kind of the fault and by what is known of it.
+fn wrong_words(kind: FaultKind, known: Known<'_>) -> &'static str
+    ensures { result.now ≡ wrong_words kind known.entry }
 {
-    match no {
-        5 => no_raw_pbm(known.begins),
-        8 => reason_words(known.reason),
-        _ => image_words(no),
-    }
-}
-
-/// What is wrong with images, or with what is done with them.
-fn image_words(no: u8) -> &'static str
-    ensures { result.now ≡ image_words no }
-{
-    match no {
-        1 => "the width isn't 1 to 2432 pixels",
-        2 => "a row isn't as wide as its page",
-        3 => "the image has more than 20000 rows",
-        4 => "the image has no row",
-        6 => "the image is cut short: it has fewer octets than its width and height say",
-        7 => "there is no image: it has no octet",
-        9 => "memory was refused: try it with less input or more memory",
-        26 => "a page's width isn't 1728, 2048 or 2432 pixels, the widths that a call carries",
-        27 => "several images: code takes one",
-        _ => "it can't be used",
+    match kind {
+        FaultKind::BadHeader => no_raw_pbm(known.begins),
+        FaultKind::Io => reason_words(known.reason),
+        FaultKind::BadCode => missing_code(known.expected),
+        FaultKind::BadLine => line_words(known.line),
+        FaultKind::BadWidth
+        | FaultKind::WrongRowWidth
+        | FaultKind::TooManyRows
+        | FaultKind::NoRows
+        | FaultKind::ShortData
+        | FaultKind::NoPages
+        | FaultKind::NoMemory
+        | FaultKind::BadAddress
+        | FaultKind::BadControl
+        | FaultKind::ShortField
+        | FaultKind::WidthNotCallable
+        | FaultKind::SeveralPages
+        | FaultKind::Unknown(_)
+        | FaultKind::NoCodedRows
+        | FaultKind::Truncated
+        | FaultKind::RunTooLong
+        | FaultKind::Backwards
+        | FaultKind::PastEnd
+        | FaultKind::EmptyHorizontal
+        | FaultKind::Extension
+        | FaultKind::MissingEofb
+        | FaultKind::TooManyCodedRows
+        | FaultKind::UnknownAtBit(_) => kind.words(),
     }
 }
 
@@ -194,25 +200,6 @@ fn reason_words(reason: Option<ErrorKind>) -> &'static str
     }
 }
 
-/// What was refused of a coded page.
-fn code_words(no: u8, expected: Option<Expected>) -> &'static str
-    ensures { result.now ≡ code_words no expected }
-{
-    match no {
-        4 => "the page ends before its first row",
-        10 => missing_code(expected),
-        11 => "the file ends inside a code or before the next one: it is cut short",
-        12 => "this run goes past the row's width: is --width right?",
-        13 => "this vertical mode doesn't move to the right",
-        14 => "this mode or run goes past the row's width: is --width right?",
-        15 => "a horizontal mode of two runs of 0 pixels",
-        16 => "an extension code, as of uncompressed mode, which faxtool doesn't read",
-        17 => "the page's end (EOFB) is missing: the file is cut short",
-        18 => "one row more than 20000, the most that a page has",
-        _ => "no page can go on here",
-    }
-}
-
 /// What was expected where no code word begins.
 fn missing_code(expected: Option<Expected>) -> &'static str
     ensures { result.now ≡ missing_code expected }
@@ -226,20 +213,20 @@ fn missing_code(expected: Option<Expected>) -> &'static str
 }
 
 /// What to try where the first row of a page is refused, and not because the file ends.
-fn try_words(no: u8, row: Option<usize>, read_as: Option<(Coding, Order)>) -> &'static str
-    ensures { result.now ≡ try_words no row read_as }
+fn try_words(kind: FaultKind, row: Option<usize>, read_as: Option<(Coding, Order)>) -> &'static str
+    ensures { result.now ≡ try_words kind row read_as }
 {
     match (row, read_as) {
-        (Some(1), Some((coding, order))) if !is_at_end(no) => other_words(coding, order),
+        (Some(1), Some((coding, order))) if !is_at_end(kind) => other_words(coding, order),
         _ => "",
     }
 }
 
 /// Whether a fault of a coded page is that its file ends.
-fn is_at_end(no: u8) -> bool
-    ensures { result ≡ is_at_end no }
+fn is_at_end(kind: FaultKind) -> bool
+    ensures { result ≡ is_at_end kind }
 {
-    no == 11 || no == 17
+    matches!(kind, FaultKind::Truncated | FaultKind::MissingEofb)
 }
 
 /// What to try in place of a code and an order of bits: the other ones.

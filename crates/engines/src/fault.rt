@@ -1,4 +1,5 @@
 //! What went wrong while a command ran.
+use crate::fault_kind::FaultKind;
 use raster::RasterFault;
 use run_tables::{CodeFault, CodeFaultKind};
 use std::alloc::AllocError;
@@ -26,6 +27,22 @@ pub const FAILED: ToolFault = ToolFault::No(8);
 
 /// Memory was refused.
 pub const NO_MEMORY: ToolFault = ToolFault::No(9);
+
+impl ToolFault {
+    ghost use Rattle.std.specs.Prelude.{◌≡◌};
+    ghost use Rattle.engines.specs.FaultKinds.{kind_of};
+
+    /// What the fault is, by its number and by what it is of: `Unknown` or `UnknownAtBit` where no fault has the number.
+    pub fn kind(self) -> FaultKind
+        ensures { result ≡ kind_of self }
+    {
+        match self {
+            ToolFault::No(no) => FaultKind::of_whole(no),
+            ToolFault::AtBit { no, place: _ } => FaultKind::of_page(no),
+            ToolFault::AtLine(_) => FaultKind::BadLine,
+        }
+    }
+}
 
 impl fmt::Display for ToolFault {
     ghost use Rattle.std.specs.Prelude.{Some};
