@@ -9,3 +9,4 @@ pub mod CodingPacked
 pub mod PageReaders
 pub mod HandCoded
 pub mod RowCoders
+pub mod RowReaders

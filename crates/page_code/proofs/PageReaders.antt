@@ -57,7 +57,7 @@ rows_stay coding width bits more count later now after = elim (cases_eq count 0)
 ]
 
 -- rows that were read are read of more bits
-read_more : (coding : Coding) (width : ℕ) (bits more : List Bool) (rows : List (List Color)) (place : ℕ)
+pub read_more : (coding : Coding) (width : ℕ) (bits more : List Bool) (rows : List (List Color)) (place : ℕ)
     → IsReadTo coding width bits rows place → IsReadTo coding width (bits ++ more) rows place
 unfolding IsReadTo
 read_more OneDim width bits more rows place read = leads_more item_word (Step width) first (after_rows rows) bits more place read

@@ -4,6 +4,7 @@ pub mod Codings
 pub mod RowsSoFar
 pub mod PageReaders
 pub mod RowCoders
+pub mod RowReaders
 pub mod OneDimension
 pub mod TwoDimensions
 pub mod WorkedPages

@@ -105,3 +105,9 @@ FinishesPage coder before after (Ok done) = (0 < coder.count) × EndsPage coder 
 FinishesPage coder before after (Err NoRows) = (coder.count ≡ 0) × (after ≡ before)
 FinishesPage coder before after (Err NoMemory) = (0 < coder.count) × (after ≡ before)
 FinishesPage coder before after (Err fault) = ⊥
+
+-- the end of a page is refused for this reason
+abbrev pub IsEndRefused : RowCoding → RasterFault → Type 0
+IsEndRefused coder NoRows = coder.count ≡ 0
+IsEndRefused coder NoMemory = 0 < coder.count
+IsEndRefused coder fault = ⊥

@@ -7,6 +7,7 @@ pub mod laws;
 mod one_dim;
 mod page;
 mod page_reader;
+mod page_rows;
 mod row_coder;
 mod t6;
 
@@ -14,6 +15,7 @@ pub use crate::coding::{Coding, PageCode};
 pub use crate::one_dim::OneDim;
 pub use crate::one_dim::repair::{RepairedPage, RepairedRow};
 pub use crate::page_reader::PageReader;
+pub use crate::page_rows::{MAX_HELD, NextRow, RowReader};
 pub use crate::row_coder::RowCoder;
 pub use crate::t6::T6;
 pub use crate::t6::mode::{ModeCode, Shift};

@@ -1,11 +1,11 @@
 //! Writing of a page row by row, in memory that doesn't grow with its rows.
 
-ghost use Rattle.page_code.specs.RowCoders.{BeginsCode, FinishesPage, HandsOut, HasLists, HoldsBefore, PushesRow, end_of, row_of as row_code_of};
+ghost use Rattle.page_code.specs.RowCoders.{BeginsCode, EndsPage, FinishesPage, HandsOut, IsEndRefused, HasLists, HoldsBefore, PushesRow, end_of, row_of as row_code_of};
 ghost use Rattle.page_code.specs.TwoDimensions.Positions.{white_line};
 ghost use Rattle.raster.specs.Pixels.{IsWidth};
 ghost use Rattle.raster.specs.declared.row.Color.{Color};
 ghost use Rattle.run_tables.specs.Written.{Appends, KeepsBits};
-ghost use Rattle.std.specs.Prelude.{◌≡◌, ◌<◌, List, IfOk, OnErr, OnOk, length, take};
+ghost use Rattle.std.specs.Prelude.{◌≡◌, ◌<◌, [], List, IfErr, IfOk, OnErr, OnOk, length, take};
 
 use crate::coding::Coding;
 use crate::one_dim;
@@ -17,6 +17,7 @@ use raster::{MAX_ROWS, RasterFault, Row};
 use run_tables::BitWriter;
 use std::alloc::{AllocError, Global};
 use std::marker::Model;
+use std::mem;
 
 /// The lists by which rows of this width are coded, before the first row.
 fn first_lines(alloc: Global, coding: Coding, width: u32) -> Result<Lines, AllocError>
@@ -57,7 +58,8 @@ fn write_row(
 
 /// Appends the end of a page.
 fn write_end(coding: Coding, writer: &mut BitWriter) -> Result<(), AllocError>
-    ensures { OnOk result (Appends (end_of coding) writer.old writer.new) }
+    ensures ends { OnOk result (Appends (end_of coding) writer.old writer.new) }
+    ensures keeps { OnErr result (KeepsBits writer.old writer.new) }
 {
     match coding {
         Coding::OneDim => one_dim::write_rtc(writer),
@@ -91,8 +93,10 @@ impl Model for RowCoder {
       pending = coder.pending;
     } };
 
-    ghost invariant = { λ coder.
-        HasLists coder.coding coder.width coder.lines.reference.items coder.lines.row.items coder.lines.known };
+    ghost invariant = { λ coder. record {
+      wide : IsWidth coder.width;
+      lists : HasLists coder.coding coder.width coder.lines.reference.items coder.lines.row.items coder.lines.known;
+    } };
 }
 
 impl RowCoder {
@@ -113,6 +117,14 @@ impl RowCoder {
             lines: first_lines(alloc, coding, width)?,
             pending: BitWriter::new(alloc, order),
         })
+    }
+
+    /// The width of the page's rows in pixels.
+    pub fn width(&self) -> u32
+        ensures width { result ≡ self.now.width }
+        ensures range { IsWidth result }
+    {
+        self.width // of each row
     }
 
     /// The number of rows so far, 20,000 at most.
@@ -170,5 +182,24 @@ impl RowCoder {
         let octets = pending.into_octets();
         out.extend_from_slice(&octets)?;
         Ok(())
+    }
+    /// The last octets of the page's code, as `finish` appends them: the coder has done its work then. Errs with `NoRows`
+    /// where no row was pushed, and with `NoMemory`; then the coder is as it was.
+    pub fn end(&mut self, alloc: Global) -> Result<Vec<u8>, RasterFault>
+        ensures ends { IfOk result (λ octets. EndsPage self.old [] octets.items) }
+        ensures some { OnOk result (0 < self.old.count) }
+        ensures refuses { IfErr result (IsEndRefused self.old) }
+        ensures kept { OnErr result (self.new ≡ self.old) }
+    {
+        if self.rows == 0 {
+            return Err(RasterFault::NoRows);
+        }
+        let start = self.pending.bits();
+        if write_end(self.coding, &mut self.pending).is_err() {
+            self.pending.truncate(start);
+            return Err(RasterFault::NoMemory);
+        }
+        let pending = mem::replace(&mut self.pending, BitWriter::new(alloc, Order::MsbFirst));
+        Ok(pending.into_octets())
     }
 }

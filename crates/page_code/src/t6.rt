@@ -8,7 +8,7 @@ ghost use Rattle.raster.specs.Pixels.{IsWidth};
 mod a0;
 mod changes;
 mod front;
-mod lines;
+pub(crate) mod lines;
 pub(crate) mod mode;
 mod mode_table;
 pub(crate) mod read;

@@ -7,4 +7,6 @@ mod coding;
 #[cfg(test)]
 mod page_reader;
 #[cfg(test)]
+mod row_reader;
+#[cfg(test)]
 mod t6;

@@ -81,7 +81,7 @@ walk_grows width (i ∷ is) s t walk = omega (arith, step_grows width s i walk.0
 
 -- Whole rows
 
-abbrev Kept : ℕ → List Bool → List (List Color) → ℕ → Type 0
+abbrev pub Kept : ℕ → List Bool → List (List Color) → ℕ → Type 0
 Kept width bits rows place = LeadsTo item_word (Step width) first (after_rows rows) bits place
 
 after_some : (rows : List (List Color)) → 0 < length rows → after_rows rows ≡ row_end rows
@@ -165,7 +165,7 @@ passes_on width bits rows place state at kept passes = leads_on item_word (Step 
     passes.1 at passes.2 passes.3 passes.4
 
 -- the page ends
-end_off : (width : ℕ) (bits : List Bool) (rows : List (List Color)) (place used : ℕ) → IsWidth width → length rows ≤ 20000
+pub end_off : (width : ℕ) (bits : List Bool) (rows : List (List Color)) (place used : ℕ) → IsWidth width → length rows ≤ 20000
     → Kept width bits rows place → FindsRow bits width rows place (End used)
     → (read_rows OneDim width bits ≡ Ok (rows, used)) × AreRowsSoFar OneDim width bits (length rows)
 unfolding read_rows
@@ -177,7 +177,7 @@ end_off width bits rows place used wide few kept found =
     )
 
 -- nothing that may be there follows
-refused_off : (width : ℕ) (bits : List Bool) (rows : List (List Color)) (place : ℕ) (fault : CodeFault) → IsWidth width
+pub refused_off : (width : ℕ) (bits : List Bool) (rows : List (List Color)) (place : ℕ) (fault : CodeFault) → IsWidth width
     → length rows ≤ 20000 → Kept width bits rows place → FindsRow bits width rows place (Refused fault)
     → (read_rows OneDim width bits ≡ Err (fault.place, fault.kind)) × AreRowsSoFar OneDim width bits (length rows)
 unfolding read_rows
@@ -188,7 +188,7 @@ refused_off width bits rows place fault wide few kept found =
     )
 
 -- a row is read
-row_on : (width : ℕ) (bits : List Bool) (rows : List (List Color)) (row : List Color) (place at used : ℕ) → IsWidth width
+pub row_on : (width : ℕ) (bits : List Bool) (rows : List (List Color)) (row : List Color) (place at used : ℕ) → IsWidth width
     → Kept width bits rows place → FindsRow bits width rows place (Row at) → ReadsAsRow width (drop at bits) row used
     → Kept width bits (rows ++ row ∷ []) (at + used)
 row_on width bits rows row place at used wide kept found reads =
@@ -199,7 +199,7 @@ row_on width bits rows row place at used wide kept found reads =
     (reads.split ∙ ap (λ l. l ++ reads.rest) (sym way.spelled)) (omega (arith, reads.used_is, ap length way.spelled)))
 
 -- a row is refused
-row_off : (width : ℕ) (bits : List Bool) (rows : List (List Color)) (place at within : ℕ) (kind : CodeFaultKind) → IsWidth width
+pub row_off : (width : ℕ) (bits : List Bool) (rows : List (List Color)) (place at within : ℕ) (kind : CodeFaultKind) → IsWidth width
     → length rows ≤ 20000 → Kept width bits rows place → FindsRow bits width rows place (Row at)
     → IsLongestRow width (drop at bits) within kind
     → (read_rows OneDim width bits ≡ Err (at + within, kind)) × AreRowsSoFar OneDim width bits (length rows)

@@ -347,11 +347,11 @@ leads_read width bits at end leads =
     leads.walk ∙ (ap (λ n. reading width end n leads.rest) place ∙
     ap (reading width end at) (sym (leads_rest page_item_word (PageStep width) (page_begin width) end bits at leads))))
 
-abbrev Kept : ℕ → List Bool → List (List Color) → ℕ → Type 0
+abbrev pub Kept : ℕ → List Bool → List (List Color) → ℕ → Type 0
 Kept width bits rows place = LeadsTo page_item_word (PageStep width) (page_begin width) (between_rows width rows) bits place
 
 -- one row more
-row_on : (width : ℕ) (bits : List Bool) (rows : List (List Color)) (row : List Color) (place after : ℕ) → length rows < 20000
+pub row_on : (width : ℕ) (bits : List Bool) (rows : List (List Color)) (row : List Color) (place after : ℕ) → length rows < 20000
     → Kept width bits rows place
     → row_reading width (inside (record { rows = rows; reference = reference_at (white_line width) rows (length rows) }) line_begin) place
     (drop place bits) ≡ Ok (rows ++ row ∷ [], after) → Kept width bits (rows ++ row ∷ []) after
@@ -367,7 +367,7 @@ row_on width bits rows row place after room kept reads =
     taken.items taken.rest after taken.walk taken.spelled taken.after_is)
 
 -- a row is refused
-row_off : (width : ℕ) (bits : List Bool) (rows : List (List Color)) (place at : ℕ) (kind : CodeFaultKind) → IsWidth width
+pub row_off : (width : ℕ) (bits : List Bool) (rows : List (List Color)) (place at : ℕ) (kind : CodeFaultKind) → IsWidth width
     → Kept width bits rows place → SeesStart (drop place bits) (length rows) Row
     → row_reading width (inside (record { rows = rows; reference = reference_at (white_line width) rows (length rows) }) line_begin) place
     (drop place bits) ≡ Err (at, kind) → (read_rows T6 width bits ≡ Err (at, kind)) × AreRowsSoFar T6 width bits (length rows)
@@ -385,7 +385,7 @@ row_off width bits rows place at kind wide kept sees reads =
     )
 
 -- nothing that may be there is between rows
-start_off : (width : ℕ) (bits : List Bool) (rows : List (List Color)) (place : ℕ) (kind : CodeFaultKind) → IsWidth width
+pub start_off : (width : ℕ) (bits : List Bool) (rows : List (List Color)) (place : ℕ) (kind : CodeFaultKind) → IsWidth width
     → length rows ≤ 20000 → Kept width bits rows place → SeesStart (drop place bits) (length rows) (Refused kind)
     → (read_rows T6 width bits ≡ Err (place, kind)) × AreRowsSoFar T6 width bits (length rows)
 unfolding read_rows
@@ -397,7 +397,7 @@ start_off width bits rows place kind wide few kept sees =
     )
 
 -- EOFB after a row
-page_off : (width : ℕ) (bits : List Bool) (rows : List (List Color)) (place after : ℕ) → IsWidth width
+pub page_off : (width : ℕ) (bits : List Bool) (rows : List (List Color)) (place after : ℕ) → IsWidth width
     → length rows ≤ 20000 → Kept width bits rows place → SeesStart (drop place bits) (length rows) End → after ≡ place + 24
     → (read_rows T6 width bits ≡ Ok (rows, after)) × AreRowsSoFar T6 width bits (length rows)
 unfolding read_rows

@@ -175,6 +175,7 @@ impl Lines {
         requires { length self.old.line.pixels ≡ length self.old.reference }
         ensures row { IfOk result (λ row. row ≡ self.old.line.pixels) }
         ensures next { OnOk result (self.new ≡ record { reference = self.old.line.pixels; line = line_begin }) }
+        ensures same { OnErr result (self.new ≡ self.old) }
     {
         let count = turns_within(&self.list, self.front.turns, self.width);
         let row = Row::from_changes(alloc, &self.list[..count], self.width)?;

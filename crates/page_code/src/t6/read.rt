@@ -15,7 +15,9 @@ ghost use Rattle.raster.specs.declared.row.Color.{Color};
 ghost use Rattle.run_tables.specs.Reading.{rest_of};
 ghost use Rattle.run_tables.specs.Texts.{all_zero, begins, is_cut};
 ghost use Rattle.std.specs.Bool.{OnFalse, OnTrue};
-ghost use Rattle.std.specs.Prelude.{◌≡◌, ◌≤◌, ◌<◌, ◌+◌, [], List, IfNone, IfOk, IfSome, false, length, true};
+ghost use Rattle.std.specs.Prelude.{◌≡◌, ◌≤◌, ◌<◌, ◌+◌, [], List, IfNone, IfOk, IfSome, OnErr, false, length, true};
+
+pub(crate) mod one_row;
 
 use crate::coding::Coding;
 use crate::page::{Progress, push_row, row_of};
@@ -330,6 +332,7 @@ fn read_mode(reader: &mut BitReader, lines: &mut Lines) -> Result<(), CodeFault>
 fn read_row(alloc: Global, reader: &mut BitReader, lines: &mut Lines) -> Result<Row, CodeFault>
     ensures reads { ReadsRow lines.old.reference reader.old reader.new result }
     ensures next { IfOk result (λ row. lines.new.reference ≡ row) }
+    ensures same { OnErr result (lines.new.reference ≡ lines.old.reference) }
 {
     let _start = reader.place(); // tells the proof that it is within the bits
     let _width = lines.width(); // tells the proof that there are pixels to read

@@ -9,5 +9,5 @@ returns c =
       omega (arith, c.if-rows-eq0.false),
       page_ends c.self.inside.coding c.self.inside.width c.self.inside.rows
           (take c.self.inside.lines.known c.self.inside.lines.reference.items) c.self.inside.pending c.write_end.new.writer
-          c.args.out.now.items c.into_octets-octets.result.items c.in_ok-write_end.ensures c.into_octets-octets.ensures,
+          c.args.out.now.items c.into_octets-octets.result.items c.in_ok-write_end.ensures.ends c.into_octets-octets.ensures,
     )

@@ -1,0 +1,17 @@
+use Rattle.std.proofs.Common.{◌≡◌, ◌∙◌, ap, refl, replicate}
+use Rattle.std.proofs.lemmas.List.{append-nil}
+use Rattle.raster.specs.declared.row.Color.TheVariants.{White}
+use Rattle.page_code.specs.TwoDimensions.Lines.{BothLines}
+use Rattle.page_code.specs.TwoDimensions.Positions.{white_line}
+use Rattle.page_code.proofs.RowReaders.{none_read}
+use Rattle.page_code.proofs.page_rows.RowReader.new.Goals as goal
+
+pub returns : goal.returns
+returns c =
+    let is : c.in_ok-white.white ≡ white_line c.args.width = c.in_ok-white.ensures ∙ append-nil (replicate c.args.width White) in
+    record {
+      coding_is = refl;
+      order_is = refl;
+      width_is = refl;
+      none = none_read _ refl refl refl c.new-2.ensures.items (ap (λ (l : BothLines). l.reference) c.in_ok-after.ensures ∙ is);
+    }

@@ -1,0 +1,227 @@
+//! Reading of a page row by row from octets that come in pieces, in memory that doesn't grow with its rows.
+
+ghost use Rattle.page_code.specs.RowReaders.{BeginsReading, FindsNext, IsRefusal, ReadsNext, TakesOctets, max_held};
+ghost use Rattle.raster.specs.Packed.{bits_of};
+ghost use Rattle.raster.specs.Pages.{max_rows};
+ghost use Rattle.raster.specs.Pixels.{IsWidth};
+ghost use Rattle.std.specs.Prelude.{◌≡◌, ◌≤◌, ◌*◌, IfOk, OnOk, OnErr, length};
+
+use crate::coding::Coding;
+use crate::page::row_of;
+use crate::page_reader::is_memory;
+use crate::t6::lines::Lines;
+use crate::{one_dim, t6};
+use raster::Row;
+use raster::packed::Order;
+use run_tables::CodeFault;
+use std::alloc::{AllocError, Global};
+use std::marker::Model;
+
+/// The most octets that a `RowReader` holds: 65,536. No row of T.6 is longer, and at 33,600 bit/s it is 15 seconds of fill.
+pub const MAX_HELD: usize = 65_536;
+
+/// What the octets of a page so far give after the rows that were given.
+#[derive(Debug, Drop)]
+pub enum NextRow {
+    /// The next row.
+    Row(Row),
+    /// The page's end, and the number of bits that the page uses.
+    End(u128),
+    /// No whole row and no end: the bit, from 0 at the page's beginning, where the octets so far are refused, and why.
+    Refused(CodeFault),
+}
+
+/// Where a row is looked for: the rows' width in pixels, the number of rows before it, and the place in the bits at hand.
+#[derive(Clone, Copy, Debug, PartialEq, Eq)]
+pub(crate) struct RowPlace {
+    pub(crate) width: u32,
+    pub(crate) rows: usize,
+    pub(crate) at: u128,
+}
+
+/// What is answered where a row is refused, or memory is.
+pub(crate) fn refused(fault: CodeFault) -> Result<NextRow, AllocError>
+    ensures { IsRefusal fault result }
+{
+    if is_memory(fault.kind) {
+        Err(AllocError)
+    } else {
+        Ok(NextRow::Refused(fault))
+    }
+}
+
+/// The lists in which a row is read: one dimension's runs, and T.6's lines.
+#[derive(Drop)]
+struct Lists {
+    runs: Vec<u32>,
+    lines: Lines,
+}
+
+/// The next row, the page's end or a refusal, counted from the beginning of the bits at hand.
+fn find_next(
+    alloc: Global,
+    coding: Coding,
+    octets: &[u8],
+    order: Order,
+    to: &mut RowPlace,
+    lists: &mut Lists,
+) -> Result<NextRow, AllocError>
+    requires within { to.old.at ≤ 8 * length octets.now }
+    requires few { to.old.rows ≤ max_rows }
+    requires width { IsWidth to.old.width }
+    ensures { FindsNext coding (bits_of order octets.now) to.old to.new lists.old.lines.reference lists.new.lines.reference result }
+{
+    match coding {
+        Coding::OneDim => one_dim::one_row::next_row(alloc, octets, order, to, &mut lists.runs),
+        Coding::T6 => t6::read::one_row::next_row(alloc, octets, order, to, &mut lists.lines),
+    }
+}
+
+/// Reads a page whose octets come in pieces, row by row. It holds the row before the next one, and the octets that were not
+/// read: 65,536 at most.
+#[derive(Drop)]
+pub struct RowReader {
+    alloc: Global,
+    coding: Coding,
+    order: Order,
+    place: RowPlace,
+    start: u128,
+    held: Vec<u8>,
+    lists: Lists,
+}
+
+impl Model for RowReader {
+    ghost use Rattle.page_code.specs.RowReaders.{RowReading, max_held};
+    ghost use Rattle.raster.specs.Pages.{max_rows};
+    ghost use Rattle.raster.specs.Pixels.{IsWidth};
+    ghost use Rattle.std.specs.Prelude.{◌≤◌, ◌*◌, ◌+◌, length};
+
+    ghost Value = { RowReading };
+
+    ghost view = { λ reader. record {
+      coding = reader.coding;
+      order = reader.order;
+      width = reader.place.width;
+      count = reader.place.rows;
+      before = reader.lists.lines.reference;
+      start = reader.start;
+      held = reader.held.items;
+      at = reader.place.at;
+    } };
+
+    ghost invariant = { λ reader. record {
+      width : IsWidth reader.place.width;
+      rows : reader.place.rows ≤ max_rows;
+      within : reader.place.at ≤ 8 * length reader.held.items;
+      few : length reader.held.items ≤ max_held;
+      start : reader.start + reader.place.at ≤ reader.place.rows * (8 * max_held);
+    } };
+}
+
+impl RowReader {
+    /// A reader of a page in this code, order of bits and width in pixels, 1 to 2,432, that took no octets so far. Errs where
+    /// memory is refused.
+    pub fn new(
+        alloc: Global,
+        coding: Coding,
+        order: Order,
+        width: u32,
+    ) -> Result<RowReader, AllocError>
+        requires { IsWidth width }
+        ensures { IfOk result (λ reader. BeginsReading coding order width reader) }
+    {
+        let white = row_of(alloc, &[width])?;
+        let lists = Lists {
+            runs: Vec::new(alloc),
+            lines: Lines::after(alloc, &white)?,
+        };
+        Ok(RowReader {
+            alloc,
+            coding,
+            order,
+            place: RowPlace {
+                width,
+                rows: 0,
+                at: 0,
+            },
+            start: 0,
+            held: Vec::new(alloc),
+            lists,
+        })
+    }
+
+    /// The width of the page's rows in pixels.
+    pub fn width(&self) -> u32
+        ensures width { result ≡ self.now.width }
+        ensures range { IsWidth result }
+    {
+        self.place.width
+    }
+
+    /// The number of rows that were given so far, 20,000 at most.
+    pub fn rows(&self) -> usize
+        ensures { result ≡ self.now.count }
+    {
+        self.place.rows // so far
+    }
+
+    /// The number of octets that are held, 65,536 at most.
+    pub fn held(&self) -> usize
+        ensures held { result ≡ length self.now.held }
+        ensures few { result ≤ max_held }
+    {
+        self.held.len()
+    }
+
+    /// Takes the next octets of the page, as many as there is room for, and answers how many. Octets whose bits were read are
+    /// given up first. Errs where memory is refused, which changes nothing.
+    pub fn push_octets(&mut self, octets: &[u8]) -> Result<usize, AllocError>
+        ensures takes { IfOk result (λ count. TakesOctets self.old octets.now count self.new) }
+        ensures same { OnErr result (self.new ≡ self.old) }
+    {
+        let up = (self.place.at / 8) as usize;
+        let left = &self.held[up..];
+        let room = MAX_HELD - left.len();
+        let count = if octets.len() < room {
+            octets.len()
+        } else {
+            room
+        };
+        let mut held = Vec::new(self.alloc);
+        held.extend_from_slice(left)?;
+        held.extend_from_slice(&octets[..count])?;
+        self.held = held;
+        self.place.at %= 8;
+        self.start += 8 * up as u128;
+        Ok(count)
+    }
+
+    /// The next row that is whole in the octets so far; or, where there is none, what they read as: the page's end, or a
+    /// refusal, as `Coding::decode` answers for all of them. More octets may change these two, and nothing is left out by
+    /// asking again. A row that isn't whole in 65,536 octets is refused so, and `push_octets` takes none then. Errs where
+    /// memory is refused, which changes nothing.
+    pub fn next_row(&mut self) -> Result<NextRow, AllocError>
+        ensures { ReadsNext self.old self.new result }
+    {
+        let mut to = self.place;
+        let found = find_next(
+            self.alloc,
+            self.coding,
+            &self.held,
+            self.order,
+            &mut to,
+            &mut self.lists,
+        )?;
+        match found {
+            NextRow::Row(row) => {
+                self.place = to;
+                Ok(NextRow::Row(row))
+            }
+            NextRow::End(used) => Ok(NextRow::End(self.start + used)),
+            NextRow::Refused(fault) => Ok(NextRow::Refused(CodeFault::new(
+                self.start + fault.place,
+                fault.kind,
+            ))),
+        }
+    }
+}
