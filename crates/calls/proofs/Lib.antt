@@ -14,6 +14,8 @@ mod BadCallsEnd
 mod DrivenCalls
 mod Rates
 mod LineTimes
+mod CallerPhases
+mod FewTries
 mod CountedSteps
 mod Shares
 mod ManyCalls

@@ -1,0 +1,39 @@
+-- Which calls over a bad line have few bad tries in each phase, as `line_sim` counts them: those that `line_sim::laws::calls_bear` is of.
+use Rattle.std.specs.Prelude.{◌≡◌, ◌≤◌, ◌-◌, ℕ, zero, suc, length}
+use Rattle.signals.specs.Agreement.{tried_speeds}
+use Rattle.signals.specs.declared.params.Modems.{Modems}
+use Rattle.stations.specs.Layers.{Document}
+use Rattle.line_sim.specs.Tolerance.{Tries, no_tries, noted, tries_after}
+use Rattle.calls.specs.BadLines.{Going, bad_call, fated, gone, patience_of, set_in}
+use Rattle.calls.specs.declared.losses.BadLine.{BadLine}
+use Rattle.calls.specs.declared.options.CallOptions.{CallOptions}
+
+-- how many speeds two stations with the same modems have below their first one
+abbrev pub slower_speeds : Modems → ℕ
+slower_speeds modems = length (tried_speeds modems modems) - 1
+
+-- the tries of a call over a bad line when what is first under way in its next step has met its fate
+abbrev pub met_in : BadLine → Going → Tries → Tries
+met_in line g t =
+    let d = fated line (set_in line g) in noted (patience_of line) d.world.to_answerer d.world.to_caller d t
+
+-- the tries of a call after this number of first steps
+abbrev pub tries_gone : ℕ → BadLine → Going → Tries
+tries_gone zero line first = no_tries
+tries_gone (suc made) line first =
+    tries_after (set_in line (gone made line first)).call.world (gone (suc made) line first).call.world
+    (met_in line (gone made line first) (tries_gone made line first))
+
+-- in this number of first steps no phase has more than two bad tries, and no group more than `checks` spoiled checks
+abbrev pub FewTriesGone : ℕ → ℕ → BadLine → Going → Type 0
+FewTriesGone zero checks line first = Unit {0}
+FewTriesGone (suc made) checks line first =
+    let met = met_in line (gone made line first) (tries_gone made line first) in
+    FewTriesGone made checks line first × (met.bad ≤ 2) × (met.checks ≤ checks)
+
+-- The call of a number, of a document, has few bad tries in each phase: at most two, and no more spoiled training checks in a group than
+-- common speeds are below the first one. At least three DIS come in a wait, and the answerer is never busy.
+pub record HasFewTries (options : CallOptions) (line : BadLine) (number : ℕ) (document : Document) (made : ℕ) : Type 0 where
+  pub patient : 3 ≤ line.calls
+  pub ready : line.busy ≡ 0
+  pub few : FewTriesGone made (slower_speeds options.modems) line (bad_call options line number document)
