@@ -168,19 +168,19 @@ ppr_phase c state map block is = at (nat_lt c.pprs 3)
     all true = refl
     all false = refl
 
-    at : (b : Bool) → SameBy (caller_in c state None)
-        (cond b
-        (record { next = record (caller_in c state None) { state = WaitBlock; try = 1; pprs = suc c.pprs }; turn = Burst map })
-        (caller_gives_up (caller_in c state None) Unreadable)).next false
-    at true = same ∙ (all sends ∙ sym (ap (λ b. cond b true (not sends)) is))
-    at false = given state block
-
     given : (state : CallerState) → negotiates state ≡ false →
         SameBy (caller_in c state None) (caller_in c state (Some Unreadable)) false
     given WaitDis e = absurd (cc)
     given WaitCfr e = absurd (cc)
     given WaitBlock e = no_more c.place false sends
     given WaitReady e = no_more c.place false sends
+
+    at : (b : Bool) → SameBy (caller_in c state None)
+        (cond b
+        (record { next = record (caller_in c state None) { state = WaitBlock; try = 1; pprs = suc c.pprs }; turn = Burst map })
+        (caller_gives_up (caller_in c state None) Unreadable)).next false
+    at true = same ∙ (all sends ∙ sym (ap (λ b. cond b true (not sends)) is))
+    at false = given state block
 
 block_again : (c : Caller) (turn : Turn) → SameBy (caller_in c WaitBlock None) (tries_again (caller_in c WaitBlock None) turn).next false
 block_again c turn = at (nat_lt c.try 3)

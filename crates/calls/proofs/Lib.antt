@@ -19,3 +19,4 @@ mod FewTries
 mod CountedSteps
 mod Shares
 mod ManyCalls
+mod FewBorne

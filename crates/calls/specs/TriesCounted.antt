@@ -85,7 +85,5 @@ tried spare noted before after t =
 
 -- the counts are those of a call's tries after this number of first steps
 pub record Follows (made spare : ℕ) (line : BadLine) (first : Going) (t : TryCounts) : Type 0 where
-  pub bad : t.bad ≡ (tries_gone made line first).bad
-  pub now : t.now ≡ (tries_gone made line first).now
-  pub checks : t.checks ≡ (tries_gone made line first).checks
+  pub tries : tries_gone made line first ≡ record { bad = t.bad; now = t.now; checks = t.checks }
   pub few : IsTrue t.few ↔ FewTriesGone made spare line first

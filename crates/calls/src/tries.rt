@@ -1,14 +1,15 @@
 //! How many tries of a call's phases were bad.
 
-ghost use Rattle.calls.specs.Totals.{one_if};
 ghost use Rattle.calls.specs.TriesCounted.{begins, first_try, goes_on, is_bad_in, is_check_in, is_mcf, is_mcf_in, met_by, stays, stood_in};
 ghost use Rattle.calls.specs.TriesCounted.{tried};
 ghost use Rattle.engines.specs.Faults.{IsOutside};
+ghost use Rattle.line_sim.specs.Entries.{head_kind};
 ghost use Rattle.line_sim.specs.Fates.{entries_of};
 ghost use Rattle.line_sim.specs.Line.{World};
 ghost use Rattle.line_sim.specs.Standing.{Shows};
-ghost use Rattle.line_sim.specs.Tolerance.{bad_with, now_with};
-ghost use Rattle.std.specs.Prelude.{◌≡◌, ◌+◌, IfErr, IfOk, true};
+ghost use Rattle.line_sim.specs.Tolerance.{bad_with};
+ghost use Rattle.line_sim.specs.declared.event.Kind.TheVariants.{Training};
+ghost use Rattle.std.specs.Prelude.{◌≡◌, ◌≢◌, IfErr, IfOk, Some};
 
 use crate::call::after;
 use crate::counts::Counts;
@@ -40,9 +41,10 @@ pub(crate) struct TryCounts {
 }
 
 impl Stood {
-    /// What stands in a call.
+    /// What stands in a call. No training check is first under way to the caller.
     pub(crate) fn of(call: &DrivenCall) -> Stood
-        ensures { (w : World) → Shows call.now.live w → result ≡ stood_in w }
+        ensures stood { (w : World) → Shows call.now.live w → result ≡ stood_in w }
+        ensures no_check { head_kind call.now.live.to_caller ≢ Some Training }
     {
         Stood {
             counts: Counts::of(call.live()),
