@@ -131,11 +131,12 @@ try_drives() {
 try_many() {
     drives --lose 20% --seed 7 --times 1
     printf '%s\n' "call 0 caller normal confirmed 1 answerer normal pages 1 deliveries 10 lost 2 spoiled 0 again 0" "calls 1" \
-        "caller normal 1" "at-most-two-bad 1 normal 1" "deliveries 10" "again 0" "seconds median 14 95% 14 greatest 14" > "$work/wanted"
+        "caller normal 1" "at-most-two-bad 1 normal 1" "few-bad-tries 1 normal 1" "deliveries 10" "again 0" \
+        "seconds median 14 95% 14 greatest 14" > "$work/wanted"
     is_same "$work/output" "$work/wanted" "one call of many"
     drives --lose 100% --seed 1 --times 3 --calls 1
-    tail -n 6 "$work/output" > "$work/table"
-    printf '%s\n' "calls 3" "caller no-answer 3" "at-most-two-bad 3 normal 0" "deliveries 0" "again 0" \
+    tail -n 7 "$work/output" > "$work/table"
+    printf '%s\n' "calls 3" "caller no-answer 3" "at-most-two-bad 3 normal 0" "few-bad-tries 0 normal 0" "deliveries 0" "again 0" \
         "seconds median 72 95% 72 greatest 72" > "$work/wanted"
     is_same "$work/table" "$work/wanted" "the table of calls that lose all"
     faults "fault 8" call --lose 5% --seed 1 --times 2 "$work/missing"

@@ -70,7 +70,7 @@ class Listed:
     """Fates as a text has them, c, l and s, and then all comes; and settings as another one has them, b and r, and then none."""
 
     def __init__(self, fates, settings=""):
-        self.fates, self.settings = iter(fates), iter(settings)
+        self.fates, self.settings, self.busy = iter(fates), iter(settings), bool(settings)
 
     def fate(self):
         return {"c": "comes", "l": "lost", "s": "spoiled"}[next(self.fates, "c")]

@@ -38,6 +38,25 @@ def counted(lines):
     return deliveries, lost, spoiled, again
 
 
+def worst_phase(lines):
+    """Of the events of a call, by its phases: the most tries of a phase that were bad, and the most training checks of one that were
+    spoiled. A phase is a group's negotiation, up to the CFR that a burst answers, or a block, up to its MCF. A try is one transmission of
+    the caller, or one DIS, with what answers it; it is bad if any item of it is lost or spoiled, and counts once."""
+    phases, is_bad = [[0, 0]], False
+    for line in lines:
+        _, event, item, turn = line.split()[:4]
+        if event.startswith("lose-") or event == "spoil":
+            phases[-1][0] += not is_bad
+            phases[-1][1] += event == "spoil"
+            is_bad = True
+        if event == "to-caller" and (item == "MCF" or item == "CFR" and turn.startswith("BURST")):
+            phases.append([0, 0])
+            is_bad = False
+        elif turn != "-" and event in ("to-caller", "caller-timeout", "caller-t5", "answerer-t2"):
+            is_bad = False
+    return max(bad for bad, _ in phases), max(checks for _, checks in phases)
+
+
 class TimedLine(OctetLine):
     """A line that knows how long the waits were that are over, in seconds: T1 35 s, T2 6 s, T4 3 s and T5 60 s."""
 
@@ -61,10 +80,11 @@ def share(seconds, hundredths):
 
 def times(line_for, drawn_for, count, calls=3):
     """The lines that so many calls print, each on a new line, with what is drawn for each number."""
-    ends, mild, borne, deliveries, again, seconds = Counter(), 0, 0, 0, 0, []
+    ends, mild, borne, few, through, deliveries, again, seconds = Counter(), 0, 0, 0, 0, 0, 0, []
     for number in range(count):
         line = line_for()
-        drive(line, drawn_for(number), calls, RNRS)
+        drawn = drawn_for(number)
+        drive(line, drawn, calls, RNRS)
         caller, answerer = line.ends()
         counts = counted(line.entries)
         yield f"call {number} {caller} {answerer} deliveries {counts[0]} lost {counts[1]} spoiled {counts[2]} again {counts[3]}"
@@ -73,12 +93,17 @@ def times(line_for, drawn_for, count, calls=3):
         if counts[1] + counts[2] <= 2:
             mild += 1
             borne += end == "normal"
+        bad, checks = worst_phase(line.entries)
+        if bad <= 2 and checks < line.caller.speeds and calls >= 3 and not drawn.busy:
+            few += 1
+            through += end == "normal"
         deliveries += counts[0]
         again += counts[3]
         seconds.append(line.seconds())
     yield f"calls {count}"
     yield from (f"caller {end} {ends[end]}" for end in ENDS if ends[end])
     yield f"at-most-two-bad {mild} normal {borne}"
+    yield f"few-bad-tries {few} normal {through}"
     yield f"deliveries {deliveries}"
     yield f"again {again}"
     yield f"seconds median {share(seconds, 50)} 95% {share(seconds, 95)} greatest {share(seconds, 100)}"
@@ -98,6 +123,7 @@ WORKED = [
     "calls 1",
     "caller normal 1",
     "at-most-two-bad 1 normal 1",
+    "few-bad-tries 1 normal 1",
     "deliveries 19",
     "again 2",
     "seconds median 14 95% 14 greatest 14",

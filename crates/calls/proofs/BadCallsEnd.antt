@@ -16,8 +16,8 @@ use Rattle.calls.specs.BadLines.{BadCallsEnd, Going, fated, going, gone, next_go
 use Rattle.calls.specs.declared.losses.BadLine.{BadLine}
 
 -- a call that is over stays as it is
-stays : (p : Patience) (d : Driven) → is_over d ≡ true → next_of p d ≡ d
-stays p d over = at d.world.to_answerer d.world.to_caller d.world.caller.ending d.world.answerer.ending refl refl over
+pub over_steps : (p : Patience) (d : Driven) → is_over d ≡ true → next_of p d ≡ d
+over_steps p d over = at d.world.to_answerer d.world.to_caller d.world.caller.ending d.world.answerer.ending refl refl over
   where
     at : (items others : List PlainItem) (one other : Option End) → d.world.caller.ending ≡ one → d.world.answerer.ending ≡ other →
         is_over_at items others one other ≡ true → drives p items others d ≡ d
@@ -32,7 +32,7 @@ over_on : (line : BadLine) (g : Going) → is_over g.call ≡ true → is_over (
 over_on line g over =
     let f : Driven = fated line (set_in line g) in
     let there : is_over f ≡ true = over_set (setting_of line g) g.call ∙ over in
-    ap is_over (stays (patience_of line) f there) ∙ there
+    ap is_over (over_steps (patience_of line) f there) ∙ there
 
 -- what some steps took of what a call has left
 record Took (line : BadLine) (first : Going) (made : ℕ) (d : Driven) : Type 0 where

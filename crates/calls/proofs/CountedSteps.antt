@@ -17,10 +17,12 @@ use Rattle.calls.specs.BadLines.{AreOfSteps, Going, Stands, WasSet, entry_if, go
 use Rattle.calls.specs.LineTimes.{Runs, RunsAfter, RunsSteps, clock_to, new_clocks}
 use Rattle.calls.specs.ManyCalls.{CountsAll, counts_in, counts_with}
 use Rattle.calls.specs.Totals.{total}
+use Rattle.calls.specs.TriesCounted.{Follows}
 use Rattle.calls.specs.declared.counts.Counts.{Counts}
 use Rattle.calls.specs.declared.line_time.Clocks.{Clocks}
 use Rattle.calls.specs.declared.losses.BadLine.{BadLine}
 use Rattle.calls.specs.declared.many_calls.CallCounts.{CallCounts}
+use Rattle.calls.specs.declared.tries.TryCounts.{TryCounts}
 use Rattle.calls.proofs.DrivenSteps.{MaySet, MayStep, WasMade, done_both, over_now, put_counted, step_made, steps_lead}
 use Rattle.calls.proofs.LineTimes.{at_start, runs_step}
 use Rattle.calls.proofs.SentItems.{AreCounted, no_counts}
@@ -118,9 +120,19 @@ one_went bad first made now mid new generator drawn later counts more clocks aft
           (put_counted to bad g now.live new.live did.counts r.stands.shows.world was.stands.shows.world did.counted) (did.runs to));
     })
 
-pub all_counted : (bad : BadLine) (first : Going) (made : ℕ) (now mid new : DrivenFields) (generator drawn later : Lcg) (counts : CallCounts)
-    (clocks : Clocks) (set : Option Entry) → Went bad first made now generator counts clocks → MaySet bad now mid generator drawn set →
-    is_marked set ≡ false → MayStep bad mid new drawn later None → CountsAll bad first new (record { counts = counts; clocks = clocks })
-all_counted bad first made now mid new generator drawn later counts clocks set r may_set unmarked may =
+pub all_counted : (bad : BadLine) (spare : ℕ) (first : Going) (made : ℕ) (now mid new : DrivenFields) (generator drawn later : Lcg) (counts : CallCounts)
+    (clocks : Clocks) (tries : TryCounts) (set : Option Entry) → Went bad first made now generator counts clocks →
+    Follows made spare bad first tries → MaySet bad now mid generator drawn set → is_marked set ≡ false →
+    MayStep bad mid new drawn later None → CountsAll bad spare first new (record { counts = counts; clocks = clocks; few = tries.few })
+all_counted bad spare first made now mid new generator drawn later counts clocks tries set r follows may_set unmarked may =
     let over = over_now bad (gone made bad first) now mid new generator drawn later set r.stands may_set unmarked may in
-    record { made = made; events = r.events; are = r.are; over = over.over; shows = over.shows; counts = r.counted; sent = r.sent }
+    record {
+      made = made;
+      events = r.events;
+      are = r.are;
+      over = over.over;
+      shows = over.shows;
+      counts = r.counted;
+      sent = r.sent;
+      few = follows.few;
+    }

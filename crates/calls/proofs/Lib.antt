@@ -14,6 +14,9 @@ mod BadCallsEnd
 mod DrivenCalls
 mod Rates
 mod LineTimes
+mod CallerPhases
+mod FewTries
 mod CountedSteps
 mod Shares
 mod ManyCalls
+mod FewBorne

@@ -1,10 +1,11 @@
 -- Many calls over a bad line, one after the other.
 use Rattle.std.proofs.Common.{◌≡◌, ◌⊎◌, ℕ, ◌+◌, ◌<◌, ◌≤◌, List, [], ◌∷◌, ◌++◌, length, Option, inl, inr, refl, ap, sym, subst, ◌∙◌, arith}
+use Rattle.std.specs.Prelude.{◌↔◌, ◌&&◌, Bool, IsTrue, nat_le}
 use Rattle.std.proofs.Common.{codes, true, nat_eq, slice_index, slice_set, take, get_or, Result, Ok, Err}
 use Rattle.std.specs.Io.KnownBytes.{Appends}
 use Rattle.std.specs.List.{flat_map}
 use Rattle.std.proofs.KnownBytes.{Appends-nil, Appends-trans}
-use Rattle.std.proofs.lemmas.Bool.{cases_eq, eq-eqb, ne_eqb}
+use Rattle.std.proofs.lemmas.Bool.{and_parts, cases_eq, eq-eqb, eqb-true, le-leb, leb-true, ne_eqb}
 use Rattle.std.proofs.lemmas.List.{append-nil, get_or-set_other, get_or-set_same, length-append, length-set}
 use Rattle.std.proofs.lemmas.List.Concat.{flat_map-append}
 use Rattle.raster.specs.Pbm.{ReadsImages, read_images}
@@ -21,7 +22,8 @@ use Rattle.calls.specs.Calls.{EndsAs}
 use Rattle.engines.specs.Faults.{IsOutside}
 use Rattle.calls.specs.ManyCalls.{AreDrivenTo, CountsAll, IsCallOf, IsDrivenTo, Tallies, TellsMany, all_ends, borne_in, end_row, ended_at}
 use Rattle.calls.specs.LineTimes.{seconds_in}
-use Rattle.calls.specs.ManyCalls.{mild_in, mild_row, one_line, place_of, sum_row, table_text}
+use Rattle.calls.specs.FewTries.{slower_speeds}
+use Rattle.calls.specs.ManyCalls.{few_in, few_row, mild_in, mild_row, one_line, place_of, sum_row, table_text, through_in}
 use Rattle.calls.specs.Seconds.{CountsSeconds, Histogram, TellsSeconds, seconds_row}
 use Rattle.calls.specs.Totals.{one_if, total}
 use Rattle.engines.specs.declared.fault.ToolFault.{ToolFault}
@@ -35,10 +37,11 @@ use Rattle.engines.proofs.FirstElements.{take_next}
 
 -- what the call of a number came to, of what its steps lead to
 pub is_call : (options : CallOptions) (bad : BadLine) (number : ℕ) (document : Document) (new : DrivenFields) (counted : Counted)
-    (ending : Ending) (pages seconds : ℕ) → AreCallable document →
-    CountsAll bad (bad_call options bad number document) new counted →
+    (ending : Ending) (pages seconds : ℕ) (few : Bool) → AreCallable document →
+    CountsAll bad (slower_speeds options.modems) (bad_call options bad number document) new counted →
     ((w : World) → Shows new.live w → EndsAs ending w) → pages ≡ length ending.pages.items →
     seconds ≡ seconds_in counted.clocks counted.counts.waited ending.caller_end →
+    (IsTrue few ↔ ((3 ≤ bad.calls) × (bad.busy ≡ 0) × IsTrue counted.few)) →
     IsCallOf options bad number document
     (record {
       number = number;
@@ -48,8 +51,9 @@ pub is_call : (options : CallOptions) (bad : BadLine) (number : ℕ) (document :
       pages = pages;
       counts = counted.counts;
       seconds = seconds;
+      few = few;
     })
-is_call options bad number document new counted ending pages seconds callable told ends stored seconds_is =
+is_call options bad number document new counted ending pages seconds few callable told ends stored seconds_is few_is =
     let w : World = (gone told.made bad (bad_call options bad number document)).call.world in
     let ended : EndsAs ending w = ends w told.shows.world in
     record {
@@ -69,7 +73,26 @@ is_call options bad number document new counted ending pages seconds callable to
       clocks = counted.clocks;
       sent = told.sent;
       seconds = seconds_is;
+      few = (
+        λ e. (let h = few_is.0 e in record { patient = h.0; ready = h.1; few = told.few.0 h.2 }),
+        λ h. few_is.1 (h.patient, h.ready, told.few.1 h.few),
+      );
     }
+
+-- few tries were bad where enough DIS come in a wait, and nobody is busy
+pub few_when : (calls busy : ℕ) (few : Bool) →
+    IsTrue (nat_le 3 calls && (nat_eq busy 0 && few)) ↔ ((3 ≤ calls) × (busy ≡ 0) × IsTrue few)
+few_when calls busy few = (there, back)
+  where
+    there : IsTrue (nat_le 3 calls && (nat_eq busy 0 && few)) → (3 ≤ calls) × (busy ≡ 0) × IsTrue few
+    there e =
+        let one = and_parts (nat_le 3 calls) (nat_eq busy 0 && few) e in
+        let two = and_parts (nat_eq busy 0) few one.1 in
+        (leb-true 3 calls one.0, eqb-true busy 0 two.0, two.1)
+
+    back : (3 ≤ calls) × (busy ≡ 0) × IsTrue few → IsTrue (nat_le 3 calls && (nat_eq busy 0 && few))
+    back h =
+        ap (λ b. b && (nat_eq busy 0 && few)) (le-leb 3 calls h.0) ∙ (ap (λ b. b && few) (eq-eqb busy 0 h.1) ∙ h.2)
 
 -- one call more
 pub and_call : (options : CallOptions) (bad : BadLine) (first : ℕ) (images : List ℕ) (calls : List OneCall) (call : OneCall) →
@@ -173,21 +196,25 @@ all_ran options bad images made times tally seconds before at mid after ran all 
 -- ---- the table
 
 -- its rows, one after the other
-pub table_told : (tally : Tally) (calls : List OneCall) (a b c d e f : Option (List ℕ)) → Tallies tally calls →
+pub table_told : (tally : Tally) (calls : List OneCall) (a b c d m e f : Option (List ℕ)) → Tallies tally calls →
     Appends a b (sum_row (codes "calls") tally.calls) → Appends b c (flat_map (end_row calls) all_ends) →
-    Appends c d (mild_row tally.mild tally.borne) → Appends d e (sum_row (codes "deliveries") tally.deliveries) →
-    Appends e f (sum_row (codes "again") tally.again) → Appends a f (table_text calls)
-table_told tally calls a b c d e f t count ends mild deliveries again =
+    Appends c d (mild_row tally.mild tally.borne) → Appends d m (few_row tally.few tally.through) →
+    Appends m e (sum_row (codes "deliveries") tally.deliveries) → Appends e f (sum_row (codes "again") tally.again) →
+    Appends a f (table_text calls)
+table_told tally calls a b c d m e f t count ends mild few deliveries again =
     Appends-trans a b f _ _ (subst (λ n. Appends a b (sum_row (codes "calls") n)) t.count count)
     (Appends-trans b c f _ _ ends
     (Appends-trans c d f _ _ (subst (λ n. Appends c d (mild_row (total mild_in calls) n)) t.borne
     (subst (λ n. Appends c d (mild_row n tally.borne)) t.mild mild))
-    (Appends-trans d e f _ _ (subst (λ n. Appends d e (sum_row (codes "deliveries") n)) t.deliveries deliveries)
-    (subst (λ n. Appends e f (sum_row (codes "again") n)) t.again again))))
+    (Appends-trans d m f _ _ (subst (λ n. Appends d m (few_row (total few_in calls) n)) t.through
+    (subst (λ n. Appends d m (few_row n tally.through)) t.few few))
+    (Appends-trans m e f _ _ (subst (λ n. Appends m e (sum_row (codes "deliveries") n)) t.deliveries deliveries)
+    (subst (λ n. Appends e f (sum_row (codes "again") n)) t.again again)))))
 
 -- the numbers of calls with one more
-pub tallied : (old : Tally) (calls : List OneCall) (call : OneCall) (count mild borne deliveries again place at : ℕ) → Tallies old calls →
-    count ≡ old.calls + 1 → mild ≡ old.mild + mild_in call → borne ≡ old.borne + borne_in call →
+pub tallied : (old : Tally) (calls : List OneCall) (call : OneCall) (count mild borne few through deliveries again place at : ℕ) →
+    Tallies old calls → count ≡ old.calls + 1 → mild ≡ old.mild + mild_in call → borne ≡ old.borne + borne_in call →
+    few ≡ old.few + few_in call → through ≡ old.through + through_in call →
     deliveries ≡ old.deliveries + call.counts.deliveries → again ≡ old.again + call.counts.again →
     place ≡ place_of call.caller_end → place ≤ 10 → at ≡ slice_index old.ended place + 1 →
     Tallies (record {
@@ -195,16 +222,21 @@ pub tallied : (old : Tally) (calls : List OneCall) (call : OneCall) (count mild 
       ended = slice_set old.ended place at;
       mild = mild;
       borne = borne;
+      few = few;
+      through = through;
       deliveries = deliveries;
       again = again;
     }) (calls ++ call ∷ [])
-tallied old calls call count mild borne deliveries again place at t count_is mild_is borne_is deliveries_is again_is place_is few at_is =
+tallied old calls call count mild borne few through deliveries again place at t count_is mild_is borne_is few_is through_is deliveries_is
+    again_is place_is most at_is =
     record {
       count = count_is ∙ (ap (λ n. n + 1) t.count ∙ sym (length-append calls (call ∷ [])));
       places = length-set old.ended place at ∙ t.places;
       ended = λ other within. ended_is other within (cases_eq other place);
       mild = more_of mild_in old.mild mild mild_is t.mild;
       borne = more_of borne_in old.borne borne borne_is t.borne;
+      few = more_of few_in old.few few few_is t.few;
+      through = more_of through_in old.through through through_is t.through;
       deliveries = more_of (λ one. one.counts.deliveries) old.deliveries deliveries deliveries_is t.deliveries;
       again = more_of (λ one. one.counts.again) old.again again again_is t.again;
     }
@@ -215,7 +247,7 @@ tallied old calls call count mild borne deliveries again place at t count_is mil
         omega (arith, both, now_is, before_is)
 
     inside : place < length old.ended
-    inside = let p = t.places in omega (arith, p, few)
+    inside = let p = t.places in omega (arith, p, most)
 
     here : nat_eq (place_of call.caller_end) place ≡ true
     here = ap (λ n. nat_eq n place) (sym place_is) ∙ eq-eqb place place refl
@@ -225,7 +257,7 @@ tallied old calls call count mild borne deliveries again place at t count_is mil
     ended_is other within (inl same) =
         let both = total_both (λ (one : OneCall). one_if (nat_eq (place_of one.caller_end) place)) calls (call ∷ []) in
         let one : one_if (nat_eq (place_of call.caller_end) place) ≡ 1 = ap one_if here in
-        let before : slice_index old.ended place ≡ ended_at place calls = t.ended place (omega (arith, few)) in
+        let before : slice_index old.ended place ≡ ended_at place calls = t.ended place (omega (arith, most)) in
         let now : slice_index (slice_set old.ended place at) place ≡ at = get_or-set_same old.ended place at 0 inside in
         let is : slice_index (slice_set old.ended place at) place ≡ ended_at place (calls ++ call ∷ []) =
         omega (arith, both, one, before, now, at_is) in

@@ -10,4 +10,6 @@ pub mod BadLines
 pub mod LineTimes
 pub mod Totals
 pub mod Seconds
+pub mod FewTries
 pub mod ManyCalls
+pub mod TriesCounted

@@ -1,6 +1,6 @@
 -- What the command that runs many calls over a bad line does with images.
 use Rattle.std.specs.Prelude.{◌≡◌, ◌<◌, ℕ, ◌+◌, Bool, true, false, cond, nat_eq, nat_lt, List, [], ◌∷◌, ◌++◌, Option}
-use Rattle.std.specs.Prelude.{Some, None, codes, length, slice_index}
+use Rattle.std.specs.Prelude.{◌↔◌, IsTrue, Some, None, codes, length, slice_index}
 use Rattle.std.specs.Fmt.{decimal}
 use Rattle.std.specs.List.{flat_map}
 use Rattle.std.specs.Io.KnownBytes.{Appends}
@@ -24,6 +24,7 @@ use Rattle.calls.specs.BadLines.{AreOfSteps, Going, bad_call, gone, patience_of}
 use Rattle.calls.specs.Calls.{call_world}
 use Rattle.engines.specs.Frames.{line}
 use Rattle.engines.specs.Texts.{spaced}
+use Rattle.calls.specs.FewTries.{FewTriesGone, HasFewTries}
 use Rattle.calls.specs.LineTimes.{RunsSteps, seconds_in, waited_in}
 use Rattle.calls.specs.Seconds.{AreShares, Shares, seconds_row}
 use Rattle.calls.specs.Totals.{one_if, total}
@@ -83,8 +84,8 @@ counts_with a b = record {
 }
 
 -- The call at its start was driven until it was over, by the words of its generator, and its events were counted, and how long what it sent
--- lasts.
-pub record CountsAll (bad : BadLine) (first : Going) (new : DrivenFields) (counted : Counted) : Type 0 where
+-- lasts, and whether each phase had few bad tries, and as few spoiled checks as are spare.
+pub record CountsAll (bad : BadLine) (spare : ℕ) (first : Going) (new : DrivenFields) (counted : Counted) : Type 0 where
   pub made : ℕ
   pub events : List Event
   pub are : AreOfSteps made bad first events
@@ -92,6 +93,7 @@ pub record CountsAll (bad : BadLine) (first : Going) (new : DrivenFields) (count
   pub shows : ShowsDriven new (patience_of bad) (gone made bad first).call
   pub counts : counted.counts ≡ counts_in (entries (all_done events) first.call.world)
   pub sent : RunsSteps bad first made counted.clocks
+  pub few : IsTrue counted.few ↔ FewTriesGone made spare bad first
 
 -- what a call has come to, with its number and what was counted of it
 pub record EndsSo (call : OneCall) (number : ℕ) (w : World) (counts : CallCounts) : Type 0 where
@@ -103,7 +105,7 @@ pub record EndsSo (call : OneCall) (number : ℕ) (w : World) (counts : CallCoun
   pub counted : call.counts ≡ counts
 
 -- The call of a number, of a document: it makes the same steps as where it is driven alone, until it is over. How it ended is what its
--- world has come to, and its events are counted, and for how many seconds it had the line.
+-- world has come to, and its events are counted, and for how many seconds it had the line, and whether each phase had few bad tries.
 pub record IsCallOf (options : CallOptions) (bad : BadLine) (number : ℕ) (document : Document) (call : OneCall) : Type 0 where
   pub callable : AreCallable document
   pub made : ℕ
@@ -116,6 +118,7 @@ pub record IsCallOf (options : CallOptions) (bad : BadLine) (number : ℕ) (docu
   pub clocks : Clocks
   pub sent : RunsSteps bad (bad_call options bad number document) made clocks
   pub seconds : call.seconds ≡ seconds_in clocks call.counts.waited call.caller_end
+  pub few : IsTrue call.few ↔ HasFewTries options bad number document made
 
 -- the images are a document's, and the call of a number, of this document, came to it
 pub record IsDrivenTo (options : CallOptions) (bad : BadLine) (number : ℕ) (images : List ℕ) (call : OneCall) : Type 0 where
@@ -188,6 +191,14 @@ mild_in call = one_if (is_mild call.counts)
 abbrev pub borne_in : OneCall → ℕ
 borne_in call = cond (nat_eq (place_of call.caller_end) 0) (mild_in call) 0
 
+-- 1 for a call that has few bad tries in each phase
+abbrev pub few_in : OneCall → ℕ
+few_in call = one_if call.few
+
+-- 1 for such a call that ended normally for the caller
+abbrev pub through_in : OneCall → ℕ
+through_in call = cond (nat_eq (place_of call.caller_end) 0) (few_in call) 0
+
 -- a row of the table: a word and a number
 abbrev pub sum_row : List ℕ → ℕ → List ℕ
 sum_row word count = line (word ∷ decimal count ∷ [])
@@ -196,13 +207,17 @@ sum_row word count = line (word ∷ decimal count ∷ [])
 abbrev pub mild_row : ℕ → ℕ → List ℕ
 mild_row mild borne = codes "at-most-two-bad " ++ (decimal mild ++ (codes " normal " ++ (decimal borne ++ 10 ∷ [])))
 
--- the table of calls: how many there are, how they ended for the caller, how many bore at most two losses, and what was
--- counted of all together
+-- the row of calls that have few bad tries in each phase: how many they are, and how many of them ended normally for the caller
+abbrev pub few_row : ℕ → ℕ → List ℕ
+few_row few through = codes "few-bad-tries " ++ (decimal few ++ (codes " normal " ++ (decimal through ++ 10 ∷ [])))
+
+-- the table of calls: how many there are, how they ended for the caller, how many bore at most two losses, how many had few bad
+-- tries in each phase, and what was counted of all together
 abbrev pub table_text : List OneCall → List ℕ
 table_text calls = sum_row (codes "calls") (length calls) ++ (flat_map (end_row calls) all_ends
-    ++ (mild_row (total mild_in calls) (total borne_in calls)
+    ++ (mild_row (total mild_in calls) (total borne_in calls) ++ (few_row (total few_in calls) (total through_in calls)
     ++ (sum_row (codes "deliveries") (total (λ call. call.counts.deliveries) calls)
-    ++ sum_row (codes "again") (total (λ call. call.counts.again) calls))))
+    ++ sum_row (codes "again") (total (λ call. call.counts.again) calls)))))
 
 -- numbers are those of calls
 pub record Tallies (tally : Tally) (calls : List OneCall) : Type 0 where
@@ -211,6 +226,8 @@ pub record Tallies (tally : Tally) (calls : List OneCall) : Type 0 where
   pub ended : (place : ℕ) → place < 11 → slice_index tally.ended place ≡ ended_at place calls
   pub mild : tally.mild ≡ total mild_in calls
   pub borne : tally.borne ≡ total borne_in calls
+  pub few : tally.few ≡ total few_in calls
+  pub through : tally.through ≡ total through_in calls
   pub deliveries : tally.deliveries ≡ total (λ call. call.counts.deliveries) calls
   pub again : tally.again ≡ total (λ call. call.counts.again) calls
 

@@ -1,8 +1,10 @@
 //! How much is under way in a call.
 
+ghost use Rattle.line_sim.specs.Entries.{head_kind};
 ghost use Rattle.line_sim.specs.Octets.{under_way_to};
+ghost use Rattle.line_sim.specs.declared.event.Kind.TheVariants.{Training};
 ghost use Rattle.signals.specs.declared.signal.Side.TheVariants.{Answerer, Caller};
-ghost use Rattle.std.specs.Prelude.{◌≡◌, length};
+ghost use Rattle.std.specs.Prelude.{◌≡◌, ◌≢◌, Some, length};
 
 use line_sim::LiveCall;
 use signals::Side;
@@ -29,6 +31,7 @@ impl Counts {
     pub(crate) fn of(live: &LiveCall) -> Counts
         ensures to_answerer { result.to_answerer ≡ length (under_way_to Answerer live.now) }
         ensures to_caller { result.to_caller ≡ length (under_way_to Caller live.now) }
+        ensures no_check { head_kind live.now.to_caller ≢ Some Training }
     {
         Counts {
             to_answerer: live.count_to(Side::Answerer),

@@ -16,6 +16,7 @@ mod seconds;
 mod sent;
 mod tallies;
 mod transcript;
+mod tries;
 
 pub use crate::bad_line::drive_engine;
 pub use crate::call::call_engine;

@@ -4,6 +4,7 @@ ghost use Rattle.calls.specs.BadLines.{Going, RefusesDriven, Stands, is_marked};
 ghost use Rattle.engines.specs.Faults.{IsOutside};
 ghost use Rattle.calls.specs.ManyCalls.{CountsAll, IsCallOf, IsDrivenTo, TellsMany, counts_in, counts_with, frames_again};
 ghost use Rattle.calls.specs.ManyCalls.{counts_words, ends_words, is_delivery, is_loss, is_spoiling, one_line};
+ghost use Rattle.calls.specs.FewTries.{slower_speeds};
 ghost use Rattle.calls.specs.Totals.{one_if};
 ghost use Rattle.engines.specs.declared.fault.ToolFault.TheVariants.{No};
 ghost use Rattle.line_sim.specs.Fates.{entries_of};
@@ -20,12 +21,13 @@ use crate::options::CallOptions;
 use crate::seconds::Seconds;
 use crate::tallies::Tally;
 use crate::transcript::end_word;
+use crate::tries::{Stood, TryCounts};
 use engines::{FAILED, NO_MEMORY, ToolFault};
 use line_sim::{DrivenCall, Ending, Entry, Event, Kind, Step};
 use rand_pcg::Lcg64Xsh32;
 use raster::laws::pbm_reads_exactly;
 use raster::{Document, read_pbm};
-use signals::Wish;
+use signals::{Modems, Wish};
 use stations::End;
 use std::alloc::Global;
 use std::io::Write;
@@ -52,6 +54,8 @@ struct Counted {
     counts: CallCounts,
     /// How long it lasts.
     clocks: Clocks,
+    /// Whether each phase of it had few bad tries, and as few spoiled training checks as are spare.
+    few: bool,
 }
 
 /// What has become of one call of many.
@@ -71,6 +75,8 @@ pub(crate) struct OneCall {
     pub(crate) counts: CallCounts,
     /// For how many whole seconds it had the line.
     pub(crate) seconds: u64,
+    /// Whether each phase of it had few bad tries, as `line_sim::laws::calls_bear` has it.
+    pub(crate) few: bool,
 }
 
 /// The sum of two numbers. Errs with 8 where it would be 2^64 or more.
@@ -82,7 +88,7 @@ pub(crate) fn sum(one: u64, other: u64) -> Result<u64, ToolFault>
 }
 
 /// One, where something is so.
-fn one_if(so: bool) -> u64
+pub(crate) fn one_if(so: bool) -> u64
     ensures { result ≡ one_if so }
 {
     if so { 1 } else { 0 }
@@ -96,14 +102,14 @@ fn is_delivery(event: Event) -> bool
 }
 
 /// Whether an item is lost in an event.
-fn is_loss(event: Event) -> bool
+pub(crate) fn is_loss(event: Event) -> bool
     ensures { result ≡ is_loss event }
 {
     matches!(event, Event::LoseToAnswerer | Event::LoseToCaller)
 }
 
 /// Whether a training check is spoiled in an event.
-fn is_spoiling(event: Event) -> bool
+pub(crate) fn is_spoiling(event: Event) -> bool
     ensures { result ≡ is_spoiling event }
 {
     matches!(event, Event::Spoil)
@@ -170,33 +176,54 @@ fn is_marked(set: Option<Entry>) -> bool
     }
 }
 
-/// Makes the steps of a call until it is over, by the words of the generator, and counts its events and how long what it sends lasts.
-/// Errs with 9 where a growth was refused, and with 8 where a number would be 2^64.
+/// How many speeds two stations with the same modems have below their first one.
+fn slower_speeds(modems: Modems) -> u64
+    ensures { result ≡ slower_speeds modems }
+{
+    match modems {
+        Modems::Fallback => 0,
+        Modems::V27 | Modems::V29 => 1,
+        Modems::V27V29 => 3,
+        Modems::V17 => 5,
+    }
+}
+
+/// Makes the steps of a call until it is over, by the words of the generator, and counts its events and how long what it sends lasts,
+/// and whether each phase had few bad tries, and a group as few spoiled checks as are spare. Errs with 9 where a growth was refused, and
+/// with 8 where a number would be 2^64.
 fn count_fates(
     call: &mut DrivenCall,
     line: &BadLine,
     generator: &mut Lcg64Xsh32,
+    spare: u64,
 ) -> Result<Counted, ToolFault>
     ensures counted { IfOk result (λ counted. (first : Going) → Stands call.old line.now generator.old first →
-        CountsAll line.now first call.new counted) }
+        CountsAll line.now spare first call.new counted) }
     ensures fault { IfErr result IsOutside }
 {
     let mut counts = CallCounts::new();
     let mut clocks = Clocks::new().after_sent(call.live(), Counts::none())?;
+    let mut tries = TryCounts::first(true);
     for _made in 0..u64::MAX {
         let before = Counts::of(call.live());
         let set = set_answerer(call, line, generator);
         if is_marked(set) {
             return Err(NO_MEMORY);
         }
+        let stood = Stood::of(call);
         let Some(step) = next_step(call, line, generator) else {
-            return Ok(Counted { counts, clocks });
+            return Ok(Counted {
+                counts,
+                clocks,
+                few: tries.few,
+            });
         };
         if step.entry.refused {
             return Err(NO_MEMORY);
         }
         counts = counts.with_step(&step)?;
         clocks = clocks.after_sent(call.live(), before)?;
+        tries = tries.after_step(&step, spare, stood, Stood::of(call))?;
     }
     Err(FAILED)
 }
@@ -232,7 +259,8 @@ fn run_call(
         Err(fault) => return Err(fault_of(fault)),
     };
     let mut generator = generator_of(line, number);
-    let counted = count_fates(&mut call, line, &mut generator)?;
+    let spare = slower_speeds(options.modems);
+    let counted = count_fates(&mut call, line, &mut generator, spare)?;
     let ending = call.into_live().into_ending();
     let seconds = seconds_in(&counted.clocks, counted.counts.waited, ending.caller_end)?;
     Ok(OneCall {
@@ -243,6 +271,7 @@ fn run_call(
         pages: stored(&ending),
         counts: counted.counts,
         seconds,
+        few: line.calls >= 3 && line.busy == 0 && counted.few,
     })
 }
 
@@ -304,8 +333,8 @@ fn write_call<W: Write>(call: &OneCall, writer: &mut W) -> Result<(), ToolFault>
 /// Runs so many calls over a bad line, of the numbers from 0, one after the other, each between a caller that has the images' document
 /// and an answerer that can take it, as `drive_engine` runs the call of a number. Writes a line for each as it is over, with how it
 /// ended for both stations, how many items came and were lost, how many training checks were spoiled and how many FCDs were sent
-/// again; and then a table: how many calls ended how for the caller, how many bore at most two losses, the sums, and for how many seconds
-/// calls had the line. Keeps nothing of a call but numbers, so its memory doesn't grow with their count. Errs with the first fault of
+/// again; and then a table: how many calls ended how for the caller, how many bore at most two losses, how many had few bad tries in each
+/// phase, the sums, and for how many seconds calls had the line. Keeps nothing of a call but numbers, so its memory doesn't grow with their count. Errs with the first fault of
 /// the images; with 26 where the width of a page is none that a call can have; with 8 where the writer fails or a sum would be 2^64;
 /// and with 9. With any fault but 8 and 9 nothing is written.
 pub fn drive_many<W: Write>(

@@ -1,15 +1,15 @@
 //! What many calls have come to, in numbers: how many ended how, and sums.
 
 ghost use Rattle.engines.specs.Faults.{IsOutside};
-ghost use Rattle.calls.specs.ManyCalls.{Tallies, all_ends, borne_in, end_row, ended_at, is_mild, mild_in, place_of, row_of};
-ghost use Rattle.calls.specs.ManyCalls.{mild_row, sum_row, table_text};
+ghost use Rattle.calls.specs.ManyCalls.{Tallies, all_ends, borne_in, end_row, ended_at, few_in, is_mild, mild_in, place_of, row_of};
+ghost use Rattle.calls.specs.ManyCalls.{few_row, mild_row, sum_row, table_text, through_in};
 ghost use Rattle.calls.specs.declared.many_calls.OneCall.{OneCall as OneCallValue};
 ghost use Rattle.std.specs.Io.KnownBytes.{Appends};
 ghost use Rattle.std.specs.List.{flat_map};
 ghost use Rattle.std.specs.Prelude.{◌≡◌, ◌≤◌, [], ◌∷◌, ◌++◌, List, IfErr, OnOk, Some};
 
 use crate::call::after;
-use crate::many_calls::{CallCounts, OneCall, sum};
+use crate::many_calls::{CallCounts, OneCall, one_if, sum};
 use crate::transcript::end_word;
 use engines::ToolFault;
 use stations::End;
@@ -60,6 +60,10 @@ pub(crate) struct Tally {
     mild: u64,
     /// How many of these ended normally for the caller.
     borne: u64,
+    /// In how many each phase had few bad tries.
+    few: u64,
+    /// How many of these ended normally for the caller.
+    through: u64,
     /// How many items came.
     deliveries: u64,
     /// How many FCDs were sent again.
@@ -86,6 +90,23 @@ fn borne_in(call: &OneCall) -> u64
 {
     if place_of(call.caller_end) == 0 {
         return mild_in(call);
+    }
+    0
+}
+
+/// One, where a call had few bad tries in each phase.
+fn few_in(call: &OneCall) -> u64
+    ensures { result ≡ few_in call.now }
+{
+    one_if(call.few)
+}
+
+/// One, where a call had few bad tries in each phase and it ended normally for the caller.
+fn through_in(call: &OneCall) -> u64
+    ensures { result ≡ through_in call.now }
+{
+    if place_of(call.caller_end) == 0 {
+        return few_in(call);
     }
     0
 }
@@ -123,6 +144,16 @@ fn write_mild<W: Write>(mild: u64, borne: u64, writer: &mut W) -> Result<(), Too
     Ok(())
 }
 
+/// Writes how many calls had few bad tries in each phase, and how many of them ended normally for the caller. Errs with 8 where the
+/// writer fails, and with 9.
+fn write_few<W: Write>(few: u64, through: u64, writer: &mut W) -> Result<(), ToolFault>
+    ensures row { OnOk result (Appends (W.contents writer.old) (W.contents writer.new) (few_row few through)) }
+    ensures fault { IfErr result IsOutside }
+{
+    writeln!(writer, "few-bad-tries {few} normal {through}")?;
+    Ok(())
+}
+
 impl Tally {
     /// Before the first call.
     pub(crate) fn new() -> Tally
@@ -133,6 +164,8 @@ impl Tally {
             ended: [0; 11],
             mild: 0,
             borne: 0,
+            few: 0,
+            through: 0,
             deliveries: 0,
             again: 0,
         }
@@ -146,6 +179,8 @@ impl Tally {
         self.calls = after(self.calls)?;
         self.mild = sum(self.mild, mild_in(call))?;
         self.borne = sum(self.borne, borne_in(call))?;
+        self.few = sum(self.few, few_in(call))?;
+        self.through = sum(self.through, through_in(call))?;
         self.deliveries = sum(self.deliveries, call.counts.deliveries)?;
         self.again = sum(self.again, call.counts.again)?;
         let place = place_of(call.caller_end);
@@ -192,6 +227,7 @@ impl Tally {
         write_sum("calls", self.calls, writer)?;
         self.write_ends(writer)?;
         write_mild(self.mild, self.borne, writer)?;
+        write_few(self.few, self.through, writer)?;
         write_sum("deliveries", self.deliveries, writer)?;
         write_sum("again", self.again, writer)?;
         Ok(())

@@ -1,22 +1,28 @@
 -- A call that keeps no transcript: one event more, with its entry noted beside it.
-use Rattle.std.proofs.Common.{◌≡◌, ℕ, List, [], ◌∷◌, ◌++◌, Option, length, refl, subst}
+use Rattle.std.proofs.Common.{◌≡◌, ◌≢◌, ℕ, List, [], ◌∷◌, ◌++◌, Option, Some, length, refl, sym, subst}
 use Rattle.signals.specs.declared.params.Caps.{Caps}
 use Rattle.signals.specs.declared.params.Wish.{Wish}
 use Rattle.stations.specs.Laws.{Each}
 use Rattle.stations.specs.Layers.{Document, IsFullPage}
 use Rattle.raster.specs.Pages.{PagePixels}
 use Rattle.stations.specs.CallerStep.{confirmed}
+use Rattle.stations.specs.Inputs.{PlainItem, framed, checked}
+use Rattle.stations.specs.declared.turn.AnswererState.{AnswererState}
 use Rattle.stations.specs.declared.turn.End.{End}
-use Rattle.line_sim.specs.Headline.{Promised, EventsMove, IsSafe, LinesCanBeWritten}
+use Rattle.line_sim.specs.Entries.{head_kind, signal_kind}
+use Rattle.line_sim.specs.Headline.{Promised, EventsMove, IsSafe, LineHolds, LinesCanBeWritten}
 use Rattle.line_sim.specs.Line.{World, new_world, run}
+use Rattle.line_sim.specs.LineFacts.{MayReachCaller}
 use Rattle.line_sim.specs.Live.{IsLive, HoldsLive}
 use Rattle.line_sim.specs.PageMachine.{AtMostTwo}
 use Rattle.line_sim.specs.Standing.{Acts, EventWrites, Shows, WorldFields, fields_state}
 use Rattle.line_sim.specs.declared.call.Call.{Call}
 use Rattle.line_sim.specs.declared.event.Entry.{Entry}
 use Rattle.line_sim.specs.declared.event.Event.{Event}
+use Rattle.line_sim.specs.declared.event.Kind.TheVariants.{Training}
 use Rattle.line_sim.proofs.Clauses.{document_kept, two_moves_by}
 use Rattle.line_sim.proofs.Holding.{Laws, document_by, holds}
+use Rattle.line_sim.proofs.Items.{no_check}
 use Rattle.line_sim.proofs.Beginning.{reached_new}
 use Rattle.line_sim.proofs.Reaching.{acts_become, can_write, reached_more}
 use Rattle.line_sim.proofs.Told.{safe_told}
@@ -62,3 +68,18 @@ live_safe laws v live pages confirms caller_end answerer_end p c e f =
 
 pub live_writes : LinesCanBeWritten → (v : Call) (event : Event) → IsLive v → EventWrites v event
 live_writes written v event live = can_write (record { call = v; entries = live.0 }) event written live.1
+
+-- no training check is first under way to the caller
+no_check_back : (place : ℕ) (state : AnswererState) (accepted : ℕ) (items : List PlainItem) → Each (MayReachCaller place state accepted) items →
+    head_kind items ≢ Some Training
+no_check_back place state accepted [] may is = cc
+no_check_back place state accepted (checked octets ∷ items) may is = may.0
+no_check_back place state accepted (framed signal ∷ items) may is = no_check signal Training is refl
+
+pub live_frames : LineHolds → (v : Call) → IsLive v → head_kind v.to_caller ≢ Some Training
+live_frames facts v live =
+    let r = live.1 in
+    let w : World = run r.steps (new_world r.document r.wish r.caps) in
+    let f = facts r.document r.wish r.caps r.steps r.full in
+    subst (λ l. head_kind l ≢ Some Training) r.shows.to_caller
+    (no_check_back w.caller.place w.answerer.state f.accepted w.to_caller f.to_caller)

@@ -373,6 +373,13 @@ impl DrivenCall {
         }
     }
 
+    /// Whether the caller is sending a block: from the block's first burst on, until it is confirmed or the call ends for the caller.
+    pub fn sends_block(&self) -> bool
+        ensures { (w : WorldValue) → Shows self.now.live w → result ≡ is_sending w.caller }
+    {
+        self.live.is_sending()
+    }
+
     /// Whether the next step takes a fate: something is under way that is no RNR too many.
     pub fn is_fate_due(&self) -> bool
         ensures { result ≡ is_fate_due (nat_lt self.now.rnrs self.now.patience.busy) self.now.live.to_answerer self.now.live.to_caller }

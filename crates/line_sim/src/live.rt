@@ -1,5 +1,6 @@
 //! A call that keeps no transcript.
 
+ghost use Rattle.line_sim.specs.Entries.{head_kind};
 ghost use Rattle.line_sim.specs.Headline.{IsSafe};
 ghost use Rattle.line_sim.specs.Line.{World as WorldValue};
 ghost use Rattle.line_sim.specs.Live.{HoldsLive, steps_in};
@@ -8,10 +9,11 @@ ghost use Rattle.line_sim.specs.PageMachine.{AtMostTwo};
 ghost use Rattle.line_sim.specs.Polite.{next_steps};
 ghost use Rattle.line_sim.specs.Putting.{Puts};
 ghost use Rattle.line_sim.specs.Standing.{Acts, IsUnheard, NewCall, Shows, fields_state};
+ghost use Rattle.line_sim.specs.declared.event.Kind.TheVariants.{Training};
 ghost use Rattle.stations.specs.CallerStep.{confirmed};
 ghost use Rattle.stations.specs.Laws.{Each};
 ghost use Rattle.stations.specs.Layers.{IsFullPage};
-ghost use Rattle.std.specs.Prelude.{◌≡◌, IfOk, length, false, true};
+ghost use Rattle.std.specs.Prelude.{◌≡◌, ◌≢◌, IfOk, Some, length, false, true};
 
 use crate::call::Call;
 use crate::event::{Entry, Event, LineItem};
@@ -105,10 +107,12 @@ impl LiveCall {
         Next::Nothing
     }
 
-    /// How many items are under way to a station.
+    /// How many items are under way to a station. Of those to the caller the first one is no training check: a caller sends these.
     pub fn count_to(&self, to: Side) -> usize
-        ensures { result ≡ length (under_way_to to self.now) }
+        ensures count { result ≡ length (under_way_to to self.now) }
+        ensures no_check { head_kind self.now.to_caller ≢ Some Training }
     {
+        headline();
         match to {
             Side::Caller => self.call.to_caller.count(),
             Side::Answerer => self.call.to_answerer.count(),

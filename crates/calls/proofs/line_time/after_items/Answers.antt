@@ -20,6 +20,6 @@ loop-place-preserved c =
 pub returns-clause-runs : goal.returns-clause-runs
 returns-clause-runs c =
     let past : length (under_way_to c.args.to c.args.live.now) ≤ c.loop-place.place =
-    omega (arith, c.loop-place-test.false, c.count_to-place-end.ensures) in
+    omega (arith, c.loop-place-test.false, c.count_to-place-end.ensures.count) in
     all_through (sender_to c.args.to) (under_way_to c.args.to c.args.live.now) c.args.first c.loop-place.place c.args.clock
     c.loop-place.clock c.loop-place.invariant (drop_all c.loop-place.place (under_way_to c.args.to c.args.live.now) past)

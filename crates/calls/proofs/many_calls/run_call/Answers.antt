@@ -5,7 +5,8 @@ use Rattle.line_sim.specs.Fates.{ShowsDriven}
 use Rattle.line_sim.specs.Standing.{Shows}
 use Rattle.calls.specs.BadLines.{Going, Stands, bad_call, patience_of}
 use Rattle.calls.specs.Calls.{answerer_caps, caller_wish}
-use Rattle.calls.proofs.ManyCalls.{is_call}
+use Rattle.calls.specs.ManyCalls.{CountsAll}
+use Rattle.calls.proofs.ManyCalls.{few_when, is_call}
 use Rattle.calls.proofs.many_calls.run_call.Goals as goal
 
 pub returns-clause-is : goal.returns-clause-is
@@ -22,8 +23,9 @@ returns-clause-is c =
       drawn = sym c.generator_of-generator.ensures;
     } in
     is_call c.args.options.now c.args.line.now c.args.number c.args.document c.count_fates.new.call c.in_ok-counted.counted
-    c.into_ending-ending.result c.stored.result c.in_ok-seconds.seconds c.in-Ok.ensures.0
-    (c.in_ok-counted.ensures.counted first starts)
+    c.into_ending-ending.result c.stored.result c.in_ok-seconds.seconds _ c.in-Ok.ensures.0
+    (subst (λ n. CountsAll c.args.line.now n first c.count_fates.new.call c.in_ok-counted.counted) c.slower_speeds-spare.ensures
+    (c.in_ok-counted.ensures.counted first starts))
     (λ w shows.
     let there : Shows c.into_live.result w = subst (λ v. Shows v w) (sym c.into_live.ensures) shows in
     record {
@@ -33,3 +35,4 @@ returns-clause-is c =
       answerer_end = c.into_ending-ending.ensures.answerer w there;
     })
     c.stored.ensures c.in_ok-seconds.ensures.seconds
+    (few_when c.args.line.now.calls c.args.line.now.busy c.in_ok-counted.counted.few)

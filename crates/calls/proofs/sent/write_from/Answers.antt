@@ -23,7 +23,7 @@ loop-place-preserved g c =
 pub returns-clause-sent : goal.returns-clause-sent
 returns-clause-sent g c =
     let past : length (under_way_to c.args.to c.args.live.now) ≤ c.loop-place.place =
-    omega (arith, c.loop-place-test.false, c.count_to-place-end.ensures) in
+    omega (arith, c.loop-place-test.false, c.count_to-place-end.ensures.count) in
     all_upto c.args.to (under_way_to c.args.to c.args.live.now) c.args.first c.loop-place.place
     (g.T.CallWriter.written c.args.writer.now) (g.T.CallWriter.written c.loop-place.writer) c.loop-place.invariant
     (drop_all c.loop-place.place (under_way_to c.args.to c.args.live.now) past)
