@@ -228,7 +228,7 @@ over_world line none (suc made) g over =
 drive_gone : (line : BadLine) → line.busy ≡ 0 → (made : ℕ) (g : Going) →
     (drive made (patience_of line) (drawing made line g)).world ≡ (gone made line g).call.world
 drive_gone line none zero g = refl
-drive_gone line none (suc made) g = at (is_over g.call) refl
+drive_gone line none (suc made) g = at (is_over g.call) refl (drive_gone line none made (next_going line g))
   where
     p : Patience
     p = patience_of line
@@ -236,17 +236,19 @@ drive_gone line none (suc made) g = at (is_over g.call) refl
     d : Driven
     d = drawing (suc made) line g
 
-    at : (b : Bool) → is_over g.call ≡ b → (drive (suc made) p d).world ≡ (gone (suc made) line g).call.world
-    at true over = ap (λ b. (cond b d (drive made p (next_of p d))).world) over ∙ sym (over_world line none (suc made) g over)
-    at false goes =
+    at : (b : Bool) → is_over g.call ≡ b →
+        (drive made (patience_of line) (drawing made line (next_going line g))).world ≡ (gone made line (next_going line g)).call.world →
+        (drive (suc made) p d).world ≡ (gone (suc made) line g).call.world
+    at true over later = ap (λ b. (cond b d (drive made p (next_of p d))).world) over ∙ sym (over_world line none (suc made) g over)
+    at false goes later =
         ap (λ b. (cond b d (drive made p (next_of p d))).world) goes ∙
         (ap (λ e. (drive made p e).world) (step_drawn made line g none) ∙
-        (drive_gone line none made (next_going line g) ∙ ap (λ (h : Going). h.call.world) (sym (gone_next made line g))))
+        (later ∙ ap (λ (h : Going). h.call.world) (sym (gone_next made line g))))
 
 -- ---- common speeds
 
 some_is : {A : Type 0} (x y : A) → ◌≡◌ {A = Option A} (Some x) (Some y) → x ≡ y
-some_is x y e = ap (λ o. of o) e
+some_is {A = A} x y e = ap (λ o. of o) e
   where
     of : Option A → A
     of None = x

@@ -10,7 +10,7 @@ ghost use Rattle.engines.specs.declared.fault.ToolFault.TheVariants.{No};
 ghost use Rattle.line_sim.specs.Fates.{entries_of};
 ghost use Rattle.stations.specs.CallerFields.{AreCallable};
 ghost use Rattle.std.specs.Io.KnownBytes.{Appends};
-ghost use Rattle.std.specs.Prelude.{◌≡◌, ◌+◌, ◌⊎◌, [], ◌∷◌, IfErr, IfOk, OnOk, length};
+ghost use Rattle.std.specs.Prelude.{◌≡◌, ◌≤◌, ◌+◌, ◌↔◌, ◌⊎◌, [], ◌∷◌, IfErr, IfOk, IsTrue, OnOk, length};
 
 use crate::bad_line::{next_step, patience_of, set_answerer};
 use crate::call::{answerer_caps, fault_of};
@@ -235,6 +235,14 @@ fn stored(ending: &Ending) -> usize
     ending.pages.len()
 }
 
+/// Whether a call is one that is borne: few of its tries were bad, at least three DIS are sent in a wait, and the answerer is
+/// never busy.
+fn is_borne(line: &BadLine, few: bool) -> bool
+    ensures { IsTrue result ↔ ((3 ≤ line.now.calls) × (line.now.busy ≡ 0) × IsTrue few) }
+{
+    line.calls >= 3 && line.busy == 0 && few
+}
+
 /// Runs the call of a number, of a document, over a bad line. Errs with 26 where the width of a page is none that a call can have, with
 /// 9, and with 8 where a number would be 2^64.
 fn run_call(
@@ -263,6 +271,7 @@ fn run_call(
     let counted = count_fates(&mut call, line, &mut generator, spare)?;
     let ending = call.into_live().into_ending();
     let seconds = seconds_in(&counted.clocks, counted.counts.waited, ending.caller_end)?;
+    let few = is_borne(line, counted.few);
     Ok(OneCall {
         number,
         caller_end: ending.caller_end,
@@ -271,7 +280,7 @@ fn run_call(
         pages: stored(&ending),
         counts: counted.counts,
         seconds,
-        few: line.calls >= 3 && line.busy == 0 && counted.few,
+        few,
     })
 }
 

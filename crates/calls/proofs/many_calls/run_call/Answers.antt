@@ -6,7 +6,7 @@ use Rattle.line_sim.specs.Standing.{Shows}
 use Rattle.calls.specs.BadLines.{Going, Stands, bad_call, patience_of}
 use Rattle.calls.specs.Calls.{answerer_caps, caller_wish}
 use Rattle.calls.specs.ManyCalls.{CountsAll}
-use Rattle.calls.proofs.ManyCalls.{few_when, is_call}
+use Rattle.calls.proofs.ManyCalls.{is_call}
 use Rattle.calls.proofs.many_calls.run_call.Goals as goal
 
 pub returns-clause-is : goal.returns-clause-is
@@ -35,4 +35,4 @@ returns-clause-is c =
       answerer_end = c.into_ending-ending.ensures.answerer w there;
     })
     c.stored.ensures c.in_ok-seconds.ensures.seconds
-    (few_when c.args.line.now.calls c.args.line.now.busy c.in_ok-counted.counted.few)
+    c.is_borne-few.ensures
