@@ -11,3 +11,4 @@ pub mod LineTimes
 pub mod Totals
 pub mod Seconds
 pub mod ManyCalls
+pub mod Ends

@@ -261,6 +261,13 @@ const CALL_ARGUMENTS: &[Argument<'static>] = &[
         ..FILE_OPTION
     },
     Argument {
+        id: "expect",
+        shown: &["END"],
+        parser: Some(ValueParser::Names(&["normal"])),
+        help: "Ends with status 1 where the call didn't end so, as normal, for both stations (not with --times)",
+        ..FILE_OPTION
+    },
+    Argument {
         id: "bits",
         shown: &["DIR"],
         help: "The folder that what is sent on the line is written to, as to-answerer.bits and to-caller.bits",

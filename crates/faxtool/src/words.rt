@@ -5,7 +5,7 @@ ghost use Rattle.clap.specs.Words.{first_of, found_of, kind_of, rows_of, subcomm
 ghost use Rattle.clap.specs.declared.error.kind.ErrorKind.TheVariants.{OutOfMemory};
 ghost use Rattle.faxtool.specs.Jobs.{AreDecodeOptionsIn, AreOptionsIn, HasNoJob, HasNoOptions, IsJobOf, IsOutcomeOf, IsRefusalOf, IsWidthIn, ReadsAs};
 ghost use Rattle.faxtool.specs.Jobs.{ReadsNumber, are_both_standard, coding_named, explains, go_together, is_named, modems_named};
-ghost use Rattle.faxtool.specs.Jobs.{IsLineIn, IsRateIn, IsSpoilIn, IsBusyIn, IsTimesIn, calls_of, has_line, order_named, status_of};
+ghost use Rattle.faxtool.specs.Jobs.{IsLineIn, IsRateIn, IsSpoilIn, IsBusyIn, IsTimesIn, calls_of, has_line, is_normal_wanted, order_named, status_of};
 ghost use Rattle.calls.specs.declared.losses.BadLine.{BadLine as LineValue};
 
 use crate::commands::faxtool_command;
@@ -77,6 +77,8 @@ pub enum Job {
         out: Option<String>,
         /// The name of the folder that the octets on the line go to, where one is given.
         bits: Option<String>,
+        /// Whether the call is to end normally for both stations.
+        normal: bool,
         /// The name of the document's file.
         input: String,
     },
@@ -92,6 +94,8 @@ pub enum Job {
         out: Option<String>,
         /// The name of the folder that the octets on the line go to, where one is given.
         bits: Option<String>,
+        /// Whether the call is to end normally for both stations.
+        normal: bool,
         /// The name of the document's file.
         input: String,
     },
@@ -140,7 +144,7 @@ pub struct Request {
 pub enum Outcome {
     /// The job is done.
     Done,
-    /// The job is done as far as it can be, and what is missing was named.
+    /// The job is done as far as it can be, and what is missing was named; or a call was run, and didn't end as it was to.
     Incomplete,
     /// The job failed.
     Fault(ToolFault),
@@ -392,6 +396,7 @@ fn call_job(alloc: Global, matches: &ArgMatches<'_>) -> Result<Option<Job>, Allo
             options,
             out: copy_of(alloc, text_in(matches, "out"))?,
             bits: copy_of(alloc, text_in(matches, "bits"))?,
+            normal: is_normal_wanted(matches),
             input: String::from_str(alloc, input)?,
         }));
     };
@@ -403,8 +408,16 @@ fn call_job(alloc: Global, matches: &ArgMatches<'_>) -> Result<Option<Job>, Allo
         options,
         out: copy_of(alloc, text_in(matches, "out"))?,
         bits: copy_of(alloc, text_in(matches, "bits"))?,
+        normal: is_normal_wanted(matches),
         input: String::from_str(alloc, input)?,
     }))
+}
+
+// Whether a call is to end normally for both stations.
+fn is_normal_wanted(matches: &ArgMatches<'_>) -> bool
+    ensures { result ≡ is_normal_wanted (rows_of (found_of matches.now)) }
+{
+    is_named(text_in(matches, "expect"), "normal")
 }
 
 // Whether a value is of a bad line.
@@ -448,7 +461,7 @@ fn line_in(matches: &ArgMatches<'_>) -> Option<BadLine>
     })
 }
 
-// How many calls are asked for, where that is said; their pages and octets are not kept.
+// How many calls are asked for, where that is said; their pages and octets are not kept, and no end is wanted of them.
 fn times_in(matches: &ArgMatches<'_>) -> Option<Option<u32>>
     ensures { let rows = rows_of (found_of matches.now) in
         MatchOption result ((times : Option ℕ) → IsTimesIn rows times → ⊥) (IsTimesIn rows) }
@@ -460,6 +473,9 @@ fn times_in(matches: &ArgMatches<'_>) -> Option<Option<u32>>
         return None;
     }
     if text_in(matches, "bits").is_some() {
+        return None;
+    }
+    if text_in(matches, "expect").is_some() {
         return None;
     }
     match number_in(matches, "times") {
@@ -659,6 +675,9 @@ fn unfit_call(matches: &ArgMatches<'_>) -> &'static str {
     }
     if text_in(matches, "times").is_some() && text_in(matches, "bits").is_some() {
         return "--times keeps no octets, and can't be used with --bits";
+    }
+    if text_in(matches, "times").is_some() && text_in(matches, "expect").is_some() {
+        return "--times counts the ends of many calls, and can't be used with --expect";
     }
     "--lose and --spoil are more than 100% together"
 }
