@@ -196,7 +196,7 @@ no_width rows none (Show coding order width input) (others, e, is) =
     none width (subst (λ (xs : List Row). IsWidthIn xs width) (sym (some_rows (codes "show") (codes "show") rows others e)) is.width_is)
 no_width rows none (Decode form options input output) (others, e, is) =
     show_is_decode (some_name (codes "show") (codes "decode") rows others e)
-no_width rows none (Frames most pages input) (others, e, reads, folder, is) =
+no_width rows none (Frames most order words pages input) (others, e, reads, of, said, folder, is) =
     show_is_frames (some_name (codes "show") (codes "frames") rows others e)
 no_width rows none (Call script options out bits normal input) (others, e, is) =
     show_is_call (some_name (codes "show") (codes "call") rows others e)
@@ -217,7 +217,7 @@ no_width_to_decode rows none (Show coding order width input) (others, e, is) =
 no_width_to_decode rows none (Decode form options input output) (others, e, is) =
     none form.width (subst (λ (xs : List Row). IsWidthIn xs form.width) (sym (some_rows (codes "decode") (codes "decode") rows others e))
     is.shown.width_is)
-no_width_to_decode rows none (Frames most pages input) (others, e, reads, folder, is) =
+no_width_to_decode rows none (Frames most order words pages input) (others, e, reads, of, said, folder, is) =
     decode_is_frames (some_name (codes "decode") (codes "frames") rows others e)
 no_width_to_decode rows none (Call script options out bits normal input) (others, e, is) =
     decode_is_call (some_name (codes "decode") (codes "call") rows others e)
@@ -237,7 +237,7 @@ no_options rows none (Show coding order width input) (others, e, is) =
     show_is_call (sym (some_name (codes "call") (codes "show") rows others e))
 no_options rows none (Decode form options input output) (others, e, is) =
     decode_is_call (sym (some_name (codes "call") (codes "decode") rows others e))
-no_options rows none (Frames most pages input) (others, e, reads, folder, is) =
+no_options rows none (Frames most order words pages input) (others, e, reads, of, said, folder, is) =
     call_is_frames (some_name (codes "call") (codes "frames") rows others e)
 no_options rows none (Call script options out bits normal input) (others, e, is) =
     none options (subst (λ (xs : List Row). AreOptionsIn xs options) (sym (some_rows (codes "call") (codes "call") rows others e))
@@ -287,7 +287,7 @@ no_line rows open_end none (Show coding order width input) (others, e, is) =
     show_is_call (sym (some_name (codes "call") (codes "show") rows others e))
 no_line rows open_end none (Decode form options input output) (others, e, is) =
     decode_is_call (sym (some_name (codes "call") (codes "decode") rows others e))
-no_line rows open_end none (Frames most pages input) (others, e, reads, folder, is) =
+no_line rows open_end none (Frames most order words pages input) (others, e, reads, of, said, folder, is) =
     call_is_frames (some_name (codes "call") (codes "frames") rows others e)
 no_line rows open_end none (Call script options out bits normal input) (others, e, is) =
     let same : rows ≡ others = some_rows (codes "call") (codes "call") rows others e in
@@ -311,7 +311,7 @@ no_times rows open_end none (Show coding order width input) (others, e, is) =
     show_is_call (sym (some_name (codes "call") (codes "show") rows others e))
 no_times rows open_end none (Decode form options input output) (others, e, is) =
     decode_is_call (sym (some_name (codes "call") (codes "decode") rows others e))
-no_times rows open_end none (Frames most pages input) (others, e, reads, folder, is) =
+no_times rows open_end none (Frames most order words pages input) (others, e, reads, of, said, folder, is) =
     call_is_frames (some_name (codes "call") (codes "frames") rows others e)
 no_times rows open_end none (Call script options out bits normal input) (others, e, is) =
     let same : rows ≡ others = some_rows (codes "call") (codes "call") rows others e in

@@ -117,11 +117,12 @@ abbrev pub decode_app : ValueParser → ValueParser → App
 decode_app codings orders = with_explain (with_rule (with_rule (with_flags (with_page_options (new_app (codes "decode")) codings orders))
     (file_rule (codes "file"))) (file_rule (codes "out")))
 
--- `frames`: how many octets of a content are shown, 0 to 300, the folder of the pages, and the file of the bits
-abbrev pub frames_app : App
-frames_app = with_explain (with_rule (with_rule (with_rule (new_app (codes "frames"))
-    (record (option_rule (codes "data")) { parser = Some (vp.Signed (pos 0) (pos 300)) })) (file_option_rule (codes "pages")))
-    (file_rule (codes "file")))
+-- `frames`: how many octets of a content are shown, 0 to 300, the order, which is `lsb` where it isn't given, the folder of the pages, and
+-- the file of the bits
+abbrev pub frames_app : ValueParser → App
+frames_app orders = with_explain (with_rule (with_rule (with_rule (with_rule (new_app (codes "frames"))
+    (record (option_rule (codes "data")) { parser = Some (vp.Signed (pos 0) (pos 300)) }))
+    (choice_rule (codes "order") orders (codes "lsb"))) (file_option_rule (codes "pages"))) (file_rule (codes "file")))
 
 -- the command with `--code`, `--frame` and `--modems`
 abbrev pub with_choices : App → ValueParser → ValueParser → ValueParser → App
@@ -194,7 +195,7 @@ empty_app = let app = new_app (codes "faxtool") in record app {
 -- the program with the commands that code, show and decode pages and list frames
 abbrev pub page_app : ValueParser → ValueParser → App
 page_app codings orders = with_subcommand (with_subcommand (with_subcommand (with_subcommand empty_app (code_app codings orders).top)
-    (show_app codings orders).top) (decode_app codings orders).top) frames_app.top
+    (show_app codings orders).top) (decode_app codings orders).top) (frames_app orders).top
 
 -- `version`, with `--proof`
 abbrev pub version_app : App
@@ -255,6 +256,11 @@ coding_named (Some name) = if bytes_eq name (codes "mh") then Some OneDim else i
 abbrev pub order_named : Option Text → Order
 order_named None = MsbFirst
 order_named (Some name) = if bytes_eq name (codes "lsb") then LsbFirst else MsbFirst
+
+-- the same of the bits on a line: `lsb` but for `msb`
+abbrev pub line_order_named : Option Text → Order
+line_order_named None = LsbFirst
+line_order_named (Some name) = if bytes_eq name (codes "msb") then MsbFirst else LsbFirst
 
 -- the value is the name
 abbrev pub is_named : Text → Option Text → Bool
@@ -495,9 +501,11 @@ IsJobOf met (Show coding order width input) = (rows : List Row)
 IsJobOf met (Decode form options input output) = (rows : List Row)
     × (met ≡ Some (codes "decode", rows))
     × IsDecodeOf rows form options (string_bytes input) (string_bytes output)
-IsJobOf met (Frames most pages input) = (rows : List Row)
+IsJobOf met (Frames most order words pages input) = (rows : List Row)
     × (met ≡ Some (codes "frames", rows))
     × ReadsNumber (codes "data") rows most
+    × (order ≡ line_order_named (first_of (codes "order") rows))
+    × (words ≡ is_named (codes "true") (first_of (codes "explain") rows))
     × (first_of (codes "pages") rows ≡ option_map string_bytes pages)
     × (first_of (codes "file") rows ≡ Some (string_bytes input))
 IsJobOf met (Call script options out bits normal input) = (rows : List Row)
@@ -564,7 +572,7 @@ abbrev pub HasWidth : Job → Type 0
 HasWidth (Code coding order input output) = Unit {0}
 HasWidth (Show coding order width input) = IsWidth width
 HasWidth (Decode form options input output) = IsWidth form.width
-HasWidth (Frames most pages input) = Unit {0}
+HasWidth (Frames most order words pages input) = Unit {0}
 HasWidth (Call script options out bits normal input) = Unit {0}
 HasWidth (Drive line times options out bits normal input) = Unit {0}
 HasWidth (Answer caps limit waits out trace) = Unit {0}

@@ -18,7 +18,7 @@ use crate::station_run::{end_station, run_station};
 use crate::version::print_version;
 use crate::words::{Job, Outcome, Request};
 use crate::{drives, outputs};
-use engines::ToolFault;
+use engines::{ListOptions, ToolFault};
 
 /// Does a job, and shows its fault: a line, and on a terminal or where that is asked for, one of words.
 pub fn run_request(rt: &HostRuntime, request: &Request) -> Outcome
@@ -103,8 +103,19 @@ pub fn run_job(
             input,
             output,
         } => decode_file(rt, *form, *options, InAndOut { input, output }, notes)?,
-        Job::Frames { most, pages, input } => {
-            frames_file(rt, *most, pages.as_deref(), input, notes)?
+        Job::Frames {
+            most,
+            order,
+            words,
+            pages,
+            input,
+        } => {
+            let how = ListOptions {
+                most: most.map(|most| most as usize),
+                order: *order,
+                words: *words,
+            };
+            frames_file(rt, how, pages.as_deref(), input, notes)?
         }
         _ => {
             do_whole(rt, job, notes)?;

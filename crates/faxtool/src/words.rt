@@ -5,7 +5,7 @@ ghost use Rattle.clap.specs.Words.{first_of, found_of, kind_of, rows_of, subcomm
 ghost use Rattle.clap.specs.declared.error.kind.ErrorKind.TheVariants.{OutOfMemory};
 ghost use Rattle.faxtool.specs.Jobs.{AreDecodeOptionsIn, AreOptionsIn, HasNoJob, HasNoOptions, IsJobOf, IsOutcomeOf, IsRefusalOf, IsWidthIn, ReadsAs};
 ghost use Rattle.faxtool.specs.Jobs.{ReadsNumber, are_both_standard, coding_named, explains, go_together, is_named, modems_named};
-ghost use Rattle.faxtool.specs.Jobs.{IsLineIn, IsRateIn, IsSpoilIn, IsBusyIn, IsTimesIn, calls_of, has_line, is_normal_wanted, order_named, status_of};
+ghost use Rattle.faxtool.specs.Jobs.{IsLineIn, IsRateIn, IsSpoilIn, IsBusyIn, IsTimesIn, calls_of, has_line, is_normal_wanted, line_order_named, order_named, status_of};
 ghost use Rattle.calls.specs.declared.losses.BadLine.{BadLine as LineValue};
 
 use crate::commands::faxtool_command;
@@ -62,6 +62,10 @@ pub enum Job {
     Frames {
         /// At most how many octets of a content are shown, where it isn't all of them.
         most: Option<u32>,
+        /// Which bit of an octet of the file comes first.
+        order: Order,
+        /// Whether what signals say is said in words too.
+        words: bool,
         /// The name of the folder that the pages in the frames go to, where one is given.
         pages: Option<String>,
         /// The name of the file.
@@ -368,6 +372,8 @@ fn frames_job(alloc: Global, matches: &ArgMatches<'_>) -> Result<Option<Job>, Al
     };
     Ok(Some(Job::Frames {
         most: number_in(matches, "data"),
+        order: line_order_in(matches),
+        words: is_named(text_in(matches, "explain"), "true"),
         pages: copy_of(alloc, text_in(matches, "pages"))?,
         input: String::from_str(alloc, input)?,
     }))
@@ -602,6 +608,22 @@ fn order_in(matches: &ArgMatches<'_>) -> Order
     ensures { result ≡ order_named (first_of (codes "order") (rows_of (found_of matches.now))) }
 {
     order_named(text_in(matches, "order"))
+}
+
+// The order of the bits on a line, which is `lsb` but for `msb`.
+fn line_order_in(matches: &ArgMatches<'_>) -> Order
+    ensures { result ≡ line_order_named (first_of (codes "order") (rows_of (found_of matches.now))) }
+{
+    line_order_named(text_in(matches, "order"))
+}
+
+fn line_order_named(name: Option<&str>) -> Order
+    ensures { result ≡ line_order_named (option_map (λ name. name.now) name.entry) }
+{
+    match name {
+        Some(name) if name == "msb" => Order::MsbFirst,
+        _ => Order::LsbFirst,
+    }
 }
 
 fn order_named(name: Option<&str>) -> Order
