@@ -11,3 +11,6 @@ pub mod LineTimes
 pub mod Totals
 pub mod Seconds
 pub mod ManyCalls
+pub mod Ladders
+pub mod Pictures
+pub mod Diagrams

@@ -77,6 +77,8 @@ pub enum Job {
         out: Option<String>,
         /// The name of the folder that the octets on the line go to, where one is given.
         bits: Option<String>,
+        /// The name of the file that the call is drawn in, where one is given.
+        diagram: Option<String>,
         /// The name of the document's file.
         input: String,
     },
@@ -92,6 +94,8 @@ pub enum Job {
         out: Option<String>,
         /// The name of the folder that the octets on the line go to, where one is given.
         bits: Option<String>,
+        /// The name of the file that the call is drawn in, where one is given.
+        diagram: Option<String>,
         /// The name of the document's file.
         input: String,
     },
@@ -392,6 +396,7 @@ fn call_job(alloc: Global, matches: &ArgMatches<'_>) -> Result<Option<Job>, Allo
             options,
             out: copy_of(alloc, text_in(matches, "out"))?,
             bits: copy_of(alloc, text_in(matches, "bits"))?,
+            diagram: copy_of(alloc, text_in(matches, "diagram"))?,
             input: String::from_str(alloc, input)?,
         }));
     };
@@ -403,6 +408,7 @@ fn call_job(alloc: Global, matches: &ArgMatches<'_>) -> Result<Option<Job>, Allo
         options,
         out: copy_of(alloc, text_in(matches, "out"))?,
         bits: copy_of(alloc, text_in(matches, "bits"))?,
+        diagram: copy_of(alloc, text_in(matches, "diagram"))?,
         input: String::from_str(alloc, input)?,
     }))
 }
@@ -460,6 +466,9 @@ fn times_in(matches: &ArgMatches<'_>) -> Option<Option<u32>>
         return None;
     }
     if text_in(matches, "bits").is_some() {
+        return None;
+    }
+    if text_in(matches, "diagram").is_some() {
         return None;
     }
     match number_in(matches, "times") {
@@ -659,6 +668,9 @@ fn unfit_call(matches: &ArgMatches<'_>) -> &'static str {
     }
     if text_in(matches, "times").is_some() && text_in(matches, "bits").is_some() {
         return "--times keeps no octets, and can't be used with --bits";
+    }
+    if text_in(matches, "times").is_some() && text_in(matches, "diagram").is_some() {
+        return "--times draws no call, and can't be used with --diagram";
     }
     "--lose and --spoil are more than 100% together"
 }
