@@ -15,6 +15,8 @@ typedef struct g3_octets { void *at; } g3_octets;
 typedef struct g3_deframer { void *at; } g3_deframer;
 typedef struct g3_document { void *at; } g3_document;
 typedef struct g3_terminal { void *at; } g3_terminal;
+typedef struct g3_row_coder { void *at; } g3_row_coder;
+typedef struct g3_row_reader { void *at; } g3_row_reader;
 #define G3_EMPTY {NULL}
 
 /* What each function answers. By any status above 0, G3_FRAME_LOST aside, each handle is as it was. */
@@ -73,6 +75,8 @@ void g3_octets_free(g3_octets *octets);
 void g3_deframer_free(g3_deframer *deframer);
 void g3_document_free(g3_document *document);
 void g3_terminal_free(g3_terminal *terminal);
+void g3_row_coder_free(g3_row_coder *coder);
+void g3_row_reader_free(g3_row_reader *reader);
 
 /* The text of a status, in English; never NULL, and not to be freed. */
 const char *g3_status_text(g3_status status);
@@ -109,6 +113,26 @@ g3_status g3_page_repair(const uint8_t *octets, size_t length, const g3_code *co
 /* The first image of a raw PBM file in memory, and how many images it has; and a page as such an image. */
 g3_status g3_page_read_pbm(const uint8_t *octets, size_t length, uint32_t fine, g3_page *out, uint64_t *count);
 g3_status g3_page_write_pbm(g3_page *page, g3_octets *out);
+
+/* A page is coded row by row: the memory doesn't grow with its rows where the octets are taken as they come. `fine` of the code is
+ * ignored. */
+g3_status g3_row_coder_new(g3_row_coder *out, const g3_code *code);
+/* Codes a row of the first bits of octets; later bits are ignored. G3_BAD_LENGTH: too few octets. */
+g3_status g3_row_coder_push_row(g3_row_coder *coder, const uint8_t *octets, size_t length);
+/* The octets of the code that are whole so far, after those that were taken; there may be none. */
+g3_status g3_row_coder_take(g3_row_coder *coder, g3_octets *out);
+/* The last octets of the code; 0 bits fill the last one. The coder's handle is empty then. */
+g3_status g3_row_coder_finish(g3_row_coder *coder, g3_octets *out);
+
+/* A page whose octets come in pieces is read row by row: the memory doesn't grow with its rows. `fine` of the code is ignored. */
+g3_status g3_row_reader_new(g3_row_reader *out, const g3_code *code);
+/* Takes the next octets of the page, as many as there is room for, and tells how many: 65536 octets that weren't read are held at most.
+ * Where none are taken though all rows were, a row is longer than that, or the page has ended or is refused. */
+g3_status g3_row_reader_feed(g3_row_reader *reader, const uint8_t *octets, size_t length, uint64_t *taken);
+/* Copies the next row that is whole in the octets so far. Where none is, all octets so far are answered for as by g3_page_decode, and more
+ * octets may change the answer: G3_NOTHING is the page's end, and *place the bits used; of G3_NO_ROWS and 10 to 18 *place is the bit from 0
+ * where no page can go on. *count: the octets of a row, also where G3_NO_ROOM is answered; no row is given then. */
+g3_status g3_row_reader_next(g3_row_reader *reader, uint8_t *buffer, size_t room, uint64_t *count, uint64_t *place);
 
 /* Octets that a call has made. *count: how many there are, also where G3_NO_ROOM is answered. */
 g3_status g3_octets_len(g3_octets *octets, uint64_t *count);

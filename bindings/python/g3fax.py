@@ -28,8 +28,8 @@ if sys.version_info >= (3, 12):
 else:
     Buffer = Any
 
-__all__ = ["Coding", "Order", "Fault", "CodeFault", "NoMemory", "Counts", "Frame", "Page", "Deframer", "decode", "encode", "salvage",
-           "repair", "write_frame", "frames", "version"]
+__all__ = ["Coding", "Order", "Fault", "CodeFault", "NoMemory", "Counts", "Frame", "Page", "RowCoder", "RowReader", "Deframer", "decode",
+           "encode", "salvage", "repair", "write_frame", "frames", "version"]
 __all__ += ["FrameLost", "NotCompatible", "Modems", "Carrier", "Wait", "Listens", "End", "State", "Burst", "Document", "Terminal", "Caller",
             "Answerer", "Kind", "Side", "PageEnd", "Reason", "Dis", "Params", "Pps", "Signal", "read_signal", "write_signal", "agree"]
 
@@ -174,6 +174,13 @@ _FUNCTIONS = {
     "g3_page_repair": [_address, _size, _address, _address, _address],
     "g3_page_read_pbm": [_address, _size, _u32, _address, _address],
     "g3_page_write_pbm": [_address, _address],
+    "g3_row_coder_new": [_address, _address],
+    "g3_row_coder_push_row": [_address, _address, _size],
+    "g3_row_coder_take": [_address, _address],
+    "g3_row_coder_finish": [_address, _address],
+    "g3_row_reader_new": [_address, _address],
+    "g3_row_reader_feed": [_address, _address, _size, _address],
+    "g3_row_reader_next": [_address, _address, _size, _address, _address],
     "g3_octets_len": [_address, _address],
     "g3_octets_copy": [_address, _address, _size, _address],
     "g3_deframer_new": [_address],
@@ -208,7 +215,8 @@ def _load() -> ctypes.CDLL:
     for name, words in _FUNCTIONS.items():
         function = getattr(library, name)
         function.argtypes, function.restype = words, _u32
-    for name in "g3_page_free", "g3_octets_free", "g3_deframer_free", "g3_document_free", "g3_terminal_free":
+    kinds = "page", "octets", "deframer", "row_coder", "row_reader", "document", "terminal"
+    for name in (f"g3_{kind}_free" for kind in kinds):
         function = getattr(library, name)
         function.argtypes, function.restype = [_address], None
     library.g3_status_text.argtypes, library.g3_status_text.restype = [_u32], ctypes.c_char_p
@@ -448,6 +456,87 @@ class Page(_Owner):
         with self._lock:
             _done(_library.g3_page_write_pbm(self._at, ctypes.byref(out)))
         return _taken(out)
+
+
+# ---- pages row by row
+
+
+class RowCoder(_Owner):
+    """Codes a page whose rows come one by one, in memory that doesn't grow with the page where its octets are taken as they come."""
+
+    def __init__(self, width: int = 1728, coding: Coding = Coding.MMR, order: Order = Order.MSB_FIRST) -> None:
+        super().__init__("g3_row_coder_free")
+        code = _code(coding, order, width, False)
+        _done(_library.g3_row_coder_new(self._at, ctypes.byref(code)))
+
+    def append(self, octets: Buffer) -> None:
+        """Codes a row of the first bits of octets."""
+        address, length = _octets(octets)
+        with self._lock:
+            _done(_library.g3_row_coder_push_row(self._at, address, length))
+
+    def take(self) -> memoryview:
+        """The octets of the code that are whole so far, after those that were taken."""
+        out = _Handle()
+        with self._lock:
+            _done(_library.g3_row_coder_take(self._at, ctypes.byref(out)))
+        return _taken(out)
+
+    def finish(self) -> memoryview:
+        """The last octets of the code; 0 bits fill the last one. The coder is done with then, and later calls raise Fault 100."""
+        out = _Handle()
+        with self._lock:
+            _done(_library.g3_row_coder_finish(self._at, ctypes.byref(out)))
+        return _taken(out)
+
+
+class RowReader(_Owner):
+    """Reads a page whose octets come in pieces, row by row, and holds 65,536 octets of it at most. Iterating gives the rows that are whole
+    so far."""
+
+    def __init__(self, width: int = 1728, coding: Coding = Coding.MMR, order: Order = Order.MSB_FIRST) -> None:
+        super().__init__("g3_row_reader_free")
+        #: the bits that the page uses, where its end was found
+        self.bits: Optional[int] = None
+        #: why no row more is whole in the octets so far; more octets may change it
+        self.fault: Optional[CodeFault] = None
+        self._row = (width + 7) // 8
+        code = _code(coding, order, width, False)
+        _done(_library.g3_row_reader_new(self._at, ctypes.byref(code)))
+
+    def feed(self, octets: Buffer) -> int:
+        """Takes the next octets of the page, as many as there is room for, and answers how many."""
+        taken, (address, length) = _u64(), _octets(octets)
+        with self._lock:
+            _done(_library.g3_row_reader_feed(self._at, address, length, ctypes.byref(taken)))
+        return taken.value
+
+    def next(self) -> Optional[memoryview]:
+        """The next row that is whole in the octets so far. Where none is, None, and `bits` is set at the page's end, else `fault`."""
+        buffer, address = _room(self._row)
+        count, place = _u64(), _u64()
+        with self._lock:
+            status = _library.g3_row_reader_next(self._at, address, len(buffer), ctypes.byref(count), ctypes.byref(place))
+            self.bits = place.value if status == _NOTHING else None
+            self.fault = None
+            try:
+                if status != _NOTHING:
+                    _done(status, place.value)
+            except CodeFault as fault:
+                self.fault = fault
+                return None
+        return None if status == _NOTHING else memoryview(buffer)
+
+    def __iter__(self) -> Iterator[memoryview]:
+        return iter(self.next, None)
+
+    def finish(self) -> int:
+        """The bits that the page uses, after its last row. Raises CodeFault with the bit where the octets so far are refused."""
+        for _ in self:
+            pass
+        if self.fault is not None:
+            raise self.fault
+        return self.bits or 0
 
 
 def _code(coding: int, order: int, width: int, fine: bool) -> _Code:

@@ -43,6 +43,48 @@ def to_pbm(octets: bytes, width: int) -> memoryview:
         return page.pbm()
 
 
+class RowByRow(unittest.TestCase):
+    def test_coder(self):
+        for name, coding, order in FORMS:
+            with self.subTest(name), g3fax.RowCoder(WIDTH, coding, order) as coder:
+                octets = bytearray()
+                for at in range(0, len(PACKED), ROW):
+                    coder.append(PACKED[at:at + ROW])
+                    octets += coder.take()
+                octets += coder.finish()
+                self.assertEqual(octets, coded(name))
+                with self.assertRaises(g3fax.Fault) as raised:
+                    coder.append(PACKED)
+                self.assertEqual(raised.exception.number, 100)
+        with g3fax.RowCoder(WIDTH) as coder:
+            self.assertRaises(g3fax.CodeFault, coder.finish)
+
+    def test_reader(self):
+        for name, coding, order in FORMS:
+            code = coded(name)
+            for piece in 1, 7, len(code):
+                with self.subTest((name, piece)), g3fax.RowReader(WIDTH, coding, order) as reader:
+                    rows = []
+                    for at in range(0, len(code), piece):
+                        self.assertEqual(reader.feed(code[at:at + piece]), len(code[at:at + piece]))
+                        rows += reader
+                    self.assertEqual(b"".join(rows), PACKED)
+                    with g3fax.Page.decode(code, WIDTH, coding, order) as page:
+                        self.assertEqual(reader.finish(), page.bits)
+
+    def test_refusal(self):
+        with g3fax.RowReader(WIDTH) as reader:
+            reader.feed(coded("mmr.msb")[:500])
+            rows = b"".join(reader)
+            self.assertEqual(rows, g3fax.salvage(coded("mmr.msb")[:500], WIDTH).tobytes())
+            self.assertEqual((reader.fault.number, reader.fault.bit, reader.bits), (11, 3999, None))
+            self.assertRaises(g3fax.CodeFault, reader.finish)
+            reader.feed(coded("mmr.msb")[500:])
+            self.assertEqual(rows + b"".join(reader), PACKED)
+        with g3fax.RowReader(WIDTH) as reader:
+            self.assertEqual((reader.feed(bytes(70000)), reader.feed(b"7")), (65536, 0))
+
+
 class Pages(unittest.TestCase):
     def test_example(self):
         [block] = re.findall(r"^```python\n(.*?)^```$", (HERE.parent / "README.md").read_text(), re.M | re.S)

@@ -50,6 +50,44 @@ static void codes(size_t length, uint32_t coding)
     g3_octets_free(&octets); g3_octets_free(&text);
 }
 
+/* A page is coded row by row, and read row by row from pieces of three octets. */
+static void rows_of(uint32_t coding)
+{
+    g3_row_coder coder = G3_EMPTY;
+    g3_row_reader reader = G3_EMPTY;
+    g3_octets octets = G3_EMPTY;
+    g3_code form = {coding, G3_LSB_FIRST, 315, 0};
+    uint64_t count = 0, size = 0, place = 0, taken = 0;
+    unsigned read = 0;
+    g3_status status = G3_OK;
+    DOES(g3_row_coder_new(&coder, &form));
+    for (unsigned row = 0; row < 7; row++) {
+        DOES(g3_row_coder_push_row(&coder, image + row, 40));
+        DOES(g3_row_coder_take(&coder, &octets));
+        DOES(g3_octets_copy(&octets, code + size, sizeof code - size, &count));
+        g3_octets_free(&octets);
+        size += count;
+    }
+    DOES(g3_row_coder_finish(&coder, &octets));
+    DOES(g3_octets_copy(&octets, code + size, sizeof code - size, &count));
+    size += count;
+    DOES(g3_row_reader_new(&reader, &form));
+    for (size_t at = 0; at < size; at += taken) {
+        DOES(g3_row_reader_feed(&reader, code + at, size - at < 3 ? size - at : 3, &taken));
+        for (;;) {
+            status = g3_row_reader_next(&reader, again, sizeof again, &count, &place);
+            if (status == G3_NO_MEMORY) status = g3_row_reader_next(&reader, again, sizeof again, &count, &place);
+            if (status != G3_OK) break;
+            again[39] &= 0xE0; /* 315 pixels are 39 octets and three bits */
+            if (count != 40 || memcmp(again, image + read, 39) != 0 || again[39] != (image[read + 39] & 0xE0))
+                printf("growth %lu refused: another row\n", refused), bad = 1;
+            read++;
+        }
+    }
+    if (read != 7 || status != G3_NOTHING) printf("growth %lu refused: %u rows, %u\n", refused, read, status), bad = 1;
+    g3_row_coder_free(&coder); g3_row_reader_free(&reader); g3_octets_free(&octets);
+}
+
 static void frames(size_t length)
 {
     g3_deframer deframer = G3_EMPTY;
@@ -153,6 +191,8 @@ int main(int argc, char **argv)
         refused++;
         codes(length, G3_MH);
         codes(length, G3_MMR);
+        rows_of(G3_MH);
+        rows_of(G3_MMR);
         frames(bits);
         signals(bits);
         calls();

@@ -16,6 +16,8 @@ pub mod Repairs
 pub mod SignalNumbers
 pub mod Signals
 pub mod SignalsMeant
+pub mod RowCoders
+pub mod RowReaders
 pub mod States
 pub mod Statuses
 pub mod Taking

@@ -21,6 +21,8 @@ mod rasters;
 mod repairs;
 mod signal;
 mod signalling;
+mod row_coders;
+mod row_readers;
 mod states;
 mod status;
 mod taking;
