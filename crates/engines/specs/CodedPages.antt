@@ -1,5 +1,5 @@
 -- What the commands that code, show and decode pages do with what they read.
-use Rattle.std.specs.Prelude.{ℕ, ◌≡◌, ◌≢◌, ◌≤◌, ◌<◌, ◌⊎◌, Bool, false, List, [], ◌∷◌, Option, length, Err, MatchResult}
+use Rattle.std.specs.Prelude.{ℕ, ◌≡◌, ◌≢◌, ◌≤◌, ◌<◌, ◌⊎◌, Bool, false, List, [], ◌∷◌, ◌++◌, Option, length, Err, MatchResult}
 use Rattle.std.specs.Io.KnownBytes.{Appends}
 use Rattle.raster.specs.declared.packed.Order.{Order}
 use Rattle.raster.specs.declared.row.Color.{Color}
@@ -16,6 +16,7 @@ use Rattle.run_tables.specs.Faults.{number_of as kind_number}
 use Rattle.page_code.specs.declared.Coding.{Coding}
 use Rattle.page_code.specs.Codings.{IsLongestIn, ReadsIn, code_of}
 use Rattle.page_code.specs.PageCodes.{ReadsPage, RefusesPage}
+use Rattle.page_code.specs.RowCoders.{CodesRows, RowCoding}
 use Rattle.page_code.specs.RowsSoFar.{AreWholeRows}
 use Rattle.engines.specs.Faults.{IsOutside}
 use Rattle.engines.specs.declared.fault.ToolFault.{ToolFault}
@@ -29,6 +30,14 @@ pub record CodesImage (coding : Coding) (order : Order) (before after : Option (
   pub code : List ℕ
   pub coded : FillsOctets order (code_of coding page.width page.rows) code
   pub written : Appends before after code
+
+-- the code of a page, with 0 bits to an octet, is written
+abbrev pub AppendsCode : Coding → Order → ℕ → List (List Color) → Option (List ℕ) → Option (List ℕ) → Type 0
+AppendsCode coding order width rows before after = AppendsSome (FillsOctets order (code_of coding width rows)) before after
+
+-- of the octets that a coder handed out for these rows the first are written, and the others are held
+abbrev pub HoldsCode : RowCoding → List (List Color) → List ℕ → Option (List ℕ) → Option (List ℕ) → Type 0
+HoldsCode coder rows held before after = AppendsSome (λ octets. CodesRows coder rows (octets ++ held)) before after
 
 -- several images were read
 abbrev pub AreSeveral : List ℕ → ToolFault → Type 0

@@ -3,6 +3,7 @@
 
 mod answer;
 mod captured;
+mod coded;
 mod decoding;
 mod explain;
 mod fault;
@@ -20,6 +21,7 @@ mod texts;
 
 pub use crate::answer::{DecodeAnswer, answer_decode};
 pub use crate::captured::{Captured, captured_pages};
+pub use crate::coded::{read_image, write_code};
 pub use crate::decoding::{Broken, Decoded, ReadTo, decode_page};
 pub use crate::explain::{Explained, Known, is_shown};
 pub use crate::fault::{FAILED, NO_MEMORY, ToolFault};
