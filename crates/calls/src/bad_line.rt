@@ -170,7 +170,7 @@ fn tell_driven<T: CallWriter>(
     ensures unwritten { IfErr result (λ fault. IsOutside fault ⊎ (writer.new ≡ writer.old)) }
 {
     headline();
-    let _pages = document.pages();
+    let _pages = document.pages(); // for the proof: what every document keeps to
     let wish = Wish {
         modems: options.modems,
         coding: options.coding,

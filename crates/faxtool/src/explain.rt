@@ -9,7 +9,7 @@ use crate::notes::{Notes, Part};
 use crate::words::{Job, Outcome};
 use calls::line_fault_at;
 use clap::Error;
-use engines::{Expected, Explained, Known, LineFault, ToolFault, is_shown, refused_at};
+use engines::{Expected, Explained, FaultKind, Known, LineFault, ToolFault, is_shown, refused_at};
 use page_code::Coding;
 use run_tables::Order;
 use std::env::{self, Env, FillError};
@@ -155,10 +155,10 @@ pub fn page_of(job: &Job) -> Option<(Coding, Order, u32)>
 
 /// Which file of a job a fault is about.
 fn part_of(fault: ToolFault, notes: &Notes) -> Part {
-    match (fault, notes.failed) {
-        (ToolFault::AtLine(_), _) => Part::Script,
-        (ToolFault::No(8), Some((part, _kind))) => part,
-        (ToolFault::No(9), _) => notes.unread.unwrap_or(Part::Input),
+    match (fault.kind(), notes.failed) {
+        (FaultKind::BadLine, _) => Part::Script,
+        (FaultKind::Io, Some((part, _kind))) => part,
+        (FaultKind::NoMemory, _) => notes.unread.unwrap_or(Part::Input),
         _ => Part::Input,
     }
 }
