@@ -10,8 +10,16 @@ use Rattle.page_code.specs.OneDimension.Fronts.{zeros_before, CodeBegins}
 use Rattle.page_code.specs.OneDimension.Reading.{SeesEol}
 use Rattle.page_code.specs.declared.one_dim.eol.Eol.{Eol}
 use Rattle.page_code.specs.declared.one_dim.eol.Eol.TheVariants.{Present, Absent, OnlyZeros}
-use Rattle.page_code.specs.OneDimension.Repairs.{EndsLine, EndsPage, EolEndsAfter, IsFirstLine, IsSkipped}
-use Rattle.page_code.specs.OneDimension.Repairing.{FindsEnd}
+use Rattle.raster.specs.declared.row.Color.{Color}
+use Rattle.raster.specs.declared.row.Color.TheVariants.{White}
+use Rattle.run_tables.specs.Codes.{code_word, run_words}
+use Rattle.raster.specs.Words.{number_bits}
+use Rattle.run_tables.specs.Texts.{begins}
+use Rattle.run_tables.proofs.BeginsLemmas.{begins_own, begins_split}
+use Rattle.run_tables.proofs.NumberLemmas.{begins_within}
+use Rattle.std.proofs.lemmas.Bool.{false≢true}
+use Rattle.page_code.specs.OneDimension.Repairs.{EndsAfterWhite, EndsInBlack, EndsLine, EndsPage, EndsRow, EolEndsAfter, IsFirstLine, IsSkipped}
+use Rattle.page_code.specs.OneDimension.Repairing.{FindsEnd, FindsRowEnd}
 use Rattle.page_code.proofs.OneDimension.ZerosBefore.{zeros_eol, zeros_split, none_zeros, zeros_none, length-eol}
 
 -- lengths of rows by their runs
@@ -151,6 +159,85 @@ module _ (bits : List Bool) (place : ℕ) where
     few,
     same_count (zeros_before (drop (place + n + 1) bits)) m k then some,
   ))
+
+-- The end of a row's line
+
+-- the code of a white run of 0 pixels, by its digits
+pub white_0 : (rest : List Bool) → run_words White 0 ++ rest ≡ number_bits 8 53 ++ rest
+unfolding code_word
+white_0 rest = refl
+
+-- a line doesn't end at once where a white run of 0 pixels is
+pub no_line_end : (rest : List Bool) (used : ℕ) → EndsLine (number_bits 8 53 ++ rest) used → ⊥
+no_line_end rest used ends = seen (end_seen x used ends)
+  where
+    x : List Bool
+    x = number_bits 8 53 ++ rest
+
+    seen : Seen x used → ⊥
+    seen (inl p) = none_some (zeros_before x) 2 p.0 refl
+    seen (inr (inl p)) = omega (arith, p.2, same_count (zeros_before x) p.0 2 p.1 refl)
+    seen (inr (inr p)) =
+        let zeros : p.0 ≡ 2 = same_count (zeros_before x) p.0 2 p.2 refl in
+        let there : zeros_before (drop 3 x) ≡ Some p.1 = ap (λ (n : ℕ). zeros_before (drop (n + 1) x)) (sym zeros) ∙ p.4 in
+        omega (arith, zeros, p.5, same_count (zeros_before (drop 3 x)) p.1 0 there refl)
+
+pub not_both : (x : List Bool) (a b : ℕ) → EndsLine x a → EndsAfterWhite x b → ⊥
+not_both x a b ends white = no_line_end white.0 a (subst (λ (l : List Bool). EndsLine l a) (white.2 ∙ white_0 white.0) ends)
+
+-- a row's line ends in one way
+pub one_row_end : (row : List Color) (x : List Bool) (a b : ℕ) → EndsRow row x a → EndsRow row x b → a ≡ b
+one_row_end row x a b (inl one) (inl two) = one_end x a b one two
+one_row_end row x a b (inl one) (inr two) = absurd (not_both x a b one two.1)
+one_row_end row x a b (inr one) (inl two) = absurd (not_both x b a two one.1)
+one_row_end row x a b (inr (black, one)) (inr (black_too, two)) =
+    let rest : one.0 ≡ two.0 = ap (drop 8) (sym (white_0 one.0) ∙ (sym one.2 ∙ (two.2 ∙ white_0 two.0))) in
+    let ends : EndsLine one.0 two.1 = subst (λ (l : List Bool). EndsLine l two.1) (sym rest) two.3 in
+    omega (arith, one.4, two.4, one_end one.0 one.1 two.1 one.3 ends)
+
+-- the code of a white run of 0 pixels is there, or isn't
+abbrev pub HasWhite : List Bool → Bool → Type 0
+HasWhite x there = there ≡ begins (number_bits 8 53) x
+
+module _ (row : List Color) (bits : List Bool) (place : ℕ) where
+  pub row_ends_at_once : (next : ℕ) → FindsEnd bits place (Some next) → FindsRowEnd row bits place (Some next)
+  row_ends_at_once next ends = (ends.0, inl ends.1, ends.2, ends.3)
+
+  pub white_within : (there : Bool) → HasWhite (drop place bits) there → there ≡ true → 8 ≤ length (drop place bits)
+  white_within there has is = begins_within (number_bits 8 53) (drop place bits) (sym has ∙ is)
+
+  pub row_ends_after_white : (there : Bool) (next : ℕ) → HasWhite (drop place bits) there → there ≡ true → EndsInBlack row
+      → FindsEnd bits (place + 8) (Some next) → FindsRowEnd row bits place (Some next)
+  row_ends_after_white there next has is black ends =
+      let split : drop place bits ≡ run_words White 0 ++ drop 8 (drop place bits) = begins_split (number_bits 8 53) (drop place bits)
+      (sym has ∙ is) ∙ sym (white_0 (drop 8 (drop place bits))) in
+      let rest : drop 8 (drop place bits) ≡ drop (place + 8) bits = drop-drop 8 place bits in
+      let after : EndsLine (drop 8 (drop place bits)) ends.0 = subst (λ (l : List Bool). EndsLine l ends.0) (sym rest) ends.1 in
+      (8 + ends.0, inr (black, (drop 8 (drop place bits), ends.0, split, after, refl)), omega (arith, ends.2), ends.3)
+
+  no_white : (used : ℕ) → EndsAfterWhite (drop place bits) used → begins (number_bits 8 53) (drop place bits) ≡ true
+  no_white used white = ap (begins (number_bits 8 53)) (white.2 ∙ white_0 white.0) ∙ begins_own (number_bits 8 53) white.0
+
+  pub row_goes_on : (there : Bool) → HasWhite (drop place bits) there → there ≡ false → FindsEnd bits place None
+      → FindsRowEnd row bits place None
+  row_goes_on there has is none used (inl ends) = none used ends
+  row_goes_on there has is none used (inr white) = false≢true (sym is ∙ (has ∙ no_white used white.1))
+
+  pub row_is_white : ¬ EndsInBlack row → FindsEnd bits place None → FindsRowEnd row bits place None
+  row_is_white other none used (inl ends) = none used ends
+  row_is_white other none used (inr white) = other white.0
+
+  pub row_has_no_end : FindsEnd bits place None → FindsEnd bits (place + 8) None → FindsRowEnd row bits place None
+  row_has_no_end none after used (inl ends) = none used ends
+  row_has_no_end none after used (inr white) =
+      let rest : drop 8 (drop place bits) ≡ white.1.0 = ap (drop 8) (white.1.2 ∙ white_0 white.1.0) in
+      let same : white.1.0 ≡ drop (place + 8) bits = sym rest ∙ drop-drop 8 place bits in
+      after white.1.1 (subst (λ (l : List Bool). EndsLine l white.1.1) same white.1.3)
+
+  pub row_ends_as : (there : Bool) (result : Option ℕ) → HasWhite (drop place bits) there → there ≡ true → EndsInBlack row
+      → FindsEnd bits place None → FindsEnd bits (place + 8) result → FindsRowEnd row bits place result
+  row_ends_as there (Some next) has is black none ends = row_ends_after_white there next has is black ends
+  row_ends_as there None has is black none ends = row_has_no_end none ends
 
 -- The first EOL
 

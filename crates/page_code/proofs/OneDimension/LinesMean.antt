@@ -1,12 +1,16 @@
 -- When lines end, where reading goes on, and where the first line begins, by bits.
-use Rattle.std.proofs.Common.{ℕ, zero, suc, ◌≡◌, ◌+◌, ◌-◌, ◌<◌, ◌≤◌, Bool, true, false, List, [], ◌∷◌, ◌++◌, drop, inl, inr, refl, ap, ◌∙◌, subst, arith}
+use Rattle.std.proofs.Common.{ℕ, zero, suc, ◌≡◌, ◌+◌, ◌-◌, ◌<◌, ◌≤◌, Bool, true, false, List, [], ◌∷◌, ◌++◌, drop, inl, inr, refl, ap, sym, ◌∙◌, subst, arith}
 use Rattle.std.specs.Prelude.{Some, codes, slice_set}
+use Rattle.raster.specs.Words.{number_bits}
+use Rattle.raster.specs.declared.row.Color.{Color}
+use Rattle.raster.specs.declared.row.Color.TheVariants.{White, Black}
 use Rattle.run_tables.specs.Codes.{text}
 use Rattle.page_code.specs.OneDimension.Fronts.{zeros_before}
-use Rattle.page_code.specs.OneDimension.LinesMean.{FirstLineMeans, LineEndsMean, SkippingMeans}
+use Rattle.page_code.specs.OneDimension.LinesMean.{FirstLineMeans, LineEndsMean, RowLinesEndMean, SkippingMeans}
 use Rattle.page_code.specs.OneDimension.Pages.{eol_word}
-use Rattle.page_code.specs.OneDimension.Repairs.{EndsLine, TornEolOf}
-use Rattle.page_code.proofs.OneDimension.LineEnds.{Seen, end_seen, none_some, one_end, one_skip, same_count, skips_all, skips_eol, skips_on}
+use Rattle.page_code.specs.OneDimension.Repairs.{EndsInBlack, EndsLine, EndsRow, TornEolOf}
+use Rattle.page_code.proofs.OneDimension.LineEnds.{Seen, end_seen, no_line_end, none_some, one_end, one_row_end, one_skip}
+use Rattle.page_code.proofs.OneDimension.LineEnds.{same_count, skips_all, skips_eol, skips_on, white_0}
 use Rattle.page_code.proofs.OneDimension.ZerosBefore.{none_zeros, zeros_eol}
 
 -- a 1 in place of a 0 bit of an EOL
@@ -53,6 +57,45 @@ line_ends_mean = record {
   nothing = inl (λ k d h. absurd (omega arith), refl);
   zeros = inl (none_zeros (text (codes "000")) refl, refl);
   one_way = one_end;
+}
+
+-- bits that begin with the code of a white run of 0 pixels end a row's line only as the bits after it do
+after_white : (row : List Color) (rest : List Bool) (used : ℕ) → EndsRow row (number_bits 8 53 ++ rest) used
+    → EndsInBlack row × ((more : ℕ) × EndsLine rest more)
+after_white row rest used (inl ends) = absurd (no_line_end rest used ends)
+after_white row rest used (inr (black, white)) =
+    let same : white.0 ≡ rest = sym (ap (drop 8) (white.2 ∙ white_0 white.0)) in
+    (black, (white.1, subst (λ (l : List Bool). EndsLine l white.1) same white.3))
+
+-- no EOL
+abbrev eleven : List Bool
+eleven = text (codes "1011")
+
+no_eleven : (used : ℕ) → Seen eleven used → ⊥
+no_eleven used (inl none) = none_some (zeros_before eleven) 0 none.0 refl
+no_eleven used (inr (inl eol)) = omega (arith, eol.2, same_count (zeros_before eleven) eol.0 0 eol.1 refl)
+no_eleven used (inr (inr torn)) =
+    let zeros : torn.0 ≡ 0 = same_count (zeros_before eleven) torn.0 0 torn.2 refl in
+    let more : torn.1 ≡ 1 = same_count (zeros_before (drop (0 + 1) eleven)) torn.1 1
+    (subst (λ (n : ℕ). zeros_before (drop (n + 1) eleven) ≡ Some torn.1) zeros torn.4) refl in
+    omega (arith, zeros, more, torn.5)
+
+pub row_lines_end_mean : RowLinesEndMean
+row_lines_end_mean = record {
+  at_once = λ row x used ends. inl ends;
+  after_white =
+      let rest = text (codes "000000000001" ++ codes "1011") in
+      inr (refl, (rest, 12, sym (white_0 rest), inr (inl (11, eleven, omega arith, refl, refl)), refl));
+  ends_white = λ used ends.
+      let black : Some White ≡ Some Black = (after_white (Black ∷ White ∷ []) (text (codes "000000000001" ++ codes "1011")) used ends).0 in
+      cc;
+  twice = λ used ends.
+      let there = (after_white (White ∷ Black ∷ []) (text (codes "00110101" ++ codes "000000000001")) used ends).1 in
+      no_line_end (text (codes "000000000001")) there.0 there.1;
+  no_eol = λ used ends.
+      let there = (after_white (White ∷ Black ∷ []) eleven used ends).1 in
+      no_eleven there.0 (end_seen eleven there.0 there.1);
+  one_way = one_row_end;
 }
 
 pub skipping_means : SkippingMeans

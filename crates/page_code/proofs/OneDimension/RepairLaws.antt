@@ -23,13 +23,13 @@ use Rattle.page_code.specs.PageCodes.{RefusesPage}
 use Rattle.page_code.specs.OneDimension.Fronts.{CodeBegins}
 use Rattle.page_code.specs.OneDimension.Laws.{IsLongestFront as IsLongestPage}
 use Rattle.page_code.specs.OneDimension.Pages.{AreEols, IsEnd, IsLead, ReadsAs, SpellsLater, eol_word, eol_words}
-use Rattle.page_code.specs.OneDimension.Repairs.{EndsLine, EndsPage, HasMoreLines, HasNoRow, IsFirstLine, IsLine, IsReadFor}
+use Rattle.page_code.specs.OneDimension.Repairs.{EndsLine, EndsPage, EndsRow, HasMoreLines, HasNoRow, IsFirstLine, IsLine, IsReadFor}
 use Rattle.page_code.specs.OneDimension.Repairs.{IsRepair, Line}
 use Rattle.page_code.specs.OneDimension.Repairs.{OneRepair, RepairsNothing, repaired_in, rows_given, white_row}
 use Rattle.page_code.specs.OneDimension.Repairs.Line.{spelled, broken}
 use Rattle.page_code.proofs.FrontEnds.{drop_on}
 use Rattle.page_code.proofs.OneDimension.Look.{code_stands}
-use Rattle.page_code.proofs.OneDimension.LineEnds.{code_no_end, one_end, one_skip}
+use Rattle.page_code.proofs.OneDimension.LineEnds.{code_no_end, one_end, one_row_end, one_skip}
 use Rattle.page_code.proofs.OneDimension.Repairs.{all_repaired, length-given}
 use Rattle.page_code.proofs.OneDimension.ZerosBefore.{length-eol}
 
@@ -70,7 +70,7 @@ line_there width bits place row front rest more spells wide split ends =
         split = split;
         used_is = refl;
       },
-      subst (λ (l : List Bool). EndsLine l more) (sym rest_is) ends,
+      inl (subst (λ (l : List Bool). EndsLine l more) (sym rest_is) ends),
       refl,
     )
 
@@ -230,14 +230,19 @@ read_unbroken width bits place next other bit row wide one two = seen two.3
         let same : one.0 ≡ two.0 = (one_row width (drop place bits) row no_end.0 one.0 two.0 wide one.2 no_end.1).1 in
         let count : drop (place + one.0) bits ≡ drop two.0 (drop place bits) = ap (λ (n : ℕ). drop (place + n) bits) same ∙ sym (drop-drop
         two.0 place bits) in
-        no_end.2 one.1 (subst (λ (l : List Bool). EndsLine l one.1) count one.3)
+        let row_is : row ≡ no_end.0 = (one_row width (drop place bits) row no_end.0 one.0 two.0 wide one.2 no_end.1).0 in
+        no_end.2 one.1 (subst (λ (r : List Color). EndsRow r (drop two.0 (drop place bits)) one.1) row_is
+            (subst (λ (l : List Bool). EndsRow row l one.1) count one.3))
 
 one_line : (width : ℕ) (bits : List Bool) (place next other : ℕ) (line line_too : Line) → IsWidth width
     → IsLine width bits place line next → IsLine width bits place line_too other → (line ≡ line_too) × (next ≡ other)
 one_line width bits place next other (spelled row) (spelled row_too) wide one two =
     let same = one_row width (drop place bits) row row_too one.0 two.0 wide one.2 two.2 in
-    let ends : EndsLine (drop (place + one.0) bits) two.1 = subst (λ (n : ℕ). EndsLine (drop (place + n) bits) two.1) (sym same.1) two.3 in
-    let more = one_end (drop (place + one.0) bits) one.1 two.1 one.3 ends in
+    let there : EndsRow row_too (drop (place + one.0) bits) two.1 = subst (λ (n : ℕ). EndsRow row_too (drop (place + n) bits) two.1) (sym
+    same.1) two.3 in
+    let ends : EndsRow row (drop (place + one.0) bits) two.1 = subst (λ (r : List Color). EndsRow r (drop (place + one.0) bits) two.1) (sym
+    same.0) there in
+    let more = one_row_end row (drop (place + one.0) bits) one.1 two.1 one.3 ends in
     (ap spelled same.0, omega (arith, same.1, more, one.4, two.4))
 one_line width bits place next other (spelled row) (broken bit) wide one two =
     absurd (read_unbroken width bits place next other bit row wide one two)

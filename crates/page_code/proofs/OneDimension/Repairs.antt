@@ -18,11 +18,11 @@ use Rattle.page_code.specs.declared.one_dim.repair.Found.{Found}
 use Rattle.page_code.specs.declared.one_dim.repair.Found.TheVariants.{Read, Broken}
 use Rattle.page_code.specs.declared.one_dim.repair.Lines.{Lines}
 use Rattle.page_code.specs.declared.one_dim.repair.RepairedRow.{RepairedRow}
-use Rattle.page_code.specs.OneDimension.Repairs.{AreGivenTo, EndsLine, EndsPage, HasMoreLines, IsLine}
+use Rattle.page_code.specs.OneDimension.Repairs.{AreGivenTo, EndsPage, EndsRow, HasMoreLines, IsLine}
 use Rattle.page_code.specs.OneDimension.Repairs.{IsReadFor, IsRepair, IsSkipped, Line}
 use Rattle.page_code.specs.OneDimension.Repairs.{given, last_of, last_row, listed, repaired_in, rows_given, white_row}
 use Rattle.page_code.specs.OneDimension.Repairs.Line.{spelled, broken}
-use Rattle.page_code.specs.OneDimension.Repairing.{FindsEnd, FindsLine, GivesLine}
+use Rattle.page_code.specs.OneDimension.Repairing.{FindsLine, FindsRowEnd, GivesLine}
 
 -- One line more
 
@@ -106,7 +106,7 @@ module _ (bits : List Bool) (place width : ℕ) (old : Reading) (is : old ≡ re
   end_within new row end reads within = subst (λ (l : List Bool). end ≤ length l) (row_there new row reads).3 within
 
   pub finds_row : (new : Reading) (row : List Color) (end next : ℕ) → ReadsRow width old new row → end ≡ new.place
-      → FindsEnd bits end (Some next) → IsLine width bits place (spelled row) next × (next ≤ length bits)
+      → FindsRowEnd row bits end (Some next) → IsLine width bits place (spelled row) next × (next ≤ length bits)
   finds_row new row end next reads end_is ends =
       let there = row_there new row reads in
       let same : end ≡ place + there.0 = end_is ∙ there.2 in (
@@ -114,21 +114,21 @@ module _ (bits : List Bool) (place width : ℕ) (old : Reading) (is : old ≡ re
           there.0,
           ends.0,
           there.1,
-          subst (λ (n : ℕ). EndsLine (drop n bits) ends.0) same ends.1,
+          subst (λ (n : ℕ). EndsRow row (drop n bits) ends.0) same ends.1,
           omega (arith, ends.2, same),
         ),
         ends.3,
       )
 
   pub finds_no_end : (new : Reading) (row : List Color) (end : ℕ) → ReadsRow width old new row → end ≡ new.place
-      → FindsEnd bits end None → (count : ℕ) × IsReadFor width (drop place bits) count × (end ≡ place + count)
+      → FindsRowEnd row bits end None → (count : ℕ) × IsReadFor width (drop place bits) count × (end ≡ place + count)
   finds_no_end new row end reads end_is none =
       let there = row_there new row reads in
       let same : end ≡ place + there.0 = end_is ∙ there.2 in
       let rest : drop there.0 (drop place bits) ≡ drop end bits = drop-drop there.0 place bits ∙
       ap (λ (n : ℕ). drop n bits) (sym same) in (
         there.0,
-        inr (row, there.1, λ used ends. none used (subst (λ (l : List Bool). EndsLine l used) rest ends)),
+        inr (row, there.1, λ used ends. none used (subst (λ (l : List Bool). EndsRow row l used) rest ends)),
         same,
       )
 

@@ -1,9 +1,11 @@
 -- When a line of a page ends, where reading goes on after a line that can't be read, and where the first line begins, said by bits
 -- (ITU-T T.4, 4.1.2).
-use Rattle.std.specs.Prelude.{ℕ, ◌≡◌, ◌+◌, ◌<◌, ◌≤◌, ◌++◌, Bool, true, List, codes, slice_set}
+use Rattle.std.specs.Prelude.{ℕ, ◌≡◌, ◌+◌, ◌<◌, ◌≤◌, ◌++◌, Bool, true, List, [], ◌∷◌, codes, slice_set}
+use Rattle.raster.specs.declared.row.Color.{Color}
+use Rattle.raster.specs.declared.row.Color.TheVariants.{White, Black}
 use Rattle.run_tables.specs.Codes.{text}
 use Rattle.page_code.specs.OneDimension.Pages.{eol_word}
-use Rattle.page_code.specs.OneDimension.Repairs.{EndsLine, IsFirstLine, IsSkipped, TornEolOf}
+use Rattle.page_code.specs.OneDimension.Repairs.{EndsLine, EndsRow, IsFirstLine, IsSkipped, TornEolOf}
 
 -- when a line ends
 pub record LineEndsMean : Type 0 where
@@ -19,6 +21,19 @@ pub record LineEndsMean : Type 0 where
   pub zeros : EndsLine (text (codes "000")) 0
   -- with one number of bits
   pub one_way : (x : List Bool) (a b : ℕ) → EndsLine x a → EndsLine x b → a ≡ b
+
+-- when the line of a row ends
+pub record RowLinesEndMean : Type 0 where
+  -- at once, after any row
+  pub at_once : (row : List Color) (x : List Bool) (used : ℕ) → EndsLine x used → EndsRow row x used
+  -- after the code of a white run of 0 pixels and an EOL, where the row ends in black, and not where it ends in white
+  pub after_white : EndsRow (White ∷ Black ∷ []) (text (codes "00110101" ++ codes "000000000001" ++ codes "1011")) 20
+  pub ends_white : (used : ℕ) → EndsRow (Black ∷ White ∷ []) (text (codes "00110101" ++ codes "000000000001" ++ codes "1011")) used → ⊥
+  -- not after two of these codes, and not where no EOL follows
+  pub twice : (used : ℕ) → EndsRow (White ∷ Black ∷ []) (text (codes "00110101" ++ codes "00110101" ++ codes "000000000001")) used → ⊥
+  pub no_eol : (used : ℕ) → EndsRow (White ∷ Black ∷ []) (text (codes "00110101" ++ codes "1011")) used → ⊥
+  -- with one number of bits
+  pub one_way : (row : List Color) (x : List Bool) (a b : ℕ) → EndsRow row x a → EndsRow row x b → a ≡ b
 
 -- where reading goes on after a line that can't be read
 pub record SkippingMeans : Type 0 where

@@ -1,18 +1,25 @@
 -- What the parts of a page's repair answer.
 use Rattle.std.specs.Prelude.{ℕ, ◌≡◌, ◌+◌, ◌≤◌, ◌⊎◌, Bool, List, [], ◌∷◌, ◌++◌, length, drop, Option, None, Some, Result, Ok, Err}
+use Rattle.raster.specs.declared.row.Color.{Color}
 use Rattle.run_tables.specs.declared.fault.CodeFault.{CodeFault}
 use Rattle.run_tables.specs.declared.fault.CodeFaultKind.TheVariants.{NoMemory}
 use Rattle.page_code.specs.declared.one_dim.repair.Found.{Found}
 use Rattle.page_code.specs.declared.one_dim.repair.Found.TheVariants.{Read, Broken}
 use Rattle.page_code.specs.declared.one_dim.repair.Lines.{Lines}
 use Rattle.page_code.specs.declared.one_dim.repair.RepairedPage.{RepairedPage}
-use Rattle.page_code.specs.OneDimension.Repairs.{EndsLine, HasMoreLines, IsLine, IsReadFor, IsRepair, Line, given, last_row, listed}
+use Rattle.page_code.specs.OneDimension.Repairs.{EndsLine, EndsRow, HasMoreLines, IsLine, IsReadFor, IsRepair, Line, given, last_row, listed}
 use Rattle.page_code.specs.OneDimension.Repairs.Line.{spelled}
 
 -- a line's end at a place, and the place after it
 abbrev pub FindsEnd : List Bool → ℕ → Option ℕ → Type 0
 FindsEnd bits place (Some next) = (more : ℕ) × EndsLine (drop place bits) more × (next ≡ place + more) × (next ≤ length bits)
 FindsEnd bits place None = (used : ℕ) → ¬ EndsLine (drop place bits) used
+
+-- a line's end after this row at a place, and the place after it
+abbrev pub FindsRowEnd : List Color → List Bool → ℕ → Option ℕ → Type 0
+FindsRowEnd row bits place (Some next) =
+    (more : ℕ) × EndsRow row (drop place bits) more × (next ≡ place + more) × (next ≤ length bits)
+FindsRowEnd row bits place None = (used : ℕ) → ¬ EndsRow row (drop place bits) used
 
 -- what the line at a place has
 abbrev pub FindsLine : ℕ → List Bool → ℕ → Found → Type 0

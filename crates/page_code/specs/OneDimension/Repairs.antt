@@ -1,13 +1,14 @@
 -- A page in the one-dimensional code with rows that can't be read (ITU-T T.4, 4.1): which rows are given for its lines, and which of
 -- them are repaired.
-use Rattle.std.specs.Prelude.{ℕ, ◌≡◌, ◌+◌, ◌<◌, ◌≤◌, ◌⊎◌, Bool, List, [], ◌∷◌, ◌++◌, length, drop, replicate}
+use Rattle.std.specs.Prelude.{ℕ, ◌≡◌, ◌+◌, ◌-◌, ◌<◌, ◌≤◌, ◌⊎◌, Bool, List, [], ◌∷◌, ◌++◌, Some, length, drop, replicate, slice_get}
 use Rattle.raster.specs.declared.row.Color.{Color}
-use Rattle.raster.specs.declared.row.Color.TheVariants.{White}
+use Rattle.raster.specs.declared.row.Color.TheVariants.{White, Black}
 use Rattle.raster.specs.Pages.{max_rows}
 use Rattle.raster.specs.Pixels.{IsWidth}
 use Rattle.run_tables.specs.declared.fault.CodeFault.{CodeFault}
 use Rattle.run_tables.specs.declared.fault.CodeFaultKind.{CodeFaultKind}
 use Rattle.run_tables.specs.declared.fault.CodeFaultKind.TheVariants.{TooManyCodedRows}
+use Rattle.run_tables.specs.Codes.{run_words}
 use Rattle.run_tables.specs.Fronts.{Walk}
 use Rattle.run_tables.specs.RowLaws.{IsLongestFront, ReadsAsRow}
 use Rattle.page_code.specs.declared.one_dim.repair.RepairedRow.{RepairedRow}
@@ -36,6 +37,20 @@ TornEolOf x used =
 abbrev pub EndsLine : List Bool → ℕ → Type 0
 EndsLine x used = (AreZeros x × (used ≡ 0)) ⊎ (EolOf x used ⊎ TornEolOf x used)
 
+-- the last pixel of a row is black
+abbrev pub EndsInBlack : List Color → Type 0
+EndsInBlack row = slice_get row (length row - 1) ≡ Some Black
+
+-- a line ends after the code of a white run of 0 pixels, with `used` bits in all
+abbrev pub EndsAfterWhite : List Bool → ℕ → Type 0
+EndsAfterWhite x used =
+    (rest : List Bool) × (more : ℕ) × (x ≡ run_words White 0 ++ rest) × EndsLine rest more × (used ≡ 8 + more)
+
+-- a line ends after this row, with `used` bits: at once; or, as some programs write it after a row whose last pixel is black, after a white
+-- run of 0 pixels
+abbrev pub EndsRow : List Color → List Bool → ℕ → Type 0
+EndsRow row x used = EndsLine x used ⊎ (EndsInBlack row × EndsAfterWhite x used)
+
 -- no line begins: only 0 bits are left, or an EOL follows the one before it
 abbrev pub EndsPage : List Bool → Type 0
 EndsPage x = AreZeros x ⊎ EolBegins x
@@ -45,7 +60,7 @@ EndsPage x = AreZeros x ⊎ EolBegins x
 abbrev pub IsReadFor : ℕ → List Bool → ℕ → Type 0
 IsReadFor width x count =
     ((kind : CodeFaultKind) × IsLongestFront width x count kind × ((row : List Color) (used : ℕ) → ¬ ReadsAsRow width x row used)) ⊎
-    ((row : List Color) × ReadsAsRow width x row count × ((used : ℕ) → ¬ EndsLine (drop count x) used))
+    ((row : List Color) × ReadsAsRow width x row count × ((used : ℕ) → ¬ EndsRow row (drop count x) used))
 
 -- an EOL ends after `count` bits
 abbrev pub EolEndsAfter : List Bool → ℕ → Type 0
@@ -62,7 +77,7 @@ IsSkipped x count =
 -- read, which goes on to the end of the next EOL
 abbrev pub IsLine : ℕ → List Bool → ℕ → Line → ℕ → Type 0
 IsLine width bits place (spelled row) next =
-    (used : ℕ) × (more : ℕ) × ReadsAsRow width (drop place bits) row used × EndsLine (drop (place + used) bits) more
+    (used : ℕ) × (more : ℕ) × ReadsAsRow width (drop place bits) row used × EndsRow row (drop (place + used) bits) more
     × (next ≡ place + used + more)
 IsLine width bits place (broken bit) next =
     (count : ℕ) × (more : ℕ) × (¬ EndsPage (drop place bits)) × IsReadFor width (drop place bits) count

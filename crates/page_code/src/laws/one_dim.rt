@@ -1,7 +1,7 @@
 //! Laws of pages in the one-dimensional code: what their contracts say is proved, and nothing runs.
 
 ghost use Rattle.page_code.specs.OneDimension.KindLaws.{AreRefusedPages, FrontsGoOn, OneKind, RefusesPagesExactly};
-ghost use Rattle.page_code.specs.OneDimension.LinesMean.{FirstLineMeans, LineEndsMean, SkippingMeans};
+ghost use Rattle.page_code.specs.OneDimension.LinesMean.{FirstLineMeans, LineEndsMean, RowLinesEndMean, SkippingMeans};
 ghost use Rattle.page_code.specs.OneDimension.OwnRuns.{OwnRunsOwn, OwnRunsOnly};
 ghost use Rattle.page_code.specs.OneDimension.Repairs.{OneRepair, RepairsNothing};
 ghost use Rattle.page_code.specs.OneDimension.Laws.{ReadsExactly, RefusesNoPage, RefusesAtLongest, OneFront, ReadsCode};
@@ -51,10 +51,12 @@ pub fn one_repair()
     ensures { OneRepair }
 {}
 
-/// Of a page that is repaired: a line ends with an EOL, also with one of which any one of the first eleven bits is wrong; after a line
+/// Of a page that is repaired: a line ends with an EOL, also with one of which any one of the first eleven bits is wrong; after a row
+/// that ends in black also with a white run of 0 pixels and an EOL; after a line
 /// that can't be read, reading goes on after the next EOL and nowhere else; the first line begins after an EOL, or at once.
 pub fn lines_mean()
     ensures ends { LineEndsMean }
+    ensures rows { RowLinesEndMean }
     ensures skips { SkippingMeans }
     ensures first { FirstLineMeans }
 {}

@@ -1,7 +1,7 @@
 //! Pages with rows that can't be read: each is given as the row before it (ITU-T T.4, 4.1).
 
-ghost use Rattle.page_code.specs.OneDimension.Repairs.{EndsPage, IsFirstLine, IsSkipped, last_row};
-ghost use Rattle.page_code.specs.OneDimension.Repairing.{FindsEnd, FindsLine, GivesLine, RepairsLines};
+ghost use Rattle.page_code.specs.OneDimension.Repairs.{EndsInBlack, EndsPage, IsFirstLine, IsSkipped, last_row};
+ghost use Rattle.page_code.specs.OneDimension.Repairing.{FindsEnd, FindsLine, FindsRowEnd, GivesLine, RepairsLines};
 ghost use Rattle.raster.specs.Packed.{bits_of};
 ghost use Rattle.raster.specs.Pages.{max_rows};
 ghost use Rattle.raster.specs.Pixels.{IsWidth};
@@ -16,9 +16,12 @@ use crate::one_dim::eol::{Eol, eol_at, zeros_from};
 use crate::page::{push_row, row_of};
 use crate::page_reader::is_memory;
 use raster::packed::Order;
-use raster::{MAX_ROWS, Page, Row};
+use raster::{Color, MAX_ROWS, Page, Row};
 use run_tables::{BitReader, CodeFault, CodeFaultKind};
 use std::alloc::{AllocError, Global};
+
+/// The code of a white run of 0 pixels (T.4, table 2): 8 bits.
+const WHITE_0: u32 = 0b0011_0101;
 
 /// A row that can't be read, for which the one before it is given.
 #[derive(Clone, Copy, Debug, PartialEq, Eq)]
@@ -74,6 +77,31 @@ fn line_end(octets: &[u8], order: Order, place: u128) -> Option<u128>
         return None;
     }
     Some(after + more + 1)
+}
+
+/// Whether a row's last pixel is black.
+fn ends_in_black(row: &Row) -> bool
+    ensures black { IsTrue result → EndsInBlack row.now }
+    ensures other { IsFalse result → ¬ EndsInBlack row.now }
+{
+    row.pixel(row.width() - 1) == Color::Black
+}
+
+/// The place after a line's end at a place after this row, where the line ends there: at once, or after a white run of 0
+/// pixels, which some programs write after a row whose last pixel is black.
+fn row_end(octets: &[u8], order: Order, row: &Row, place: u128) -> Option<u128>
+    requires { place ≤ 8 * length octets.now }
+    ensures { FindsRowEnd row.now (bits_of order octets.now) place result }
+{
+    if let Some(next) = line_end(octets, order, place) {
+        return Some(next);
+    }
+    let has_white = BitReader::at(octets, order, place).starts_with(WHITE_0, 8);
+    if has_white && ends_in_black(row) {
+        line_end(octets, order, place + 8)
+    } else {
+        None
+    }
 }
 
 /// The place after the first EOL from a place on, or after all bits where there is none.
@@ -135,7 +163,7 @@ fn find_line(
     match reader.read_row_1d(alloc, width) {
         Ok(row) => {
             let end = reader.place();
-            match line_end(octets, order, end) {
+            match row_end(octets, order, &row, end) {
                 Some(next) => Ok(Found::Read(row, next)),
                 None => Ok(Found::Broken(end)),
             }

@@ -5,8 +5,8 @@ use Rattle.raster.proofs.PackedLemmas.{length-bits_in}
 use Rattle.page_code.proofs.OneDimension.Repairs.{end_within, finds_no_end, finds_refused, finds_row, not_memory}
 use Rattle.page_code.proofs.one_dim.repair.find_line.Goals as goal
 
-pub line_end-requires : goal.line_end-requires
-line_end-requires c =
+pub row_end-requires : goal.row_end-requires
+row_end-requires c =
     let within : c.place-end.result ≤ length (bits_of c.args.order c.args.octets.now) = end_within (bits_of c.args.order c.args.octets.now)
     c.args.place c.args.width c.at-reader.result c.at-reader.ensures c.read_row_1d.new.self c.in-Ok.row c.place-end.result
     c.in-Ok.ensures.reads c.place-end.ensures.within in
