@@ -1,6 +1,7 @@
 -- The two-dimensional code (ITU-T T.6, 2.2).
 pub mod Positions
 pub mod Modes
+pub mod PageEnds
 pub mod Code
 pub mod Fronts
 pub mod ModeTable

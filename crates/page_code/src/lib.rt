@@ -19,3 +19,4 @@ pub use crate::page_rows::{MAX_HELD, NextRow, RowReader};
 pub use crate::row_coder::RowCoder;
 pub use crate::t6::T6;
 pub use crate::t6::mode::{ModeCode, Shift};
+pub use crate::t6::page_end::RowsToEnd;

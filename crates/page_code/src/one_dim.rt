@@ -12,7 +12,7 @@ ghost use Rattle.raster.specs.declared.row.Color.{Color};
 ghost use Rattle.run_tables.specs.Written.{Appends, KeepsBits};
 ghost use Rattle.std.specs.Prelude.{◌≡◌, ◌≤◌, ◌<◌, ◌+◌, ◌*◌, ◌++◌, ◌∷◌, [], ℕ, List, length, OnErr, OnOk, All};
 
-mod eol;
+pub(crate) mod eol;
 pub(crate) mod one_row;
 pub(crate) mod repair;
 

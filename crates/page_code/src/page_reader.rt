@@ -73,7 +73,7 @@ pub(crate) fn is_memory(kind: CodeFaultKind) -> bool
 }
 
 /// Reads on, up to the page's end or a refusal. Errs where memory is refused.
-fn read_further(
+pub(crate) fn read_further(
     alloc: Global,
     coding: Coding,
     octets: &[u8],

@@ -11,6 +11,7 @@ mod front;
 pub(crate) mod lines;
 pub(crate) mod mode;
 mod mode_table;
+pub(crate) mod page_end;
 pub(crate) mod read;
 pub(crate) mod write;
 

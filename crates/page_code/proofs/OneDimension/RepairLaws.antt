@@ -232,7 +232,7 @@ read_unbroken width bits place next other bit row wide one two = seen two.3
         two.0 place bits) in
         let row_is : row ≡ no_end.0 = (one_row width (drop place bits) row no_end.0 one.0 two.0 wide one.2 no_end.1).0 in
         no_end.2 one.1 (subst (λ (r : List Color). EndsRow r (drop two.0 (drop place bits)) one.1) row_is
-            (subst (λ (l : List Bool). EndsRow row l one.1) count one.3))
+        (subst (λ (l : List Bool). EndsRow row l one.1) count one.3))
 
 one_line : (width : ℕ) (bits : List Bool) (place next other : ℕ) (line line_too : Line) → IsWidth width
     → IsLine width bits place line next → IsLine width bits place line_too other → (line ≡ line_too) × (next ≡ other)

@@ -30,6 +30,7 @@ use Rattle.page_code.specs.declared.page.Progress.{Progress}
 use Rattle.page_code.specs.PageCodes.{GivesPage}
 use Rattle.page_code.specs.Codings.{read_rows}
 use Rattle.page_code.specs.RowsSoFar.{AreRowsSoFar, BeginWith, IsFurther, IsReadTo, LeadsTo, ReadsOn, between_rows}
+use Rattle.page_code.specs.TwoDimensions.PageEnds.{HoldsRowsTo}
 use Rattle.page_code.specs.TwoDimensions.Positions.{CodingLine, line_begin, white_line, right_of_a0, filled_to, b1_of, b2_of}
 use Rattle.page_code.specs.TwoDimensions.Modes.{to_right, to_left, eofb, runs_added}
 use Rattle.page_code.specs.TwoDimensions.Fronts.{PageItem, page_item_word, PageSoFar, PageState, page_begin, row_added, mode_ended}
@@ -274,11 +275,11 @@ row_stopped width page place at kind x sees e =
 
 -- Whole rows
 
--- rows that were read are spelled
-pub spelled_rows : (width : ℕ) (bits : List Bool) (rows : List (List Color)) (place : ℕ) → 0 < length rows
-    → LeadsTo page_item_word (PageStep width) (page_begin width) (between_rows width rows) bits place → BeginWith T6 width bits rows
-unfolding BeginWith reading
-spelled_rows width bits rows place some leads =
+-- rows that were read are spelled, by the bits up to the place
+pub spelled_to : (width : ℕ) (bits : List Bool) (rows : List (List Color)) (place : ℕ) → 0 < length rows
+    → LeadsTo page_item_word (PageStep width) (page_begin width) (between_rows width rows) bits place → HoldsRowsTo width bits rows place
+unfolding reading
+spelled_to width bits rows place some leads =
     let front : List Bool = spell page_item_word leads.items in
     let whole : List Bool = front ++ (eofb ++ []) in
     let last = answers_there page_item_word (PageStep width) (page_look width) BadCode (finds width) leads.items (suc (length whole))
@@ -296,7 +297,7 @@ spelled_rows width bits rows place some leads =
     )) in
     let same : front ≡ read.front = append_cancel_right front read.front (eofb ++ []) (read.split ∙
     ap (λ l. read.front ++ (eofb ++ l)) none) in
-    (read.front, leads.rest, read.spells, leads.spelled ∙ ap (λ l. l ++ leads.rest) same)
+    (read.front, leads.rest, read.spells, leads.spelled ∙ ap (λ l. l ++ leads.rest) same, leads.place_is ∙ sym size)
   where
     ending : (all : List (List Color)) → 0 < length all → page_end all ≡ stop all 24
     ending [] h = absurd (omega arith)
@@ -305,6 +306,13 @@ spelled_rows width bits rows place some leads =
     empty : (l : List Bool) → length l ≡ 0 → l ≡ []
     empty [] h = refl
     empty (bit ∷ l) h = absurd (omega arith)
+
+pub spelled_rows : (width : ℕ) (bits : List Bool) (rows : List (List Color)) (place : ℕ) → 0 < length rows
+    → LeadsTo page_item_word (PageStep width) (page_begin width) (between_rows width rows) bits place → BeginWith T6 width bits rows
+unfolding BeginWith
+spelled_rows width bits rows place some leads =
+    let there = spelled_to width bits rows place some leads in
+    (there.0, there.1, there.2, there.3)
 
 -- where nothing goes on, the rows before it are those that the bits spell
 counted : (width : ℕ) (bits : List Bool) (rows : List (List Color)) (place at : ℕ) (end : PageState) → IsWidth width

@@ -2,8 +2,14 @@
 
 ghost use Rattle.page_code.specs.TwoDimensions.ByPlaces.{ModesByValue, PrescribesByPlaces};
 ghost use Rattle.page_code.specs.TwoDimensions.KindLaws.{AreRefusedPages, FrontsAreParts, FrontsGoOn, OneKind, RefusesPagesExactly};
+ghost use Rattle.page_code.specs.TwoDimensions.PageEnds.{PageEndsMean};
 ghost use Rattle.page_code.specs.TwoDimensions.Laws.{FindsPositions, OneFront, PassLeadsOn, ReadsExactly};
 ghost use Rattle.page_code.specs.TwoDimensions.Laws.{RefusesAtLongest, RefusesNoPage, RoundTrip};
+
+/// Where no row begins, the codes of no row are; EOFB, a part of it and nothing are such ends of a page, and an extension is none.
+pub fn page_ends_mean()
+    ensures { PageEndsMean }
+{}
 
 /// The places that the search finds are b1, b2 and the next changing element, and no others are.
 pub fn finds_positions()

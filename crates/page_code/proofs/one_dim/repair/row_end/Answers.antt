@@ -35,8 +35,8 @@ returns-else-has_white c =
     let bits = bits_of c.args.order c.args.octets.now in
     let has = has_white bits c.args.place c.at.result c.starts_with-has_white.result c.at.ensures c.starts_with-has_white.ensures in
     elim c.else-has_white.branch [
-      else-has_white-via-then-has_white+else-ends_in_black w ↦ row_is_white c.args.row.now bits c.args.place
+      | else-has_white-via-then-has_white+else-ends_in_black w ↦ row_is_white c.args.row.now bits c.args.place
           (w.ends_in_black.ensures.other w.if-ends_in_black.false) c.in_default.ensures
-    | else-has_white-via-else-has_white w ↦ row_goes_on c.args.row.now bits c.args.place c.starts_with-has_white.result has
+      | else-has_white-via-else-has_white w ↦ row_goes_on c.args.row.now bits c.args.place c.starts_with-has_white.result has
           w.if-has_white.false c.in_default.ensures
     ]
