@@ -13,4 +13,5 @@ mod RepairedLines
 mod MissingEol
 mod CapturesMean
 mod RepairsMean
+mod RepairsT6
 pub mod FirstElements

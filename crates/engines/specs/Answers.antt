@@ -5,7 +5,7 @@ use Rattle.std.specs.Int.{div_ceil}
 use Rattle.engines.specs.Decodings.{GivesPage, broken_asked}
 use Rattle.engines.specs.PageEnds.{HasItsEnd}
 use Rattle.engines.specs.declared.decoding.ReadTo.{ReadTo}
-use Rattle.engines.specs.declared.decoding.ReadTo.TheVariants.{End, Fault, Lines}
+use Rattle.engines.specs.declared.decoding.ReadTo.TheVariants.{End, Fault, Lines, NoEnd}
 use Rattle.engines.specs.declared.fault.ToolFault.{ToolFault}
 use Rattle.engines.specs.declared.options.DecodeOptions.{DecodeOptions}
 use Rattle.engines.specs.declared.options.PageForm.{PageForm}
@@ -36,14 +36,17 @@ end_text verbose rows bits after has_end =
     cond verbose (page_line rows bits ++ after_line after) [] ++ cond has_end [] (no_rtc_line rows)
 
 -- What is told of a page, and whether all is there. Of one that was read to the end of its code, all is there, but for RTC where it is
--- asked for. Of one that was read line by line, the lines of its repaired rows, and its rows where they are asked for. Where the rest
--- is refused, nothing is told, and that is the fault.
+-- asked for. Of one that was read line by line, the lines of its repaired rows, and its rows where they are asked for. Of one that ends
+-- without its EOFB, the line that says so, and its rows where they are asked for; and all is there, but where the end is asked for. Where
+-- the rest is refused, nothing is told, and that is the fault.
 abbrev pub TellsPage : PageForm → DecodeOptions → List ℕ → ReadTo → ℕ → List ℕ → List ℕ → Result Bool ToolFault → Type 0
 TellsPage form options octets (End bits) rows lines told end =
     (has_end : Bool) × (IsTrue has_end ↔ HasItsEnd form.coding form.order octets bits)
     × (told ≡ end_text options.verbose rows bits (octets_after octets bits) has_end) × (end ≡ Ok (has_end || not options.whole))
 TellsPage form options octets (Lines count) rows lines told end =
     (told ≡ lines ++ cond options.verbose (rows_line rows) []) × (end ≡ Ok true)
+TellsPage form options octets (NoEnd bit) rows lines told end =
+    (told ≡ lines ++ cond options.verbose (rows_line rows) []) × (end ≡ Ok (not options.whole))
 TellsPage form options octets (Fault fault) rows lines told end = (told ≡ []) × (end ≡ Err fault)
 
 -- a page is decoded in the way that the options ask for, and this is told of it

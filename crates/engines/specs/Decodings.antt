@@ -1,8 +1,11 @@
 -- What each way of decoding gives of a page.
 use Rattle.std.specs.Prelude.{ℕ, ◌≡◌, Bool, true, false, List, [], Some}
+use Rattle.page_code.specs.declared.Coding.{Coding}
+use Rattle.page_code.specs.declared.Coding.TheVariants.{OneDim, T6}
 use Rattle.engines.specs.CodedPages.{DecodesPage, RefusesShow, SalvagesRows}
 use Rattle.engines.specs.Faults.{IsOutside}
 use Rattle.engines.specs.Repairs.{RefusesRepair, RepairsPage}
+use Rattle.engines.specs.RepairsT6.{RepairsT6}
 use Rattle.engines.specs.declared.decoding.Broken.{Broken}
 use Rattle.engines.specs.declared.decoding.Broken.TheVariants.{Nothing, WholeRows, AllRows}
 use Rattle.engines.specs.declared.decoding.ReadTo.{ReadTo}
@@ -16,8 +19,16 @@ broken_asked salvage true = AllRows
 broken_asked true false = WholeRows
 broken_asked false false = Nothing
 
+-- what `decode --repair` gives of a page in a code: in one dimension a row for each line
+abbrev pub GivesRepaired : Coding → PageForm → List ℕ → ReadTo → ℕ → List ℕ → List ℕ → Type 0
+GivesRepaired OneDim form octets (Lines count) rows image lines =
+    RepairsPage form.order form.width form.fine (Some []) (Some image) (Some []) (Some lines) (record { rows = rows; repaired = count })
+    octets
+GivesRepaired T6 form octets read_to rows image lines = RepairsT6 form octets read_to rows image lines
+GivesRepaired OneDim form octets read_to rows image lines = ⊥
+
 -- Into no octets the image was written, and into others the lines of repaired rows. A page that is read to its end is the same for the
--- first two ways; where it is refused, only the second one gives its whole rows; the third one gives a row for each line.
+-- first two ways; where it is refused, only the second one gives its whole rows; the third one repairs it.
 abbrev pub GivesPage : Broken → PageForm → List ℕ → ReadTo → ℕ → List ℕ → List ℕ → Type 0
 GivesPage Nothing form octets (End bits) rows image lines =
     DecodesPage form.coding form.order form.width form.fine (Some []) (Some image) rows bits octets × (lines ≡ [])
@@ -25,13 +36,16 @@ GivesPage WholeRows form octets (End bits) rows image lines =
     DecodesPage form.coding form.order form.width form.fine (Some []) (Some image) rows bits octets × (lines ≡ [])
 GivesPage WholeRows form octets (Fault fault) rows image lines =
     SalvagesRows form.coding form.order form.width form.fine (Some []) (Some image) rows fault octets × (lines ≡ [])
-GivesPage AllRows form octets (Lines count) rows image lines =
-    RepairsPage form.order form.width form.fine (Some []) (Some image) (Some []) (Some lines) (record { rows = rows; repaired = count })
-    octets
+GivesPage AllRows form octets read_to rows image lines = GivesRepaired form.coding form octets read_to rows image lines
 GivesPage broken form octets read_to rows image lines = ⊥
+
+-- why nothing is given of a page that is repaired
+abbrev pub RefusesRepaired : Coding → PageForm → List ℕ → ToolFault → Type 0
+RefusesRepaired OneDim form octets fault = RefusesRepair form.order form.width octets fault
+RefusesRepaired T6 form octets fault = IsOutside fault
 
 -- why nothing is given
 abbrev pub RefusesDecoding : Broken → PageForm → List ℕ → ToolFault → Type 0
 RefusesDecoding Nothing form octets fault = RefusesShow form.coding form.order form.width octets fault
 RefusesDecoding WholeRows form octets fault = IsOutside fault
-RefusesDecoding AllRows form octets fault = RefusesRepair form.order form.width octets fault
+RefusesDecoding AllRows form octets fault = RefusesRepaired form.coding form octets fault

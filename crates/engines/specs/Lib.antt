@@ -4,6 +4,7 @@ pub mod FaultKinds
 pub mod Explanations
 pub mod CodedPages
 pub mod Repairs
+pub mod RepairsT6
 pub mod Decodings
 pub mod PageEnds
 pub mod Answers

@@ -133,6 +133,11 @@ pub fn answer_decode(
             let end = Ok(true);
             Ok(DecodeAnswer { image, told, end })
         }
+        ReadTo::NoEnd(_) => {
+            tell_rows(options.verbose, rows, &mut told)?;
+            let end = Ok(!options.whole);
+            Ok(DecodeAnswer { image, told, end })
+        }
         ReadTo::Fault(fault) => {
             let end = Err(fault);
             Ok(DecodeAnswer { image, told, end })

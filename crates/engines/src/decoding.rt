@@ -7,6 +7,8 @@ use crate::fault::ToolFault;
 use crate::options::PageForm;
 use crate::pages::{decode_engine, salvage_engine};
 use crate::repair::repair_engine;
+use crate::repair_t6::repair_t6;
+use page_code::Coding;
 use std::alloc::Global;
 
 /// What is given of a page that can't be read.
@@ -16,7 +18,8 @@ pub enum Broken {
     Nothing,
     /// The whole rows before the bit where it is refused.
     WholeRows,
-    /// All its rows, where one that can't be read is the one before it; for the one-dimensional code.
+    /// In the one-dimensional code all its rows, where one that can't be read is the one before it. In T.6 its whole rows; and where
+    /// only its EOFB is missing or broken, that is no fault.
     AllRows,
 }
 
@@ -44,6 +47,8 @@ pub enum ReadTo {
     Fault(ToolFault),
     /// To its end line by line, where this number of rows is repaired.
     Lines(usize),
+    /// To the bit after its last row, where EOFB is missing or broken.
+    NoEnd(u128),
 }
 
 /// What is given of a coded page.
@@ -60,7 +65,7 @@ pub struct Decoded {
 }
 
 /// Decodes octets that begin with the code of a page of this form, with a width of 1 to 2,432 pixels, in the way that is
-/// asked for: as `decode_engine`, `salvage_engine` or `repair_engine` does. Errs where no page is given: at the
+/// asked for: as `decode_engine`, `salvage_engine`, `repair_engine` or `repair_t6` does. Errs where no page is given: at the
 /// bit where they are refused, and with 8 and 9 where memory is.
 pub fn decode_page(
     alloc: Global,
@@ -87,10 +92,13 @@ pub fn decode_page(
                 Err(fault) => (salvage.rows, ReadTo::Fault(fault)),
             }
         }
-        Broken::AllRows => {
-            let repair = repair_engine(alloc, &mut reader, &mut image, &mut lines, form)?;
-            (repair.rows, ReadTo::Lines(repair.repaired))
-        }
+        Broken::AllRows => match form.coding {
+            Coding::OneDim => {
+                let repair = repair_engine(alloc, &mut reader, &mut image, &mut lines, form)?;
+                (repair.rows, ReadTo::Lines(repair.repaired))
+            }
+            Coding::T6 => return repair_t6(alloc, octets, form),
+        },
     };
     Ok(Decoded {
         image,

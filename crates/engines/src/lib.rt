@@ -17,6 +17,7 @@ mod page_end;
 mod pages;
 mod refused;
 mod repair;
+mod repair_t6;
 mod texts;
 
 pub use crate::answer::{DecodeAnswer, answer_decode};

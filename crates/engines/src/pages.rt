@@ -148,7 +148,7 @@ pub fn salvage_engine<R: Read, W: Write>(
 }
 
 /// Writes a page as an image where it has rows, and answers how many.
-fn write_some<W: Write>(page: Page, writer: &mut W) -> Result<usize, ToolFault>
+pub(crate) fn write_some<W: Write>(page: Page, writer: &mut W) -> Result<usize, ToolFault>
     ensures rows { IfOk result (λ rows. rows ≡ length page.rows) }
     ensures written { OnOk result (0 < length page.rows →
         AppendsSome (ArePagesText (page ∷ [])) (W.contents writer.old) (W.contents writer.new)) }
