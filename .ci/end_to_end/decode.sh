@@ -97,13 +97,49 @@ try_repair() {
         decode --repair --code mh --width 8 "$work/bad_page" "$work/repaired"
     faults "fault 8" decode --repair --code mh --width 8 "$work/missing" "$work/repaired"
     [ ! -e "$work/repaired" ] || fails "decode --repair made OUT after a fault"
-    for words in "--repair --salvage --code mh" "--repair --code mmr" "--repair --salvage --code mmr"; do
+    for words in "--repair --salvage --code mh" "--repair --salvage --code mmr"; do
         refuses decode $words --width 8 "$work/bad_page" "$work/repaired"
-        grep -qF -e "--repair is for --code mh, and can't be used with --salvage" "$work/error" || fails "decode $words doesn't say what is wrong"
+        grep -qF -e "--repair and --salvage can't be used together" "$work/error" || fails "decode $words doesn't say what is wrong"
     done
     refuses decode --repair --repair --code mh --width 8 "$work/bad_page" "$work/repaired"
     refuses show --repair --code mh --width 8 "$work/bad_page"
     python3 -B "$data/try_repair.py" "$program" "$work" || fails "decode --repair of pages with a flipped bit"
+    try_others_pages
+    try_no_eofb
+}
+
+# Pages of other programs: mgetty's pbm2g3 writes a white run of 0 pixels after a row that ends in black, and ghostscript's faxg4 no EOFB.
+try_others_pages() {
+    code=$(octets "00 1E CD 40 05 FB 00 10 01 00 10 01 00 10 01 00 10")
+    works decode --repair --code mh --width 8 "$code" "$work/repaired"
+    is_same "$work/repaired" "$(octets "50 34 0A 38 20 32 0A 03 30")" "decode --repair of a page of pbm2g3"
+    code=$(octets "F2 6A 1A 08 83 FF F8 C0")
+    faults "fault 17 at bit 58" decode --code mmr --width 64 "$code" "$work/missing"
+    gives 0 decode --repair --code mmr --width 64 "$code" "$work/repaired"
+    rows=$(for row in 1 2 3 4; do echo "00 00 00 00 00 00 00 00"; done; echo "FF FF F0 00 00 00 00 00")
+    rows=$(echo "$rows" | sed "5d"; for row in 5 6 7; do echo "FF FF F0 00 00 F8 00 00"; done; echo "FF FF F0 00 00 00 00 00")
+    is_same "$work/repaired" "$(octets "50 34 0A 36 34 20 38 0A $rows")" "decode --repair of a page of faxg4"
+    echo "the page ends without its EOFB after 8 rows, at bit 58" > "$work/wanted"
+    is_same "$work/error" "$work/wanted" "what decode --repair tells of a page of faxg4"
+    gives 1 decode --repair --whole --code mmr --width 64 "$code" "$work/repaired"
+}
+
+# A page of T.6 without its EOFB, with a part of it, and with a row that can't be read.
+try_no_eofb() {
+    for end in "" 00 0000000 00000000 000000000001 "000000000001 0000000000011" "000000000001 000000001001"; do
+        gives 0 decode --repair --verbose --code mmr --width 8 "$(bits "001 0111 11 1 1 1 $end")" "$work/repaired"
+        is_same "$work/repaired" "$(octets "50 34 0A 38 20 32 0A 30 30")" "decode --repair of a page that ends with $end"
+        printf 'the page ends without its EOFB after 2 rows, at bit 12\nrows 2\n' > "$work/wanted"
+        is_same "$work/error" "$work/wanted" "what decode --repair tells of a page that ends with $end"
+    done
+    works decode --repair --code mmr --width 8 "$(bits "001 0111 11 1 1 1 000000000001 000000000001")" "$work/repaired"
+    for row in 0000001 "001 0111 000000000001 000000000001" 0001000; do
+        faults "fault" decode --repair --code mmr --width 8 "$(bits "001 0111 11 1 1 1 $row 1111111")" "$work/repaired"
+        is_same "$work/repaired" "$(octets "50 34 0A 38 20 32 0A 30 30")" "decode --repair of a page that breaks off at $row"
+    done
+    rm -f "$work/repaired"
+    faults "fault" decode --repair --code mmr --width 8 "$(bits "000000000001 000000000001")" "$work/repaired"
+    [ ! -e "$work/repaired" ] || fails "decode --repair made OUT of a page without a row"
 }
 
 # The large page without the last octets of its code, which has so many bits. What is left ends inside a code word of the last

@@ -296,11 +296,6 @@ pub record IsShowOf (rows : List Row) (coding : Coding) (order : Order) (width :
   pub width_is : IsWidthIn rows width
   pub input_is : first_of (codes "file") rows ≡ Some input
 
--- rows are repaired of the one-dimensional code alone, and not where the page is salvaged
-abbrev pub go_together : Coding → Bool → Bool → Bool
-go_together OneDim salvage repair = not (salvage && repair)
-go_together T6 salvage repair = not repair
-
 -- what is asked for of a page that is decoded is what the values say
 pub record AreDecodeOptionsIn (rows : List Row) (options : DecodeOptions) : Type 0 where
   pub salvage_is : options.salvage ≡ is_named (codes "true") (first_of (codes "salvage") rows)
@@ -313,7 +308,7 @@ pub record IsDecodeOf (rows : List Row) (form : PageForm) (options : DecodeOptio
   pub shown : IsShowOf rows form.coding form.order form.width input
   pub fine_is : form.fine ≡ is_named (codes "true") (first_of (codes "fine") rows)
   pub options_are : AreDecodeOptionsIn rows options
-  pub together : go_together form.coding options.salvage options.repair ≡ true
+  pub one_way : (options.salvage && options.repair) ≡ false
   pub output_is : first_of (codes "out") rows ≡ Some output
 
 -- the options are those that the values give

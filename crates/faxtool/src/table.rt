@@ -140,12 +140,12 @@ const DECODE_ARGUMENTS: &[Argument<'static>] = &[
     },
     Argument {
         id: "repair",
-        help: "Gives each row that can't be read as the one before it, and names it (mh alone)",
+        help: "mh: gives each row that can't be read as the one before it, and names it; mmr: takes a page without its EOFB",
         ..FLAG
     },
     Argument {
         id: "whole",
-        help: "Ends with status 1 where the page ends without its RTC (mh alone)",
+        help: "Ends with status 1 where the page ends without its RTC, or with --repair without its EOFB",
         ..FLAG
     },
     Argument {

@@ -4,7 +4,7 @@ ghost use Rattle.std.specs.Prelude.{ℕ, Option, map, option_map, string_bytes};
 ghost use Rattle.clap.specs.Words.{first_of, found_of, kind_of, rows_of, subcommand_rows_of};
 ghost use Rattle.clap.specs.declared.error.kind.ErrorKind.TheVariants.{OutOfMemory};
 ghost use Rattle.faxtool.specs.Jobs.{AreDecodeOptionsIn, AreOptionsIn, HasNoJob, HasNoOptions, IsJobOf, IsOutcomeOf, IsRefusalOf, IsWidthIn, ReadsAs};
-ghost use Rattle.faxtool.specs.Jobs.{ReadsNumber, are_both_standard, coding_named, explains, go_together, is_named, modems_named};
+ghost use Rattle.faxtool.specs.Jobs.{ReadsNumber, are_both_standard, coding_named, explains, is_named, modems_named};
 ghost use Rattle.faxtool.specs.Jobs.{IsLineIn, IsRateIn, IsSpoilIn, IsBusyIn, IsTimesIn, calls_of, has_line, order_named, status_of};
 ghost use Rattle.calls.specs.declared.losses.BadLine.{BadLine as LineValue};
 
@@ -316,7 +316,7 @@ fn decode_job(alloc: Global, matches: &ArgMatches<'_>) -> Result<Option<Job>, Al
         return Ok(None);
     };
     let options = decode_options(matches);
-    if !go_together(coding, options.salvage, options.repair) {
+    if options.salvage && options.repair {
         return Ok(None);
     }
     let form = PageForm {
@@ -342,16 +342,6 @@ fn decode_options(matches: &ArgMatches<'_>) -> DecodeOptions
         repair: is_named(text_in(matches, "repair"), "true"),
         whole: is_named(text_in(matches, "whole"), "true"),
         verbose: is_named(text_in(matches, "verbose"), "true"),
-    }
-}
-
-// Whether rows may be repaired, where that is asked for.
-fn go_together(coding: Coding, salvage: bool, repair: bool) -> bool
-    ensures { result ≡ go_together coding salvage repair }
-{
-    match coding {
-        Coding::OneDim => !(salvage && repair),
-        Coding::T6 => !repair,
     }
 }
 
@@ -627,7 +617,7 @@ fn unfit_text(matches: &ArgMatches<'_>) -> &'static str {
     match matches.subcommand() {
         Some((name, inner)) if name == "call" => unfit_call(inner),
         Some((name, inner)) if name == "station" => unfit_station(inner),
-        _ => "--repair is for --code mh, and can't be used with --salvage",
+        _ => "--repair and --salvage can't be used together",
     }
 }
 
