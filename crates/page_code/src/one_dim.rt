@@ -19,6 +19,7 @@ pub(crate) mod repair;
 use crate::coding::{Coding, PageCode};
 use crate::one_dim::eol::{Eol, after_five_eols, eol_at, quick_eol};
 use crate::page::{Progress, are_octets, push_row};
+use crate::turned::turned_copy;
 use raster::packed::Order;
 use raster::{MAX_ROWS, Page, Row};
 use run_tables::{BitReader, BitWriter, CodeFault, CodeFaultKind};
@@ -123,9 +124,8 @@ fn read_row(
     Ok(())
 }
 
-/// Reads on from the rows read so far to the page's end, and answers how many bits the page uses. After
-/// an error the rows before it were read.
-pub(crate) fn read_on(
+/// Reads on in the order of the octets, as `read_on`.
+fn read_in_order(
     alloc: Global,
     octets: &[u8],
     order: Order,
@@ -141,6 +141,31 @@ pub(crate) fn read_on(
             Start::Row(place) => read_row(alloc, octets, order, place, &mut list, to)?,
             Start::End(used) => return Ok(used),
             Start::Refused(fault) => return Err(fault),
+        }
+    }
+}
+
+/// Reads on from the rows read so far to the page's end, and answers how many bits the page uses. After
+/// an error the rows before it were read. Where the page begins with the octets and the least significant
+/// bit is first, they are turned once, so that no word of them is.
+pub(crate) fn read_on(
+    alloc: Global,
+    octets: &[u8],
+    order: Order,
+    to: &mut Progress,
+) -> Result<u128, CodeFault>
+    requires width { IsWidth to.old.page.width }
+    requires read { IsReadTo Coding.OneDim to.old.page.width (bits_of order octets.now) to.old.page.rows to.old.place }
+    ensures { ReadsOn Coding.OneDim (bits_of order octets.now) to.old to.new result }
+{
+    match order {
+        Order::MsbFirst => read_in_order(alloc, octets, order, to),
+        Order::LsbFirst => {
+            if to.place > 0 {
+                return read_in_order(alloc, octets, order, to);
+            }
+            let turned = turned_copy(alloc, octets)?;
+            read_in_order(alloc, &turned, Order::MsbFirst, to)
         }
     }
 }

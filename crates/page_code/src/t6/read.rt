@@ -25,6 +25,7 @@ use crate::t6::front::{Front, left_of_b1, right_of_b1, to_a1, under_b1, under_b2
 use crate::t6::lines::Lines;
 use crate::t6::mode::{EOFB, EOFB_NUMBER, ModeCode, Shift};
 use crate::t6::mode_table::mode_of;
+use crate::turned::turned_copy;
 use raster::packed::Order;
 use raster::{MAX_ROWS, Page, Row};
 use run_tables::{BitReader, CodeFault, CodeFaultKind};
@@ -359,9 +360,8 @@ fn lines_after(alloc: Global, page: &Page) -> Result<Lines, AllocError>
     Lines::after(alloc, &rows[rows.len() - 1])
 }
 
-/// Reads on from the rows read so far to the page's end, and answers how many bits the page uses. After
-/// an error the rows before it were read.
-pub(crate) fn read_on(
+/// Reads on in the order of the octets, as `read_on`.
+fn read_in_order(
     alloc: Global,
     octets: &[u8],
     order: Order,
@@ -382,5 +382,30 @@ pub(crate) fn read_on(
         let row = read_row(alloc, &mut reader, &mut lines)?;
         push_row(&mut to.page, row)?;
         to.place = reader.place();
+    }
+}
+
+/// Reads on from the rows read so far to the page's end, and answers how many bits the page uses. After
+/// an error the rows before it were read. Where the page begins with the octets and the least significant
+/// bit is first, they are turned once, so that no word of them is.
+pub(crate) fn read_on(
+    alloc: Global,
+    octets: &[u8],
+    order: Order,
+    to: &mut Progress,
+) -> Result<u128, CodeFault>
+    requires width { IsWidth to.old.page.width }
+    requires read { IsReadTo Coding.T6 to.old.page.width (bits_of order octets.now) to.old.page.rows to.old.place }
+    ensures { ReadsOn Coding.T6 (bits_of order octets.now) to.old to.new result }
+{
+    match order {
+        Order::MsbFirst => read_in_order(alloc, octets, order, to),
+        Order::LsbFirst => {
+            if to.place > 0 {
+                return read_in_order(alloc, octets, order, to);
+            }
+            let turned = turned_copy(alloc, octets)?;
+            read_in_order(alloc, &turned, Order::MsbFirst, to)
+        }
     }
 }
