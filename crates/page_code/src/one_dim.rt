@@ -19,7 +19,7 @@ pub(crate) mod repair;
 use crate::coding::{Coding, PageCode};
 use crate::one_dim::eol::{Eol, after_five_eols, eol_at, quick_eol};
 use crate::page::{Progress, are_octets, push_row};
-use crate::turned::turned_copy;
+use crate::turned::{code_of, turned_code};
 use raster::packed::Order;
 use raster::{MAX_ROWS, Page, Row};
 use run_tables::{BitReader, BitWriter, CodeFault, CodeFaultKind};
@@ -125,6 +125,7 @@ fn read_row(
 }
 
 /// Reads on in the order of the octets, as `read_on`.
+#[inline(never)]
 fn read_in_order(
     alloc: Global,
     octets: &[u8],
@@ -158,16 +159,9 @@ pub(crate) fn read_on(
     requires read { IsReadTo Coding.OneDim to.old.page.width (bits_of order octets.now) to.old.page.rows to.old.place }
     ensures { ReadsOn Coding.OneDim (bits_of order octets.now) to.old to.new result }
 {
-    match order {
-        Order::MsbFirst => read_in_order(alloc, octets, order, to),
-        Order::LsbFirst => {
-            if to.place > 0 {
-                return read_in_order(alloc, octets, order, to);
-            }
-            let turned = turned_copy(alloc, octets)?;
-            read_in_order(alloc, &turned, Order::MsbFirst, to)
-        }
-    }
+    let turned = turned_code(alloc, octets, order, to.place)?;
+    let (code, first) = code_of(octets, order, &turned);
+    read_in_order(alloc, code, first, to)
 }
 
 /// Writes the return to control: six EOLs (ITU-T T.4, 4.1.4).

@@ -5,7 +5,7 @@ use Rattle.run_tables.specs.Codes.{text}
 use Rattle.page_code.specs.OneDimension.Fronts.{zeros_before}
 use Rattle.page_code.specs.OneDimension.LinesMean.{FirstLineMeans, LineEndsMean, SkippingMeans}
 use Rattle.page_code.specs.OneDimension.Pages.{eol_word}
-use Rattle.page_code.specs.OneDimension.Repairs.{EndsLine, TornEolOf}
+use Rattle.page_code.specs.OneDimension.Repairs.{TornEolOf}
 use Rattle.page_code.proofs.OneDimension.LineEnds.{Seen, end_seen, none_some, one_end, one_skip, same_count, skips_all, skips_eol, skips_on}
 use Rattle.page_code.proofs.OneDimension.ZerosBefore.{none_zeros, zeros_eol}
 

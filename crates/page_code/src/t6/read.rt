@@ -25,7 +25,7 @@ use crate::t6::front::{Front, left_of_b1, right_of_b1, to_a1, under_b1, under_b2
 use crate::t6::lines::Lines;
 use crate::t6::mode::{EOFB, EOFB_NUMBER, ModeCode, Shift};
 use crate::t6::mode_table::mode_of;
-use crate::turned::turned_copy;
+use crate::turned::{code_of, turned_code};
 use raster::packed::Order;
 use raster::{MAX_ROWS, Page, Row};
 use run_tables::{BitReader, CodeFault, CodeFaultKind};
@@ -398,14 +398,7 @@ pub(crate) fn read_on(
     requires read { IsReadTo Coding.T6 to.old.page.width (bits_of order octets.now) to.old.page.rows to.old.place }
     ensures { ReadsOn Coding.T6 (bits_of order octets.now) to.old to.new result }
 {
-    match order {
-        Order::MsbFirst => read_in_order(alloc, octets, order, to),
-        Order::LsbFirst => {
-            if to.place > 0 {
-                return read_in_order(alloc, octets, order, to);
-            }
-            let turned = turned_copy(alloc, octets)?;
-            read_in_order(alloc, &turned, Order::MsbFirst, to)
-        }
-    }
+    let turned = turned_code(alloc, octets, order, to.place)?;
+    let (code, first) = code_of(octets, order, &turned);
+    read_in_order(alloc, code, first, to)
 }
