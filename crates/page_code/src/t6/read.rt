@@ -97,14 +97,12 @@ fn begins_row(reader: &BitReader) -> bool
     true
 }
 
-/// What is found where a row may begin, after `rows` rows.
-fn start_at(reader: &BitReader, rows: usize) -> Start
+/// What is found where a row may begin, after `rows` rows, looked for in all ways.
+#[cold]
+#[inline(never)]
+fn start_anyhow(reader: &BitReader, rows: usize) -> Start
     ensures { SeesStart (rest_of reader.now) rows result }
 {
-    let row = begins_row(reader);
-    if row && rows < MAX_ROWS {
-        return Start::Row;
-    }
     if is_at_eofb(reader) {
         if rows == 0 {
             return Start::Refused(CodeFaultKind::NoRows);
@@ -121,6 +119,19 @@ fn start_at(reader: &BitReader, rows: usize) -> Start
         return Start::Refused(CodeFaultKind::TooManyCodedRows);
     }
     Start::Row
+}
+
+/// What is found where a row may begin, after `rows` rows.
+#[inline(always)]
+fn start_at(reader: &BitReader, rows: usize) -> Start
+    ensures { SeesStart (rest_of reader.now) rows result }
+{
+    let row = begins_row(reader);
+    if row && rows < MAX_ROWS {
+        return Start::Row;
+    }
+    let ahead = reader.look_ahead();
+    start_anyhow(&ahead, rows)
 }
 
 /// Whether the bits that are left are a beginning of a mode code.
