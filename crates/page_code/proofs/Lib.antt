@@ -10,3 +10,4 @@ pub mod PageReaders
 pub mod HandCoded
 pub mod RowCoders
 pub mod RowReaders
+mod TurnedOctets

@@ -10,6 +10,7 @@ mod page_reader;
 mod page_rows;
 mod row_coder;
 mod t6;
+mod turned;
 
 pub use crate::coding::{Coding, PageCode};
 pub use crate::one_dim::OneDim;

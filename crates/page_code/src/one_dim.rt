@@ -19,6 +19,7 @@ pub(crate) mod repair;
 use crate::coding::{Coding, PageCode};
 use crate::one_dim::eol::{Eol, after_five_eols, eol_at, quick_eol};
 use crate::page::{Progress, are_octets, push_row};
+use crate::turned::{code_of, turned_code};
 use raster::packed::Order;
 use raster::{MAX_ROWS, Page, Row};
 use run_tables::{BitReader, BitWriter, CodeFault, CodeFaultKind};
@@ -123,9 +124,9 @@ fn read_row(
     Ok(())
 }
 
-/// Reads on from the rows read so far to the page's end, and answers how many bits the page uses. After
-/// an error the rows before it were read.
-pub(crate) fn read_on(
+/// Reads on in the order of the octets, as `read_on`.
+#[inline(never)]
+fn read_in_order(
     alloc: Global,
     octets: &[u8],
     order: Order,
@@ -143,6 +144,24 @@ pub(crate) fn read_on(
             Start::Refused(fault) => return Err(fault),
         }
     }
+}
+
+/// Reads on from the rows read so far to the page's end, and answers how many bits the page uses. After
+/// an error the rows before it were read. Where the page begins with the octets and the least significant
+/// bit is first, they are turned once, so that no word of them is.
+pub(crate) fn read_on(
+    alloc: Global,
+    octets: &[u8],
+    order: Order,
+    to: &mut Progress,
+) -> Result<u128, CodeFault>
+    requires width { IsWidth to.old.page.width }
+    requires read { IsReadTo Coding.OneDim to.old.page.width (bits_of order octets.now) to.old.page.rows to.old.place }
+    ensures { ReadsOn Coding.OneDim (bits_of order octets.now) to.old to.new result }
+{
+    let turned = turned_code(alloc, octets, order, to.place)?;
+    let (code, first) = code_of(octets, order, &turned);
+    read_in_order(alloc, code, first, to)
 }
 
 /// Writes the return to control: six EOLs (ITU-T T.4, 4.1.4).

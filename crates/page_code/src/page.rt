@@ -47,6 +47,7 @@ impl Progress {
 }
 
 /// Appends a row of the page's width, where there is room for it. Errs where memory is refused.
+#[inline(always)]
 pub(crate) fn push_row(page: &mut Page, row: Row) -> Result<(), AllocError>
     requires wide { length row ≡ page.old.width }
     requires room { length page.old.rows < max_rows }

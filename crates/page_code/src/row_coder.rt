@@ -183,6 +183,7 @@ impl RowCoder {
         out.extend_from_slice(&octets)?;
         Ok(())
     }
+
     /// The last octets of the page's code, as `finish` appends them: the coder has done its work then. Errs with `NoRows`
     /// where no row was pushed, and with `NoMemory`; then the coder is as it was.
     pub fn end(&mut self, alloc: Global) -> Result<Vec<u8>, RasterFault>

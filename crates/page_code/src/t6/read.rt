@@ -25,6 +25,7 @@ use crate::t6::front::{Front, left_of_b1, right_of_b1, to_a1, under_b1, under_b2
 use crate::t6::lines::Lines;
 use crate::t6::mode::{EOFB, EOFB_NUMBER, ModeCode, Shift};
 use crate::t6::mode_table::mode_of;
+use crate::turned::{code_of, turned_code};
 use raster::packed::Order;
 use raster::{MAX_ROWS, Page, Row};
 use run_tables::{BitReader, CodeFault, CodeFaultKind};
@@ -96,14 +97,12 @@ fn begins_row(reader: &BitReader) -> bool
     true
 }
 
-/// What is found where a row may begin, after `rows` rows.
-fn start_at(reader: &BitReader, rows: usize) -> Start
+/// What is found where a row may begin, after `rows` rows, looked for in all ways.
+#[cold]
+#[inline(never)]
+fn start_anyhow(reader: &BitReader, rows: usize) -> Start
     ensures { SeesStart (rest_of reader.now) rows result }
 {
-    let row = begins_row(reader);
-    if row && rows < MAX_ROWS {
-        return Start::Row;
-    }
     if is_at_eofb(reader) {
         if rows == 0 {
             return Start::Refused(CodeFaultKind::NoRows);
@@ -120,6 +119,19 @@ fn start_at(reader: &BitReader, rows: usize) -> Start
         return Start::Refused(CodeFaultKind::TooManyCodedRows);
     }
     Start::Row
+}
+
+/// What is found where a row may begin, after `rows` rows.
+#[inline(always)]
+fn start_at(reader: &BitReader, rows: usize) -> Start
+    ensures { SeesStart (rest_of reader.now) rows result }
+{
+    let row = begins_row(reader);
+    if row && rows < MAX_ROWS {
+        return Start::Row;
+    }
+    let ahead = reader.look_ahead();
+    start_anyhow(&ahead, rows)
 }
 
 /// Whether the bits that are left are a beginning of a mode code.
@@ -359,9 +371,8 @@ fn lines_after(alloc: Global, page: &Page) -> Result<Lines, AllocError>
     Lines::after(alloc, &rows[rows.len() - 1])
 }
 
-/// Reads on from the rows read so far to the page's end, and answers how many bits the page uses. After
-/// an error the rows before it were read.
-pub(crate) fn read_on(
+/// Reads on in the order of the octets, as `read_on`.
+fn read_in_order(
     alloc: Global,
     octets: &[u8],
     order: Order,
@@ -383,4 +394,22 @@ pub(crate) fn read_on(
         push_row(&mut to.page, row)?;
         to.place = reader.place();
     }
+}
+
+/// Reads on from the rows read so far to the page's end, and answers how many bits the page uses. After
+/// an error the rows before it were read. Where the page begins with the octets and the least significant
+/// bit is first, they are turned once, so that no word of them is.
+pub(crate) fn read_on(
+    alloc: Global,
+    octets: &[u8],
+    order: Order,
+    to: &mut Progress,
+) -> Result<u128, CodeFault>
+    requires width { IsWidth to.old.page.width }
+    requires read { IsReadTo Coding.T6 to.old.page.width (bits_of order octets.now) to.old.page.rows to.old.place }
+    ensures { ReadsOn Coding.T6 (bits_of order octets.now) to.old to.new result }
+{
+    let turned = turned_code(alloc, octets, order, to.place)?;
+    let (code, first) = code_of(octets, order, &turned);
+    read_in_order(alloc, code, first, to)
 }

@@ -1,4 +1,4 @@
-use Rattle.std.proofs.Common.{arith, ◌+◌, ◌-◌}
+use Rattle.std.proofs.Common.{arith, ◌-◌}
 use Rattle.std.specs.Prelude.{slice_index_or}
 use Rattle.page_code.specs.declared.t6.mode.Shift.TheVariants.{VL1}
 use Rattle.page_code.proofs.TwoDimensions.FrontSteps.{b1_most, room, vertical_fits, vertical_front}

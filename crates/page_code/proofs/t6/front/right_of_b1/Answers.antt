@@ -1,7 +1,7 @@
 use Rattle.std.proofs.Common.{arith, ◌≡◌, ◌+◌, ◌-◌}
 use Rattle.std.specs.Prelude.{slice_index_or}
 use Rattle.page_code.specs.declared.t6.mode.Shift.TheVariants.{VR1}
-use Rattle.page_code.proofs.TwoDimensions.FrontSteps.{b1_most, room, vertical_fits, vertical_front}
+use Rattle.page_code.proofs.TwoDimensions.FrontSteps.{room, vertical_fits, vertical_front}
 use Rattle.page_code.proofs.t6.front.right_of_b1.Goals as goal
 
 pub index_mut-requires : goal.index_mut-requires

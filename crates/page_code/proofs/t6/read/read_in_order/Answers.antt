@@ -8,7 +8,7 @@ use Rattle.page_code.specs.RowsSoFar.{IsReadTo}
 use Rattle.page_code.specs.TwoDimensions.Positions.{white_line}
 use Rattle.page_code.proofs.TwoDimensions.RowsOn.{ends_on, read_within, refuses_on, row_read, row_refused}
 use Rattle.page_code.proofs.TwoDimensions.StepsOn.{last_added}
-use Rattle.page_code.proofs.t6.read.read_on.Goals as goal
+use Rattle.page_code.proofs.t6.read.read_in_order.Goals as goal
 
 -- a reader of these bits, at this place
 same_reading : (r : Reading) (bits : List Bool) (place : ℕ) → r.bits ≡ bits → r.place ≡ place → r ≡ record { bits = bits; place = place }

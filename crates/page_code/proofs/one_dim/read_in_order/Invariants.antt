@@ -2,7 +2,7 @@ use Rattle.std.proofs.Common.{◌≡◌, ◌-◌, length}
 use Rattle.raster.specs.Packed.{bits_of}
 use Rattle.page_code.specs.declared.coding.Coding.TheVariants.{OneDim}
 use Rattle.page_code.specs.RowsSoFar.{IsReadTo}
-use Rattle.page_code.proofs.one_dim.read_on.Given as goal
+use Rattle.page_code.proofs.one_dim.read_in_order.Given as goal
 
 abbrev pub invariant-loop-place : goal.invariant-loop-place
 invariant-loop-place l = record {

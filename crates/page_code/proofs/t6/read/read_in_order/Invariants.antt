@@ -4,7 +4,7 @@ use Rattle.page_code.specs.declared.coding.Coding.TheVariants.{T6}
 use Rattle.page_code.specs.RowsSoFar.{IsReadTo}
 use Rattle.page_code.specs.TwoDimensions.Positions.{white_line}
 use Rattle.page_code.specs.TwoDimensions.Writing.{reference_at}
-use Rattle.page_code.proofs.t6.read.read_on.Given as goal
+use Rattle.page_code.proofs.t6.read.read_in_order.Given as goal
 
 abbrev pub invariant-loop-lines : goal.invariant-loop-lines
 invariant-loop-lines l = record {

@@ -3,7 +3,7 @@ use Rattle.std.proofs.lemmas.Result.{err_from_is_err_and}
 use Rattle.raster.specs.Packed.{bits_of}
 use Rattle.raster.specs.Pixels.{IsWidth}
 use Rattle.page_code.proofs.OneDimension.RowsOn.{ends_on, found_room, found_within, read_within, refuses_on, row_read, row_refused}
-use Rattle.page_code.proofs.one_dim.read_on.Goals as goal
+use Rattle.page_code.proofs.one_dim.read_in_order.Goals as goal
 
 pub next_row-requires : goal.next_row-requires
 next_row-requires c = read_within c.loop-place.to.page.width c.args.order c.args.octets.now c.loop-place.to.page.rows c.loop-place.to.place
