@@ -41,6 +41,7 @@ for program in "$@"; do
     try_page
     try_frames
     try_gaps
+    try_signal_words
     try_images
     try_data
     try_standard

@@ -88,6 +88,37 @@ try_calls() {
     refuses call --script "$work/script"
     refuses call "$input"
     refuses call --script "$work/script" --frame 128 "$input"
+    try_expected
+}
+
+# --expect normal: the same lines and files, and status 1 unless both stations say normal.
+try_expected() {
+    works call --script "$work/script" "$input"
+    mv "$work/output" "$work/wanted"
+    rm -f "$work/pages"
+    works call --expect normal --script "$work/script" --out "$work/pages" "$input"
+    is_same "$work/output" "$work/wanted" "a call that is to end normally"
+    is_same "$work/pages" "$input" "the pages of a call that is to end normally"
+    # the DCN is missing: normal for the caller alone
+    echo 'polite 10' > "$work/undone"
+    gives 1 call --expect normal --script "$work/undone" "$input"
+    [ ! -s "$work/error" ] || fails "a call that didn't end normally wrote to standard error"
+    [ "$(tail -n 2 "$work/output" | cut -d ' ' -f 2 | tr '\n' ' ')" = "normal running " ] || fails "polite 10 leaves another end"
+    mv "$work/output" "$work/wanted"
+    works call --script "$work/undone" "$input"
+    is_same "$work/output" "$work/wanted" "a call that didn't end"
+    # it ends for the answerer alone, which waits for T1
+    echo 'answerer-t1' > "$work/undone"
+    gives 1 call --expect normal --script "$work/undone" "$input"
+    # nothing is wrong with the pages of one that ends for neither
+    gives 1 call --expect normal --script "$work/nothing" "$input"
+    works call --lose 0% --seed 7 --expect normal "$input"
+    gives 1 call --lose 100% --seed 7 --expect normal "$input"
+    refuses call --expect no-reply --script "$work/script" "$input"
+    refuses call --lose 0% --seed 7 --times 2 --expect normal "$input"
+    [ "$(head -1 "$work/error")" = "error: --times counts the ends of many calls, and can't be used with --expect" ] \
+        || fails "call --times --expect: other words: $(head -1 "$work/error")"
+    faults "fault 30 at line 1" call --expect normal --script "$work/wrong" "$input"
 }
 
 # few LINES: a call by the script of counts under little memory, which ends well and prints so many lines.

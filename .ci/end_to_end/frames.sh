@@ -38,7 +38,8 @@ try_data() {
 # Bits with one gap of each class that is no good frame, and what there is counted.
 try_gaps() {
     while read -r hex counts; do
-        works frames "$(octets "$(echo "$hex" | sed 's/../& /g')")"
+        # the long gap has more than 64 octets, so that the other order is named
+        gives 0 frames "$(octets "$(echo "$hex" | sed 's/../& /g')")"
         echo "good 0 $counts" > "$work/wanted"
         is_same "$work/output" "$work/wanted" "frames of a gap"
     done << CASES
@@ -47,6 +48,20 @@ try_gaps() {
 7E007E aborted 0 ragged 0 short 1 long 0 damaged 0
 7E$(printf '%0606d' 0)7E aborted 0 ragged 0 short 0 long 1 damaged 0
 CASES
+}
+
+# What signals say in words, and bits in the other order.
+try_signal_words() {
+    python3 -B "$data/try_words.py" "$program" "$work" || fails "frames --explain or --order"
+    count=$((count + 9))
+    refuses frames --order first "$data/line.bits"
+    works frames --order lsb "$data/line.bits"
+    is_same "$work/output" "$data/line.txt" "frames of a line in the order that is said"
+    python3 -c 'import sys
+sys.stdout.buffer.write(bytes(int(f"{octet:08b}"[::-1], 2) for octet in open(sys.argv[1], "rb").read()))' "$top/docs/examples/line.bits" > "$work/turned"
+    mkdir -p "$work/turned_pages"
+    gives 1 frames --order msb --pages "$work/turned_pages" "$work/turned"
+    is_same "$work/turned_pages/page-1.pbm" "$top/docs/examples/row.pbm" "the page in the bits of docs/examples/line.bits in the other order"
 }
 
 # A mebibyte of frames.

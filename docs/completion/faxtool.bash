@@ -7,8 +7,8 @@ _faxtool_options() {
         code) echo --code --order --explain --help ;;
         show) echo --code --width --order --explain --help ;;
         decode) echo --code --width --order --fine --salvage --repair --whole --verbose --explain --help ;;
-        frames) echo --data --pages --explain --help ;;
-        call) echo --script --lose --spoil --busy --seed --calls --times --code --frame --modems --fine --out --bits --explain --help ;;
+        frames) echo --data --order --pages --explain --help ;;
+        call) echo --script --lose --spoil --busy --seed --calls --times --code --frame --modems --fine --out --expect --bits --explain --help ;;
         station) echo --answer --call --out --code --modems --standard --widest --limit --frame --fine --t1 --t2 --t4 --t5 --trace --explain --help ;;
         version) echo --proof --help ;;
         *) echo --help ;;
@@ -30,6 +30,7 @@ _faxtool_values() {
         --times) echo 100 1000 ;;
         --frame) echo 256 64 ;;
         --modems) echo v17 v27v29 v29 v27 fallback ;;
+        --expect) echo normal ;;
         --widest) echo 1728 2048 2432 ;;
         --limit) echo 2 10 ;;
         --t1) echo 35000 ;;

@@ -1,11 +1,11 @@
 -- How a call of a script and images ends, over readers that may tell their bytes.
 use Rattle.std.proofs.Common.{◌≡◌, ◌⊎◌, ℕ, Bool, List, Option, Some, None, inl, inr}
 use Rattle.std.specs.Prelude.{IfSome}
-use Rattle.raster.specs.Pages.{PagePixels}
 use Rattle.raster.specs.Pbm.{AreImages}
 use Rattle.stations.specs.CallerFields.{AreCallable}
 use Rattle.stations.specs.Layers.{Document}
-use Rattle.calls.specs.Calls.{RefusesCall, RunsCall, TellsCall}
+use Rattle.line_sim.specs.declared.live.Ending.{Ending}
+use Rattle.calls.specs.Calls.{LeavesCall, LeavesTold, RefusesCall, RunsCall}
 use Rattle.engines.specs.Faults.{IsOutside}
 use Rattle.calls.specs.Scripts.{IsScript}
 use Rattle.calls.specs.SentBits.{Written}
@@ -14,14 +14,21 @@ use Rattle.engines.specs.declared.fault.ToolFault.TheVariants.{No}
 use Rattle.calls.specs.declared.options.CallOptions.{CallOptions}
 use Rattle.calls.specs.declared.script.Command.{Command}
 
-pub runs_call : (options : CallOptions) (script images : Option (List ℕ)) (before after : Written) (commands : List Command)
-    (document : Document) (pages : List PagePixels) → IfSome script (λ said. IsScript said commands) →
-    IfSome images (λ octets. AreImages options.fine octets document) → TellsCall options document commands before after pages →
-    IfSome script (λ said. IfSome images (λ octets. RunsCall options said octets before after pages))
-runs_call options None images before after commands document pages said read told = tt
-runs_call options (Some script) None before after commands document pages said read told = tt
-runs_call options (Some script) (Some images) before after commands document pages said read told =
-    record { commands = commands; said = said; document = document; read = read; told = told }
+pub leaves_call : (options : CallOptions) (script images : Option (List ℕ)) (before after : Written) (commands : List Command)
+    (document : Document) (ending : Ending) → IfSome script (λ said. IsScript said commands) →
+    IfSome images (λ octets. AreImages options.fine octets document) → LeavesTold options document commands before after ending →
+    IfSome script (λ said. IfSome images (λ octets. LeavesCall options said octets before after ending))
+leaves_call options None images before after commands document ending said read told = tt
+leaves_call options (Some script) None before after commands document ending said read told = tt
+leaves_call options (Some script) (Some images) before after commands document ending said read (told, left) =
+    (record { commands = commands; said = said; document = document; read = read; told = told }, left)
+
+pub runs_call : (options : CallOptions) (script images : Option (List ℕ)) (before after : Written) (ending : Ending)
+    → IfSome script (λ said. IfSome images (λ octets. LeavesCall options said octets before after ending))
+    → IfSome script (λ said. IfSome images (λ octets. RunsCall options said octets before after ending.pages.items))
+runs_call options None images before after ending left = tt
+runs_call options (Some script) None before after ending left = tt
+runs_call options (Some script) (Some images) before after ending left = left.0
 
 -- why a call was refused, where the readers tell their bytes
 abbrev pub Refuses : Bool → Option (List ℕ) → Option (List ℕ) → ToolFault → Type 0

@@ -24,7 +24,8 @@ use Rattle.line_sim.specs.declared.event.Event.{Event}
 use Rattle.line_sim.specs.declared.event.Event.TheVariants.{AnswererT2, DeliverToCaller}
 use Rattle.line_sim.specs.declared.live.Ending.{Ending}
 use Rattle.line_sim.proofs.Transcripts.{run_both, entries_both}
-use Rattle.calls.specs.Calls.{EndsAs, HaveRows, MakeAll, Makes, MakesNext, Steps, StopsPolite, TellsCall, TellsCommand, TellsCommands}
+use Rattle.calls.specs.Calls.{EndsAs, HaveRows, LeavesTold, MakeAll, Makes, MakesNext, Steps, StopsPolite, TellsCall, TellsCommand}
+use Rattle.calls.specs.Calls.{TellsCommands}
 use Rattle.calls.specs.Calls.{TellsEvent, TellsNext, TellsSteps, answerer_caps, call_world, caller_wish}
 use Rattle.calls.specs.Transcripts.{ending_text, entry_line, entry_lines}
 use Rattle.calls.specs.declared.options.CallOptions.{CallOptions}
@@ -351,28 +352,30 @@ pub tells_call : RunsAreSafe → (options : CallOptions) (document : Document) (
     (next : ℕ) (before begun at after : Written) → IsDocument document → AreCallable document → Shows start (call_world options document) →
     WritesAfter no_counts start before begun →
     ((w : World) → Shows start w → TellsCommands commands w end 1 next begun at) → ((w : World) → Shows end w → EndsAs ending w) →
-    WritesLines at after (ending_text ending) → TellsCall options document commands before after ending.pages.items
+    WritesLines at after (ending_text ending) → LeavesTold options document commands before after ending
 tells_call runs options document commands start end ending next before begun at after is callable shows begins follows ends line =
     let f = follows (call_world options document) shows in
     let steps : Steps = f.0 in
-    let w : World = run steps (call_world options document) in
-    record {
-      callable = callable;
-      steps = steps;
-      made = f.1;
-      each = f.2.each;
-      ending = ending;
-      ends = ends w f.2.shows;
-      written = Appends-trans before.lines at.lines after.lines (entry_lines 1 (entries steps (call_world options document)))
-          (ending_text ending)
-          (subst (λ o. Appends o at.lines (entry_lines 1 (entries steps (call_world options document)))) begins.lines f.2.written)
-          line.lines;
-      sent = λ to. call_sent to steps (call_world options document) start before begun at after (ending_text ending) shows begins
-          (f.2.sent to) line;
-      answered = refl;
-      safe = safe_told document ending w (ends w f.2.shows)
-          (runs document (caller_wish options) (answerer_caps options.modems) steps (full_pages document is.valid is.rows));
-    }
+    let w : World = run steps (call_world options document) in (
+      record {
+        callable = callable;
+        steps = steps;
+        made = f.1;
+        each = f.2.each;
+        ending = ending;
+        ends = ends w f.2.shows;
+        written = Appends-trans before.lines at.lines after.lines (entry_lines 1 (entries steps (call_world options document)))
+            (ending_text ending)
+            (subst (λ o. Appends o at.lines (entry_lines 1 (entries steps (call_world options document)))) begins.lines f.2.written)
+            line.lines;
+        sent = λ to. call_sent to steps (call_world options document) start before begun at after (ending_text ending) shows begins
+            (f.2.sent to) line;
+        answered = refl;
+        safe = safe_told document ending w (ends w f.2.shows)
+            (runs document (caller_wish options) (answerer_caps options.modems) steps (full_pages document is.valid is.rows));
+      },
+      refl,
+    )
 
 -- the first pages of a document have rows
 pub beginning_rows : (pages document : List PagePixels) → IsBeginning pages document → HaveRows document → HaveRows pages

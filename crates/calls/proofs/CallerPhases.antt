@@ -1,17 +1,17 @@
 -- In which steps a caller stays in its phase.
-use Rattle.std.proofs.Common.{◌≡◌, ℕ, suc, Bool, true, false, cond, List, [], ◌∷◌, Option, Some, None, refl, ap, sym, subst, ◌∙◌, inl, inr, arith}
+use Rattle.std.proofs.Common.{◌≡◌, ℕ, suc, Bool, true, false, cond, List, Option, Some, None, refl, ap, sym, ◌∙◌, arith}
 use Rattle.std.specs.Prelude.{◌&&◌, is_some, nat_eq, nat_lt, not, slice_get}
 use Rattle.std.specs.Bool.{beq}
 use Rattle.std.proofs.lemmas.Bool.{eq-eqb, ne_eqb}
-use Rattle.signals.specs.Signals.{PlainSignal, dis, dcs, cfr, ftt, fcd, rcp, pps, ppr, mcf, rnr, rr, dcn, other}
+use Rattle.signals.specs.Signals.{dis, dcs, cfr, ftt, fcd, rcp, pps, ppr, mcf, rnr, rr, dcn, other}
 use Rattle.signals.specs.declared.params.Caps.{Caps}
 use Rattle.signals.specs.declared.params.Params.{Params}
 use Rattle.signals.specs.declared.signal.PageEnd.{PageEnd}
 use Rattle.signals.specs.declared.signal.PageEnd.TheVariants.{Null, Mps, Eom, Eop}
 use Rattle.stations.specs.Blocks.{Block}
-use Rattle.stations.specs.CallerStep.{Caller, CallerAnswer, answers_dis, answers_ftt, answers_mcf, answers_ppr, blocks_of, caller_step, goes_on}
+use Rattle.stations.specs.CallerStep.{Caller, answers_dis, answers_ftt, answers_mcf, answers_ppr, blocks_of, caller_step, goes_on}
 use Rattle.stations.specs.CallerStep.{caller_gives_up, confirmed, goes_on_or_waits, tries_again}
-use Rattle.stations.specs.Inputs.{CallerInput, hears, timeout, t5, PlainItem, framed, checked}
+use Rattle.stations.specs.Inputs.{CallerInput, hears, timeout, t5}
 use Rattle.stations.specs.Layers.{agreed_for, lowered}
 use Rattle.stations.specs.declared.turn.CallerState.{CallerState}
 use Rattle.stations.specs.declared.turn.CallerState.TheVariants.{WaitDis, WaitCfr, WaitBlock, WaitReady}

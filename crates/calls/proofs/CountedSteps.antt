@@ -86,9 +86,10 @@ pub record StepRuns (now new : Call) (before after : Clocks) : Type 0 where
   pub counted : AreCounted counts now
   pub runs : RunsAfter counts new before after
 
-pub one_went : (bad : BadLine) (first : Going) (made : ℕ) (now mid new : DrivenFields) (generator drawn later : Lcg) (counts more : CallCounts)
-    (clocks after : Clocks) (set : Option Entry) (step : Step) → Went bad first made now generator counts clocks →
-    MaySet bad now mid generator drawn set → is_marked set ≡ false → MayStep bad mid new drawn later (Some step) →
+pub one_went : (bad : BadLine) (first : Going) (made : ℕ) (now mid new : DrivenFields) (generator drawn later : Lcg)
+    (counts more : CallCounts) (clocks after : Clocks) (set : Option Entry) (step : Step) →
+    Went bad first made now generator counts clocks → MaySet bad now mid generator drawn set → is_marked set ≡ false →
+    MayStep bad mid new drawn later (Some step) →
     step.entry.refused ≡ false → more ≡ counts_with counts (counts_in (entries_of step)) → StepRuns now.live new.live clocks after →
     Went bad first (made + 1) new later more after
 one_went bad first made now mid new generator drawn later counts more clocks after set step r may_set unmarked may whole is did =
@@ -120,8 +121,8 @@ one_went bad first made now mid new generator drawn later counts more clocks aft
           (put_counted to bad g now.live new.live did.counts r.stands.shows.world was.stands.shows.world did.counted) (did.runs to));
     })
 
-pub all_counted : (bad : BadLine) (spare : ℕ) (first : Going) (made : ℕ) (now mid new : DrivenFields) (generator drawn later : Lcg) (counts : CallCounts)
-    (clocks : Clocks) (tries : TryCounts) (set : Option Entry) → Went bad first made now generator counts clocks →
+pub all_counted : (bad : BadLine) (spare : ℕ) (first : Going) (made : ℕ) (now mid new : DrivenFields) (generator drawn later : Lcg)
+    (counts : CallCounts) (clocks : Clocks) (tries : TryCounts) (set : Option Entry) → Went bad first made now generator counts clocks →
     Follows made spare bad first tries → MaySet bad now mid generator drawn set → is_marked set ≡ false →
     MayStep bad mid new drawn later None → CountsAll bad spare first new (record { counts = counts; clocks = clocks; few = tries.few })
 all_counted bad spare first made now mid new generator drawn later counts clocks tries set r follows may_set unmarked may =

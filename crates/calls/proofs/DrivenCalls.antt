@@ -16,7 +16,8 @@ use Rattle.line_sim.specs.Report.{all_done}
 use Rattle.line_sim.specs.Standing.{Shows}
 use Rattle.line_sim.specs.declared.call.Call.{Call}
 use Rattle.line_sim.specs.declared.live.Ending.{Ending}
-use Rattle.calls.specs.BadLines.{DrivesCall, Going, RefusesDriven, TellsAll, TellsDriven, bad_call, gone, put_by_steps}
+use Rattle.calls.specs.BadLines.{DrivesCall, Going, LeavesAfter, LeavesDriven, RefusesDriven, TellsAll, TellsDriven, bad_call, gone}
+use Rattle.calls.specs.BadLines.{put_by_steps}
 use Rattle.calls.specs.Calls.{EndsAs, HaveRows, answerer_caps, call_world, caller_wish}
 use Rattle.engines.specs.Faults.{IsOutside}
 use Rattle.calls.specs.SentBits.{WritesAfter, WritesLines, Written, on_way_to}
@@ -35,47 +36,55 @@ pub tells_driven : RunsAreSafe → (options : CallOptions) (line : BadLine) (num
     Shows start (call_world options document) → WritesAfter no_counts start before begun →
     TellsAll line (bad_call options line number document) new begun at →
     ((w : World) → Shows new.live w → EndsAs ending w) → WritesLines at after (ending_text ending) →
-    TellsDriven options line number document before after ending.pages.items
+    LeavesAfter options line number document before after ending
 tells_driven law options line number document new start ending before begun at after is callable shows begins told ends text =
     let first : Going = bad_call options line number document in
     let w : World = (gone told.made line first).call.world in
-    let ended : EndsAs ending w = ends w told.shows.world in
-    record {
-      callable = callable;
-      made = told.made;
-      events = told.events;
-      are = told.are;
-      over = told.over;
-      ending = ending;
-      ends = ended;
-      written = Appends-trans before.lines at.lines after.lines
-          (entry_lines 1 (entries (all_done told.events) (call_world options document))) (ending_text ending)
-          (subst (λ o. Appends o at.lines (entry_lines 1 (entries (all_done told.events) (call_world options document)))) begins.lines
-          told.written) text.lines;
-      sent = λ to.
-          let items : List PlainItem = put_by_steps to told.made line first in
-          before_lines to (on_way_to to (call_world options document) ++ items) before at after (ending_text ending)
-          (writes_on to (on_way_to to (call_world options document)) items before begun at
-          (start_sent to start (call_world options document) before begun shows begins) (told.sent to)) text;
-      answered = refl;
-      safe = safe_told document ending w ended
-          (subst (IsSafeWorld document) (steps_lead told.made line first told.events told.are)
-          (law document (caller_wish options) (answerer_caps options.modems) (all_done told.events)
-          (full_pages document is.valid is.rows)));
-    }
+    let ended : EndsAs ending w = ends w told.shows.world in (
+      record {
+        callable = callable;
+        made = told.made;
+        events = told.events;
+        are = told.are;
+        over = told.over;
+        ending = ending;
+        ends = ended;
+        written = Appends-trans before.lines at.lines after.lines
+            (entry_lines 1 (entries (all_done told.events) (call_world options document))) (ending_text ending)
+            (subst (λ o. Appends o at.lines (entry_lines 1 (entries (all_done told.events) (call_world options document)))) begins.lines
+            told.written) text.lines;
+        sent = λ to.
+            let items : List PlainItem = put_by_steps to told.made line first in
+            before_lines to (on_way_to to (call_world options document) ++ items) before at after (ending_text ending)
+            (writes_on to (on_way_to to (call_world options document)) items before begun at
+            (start_sent to start (call_world options document) before begun shows begins) (told.sent to)) text;
+        answered = refl;
+        safe = safe_told document ending w ended
+            (subst (IsSafeWorld document) (steps_lead told.made line first told.events told.are)
+            (law document (caller_wish options) (answerer_caps options.modems) (all_done told.events)
+            (full_pages document is.valid is.rows)));
+      },
+      refl,
+    )
 
 pub driven_rows : (options : CallOptions) (line : BadLine) (number : ℕ) (document : Document) (before after : Written)
     (pages : List PagePixels) → TellsDriven options line number document before after pages → HaveRows document → HaveRows pages
 driven_rows options line number document before after pages told some =
     subst HaveRows (sym told.answered) (beginning_rows told.ending.pages.items document told.safe.beginning some)
 
+pub leaves_driven : (options : CallOptions) (line : BadLine) (number : ℕ) (images : Option (List ℕ)) (before after : Written)
+    (document : Document) (ending : Ending) → IfSome images (λ octets. AreImages options.fine octets document) →
+    LeavesAfter options line number document before after ending →
+    IfSome images (λ octets. LeavesDriven options line number octets before after ending)
+leaves_driven options line number None before after document ending read told = tt
+leaves_driven options line number (Some images) before after document ending read (told, left) =
+    (record { document = document; read = read; told = told }, left)
+
 pub drives_call : (options : CallOptions) (line : BadLine) (number : ℕ) (images : Option (List ℕ)) (before after : Written)
-    (document : Document) (pages : List PagePixels) → IfSome images (λ octets. AreImages options.fine octets document) →
-    TellsDriven options line number document before after pages →
-    IfSome images (λ octets. DrivesCall options line number octets before after pages)
-drives_call options line number None before after document pages read told = tt
-drives_call options line number (Some images) before after document pages read told =
-    record { document = document; read = read; told = told }
+    (ending : Ending) → IfSome images (λ octets. LeavesDriven options line number octets before after ending) →
+    IfSome images (λ octets. DrivesCall options line number octets before after ending.pages.items)
+drives_call options line number None before after ending left = tt
+drives_call options line number (Some images) before after ending left = left.0
 
 pub refused_driven : (fine : Bool) (images : Option (List ℕ)) (document : Document) (fault : ToolFault) →
     IfSome images (λ octets. AreImages fine octets document) → IsOutside fault ⊎ (¬ AreCallable document × (fault ≡ No 26)) →

@@ -121,8 +121,9 @@ fated_shown : (line : BadLine) (g : Going) (v : DrivenFields) → ShowsDriven v 
 fated_shown line g v shows = record { world = shows.world; dis = shows.dis; rnrs = shows.rnrs; patience = shows.patience }
 
 -- a fate was due
-pub drew : (line : BadLine) (g : Going) (old new : DrivenFields) (generator next : Lcg) (due : Bool) (fate : CallFate) (step : Option Step) →
-    Stands old line generator g → due ≡ is_fate_due (nat_lt old.rnrs old.patience.busy) old.live.to_answerer old.live.to_caller →
+pub drew : (line : BadLine) (g : Going) (old new : DrivenFields) (generator next : Lcg) (due : Bool) (fate : CallFate)
+    (step : Option Step) → Stands old line generator g →
+    due ≡ is_fate_due (nat_lt old.rnrs old.patience.busy) old.live.to_answerer old.live.to_caller →
     due ≡ true → plain_fate fate ≡ fate_of line (pcg32 generator).0 → next ≡ (pcg32 generator).1 → MayMake old new fate step →
     Draws line g old new next step
 drew line g old new generator next due fate step stands due_is holds fate_is next_is may =
@@ -197,7 +198,8 @@ step_made line g now mid new generator drawn later set step stands may_set unmar
     let lasts : List Event = events_of p f in
     let noted : entries_of step ≡ entries (all_done lasts) f.world =
     makes.noted ∙ (ap (λ o. entries (all_done makes.before ++ (makes.event, o) ∷ []) f.world) done.0 ∙
-    (ap (λ l. entries l f.world) (sym (done_both makes.before (makes.event ∷ []))) ∙ ap (λ l. entries (all_done l) f.world) makes.events)) in
+    (ap (λ l. entries l f.world) (sym (done_both makes.before (makes.event ∷ [])))
+    ∙ ap (λ l. entries (all_done l) f.world) makes.events)) in
     record {
       runs = sym (over_set (setting_of line g) g.call) ∙ makes.goes_on;
       stands = record { shows = done.1; drawn = sym draws.drawn };
@@ -294,9 +296,10 @@ set_lines number second at between mid xs ys one second_is more =
     subst (WritesLines at mid) (ap (λ n. entry_lines number xs ++ entry_lines n ys) second_is ∙ sym (lines_both number xs ys))
     (lines_on at between mid (entry_lines number xs) (entry_lines second ys) one more)
 
-pub one_made : (line : BadLine) (first : Going) (made : ℕ) (now mid new : DrivenFields) (generator drawn later : Lcg) (number second next : ℕ)
-    (before at after : Written) (set : Option Entry) (step : Step) → Reached line first made now generator number before at →
-    MaySet line now mid generator drawn set → is_marked set ≡ false → MayStep line mid new drawn later (Some step) →
+pub one_made : (line : BadLine) (first : Going) (made : ℕ) (now mid new : DrivenFields) (generator drawn later : Lcg)
+    (number second next : ℕ) (before at after : Written) (set : Option Entry) (step : Step) →
+    Reached line first made now generator number before at → MaySet line now mid generator drawn set → is_marked set ≡ false →
+    MayStep line mid new drawn later (Some step) →
     step.entry.refused ≡ false → StepWrites now.live new.live at after (entry_lines number (entry_if set ++ entries_of step)) →
     second ≡ number + length (entry_if set) → next ≡ second + length (entries_of step) →
     Reached line first (made + 1) new later next before after

@@ -1,10 +1,9 @@
 -- A call over a bad line with few bad tries in each phase is a driven call with few.
-use Rattle.std.proofs.Common.{◌≡◌, ◌↔◌, ℕ, zero, suc, ◌+◌, ◌-◌, ◌≤◌, ◌<◌, Bool, true, false, cond, List, [], ◌∷◌, length, Option, Some, None, refl, ap}
-use Rattle.std.proofs.Common.{sym, subst, ◌∙◌, arith}
-use Rattle.std.specs.Prelude.{◌&&◌, nat_lt, not, Result, Ok, Err, slice_get}
+use Rattle.std.proofs.Common.{◌≡◌, ◌↔◌, ℕ, zero, suc, ◌≤◌, Bool, true, false, cond, List, [], ◌∷◌, Option, Some, None, refl, ap}
+use Rattle.std.proofs.Common.{sym, subst, ◌∙◌}
+use Rattle.std.specs.Prelude.{◌&&◌, nat_lt, not, Err}
 use Rattle.std.proofs.lemmas.Bool.{leb-true}
 use Rattle.page_code.specs.declared.coding.Coding.{Coding}
-use Rattle.rand_pcg.specs.Lcg.{Lcg}
 use Rattle.rand_pcg.specs.Pcg.{pcg32}
 use Rattle.raster.specs.Pages.{PagePixels}
 use Rattle.signals.specs.Agreement.{agreed, at_first, first_of, speeds_below, takes_pages, tried_speeds, width_of_pixels}
@@ -15,22 +14,21 @@ use Rattle.signals.specs.declared.params.PageWidth.{PageWidth}
 use Rattle.signals.specs.declared.params.Params.{Params}
 use Rattle.signals.specs.declared.params.Wish.{Wish}
 use Rattle.stations.specs.Inputs.{PlainItem}
-use Rattle.stations.specs.Laws.{Each}
-use Rattle.stations.specs.Layers.{Document, IsFullPage, agreed_at, agreed_for, if_agreed, speeds_left}
+use Rattle.stations.specs.Layers.{agreed_at, agreed_for, if_agreed, speeds_left}
 use Rattle.stations.specs.declared.turn.End.{End}
 use Rattle.stations.specs.declared.turn.End.TheVariants.{Normal, NoAnswer, NotCompatible, Training as BadTraining, NoReply, Unreadable}
 use Rattle.stations.specs.declared.turn.End.TheVariants.{StillBusy, PeerLeft, BadPage, PageTooLong}
-use Rattle.line_sim.specs.Driving.{Driven, DrivenCallsAreSafe, Fate, Patience, caller_waits, comes_back, dis_is_due, drive, drives, first_fate, is_over}
+use Rattle.line_sim.specs.Driving.{Driven, DrivenCallsAreSafe, Fate, Patience, caller_waits, comes_back, dis_is_due, drive, drives}
+use Rattle.line_sim.specs.Driving.{first_fate, is_over}
 use Rattle.line_sim.specs.Driving.{is_over_at, is_rnr_item, new_driven, somebody_waits}
-use Rattle.line_sim.specs.Fates.{is_fate_due, is_one_too_many, next_of}
+use Rattle.line_sim.specs.Fates.{is_fate_due, next_of}
 use Rattle.line_sim.specs.BusyCalls.{sets}
 use Rattle.line_sim.specs.Headline.{IsSafeWorld}
 use Rattle.line_sim.specs.Line.{World}
-use Rattle.line_sim.specs.Polite.{IsAgreedOn}
-use Rattle.line_sim.specs.Tolerance.{BadTriesAreFew, CallersEndWell, CanBear, EndsWell, IsBorne, Tries, meets, no_tries, noted, tries_after}
-use Rattle.calls.specs.BadLines.{Going, bad_call, drawn_if, fated, going, gone, is_due, next_going, patience_of, set_in, stepped}
+use Rattle.line_sim.specs.Tolerance.{BadTriesAreFew, CallersEndWell, CanBear, EndsWell, Tries, meets, no_tries, noted, tries_after}
+use Rattle.calls.specs.BadLines.{Going, bad_call, drawn_if, fated, going, gone, next_going, patience_of, set_in}
 use Rattle.calls.specs.Calls.{answerer_caps, caller_wish}
-use Rattle.calls.specs.FewTries.{FewTriesAreBorne, FewTriesAreDriven, FewTriesGone, HasFewTries, fates_drawn, met_in, slower_speeds, tries_gone}
+use Rattle.calls.specs.FewTries.{FewTriesAreBorne, FewTriesAreDriven, FewTriesGone, fates_drawn, met_in, slower_speeds, tries_gone}
 use Rattle.calls.specs.Losses.{fate_of, is_busy_word}
 use Rattle.calls.specs.declared.losses.BadLine.{BadLine}
 use Rattle.calls.specs.declared.options.CallOptions.{CallOptions}
@@ -182,7 +180,8 @@ met_drawn made line g t none =
 
 -- few are bad in a step that met its fate so, and in those after it
 abbrev FewThen : ℕ → ℕ → Patience → Tries → World → Driven → Type 0
-FewThen made checks p met old next = (met.bad ≤ 2) × (met.checks ≤ checks) × BadTriesAreFew made checks p (tries_after old next.world met) next
+FewThen made checks p met old next =
+    (met.bad ≤ 2) × (met.checks ≤ checks) × BadTriesAreFew made checks p (tries_after old next.world met) next
 
 then_same : (made checks : ℕ) (p : Patience) (met other : Tries) (old world : World) (next later : Driven) → met ≡ other → old ≡ world →
     next ≡ later → FewThen made checks p met old next → FewThen made checks p other world later

@@ -1,40 +1,41 @@
 -- How the tries of a call over a bad line are counted, step by step.
-use Rattle.std.proofs.Common.{◌≡◌, ◌≢◌, ◌↔◌, ℕ, zero, suc, ◌+◌, ◌≤◌, Bool, true, false, cond, List, [], ◌∷◌, ◌++◌, length, Option, Some, None, refl, ap}
+use Rattle.std.proofs.Common.{◌≡◌, ◌≢◌, ◌↔◌, ℕ, zero, suc, ◌+◌, ◌≤◌, Bool, true, false, cond, List, [], ◌∷◌, ◌++◌, length, Option, Some}
+use Rattle.std.proofs.Common.{None, refl, ap}
 use Rattle.std.proofs.Common.{sym, subst, ◌∙◌, inl, inr, arith}
 use Rattle.std.specs.Prelude.{◌&&◌, ◌||◌, IsTrue, nat_eq, nat_le, nat_lt, not}
 use Rattle.std.proofs.lemmas.Bool.{and_parts, le-leb, leb-true, lt-ltb, ne_eqb}
 use Rattle.rand_pcg.specs.Lcg.{Lcg}
-use Rattle.signals.specs.Signals.{PlainSignal}
 use Rattle.stations.specs.CallerStep.{Caller, caller_step}
 use Rattle.stations.specs.Inputs.{PlainItem, framed, checked, hears, timeout, t5}
 use Rattle.stations.specs.declared.turn.End.{End}
-use Rattle.line_sim.specs.Driving.{Driven, Fate, Patience, caller_waits, comes_back, dis_is_due, drives, events_back, events_there, events_waiting}
+use Rattle.line_sim.specs.Driving.{Driven, Fate, Patience, caller_waits, comes_back, dis_is_due, drives, events_back, events_there}
+use Rattle.line_sim.specs.Driving.{events_waiting}
 use Rattle.line_sim.specs.Driving.{first_fate, is_rnr_item, meets_answerer, meets_caller, somebody_waits, step_events}
 use Rattle.line_sim.specs.Driving.Fate.{comes, lost, spoiled}
 use Rattle.line_sim.specs.Entries.{entries, head_kind}
 use Rattle.line_sim.specs.Standing.{Shows}
 use Rattle.line_sim.specs.declared.event.Kind.TheVariants.{Training}
 use Rattle.line_sim.specs.EventsMean.{IsForCaller}
-use Rattle.line_sim.specs.Fates.{DrivenFields, MakesStep, entries_of, events_of, is_sending, next_of}
+use Rattle.line_sim.specs.Fates.{DrivenFields, MakesStep, entries_of, events_of, next_of}
 use Rattle.line_sim.specs.Line.{World, delivers_to_caller, happens}
 use Rattle.line_sim.specs.Line.Outcome.{Done}
 use Rattle.line_sim.specs.Report.{all_done}
-use Rattle.line_sim.specs.Tolerance.{Tries, bad_with, begins_try, is_bad, is_same_phase, meets, no_tries, noted, now_with, tries_after}
+use Rattle.line_sim.specs.Tolerance.{Tries, bad_with, begins_try, is_same_phase, meets, no_tries, noted, now_with, tries_after}
 use Rattle.line_sim.specs.declared.drive.Step.{Step}
 use Rattle.line_sim.specs.declared.event.Entry.{Entry}
 use Rattle.line_sim.specs.declared.event.Event.{Event}
 use Rattle.line_sim.specs.declared.event.Event.TheVariants.{AnswererT1, AnswererT2, CallerT5, CallerTimeout, DeliverToAnswerer}
-use Rattle.line_sim.specs.declared.event.Event.TheVariants.{DeliverToCaller, LoseToAnswerer, LoseToCaller, Spoil}
+use Rattle.line_sim.specs.declared.event.Event.TheVariants.{DeliverToCaller, LoseToCaller, Spoil}
 use Rattle.line_sim.proofs.EventsMean.{events_make, events_touch}
 use Rattle.calls.specs.BadLines.{Going, Stands, WasSet, fated, gone, is_marked, next_going, patience_of, set_in}
 use Rattle.calls.specs.FewTries.{FewTriesGone, met_in, tries_gone}
 use Rattle.calls.specs.Totals.{one_if}
-use Rattle.calls.specs.TriesCounted.{Follows, begins, first_try, goes_on, is_bad_in, is_check_in, is_mcf, is_mcf_in, met_by, stays, stood_in, tried}
-use Rattle.calls.specs.declared.counts.Counts.{Counts}
+use Rattle.calls.specs.TriesCounted.{Follows, begins, first_try, goes_on, is_bad_in, is_check_in, is_mcf, is_mcf_in, met_by, stays}
+use Rattle.calls.specs.TriesCounted.{stood_in, tried}
 use Rattle.calls.specs.declared.losses.BadLine.{BadLine}
 use Rattle.calls.specs.declared.tries.Stood.{Stood}
 use Rattle.calls.specs.declared.tries.TryCounts.{TryCounts}
-use Rattle.calls.proofs.CallerPhases.{SameBy, caller_phase, is_mcf_input, same_silent}
+use Rattle.calls.proofs.CallerPhases.{SameBy, caller_phase, same_silent}
 use Rattle.calls.proofs.DrivenSteps.{MaySet, MayStep, done_both}
 
 -- ---- a step and its phase
@@ -104,11 +105,13 @@ phase_waits : (due : Bool) (other : Option End) (d : Driven) →
     SameBy d.world.caller (caller_waits due d).world.caller (is_mcf_in (said (events_waiting None other due) d.world))
 phase_waits true other d = unheard d.world AnswererT2 t2_deaf
 phase_waits false other d =
-    subst (λ n. SameBy d.world.caller n false) (sym ((events_make d.world CallerTimeout).timeout refl)) (caller_phase d.world.caller timeout)
+    subst (λ n. SameBy d.world.caller n false) (sym ((events_make d.world CallerTimeout).timeout refl))
+    (caller_phase d.world.caller timeout)
 
 phase_over : (one other : Option End) (p : Patience) (d : Driven) →
     SameBy d.world.caller (somebody_waits p one other d).world.caller
-    (is_mcf_in (said (events_waiting one other (dis_is_due d.world.caller.state d.world.answerer.state other (nat_lt d.dis p.calls))) d.world))
+    (is_mcf_in (said (events_waiting one other (dis_is_due d.world.caller.state d.world.answerer.state other (nat_lt d.dis p.calls)))
+    d.world))
 phase_over None other p d = phase_waits (dis_is_due d.world.caller.state d.world.answerer.state other (nat_lt d.dis p.calls)) other d
 phase_over (Some why) None p d = unheard d.world AnswererT1 t1_deaf
 phase_over (Some why) (Some other) p d = same_silent d.world.caller
@@ -288,7 +291,7 @@ step_noted p new d step makes whole =
     makes.noted ∙ (ap (λ o. entries (all_done makes.before ++ (makes.event, o) ∷ []) d.world) (makes.done whole).0 ∙
     (ap (λ l. entries l d.world) (sym (done_both makes.before (makes.event ∷ []))) ∙ ap (λ l. entries (all_done l) d.world) makes.events))
 
--- what stands in a call is that of each world that its fields show
+-- how much is under way in a call, and whether its caller sends a block, are those of each world that its fields show
 abbrev pub StandsIn : DrivenFields → Stood → Type 0
 StandsIn v stood = (w : World) → Shows v.live w → stood ≡ stood_in w
 
@@ -308,7 +311,8 @@ one_tried line first made spare now mid new generator drawn later old more set s
     let all : more ≡ tried spare (said (events_of (patience_of line) d) d.world) (stood_in d.world) (stood_in next) old =
     is ∙ (ap (λ l. tried spare l before after old) (step_noted (patience_of line) new d step makes whole) ∙
     (ap (λ s. tried spare (said (events_of (patience_of line) d) d.world) s after old) (stood d.world was.stands.shows.world) ∙
-    ap (λ s. tried spare (said (events_of (patience_of line) d) d.world) (stood_in d.world) s old) (left_so next (makes.done whole).1.world))) in
+    ap (λ s. tried spare (said (events_of (patience_of line) d) d.world) (stood_in d.world) s old)
+    (left_so next (makes.done whole).1.world))) in
     subst (λ n. Follows n spare line first more) one
     (subst (Follows (suc made) spare line first) (sym all)
     (step_tried made spare line first old follows (subst (λ l. head_kind l ≢ Some Training) (sym was.stands.shows.world.to_caller) frame)))

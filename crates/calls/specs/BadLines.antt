@@ -1,5 +1,6 @@
 -- What the command that runs a call over a bad line does with images.
-use Rattle.std.specs.Prelude.{◌≡◌, ◌≤◌, ◌<◌, ◌⊎◌, ℕ, zero, suc, Bool, true, false, cond, ◌&&◌, nat_lt, List, [], ◌∷◌, ◌++◌, drop, length, Option}
+use Rattle.std.specs.Prelude.{◌≡◌, ◌≤◌, ◌<◌, ◌⊎◌, ℕ, zero, suc, Bool, true, false, cond, ◌&&◌, nat_lt, List, [], ◌∷◌, ◌++◌, drop, length}
+use Rattle.std.specs.Prelude.{Option}
 use Rattle.std.specs.Prelude.{Some, None, Err}
 use Rattle.std.specs.Io.KnownBytes.{Appends}
 use Rattle.raster.specs.Faults.{number_of}
@@ -191,12 +192,22 @@ pub record TellsDriven (options : CallOptions) (line : BadLine) (number : ℕ) (
   pub answered : pages ≡ ending.pages.items
   pub safe : IsSafe document ending.pages.items ending.confirmed ending.caller_end ending.answerer_end
 
+-- the same, and this is what the call leaves
+abbrev pub LeavesAfter : CallOptions → BadLine → ℕ → Document → Written → Written → Ending → Type 0
+LeavesAfter options line number document before after ending =
+    (told : TellsDriven options line number document before after ending.pages.items) × (told.ending ≡ ending)
+
 -- the images are a document's, the lines of its call over a bad line were written, and its pages answered
 pub record DrivesCall (options : CallOptions) (line : BadLine) (number : ℕ) (images : List ℕ) (before after : Written)
     (pages : List PagePixels) : Type 0 where
   pub document : Document
   pub read : AreImages options.fine images document
   pub told : TellsDriven options line number document before after pages
+
+-- the same, and this is what the call leaves
+abbrev pub LeavesDriven : CallOptions → BadLine → ℕ → List ℕ → Written → Written → Ending → Type 0
+LeavesDriven options line number images before after ending =
+    (run : DrivesCall options line number images before after ending.pages.items) × (run.told.ending ≡ ending)
 
 -- why no call was run to its end: memory, a reader or a writer; the images' first fault; or a page's width is none that a call can have
 abbrev pub RefusesDriven : Bool → List ℕ → ToolFault → Type 0

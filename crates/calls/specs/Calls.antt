@@ -127,6 +127,11 @@ pub record TellsCall (options : CallOptions) (document : Document) (commands : L
   pub answered : pages ≡ ending.pages.items
   pub safe : IsSafe document ending.pages.items ending.confirmed ending.caller_end ending.answerer_end
 
+-- the same, and this is what the call leaves
+abbrev pub LeavesTold : CallOptions → Document → List Command → Written → Written → Ending → Type 0
+LeavesTold options document commands before after ending =
+    (told : TellsCall options document commands before after ending.pages.items) × (told.ending ≡ ending)
+
 -- each page has a row or more
 abbrev pub HaveRows : List PagePixels → Type 0
 HaveRows pages = All (λ page. 0 < length page.rows) pages
@@ -138,6 +143,11 @@ pub record RunsCall (options : CallOptions) (script images : List ℕ) (before a
   pub document : Document
   pub read : AreImages options.fine images document
   pub told : TellsCall options document commands before after pages
+
+-- the same, and this is what the call leaves, of whose lines the last ones tell
+abbrev pub LeavesCall : CallOptions → List ℕ → List ℕ → Written → Written → Ending → Type 0
+LeavesCall options script images before after ending =
+    (run : RunsCall options script images before after ending.pages.items) × (run.told.ending ≡ ending)
 
 -- the script is refused at a line
 abbrev pub IsBadScript : List ℕ → ToolFault → Type 0

@@ -56,8 +56,8 @@ pub record HasFewTries (options : CallOptions) (line : BadLine) (number : ℕ) (
 
 -- ---- the laws
 
--- Where the answerer is never busy, a call over a bad line has few bad tries exactly if the driven call of the fates that it draws has, by the
--- definition with which `line_sim::laws::calls_bear` says what a call bears.
+-- Where the answerer is never busy, a call over a bad line has few bad tries exactly if the driven call of the fates that it draws has, by
+-- the definition with which `line_sim::laws::calls_bear` says what a call bears.
 abbrev pub FewTriesAreDriven : Type 0
 FewTriesAreDriven =
     (line : BadLine) (document : Document) (wish : Wish) (caps : Caps) (generator : Lcg) (made checks : ℕ) → line.busy ≡ 0 →

@@ -13,3 +13,4 @@ pub mod Seconds
 pub mod FewTries
 pub mod ManyCalls
 pub mod TriesCounted
+pub mod Ends

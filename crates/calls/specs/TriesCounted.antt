@@ -3,7 +3,7 @@ use Rattle.std.specs.Prelude.{◌≡◌, ◌+◌, ◌&&◌, ◌||◌, ◌↔◌,
 use Rattle.std.specs.Prelude.{length, Option, Some}
 use Rattle.line_sim.specs.Fates.{is_sending}
 use Rattle.line_sim.specs.Line.{World}
-use Rattle.line_sim.specs.Tolerance.{Tries, bad_with, now_with}
+use Rattle.line_sim.specs.Tolerance.{bad_with, now_with}
 use Rattle.line_sim.specs.declared.event.Entry.{Entry}
 use Rattle.line_sim.specs.declared.event.Event.{Event}
 use Rattle.line_sim.specs.declared.event.Event.TheVariants.{DeliverToCaller}

@@ -1,7 +1,7 @@
 //! What `call --lose` does: it runs a call of a document over a bad line, over any reader and any writer.
 
-ghost use Rattle.calls.specs.BadLines.{Draws, DrivesCall, Going, IsSet, RefusesDriven, Stands, TellsAll, TellsDriven, entry_if};
-ghost use Rattle.calls.specs.BadLines.{is_marked, patience_of};
+ghost use Rattle.calls.specs.BadLines.{Draws, DrivesCall, Going, IsSet, LeavesDriven, RefusesDriven, Stands, TellsAll, entry_if};
+ghost use Rattle.calls.specs.BadLines.{LeavesAfter, is_marked, patience_of};
 ghost use Rattle.calls.specs.Calls.{HaveRows};
 ghost use Rattle.engines.specs.Faults.{IsOutside};
 ghost use Rattle.calls.specs.SentBits.{WritesLines};
@@ -19,7 +19,7 @@ use crate::options::CallOptions;
 use crate::sent::write_sent;
 use engines::{FAILED, NO_MEMORY, ToolFault};
 use line_sim::laws::headline;
-use line_sim::{DrivenCall, Entry, Fate, Patience, Step};
+use line_sim::{DrivenCall, Ending, Entry, Fate, Patience, Step};
 use rand_pcg::Lcg64Xsh32;
 use raster::{Document, Page, read_pbm};
 use signals::Wish;
@@ -154,7 +154,7 @@ fn follow_fates<T: CallWriter>(
 }
 
 /// Runs the call of a number, of a document, over a bad line, writes the line of each event as it happens, and then how the call
-/// ended, and answers the pages stored.
+/// ended, and answers what it leaves.
 fn tell_driven<T: CallWriter>(
     alloc: Global,
     document: Document,
@@ -162,10 +162,9 @@ fn tell_driven<T: CallWriter>(
     line: &BadLine,
     number: u64,
     writer: &mut T,
-) -> Result<Vec<Page>, ToolFault>
-    ensures told { IfOk result (λ pages.
-        TellsDriven options.now line.now number document (T.written writer.old) (T.written writer.new) pages.items) }
-    ensures rows { IfOk result (λ pages. HaveRows pages.items) }
+) -> Result<Ending, ToolFault>
+    ensures told { IfOk result (LeavesAfter options.now line.now number document (T.written writer.old) (T.written writer.new)) }
+    ensures rows { IfOk result (λ ending. HaveRows ending.pages.items) }
     ensures refused { IfErr result (λ fault. IsOutside fault ⊎ (¬ AreCallable document × (fault ≡ No 26))) }
     ensures unwritten { IfErr result (λ fault. IsOutside fault ⊎ (writer.new ≡ writer.old)) }
 {
@@ -187,18 +186,38 @@ fn tell_driven<T: CallWriter>(
     follow_fates(&mut call, line, &mut generator, writer)?;
     let ending = call.into_live().into_ending();
     writer.ending(&ending)?;
-    Ok(ending.pages)
+    Ok(ending)
 }
 
 /// Reads a document's images and runs the call of a number over a bad line between a caller that has the document and an answerer that
 /// can take it, until it is over. Each item under way comes, is lost or is spoiled, as the next word of the generator says,
 /// PCG-XSH-RR of 64 bits of state and 32 bits a word, which begins with the seed and has the number as its stream; where the line makes the
-/// answerer busy, the word before that of a PPS or an RR says whether it is. Writes the line of each
-/// event as it happens, of which it keeps none, and then what has become of the call, and answers the pages that the answerer has stored.
-/// A `WithBits` gets the octets of what each station sends too, also of what is lost, the answerer's DIS first.
+/// answerer busy, the word before that of a PPS or an RR says whether it is. Writes the line of each event as it happens, of which it keeps
+/// none, and then what has become of the call, and answers what it leaves: the pages that the answerer has stored, and how the call ended
+/// for each station. A `WithBits` gets the octets of what each station sends too, also of what is lost, the answerer's DIS first.
 /// Errs with the first fault of the images; with 26 where the width of a page is none that a call can have; with 8 where the reader or
 /// the writer fails or there are 2^64 events; and with 9, after its line, where a growth was refused in an event. With any fault but
 /// 8 and 9 nothing is written.
+pub fn drive_to_end<R: Read, T: CallWriter>(
+    alloc: Global,
+    input: &mut R,
+    writer: &mut T,
+    options: &CallOptions,
+    line: &BadLine,
+    number: u64,
+) -> Result<Ending, ToolFault>
+    ensures called { IfOk result (λ ending. IfSome (R.remaining input.old) (λ images.
+        LeavesDriven options.now line.now number images (T.written writer.old) (T.written writer.new) ending)) }
+    ensures refused { IfErr result (λ fault. IfSome (R.remaining input.old) (λ images. RefusesDriven options.now.fine images fault)) }
+    ensures rows { IfOk result (λ ending. HaveRows ending.pages.items) }
+    ensures unwritten { IfErr result (λ fault. IsOutside fault ⊎ (writer.new ≡ writer.old)) }
+{
+    let document = read_pbm(alloc, input, options.fine)?;
+    let ending = tell_driven(alloc, document, options, line, number, writer)?;
+    Ok(ending)
+}
+
+/// Does what `drive_to_end` does, and answers the pages that the answerer has stored alone.
 pub fn drive_engine<R: Read, T: CallWriter>(
     alloc: Global,
     input: &mut R,
@@ -213,7 +232,8 @@ pub fn drive_engine<R: Read, T: CallWriter>(
     ensures rows { IfOk result (λ pages. HaveRows pages.items) }
     ensures unwritten { IfErr result (λ fault. IsOutside fault ⊎ (writer.new ≡ writer.old)) }
 {
-    let document = read_pbm(alloc, input, options.fine)?;
-    let pages = tell_driven(alloc, document, options, line, number, writer)?;
-    Ok(pages)
+    match drive_to_end(alloc, input, writer, options, line, number) {
+        Ok(ending) => Ok(ending.pages),
+        Err(fault) => Err(fault),
+    }
 }

@@ -1,7 +1,7 @@
 //! What `call` does: it runs a call of a document by a script, over any readers and any writer.
 
-ghost use Rattle.calls.specs.Calls.{HaveRows, IsAtLine, IsBadScript, RefusesCall, RunsCall, TellsCall, TellsCommand, TellsCommands};
-ghost use Rattle.calls.specs.Calls.{TellsEvent, TellsNext, answerer_caps};
+ghost use Rattle.calls.specs.Calls.{HaveRows, IsAtLine, IsBadScript, LeavesCall, LeavesTold, RefusesCall, RunsCall, TellsCommand};
+ghost use Rattle.calls.specs.Calls.{TellsCommands, TellsEvent, TellsNext, answerer_caps};
 ghost use Rattle.engines.specs.Faults.{IsOutside};
 ghost use Rattle.calls.specs.Scripts.{IsScript};
 ghost use Rattle.engines.specs.declared.fault.ToolFault.TheVariants.{No};
@@ -20,7 +20,7 @@ use crate::script::{Command, read_script};
 use crate::sent::write_sent;
 use engines::{FAILED, ToolFault};
 use line_sim::laws::headline;
-use line_sim::{Event, LiveCall, Next, WorldFault};
+use line_sim::{Ending, Event, LiveCall, Next, WorldFault};
 use raster::{Document, Page, read_pbm};
 use signals::{Caps, Modems, PageWidth, Wish};
 use std::alloc::Global;
@@ -178,7 +178,7 @@ fn follow_all<T: CallWriter>(
 }
 
 /// Runs a call of a document by commands, writes the line of each event as it happens, and then how the call
-/// ended, and answers the pages stored. Errs with 26 where the width of a page is none that a call can have,
+/// ended, and answers what it leaves. Errs with 26 where the width of a page is none that a call can have,
 /// with 8 where the writer fails, and with 9; with 26 nothing is written.
 fn tell_call<T: CallWriter>(
     alloc: Global,
@@ -186,10 +186,9 @@ fn tell_call<T: CallWriter>(
     commands: &[Command],
     options: &CallOptions,
     writer: &mut T,
-) -> Result<Vec<Page>, ToolFault>
-    ensures told { IfOk result (λ pages.
-        TellsCall options.now document commands.now (T.written writer.old) (T.written writer.new) pages.items) }
-    ensures rows { IfOk result (λ pages. HaveRows pages.items) }
+) -> Result<Ending, ToolFault>
+    ensures told { IfOk result (LeavesTold options.now document commands.now (T.written writer.old) (T.written writer.new)) }
+    ensures rows { IfOk result (λ ending. HaveRows ending.pages.items) }
     ensures refused { IfErr result (λ fault. IsOutside fault ⊎ (¬ AreCallable document × (fault ≡ No 26))) }
     ensures unwritten { IfErr result (λ fault. IsOutside fault ⊎ (writer.new ≡ writer.old)) }
 {
@@ -210,7 +209,7 @@ fn tell_call<T: CallWriter>(
     follow_all(&mut live, commands, &mut number, writer)?;
     let ending = live.into_ending();
     writer.ending(&ending)?;
-    Ok(ending.pages)
+    Ok(ending)
 }
 
 /// Reads a script. Errs with 30 at its first line that isn't one, with 8 where the reader fails, and
@@ -226,12 +225,35 @@ fn read_commands<S: Read>(alloc: Global, script: &mut S) -> Result<Vec<Command>,
 
 /// Reads a script and then a document's images, and runs the call that the script says between a caller
 /// that has the document and an answerer that can take it. Writes the line of each event as it happens, of
-/// which it keeps none, and then what has become of the call, and answers the pages that the answerer has
-/// stored. A `WithBits` gets the octets of what each station sends too, the answerer's DIS first. Errs with 30
-/// at the line of the script that is refused, before it reads images; with the first fault of the images; with
-/// 26 where the width of a page is none that a call can have; with 8 where a reader or the writer fails or there
-/// are 2^64 events; and with 9. With any fault but these two nothing is written; where the writer fails, the call
-/// ends after the lines that it took. A growth that is refused while the call runs is no fault: its line shows it.
+/// which it keeps none, and then what has become of the call, and answers what it leaves: the pages that the
+/// answerer has stored, and how the call ended for each station. A `WithBits` gets the octets of what each station
+/// sends too, the answerer's DIS first. Errs with 30 at the line of the script that is refused, before it reads
+/// images; with the first fault of the images; with 26 where the width of a page is none that a call can have; with
+/// 8 where a reader or the writer fails or there are 2^64 events; and with 9. With any fault but these two nothing is
+/// written; where the writer fails, the call ends after the lines that it took. A growth that is refused while the
+/// call runs is no fault: its line shows it.
+pub fn call_to_end<S: Read, R: Read, T: CallWriter>(
+    alloc: Global,
+    script: &mut S,
+    input: &mut R,
+    writer: &mut T,
+    options: &CallOptions,
+) -> Result<Ending, ToolFault>
+    ensures called { IfOk result (λ ending. IfSome (S.remaining script.old) (λ said. IfSome (R.remaining input.old) (λ images.
+        LeavesCall options.now said images (T.written writer.old) (T.written writer.new) ending))) }
+    ensures refused { IfErr result (λ fault. IfSome (S.remaining script.old) (λ said. IfSome (R.remaining input.old) (λ images.
+        RefusesCall options.now.fine said images fault))) }
+    ensures rows { IfOk result (λ ending. HaveRows ending.pages.items) }
+    ensures early { IfErr result (λ fault. IsAtLine fault → (input.new ≡ input.old) × (writer.new ≡ writer.old)) }
+    ensures unwritten { IfErr result (λ fault. IsOutside fault ⊎ (writer.new ≡ writer.old)) }
+{
+    let commands = read_commands(alloc, script)?;
+    let document = read_pbm(alloc, input, options.fine)?;
+    let ending = tell_call(alloc, document, &commands, options, writer)?;
+    Ok(ending)
+}
+
+/// Does what `call_to_end` does, and answers the pages that the answerer has stored alone.
 pub fn call_engine<S: Read, R: Read, T: CallWriter>(
     alloc: Global,
     script: &mut S,
@@ -247,8 +269,8 @@ pub fn call_engine<S: Read, R: Read, T: CallWriter>(
     ensures early { IfErr result (λ fault. IsAtLine fault → (input.new ≡ input.old) × (writer.new ≡ writer.old)) }
     ensures unwritten { IfErr result (λ fault. IsOutside fault ⊎ (writer.new ≡ writer.old)) }
 {
-    let commands = read_commands(alloc, script)?;
-    let document = read_pbm(alloc, input, options.fine)?;
-    let pages = tell_call(alloc, document, &commands, options, writer)?;
-    Ok(pages)
+    match call_to_end(alloc, script, input, writer, options) {
+        Ok(ending) => Ok(ending.pages),
+        Err(fault) => Err(fault),
+    }
 }

@@ -343,9 +343,9 @@ fn write_call<W: Write>(call: &OneCall, writer: &mut W) -> Result<(), ToolFault>
 /// and an answerer that can take it, as `drive_engine` runs the call of a number. Writes a line for each as it is over, with how it
 /// ended for both stations, how many items came and were lost, how many training checks were spoiled and how many FCDs were sent
 /// again; and then a table: how many calls ended how for the caller, how many bore at most two losses, how many had few bad tries in each
-/// phase, the sums, and for how many seconds calls had the line. Keeps nothing of a call but numbers, so its memory doesn't grow with their count. Errs with the first fault of
-/// the images; with 26 where the width of a page is none that a call can have; with 8 where the writer fails or a sum would be 2^64;
-/// and with 9. With any fault but 8 and 9 nothing is written.
+/// phase, the sums, and for how many seconds calls had the line. Keeps nothing of a call but numbers, so its memory doesn't grow with
+/// their count. Errs with the first fault of the images; with 26 where the width of a page is none that a call can have; with 8 where the
+/// writer fails or a sum would be 2^64; and with 9. With any fault but 8 and 9 nothing is written.
 pub fn drive_many<W: Write>(
     alloc: Global,
     images: &[u8],

@@ -17,7 +17,7 @@ use crate::many_calls::{is_loss, is_spoiling, one_if, sum};
 use engines::ToolFault;
 use line_sim::{DrivenCall, Event, Kind, Step};
 
-/// What stands in a call before or after a step.
+/// How much is under way in a call before or after a step, and whether its caller is sending a block.
 #[derive(Clone, Copy, Debug, PartialEq, Eq)]
 pub(crate) struct Stood {
     /// How much is under way.
@@ -41,7 +41,7 @@ pub(crate) struct TryCounts {
 }
 
 impl Stood {
-    /// What stands in a call. No training check is first under way to the caller.
+    /// How much is under way in a call, and whether its caller is sending a block. No training check is first under way to the caller.
     pub(crate) fn of(call: &DrivenCall) -> Stood
         ensures stood { (w : World) → Shows call.now.live w → result ≡ stood_in w }
         ensures no_check { head_kind call.now.live.to_caller ≢ Some Training }
@@ -164,8 +164,8 @@ impl TryCounts {
         }
     }
 
-    /// The counts after a step, by what stood before and after it; of a group's training checks as many may be spoiled as are spare. Errs
-    /// with 8 where a number would be 2^64.
+    /// The counts after a step, by how much was under way before and after it and whether the caller sent a block; of a group's training
+    /// checks as many may be spoiled as are spare. Errs with 8 where a number would be 2^64.
     pub(crate) fn after_step(
         self,
         step: &Step,

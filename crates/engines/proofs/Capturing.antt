@@ -9,11 +9,11 @@ use Rattle.std.proofs.Math.Nat.{le_refl}
 use Rattle.std.specs.Io.KnownBytes.{Consumes, IsAtEnd}
 use Rattle.raster.specs.Packed as Packed
 use Rattle.raster.specs.Packed.{bits_of}
-use Rattle.raster.specs.declared.packed.Order.TheVariants.{LsbFirst}
+use Rattle.raster.specs.declared.packed.Order.{Order}
 use Rattle.hdlc.specs.DeframerState.{DeframerState, IsAfter}
 use Rattle.hdlc.specs.Flags.{flags, gaps}
 use Rattle.hdlc.specs.Gaps.{good}
-use Rattle.raster.proofs.OctetBits.{bits_of-append}
+use Rattle.raster.proofs.OctetBits.{bits_of-join}
 use Rattle.hdlc.proofs.Gaps.{good_stays}
 use Rattle.signals.specs.Reading.{read_content}
 use Rattle.engines.specs.Captured.{Capture, Step, Takes, at_end, captured, empty_capture, hears_all, hears_read, ◌>>>◌}
@@ -93,16 +93,17 @@ hears_more (x ∷ xs) ys s =
     (sym (append_assoc first.found (hears_all xs first.then).found _))
 
 -- the bits of these octets came, and their good contents are heard
-pub record HeardSo (start left : Option (List ℕ)) (framing : DeframerState) (now : Capture) (out : List Captured) : Type 0 where
+pub record HeardSo (order : Order) (start left : Option (List ℕ)) (framing : DeframerState) (now : Capture)
+    (out : List Captured) : Type 0 where
   pub came : List ℕ
   pub read : Consumes start left came
-  pub stands : IsAfter framing (bits_of LsbFirst came) (length (good (bits_of LsbFirst came)))
-  pub heard : Takes (hears_all (good (bits_of LsbFirst came)) (empty_capture None)) now [] out
+  pub stands : IsAfter framing (bits_of order came) (length (good (bits_of order came)))
+  pub heard : Takes (hears_all (good (bits_of order came)) (empty_capture None)) now [] out
 
-pub none_heard : (start : Option (List ℕ)) (framing : DeframerState) (now : Capture) (out : List Captured) → IsAfter framing [] 0
-    → now ≡ empty_capture None → out ≡ [] → HeardSo start start framing now out
+pub none_heard : (order : Order) (start : Option (List ℕ)) (framing : DeframerState) (now : Capture) (out : List Captured)
+    → IsAfter framing [] 0 → now ≡ empty_capture None → out ≡ [] → HeardSo order start start framing now out
 unfolding flags gaps Packed.bits_in hears_all
-none_heard start framing now out fresh is none = record {
+none_heard order start framing now out fresh is none = record {
   came = [];
   read = Consumes-nil start;
   stands = fresh;
@@ -110,19 +111,19 @@ none_heard start framing now out fresh is none = record {
 }
 
 -- one piece more
-pub piece_heard : (start left rest : Option (List ℕ)) (framing fed after : DeframerState) (now new : Capture) (out more : List Captured)
-    (piece : List ℕ)
-    → HeardSo start left framing now out → Consumes left rest piece
-    → ((bits : List Bool) (handed : ℕ) → IsAfter framing bits handed → IsAfter fed (bits ++ bits_of LsbFirst piece) handed)
+pub piece_heard : (order : Order) (start left rest : Option (List ℕ)) (framing fed after : DeframerState) (now new : Capture)
+    (out more : List Captured) (piece : List ℕ)
+    → HeardSo order start left framing now out → Consumes left rest piece
+    → ((bits : List Bool) (handed : ℕ) → IsAfter framing bits handed → IsAfter fed (bits ++ bits_of order piece) handed)
     → Takes (hears_all fed.queue now) new out more → after ≡ record fed { queue = [] }
-    → HeardSo start rest after new more
-piece_heard start left rest framing fed after now new out more piece old taken step heard is =
-    let bits = bits_of LsbFirst old.came in
-    let whole = bits_of LsbFirst (old.came ++ piece) in
-    let joined : whole ≡ bits ++ bits_of LsbFirst piece = bits_of-append old.came piece in
+    → HeardSo order start rest after new more
+piece_heard order start left rest framing fed after now new out more piece old taken step heard is =
+    let bits = bits_of order old.came in
+    let whole = bits_of order (old.came ++ piece) in
+    let joined : whole ≡ bits ++ bits_of order piece = bits_of-join order old.came piece in
     let stands : IsAfter fed whole (length (good bits)) = subst (λ b. IsAfter fed b (length (good bits))) (sym joined)
     (step bits (length (good bits)) old.stands) in
-    let later = good_stays bits (bits_of LsbFirst piece) in
+    let later = good_stays bits (bits_of order piece) in
     let grown : good whole ≡ good bits ++ later.0 = ap good joined ∙ later.1 in
     let queue : fed.queue ≡ later.0 = stands.queued ∙ (ap (drop (length (good bits))) grown ∙ drop-append_seam (good bits) later.0) in
     let all : hears_all (good whole) (empty_capture None) ≡ (hears_all (good bits) (empty_capture None) >>> hears_all later.0) =
@@ -150,23 +151,23 @@ captured_is contents now out all heard end =
     ∙ ap (λ (s : Capture). (hears_all contents (empty_capture None)).found ++ at_end s) heard.is)
 
 -- all octets came
-pub whole_heard : (start left rest : Option (List ℕ)) (framing : DeframerState) (now : Capture) (out all : List Captured)
-    → HeardSo start left framing now out → Consumes left rest [] → IsAtEnd rest → all ≡ out ++ at_end now
-    → IfSome start (λ octets. all ≡ captured (good (bits_of LsbFirst octets)))
-whole_heard start left rest framing now out all old none end named =
-    let text : all ≡ captured (good (bits_of LsbFirst old.came)) =
-    captured_is (good (bits_of LsbFirst old.came)) now out all old.heard named in
+pub whole_heard : (order : Order) (start left rest : Option (List ℕ)) (framing : DeframerState) (now : Capture) (out all : List Captured)
+    → HeardSo order start left framing now out → Consumes left rest [] → IsAtEnd rest → all ≡ out ++ at_end now
+    → IfSome start (λ octets. all ≡ captured (good (bits_of order octets)))
+whole_heard order start left rest framing now out all old none end named =
+    let text : all ≡ captured (good (bits_of order old.came)) =
+    captured_is (good (bits_of order old.came)) now out all old.heard named in
     whole start (Consumes-trans start left rest old.came [] old.read none) text
   where
-    whole : (start : Option (List ℕ)) → Consumes start rest (old.came ++ []) → all ≡ captured (good (bits_of LsbFirst old.came))
-        → IfSome start (λ octets. all ≡ captured (good (bits_of LsbFirst octets)))
+    whole : (start : Option (List ℕ)) → Consumes start rest (old.came ++ []) → all ≡ captured (good (bits_of order old.came))
+        → IfSome start (λ octets. all ≡ captured (good (bits_of order octets)))
     whole None taken text = tt
     whole (Some octets) taken text = at rest taken end
       where
         at : (rest : Option (List ℕ)) → Consumes (Some octets) rest (old.came ++ []) → IsAtEnd rest
-            → all ≡ captured (good (bits_of LsbFirst octets))
+            → all ≡ captured (good (bits_of order octets))
         at None taken end = absurd taken
         at (Some xs) taken end =
             let same : octets ≡ old.came = taken ∙ (ap (λ l. (old.came ++ []) ++ l) end
             ∙ (append-nil (old.came ++ []) ∙ append-nil old.came)) in
-            subst (λ l. all ≡ captured (good (bits_of LsbFirst l))) (sym same) text
+            subst (λ l. all ≡ captured (good (bits_of order l))) (sym same) text

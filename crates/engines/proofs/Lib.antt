@@ -1,4 +1,6 @@
 -- The lemmas of the engines.
+mod SignalWords
+mod TurnedBits
 mod Listing
 mod MarkedFrames
 mod HexText

@@ -220,7 +220,8 @@ pub explained_line : (fault : ToolFault) (known : Known) → IsOneLine (explaine
 explained_line (No number) known =
     after_name known.file.now (wrong_words (kind_of (No number)) known) (wrong_line (kind_of (No number)) known)
 explained_line (AtBit number place) known =
-    after_name known.file.now (row_text known.row ++ (wrong_words kind known ++ try_words kind known.row known.read_as)) (place_line kind known)
+    after_name known.file.now (row_text known.row ++ (wrong_words kind known ++ try_words kind known.row known.read_as))
+    (place_line kind known)
   where
     kind : FaultKind
     kind = kind_of (AtBit number place)

@@ -1,13 +1,18 @@
 -- What the command that lists frames writes of bits.
 use Rattle.std.specs.Prelude.{ℕ, ◌+◌, ◌-◌, ◌^◌, ◌++◌, ◌∷◌, [], Bool, List, Option, Some, None, codes, if◌then◌else◌, length, min}
-use Rattle.std.specs.Prelude.{nat_lt, take}
+use Rattle.std.specs.Prelude.{◌≡◌, ◌<◌, cond, false, nat_lt, take}
 use Rattle.std.specs.Fmt.{decimal}
 use Rattle.hex.specs.Hex.{encode_lower}
 use Rattle.hdlc.specs.Gaps.{count_of, good}
 use Rattle.hdlc.specs.declared.counts.Class.{Class}
 use Rattle.hdlc.specs.declared.counts.Class.TheVariants.{Good, Aborted, Ragged, Short, Long, Damaged}
 use Rattle.hdlc.specs.declared.counts.Counts.{Counts}
+use Rattle.raster.specs.Packed.{bits_of}
+use Rattle.raster.specs.declared.packed.Order.{Order}
+use Rattle.raster.specs.declared.packed.Order.TheVariants.{LsbFirst}
+use Rattle.engines.specs.SignalWords.{content_words}
 use Rattle.engines.specs.Texts.{content_text, spaced}
+use Rattle.engines.specs.declared.frames.ListOptions.{ListOptions}
 
 -- words with a space between each two, and a line feed
 abbrev pub line : List (List ℕ) → List ℕ
@@ -18,14 +23,15 @@ abbrev pub shown : Option ℕ → List ℕ → List ℕ
 shown None content = encode_lower content
 shown (Some most) content = encode_lower (take most content) ++ (if nat_lt most (length content) then codes ".." else [])
 
--- the line of a good frame: its number, its content in hex, and what it says
-abbrev pub frame_line : Option ℕ → ℕ → List ℕ → List ℕ
-frame_line most number content = line (decimal number ∷ shown most content ∷ content_text content ∷ [])
+-- the line of a good frame: its number, its content in hex, and what it says; and where words are asked for, what it says in them
+abbrev pub frame_line : ListOptions → ℕ → List ℕ → List ℕ
+frame_line how number content = line (decimal number ∷ shown how.most content ∷ content_text content ∷ [])
+    ++ cond how.words (content_words content) []
 
 -- the lines of good frames, numbered from the first one's number
-abbrev pub frame_lines : Option ℕ → ℕ → List (List ℕ) → List ℕ
-frame_lines most first [] = []
-frame_lines most first (content ∷ contents) = frame_line most first content ++ frame_lines most (first + 1) contents
+abbrev pub frame_lines : ListOptions → ℕ → List (List ℕ) → List ℕ
+frame_lines how first [] = []
+frame_lines how first (content ∷ contents) = frame_line how first content ++ frame_lines how (first + 1) contents
 
 -- how many gaps of bits are of a class, up to 2 ^ 64 - 1
 abbrev pub counted : List Bool → Class → ℕ
@@ -49,5 +55,13 @@ counts_line counts = line (codes "good" ∷ decimal counts.good ∷ codes "abort
     ∷ codes "long" ∷ decimal counts.long ∷ codes "damaged" ∷ decimal counts.damaged ∷ [])
 
 -- a line for each good frame of bits, numbered from 1, and the line of the counts
-abbrev pub listing : Option ℕ → List Bool → List ℕ
-listing most bits = frame_lines most 1 (good bits) ++ counts_line (counts_of bits)
+abbrev pub listing : ListOptions → List Bool → List ℕ
+listing how bits = frame_lines how 1 (good bits) ++ counts_line (counts_of bits)
+
+-- frames are listed with no words, of bits the least significant of an octet first
+abbrev pub plain_list : Option ℕ → ListOptions
+plain_list most = record { most = most; order = LsbFirst; words = false }
+
+-- more than 64 octets have no good frame, so that the other order of bits is worth a try
+abbrev pub IsOtherOrderWorth : Order → List ℕ → Type 0
+IsOtherOrderWorth order octets = (64 < length octets) × (length (good (bits_of order octets)) ≡ 0)

@@ -9,6 +9,7 @@ pub mod Decodings
 pub mod PageEnds
 pub mod Answers
 pub mod Texts
+pub mod SignalWords
 pub mod Frames
 pub mod Captured
 pub mod PageNumbers

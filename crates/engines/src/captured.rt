@@ -15,7 +15,7 @@ ghost use Rattle.std.specs.Prelude.{None, OnOk, Some, cond, false, map, nat_eq, 
 ghost use Rattle.stations.specs.AnswererStep.{all_there, same_mark};
 
 use crate::fault::{FAILED, NO_MEMORY, ToolFault};
-use crate::frames::{PIECE, read_some};
+use crate::frames::{PIECE, feed_in, read_some};
 use hdlc::Deframer;
 use partial_page::{BlockFault, BlockStore};
 use raster::Page;
@@ -581,14 +581,18 @@ impl Capture {
     }
 }
 
-/// The pages in the octets of a line, of each of which the least significant bit comes first: those that the data of
+/// The pages in the octets of a line, whose bits have this order: those that the data of
 /// its FCDs join to by the PPSs, read by the width, the lines and the code of the DCS before, one after the other; and
 /// between them what is missing of others, in the order of the line. No station answers. Each page comes once, however
 /// often its blocks were sent. Errs with 8 where the reader fails, or doesn't end in 2^64 reads, and with 9. ITU-T
 /// T.30, Annex A.
-pub fn captured_pages<R: Read>(alloc: Global, reader: &mut R) -> Result<Vec<Captured>, ToolFault>
+pub fn captured_in<R: Read>(
+    alloc: Global,
+    reader: &mut R,
+    order: Order,
+) -> Result<Vec<Captured>, ToolFault>
     ensures found { IfOk result (λ found. IfSome (R.remaining reader.old) (λ octets.
-        found.items ≡ captured (good (bits_of LsbFirst octets)))) }
+        found.items ≡ captured (good (bits_of order octets)))) }
     ensures fault { IfErr result IsOutside }
 {
     let mut deframer = Deframer::new(alloc);
@@ -601,8 +605,17 @@ pub fn captured_pages<R: Read>(alloc: Global, reader: &mut R) -> Result<Vec<Capt
             capture.end(&mut out)?;
             return Ok(out);
         }
-        deframer.feed(&piece[..count])?;
+        feed_in(&mut deframer, order, &piece[..count])?;
         capture.hear_waiting(&mut deframer, &mut out)?;
     }
     Err(FAILED)
+}
+
+/// Does what `captured_in` does, of bits the least significant of each octet first.
+pub fn captured_pages<R: Read>(alloc: Global, reader: &mut R) -> Result<Vec<Captured>, ToolFault>
+    ensures found { IfOk result (λ found. IfSome (R.remaining reader.old) (λ octets.
+        found.items ≡ captured (good (bits_of LsbFirst octets)))) }
+    ensures fault { IfErr result IsOutside }
+{
+    captured_in(alloc, reader, Order::LsbFirst)
 }

@@ -1,32 +1,49 @@
 //! What `frames` does: it lists the frames in bits, over any reader and any writer.
 
 ghost use Rattle.engines.specs.Faults.{IsOutside};
-ghost use Rattle.engines.specs.Frames.{counts_line, frame_line, frame_lines, listing};
+ghost use Rattle.engines.specs.Frames.{IsOtherOrderWorth, counts_line, frame_line, frame_lines, line, listing, plain_list, shown};
+ghost use Rattle.engines.specs.Texts.{content_text};
+ghost use Rattle.hdlc.specs.DeframerState.{IsAfter};
 ghost use Rattle.raster.specs.Packed.{bits_of};
-ghost use Rattle.raster.specs.declared.packed.Order.TheVariants.{LsbFirst};
+ghost use Rattle.raster.specs.declared.packed.Order.TheVariants.{LsbFirst, MsbFirst};
 ghost use Rattle.std.specs.Io.KnownBytes.{Appends, Consumes, IsAtEnd};
-ghost use Rattle.std.specs.Prelude.{◌≡◌, ◌<◌, ◌≤◌, ◌+◌, [], IfErr, IfOk, IfSome, None, OnOk, length, take};
+ghost use Rattle.std.specs.Fmt.{decimal};
+ghost use Rattle.std.specs.Prelude.{◌≡◌, ◌<◌, ◌≤◌, ◌↔◌, ◌+◌, ◌++◌, ◌∷◌, ℕ, Bool, List, [], IfErr, IfOk, IfSome, IsTrue, OnOk, length, take};
 
 use crate::fault::{FAILED, ToolFault};
+use crate::signal_words::write_words;
 use crate::texts::ContentText;
 use hdlc::{Counts, Deframer};
-use std::alloc::Global;
+use raster::packed::{Order, word_at, word_octets};
+use std::alloc::{AllocError, Global};
 use std::io;
 use std::io::{Read, Write};
+
+/// How frames are listed.
+#[derive(Clone, Copy, Debug, PartialEq, Eq)]
+pub struct ListOptions {
+    /// At most how many octets of a content are shown, where it isn't all of them.
+    pub most: Option<usize>,
+    /// Which bit of an octet comes first on the line.
+    pub order: Order,
+    /// Whether a line after that of a DIS, a DCS, a PPS or a PPR says in words what it says.
+    pub words: bool,
+}
 
 /// How many octets are read at a time.
 pub(crate) const PIECE: usize = 4096;
 
-/// Writes the line of a good frame: its number, its content in hex, of which at most `most` octets are shown, and what
-/// it says.
-fn write_frame<W: Write>(
+/// Writes the line of a good frame, with no words: its number, its content in hex, of which at most `most` octets are shown, and
+/// what it says.
+fn write_content<W: Write>(
     alloc: Global,
     number: u64,
     content: &[u8],
     most: Option<usize>,
     writer: &mut W,
 ) -> Result<(), ToolFault>
-    ensures line { OnOk result (Appends (W.contents writer.old) (W.contents writer.new) (frame_line most number content.now)) }
+    ensures line { OnOk result (Appends (W.contents writer.old) (W.contents writer.new)
+        (line (decimal number ∷ shown most content.now ∷ content_text content.now ∷ []))) }
     ensures fault { IfErr result IsOutside }
 {
     let (front, cut) = match most {
@@ -38,23 +55,42 @@ fn write_frame<W: Write>(
     Ok(())
 }
 
+/// Writes the line of a good frame: its number, its content in hex, of which at most `most` octets are shown, and what
+/// it says; and after it in words what it says, where they are asked for.
+fn write_frame<W: Write>(
+    alloc: Global,
+    number: u64,
+    content: &[u8],
+    how: ListOptions,
+    writer: &mut W,
+) -> Result<(), ToolFault>
+    ensures line { OnOk result (Appends (W.contents writer.old) (W.contents writer.new) (frame_line how number content.now)) }
+    ensures fault { IfErr result IsOutside }
+{
+    write_content(alloc, number, content, how.most, writer)?;
+    if how.words {
+        write_words(content, writer)?;
+    }
+    Ok(())
+}
+
 /// Writes a line for each content that waits, the first with this number. Answers the number that
 /// follows.
 fn write_frames<W: Write>(
     alloc: Global,
     deframer: &mut Deframer,
     first: u64,
-    most: Option<usize>,
+    how: ListOptions,
     writer: &mut W,
 ) -> Result<u64, ToolFault>
-    ensures lines { OnOk result (Appends (W.contents writer.old) (W.contents writer.new) (frame_lines most first deframer.old.queue)) }
+    ensures lines { OnOk result (Appends (W.contents writer.old) (W.contents writer.new) (frame_lines how first deframer.old.queue)) }
     ensures next { IfOk result (λ next. next ≡ first + length deframer.old.queue) }
     ensures taken { OnOk result (deframer.new ≡ record deframer.old { queue = [] }) }
     ensures fault { IfErr result IsOutside }
 {
     let mut number = first;
     while let Some(content) = deframer.next() {
-        write_frame(alloc, number, content, most, writer)?;
+        write_frame(alloc, number, content, how, writer)?;
         number = number.checked_add(1).ok_or(FAILED)?;
     }
     Ok(number)
@@ -95,11 +131,78 @@ pub(crate) fn read_some<R: Read>(reader: &mut R, piece: &mut [u8]) -> Result<usi
     Err(FAILED)
 }
 
-/// Reads bits, the least significant of each octet first, and writes a line for each good frame in them, with its
-/// number from 1, its content in hex and what it says, and then a line with the counts of all gaps. At most `most`
-/// octets of a content are shown, and a line has `..` after them where it has more. Each line is written, and the
-/// writer flushed, as soon as its frame was read. Errs with 8 where the reader or the writer fails, or the reader
-/// doesn't end in 2^64 reads, and with 9.
+/// The octet whose bits, the least significant first, are those of this one with the most significant first.
+fn turned(octet: u8) -> u8
+    ensures { bits_of LsbFirst (result ∷ []) ≡ bits_of MsbFirst (octet ∷ []) }
+{
+    let word = word_at(Order::MsbFirst, &[octet], 0);
+    word_octets(Order::LsbFirst, word)[0]
+}
+
+/// A deframer takes the bits of octets, the most significant of each first. Errs where memory is refused for a content.
+fn feed_turned(deframer: &mut Deframer, piece: &[u8]) -> Result<(), AllocError>
+    ensures ok { OnOk result ((bits : List Bool) (handed : ℕ) → IsAfter deframer.old bits handed
+        → IsAfter deframer.new (bits ++ bits_of MsbFirst piece.now) handed) }
+{
+    for octet in piece {
+        deframer.feed(&[turned(*octet)])?;
+    }
+    Ok(())
+}
+
+/// A deframer takes the bits of octets, in their order. Errs where memory is refused for a content.
+pub(crate) fn feed_in(deframer: &mut Deframer, order: Order, piece: &[u8]) -> Result<(), AllocError>
+    ensures ok { OnOk result ((bits : List Bool) (handed : ℕ) → IsAfter deframer.old bits handed
+        → IsAfter deframer.new (bits ++ bits_of order piece.now) handed) }
+{
+    match order {
+        Order::LsbFirst => deframer.feed(piece),
+        Order::MsbFirst => feed_turned(deframer, piece),
+    }
+}
+
+/// Whether more than 64 octets have no good frame, where the next one would have this number.
+fn has_no_frame(octets: u64, number: u64) -> bool
+    ensures { IsTrue result ↔ ((64 < octets) × (number ≡ 1)) }
+{
+    octets > 64 && number == 1
+}
+
+/// Reads bits, and writes a line for each good frame in them, with its number from 1, its content in hex and what it says, and then
+/// a line with the counts of all gaps. At most `how.most` octets of a content are shown, and a line has `..` after them where it has
+/// more; with `how.words` the line of a DIS, a DCS, a PPS or a PPR is followed by one that says it in words. Each line is written,
+/// and the writer flushed, as soon as its frame was read. Answers whether the other order of bits is worth a try: more than 64 octets
+/// had no good frame. Errs with 8 where the reader or the writer fails, or the reader doesn't end in 2^64 reads, and with 9.
+pub fn list_engine<R: Read, W: Write>(
+    alloc: Global,
+    reader: &mut R,
+    writer: &mut W,
+    how: ListOptions,
+) -> Result<bool, ToolFault>
+    ensures listed { OnOk result (IfSome (R.remaining reader.old) (λ octets.
+        Appends (W.contents writer.old) (W.contents writer.new) (listing how (bits_of how.order octets)))) }
+    ensures worth { IfOk result (λ worth. IfSome (R.remaining reader.old) (λ octets. IsTrue worth ↔ IsOtherOrderWorth how.order octets)) }
+    ensures fault { IfErr result IsOutside }
+{
+    let mut deframer = Deframer::new(alloc);
+    let mut number = 1;
+    let mut octets: u64 = 0;
+    let mut piece = [0; PIECE];
+    for _read in 0..u64::MAX {
+        let count = read_some(reader, &mut piece)?;
+        if count == 0 {
+            write_counts(deframer.counts(), writer)?;
+            return Ok(has_no_frame(octets, number));
+        }
+        feed_in(&mut deframer, how.order, &piece[..count])?;
+        octets = octets.saturating_add(count as u64);
+        number = write_frames(alloc, &mut deframer, number, how, writer)?;
+        writer.flush()?;
+    }
+    Err(FAILED)
+}
+
+/// Reads bits, the least significant of each octet first, and lists the frames in them as `list_engine` does, with no words.
 pub fn frames_engine<R: Read, W: Write>(
     alloc: Global,
     reader: &mut R,
@@ -107,20 +210,16 @@ pub fn frames_engine<R: Read, W: Write>(
     most: Option<usize>,
 ) -> Result<(), ToolFault>
     ensures listed { OnOk result (IfSome (R.remaining reader.old) (λ octets.
-        Appends (W.contents writer.old) (W.contents writer.new) (listing most (bits_of LsbFirst octets)))) }
+        Appends (W.contents writer.old) (W.contents writer.new) (listing (plain_list most) (bits_of LsbFirst octets)))) }
     ensures fault { IfErr result IsOutside }
 {
-    let mut deframer = Deframer::new(alloc);
-    let mut number = 1;
-    let mut piece = [0; PIECE];
-    for _read in 0..u64::MAX {
-        let count = read_some(reader, &mut piece)?;
-        if count == 0 {
-            return write_counts(deframer.counts(), writer);
-        }
-        deframer.feed(&piece[..count])?;
-        number = write_frames(alloc, &mut deframer, number, most, writer)?;
-        writer.flush()?;
+    let how = ListOptions {
+        most,
+        order: Order::LsbFirst,
+        words: false,
+    };
+    match list_engine(alloc, reader, writer, how) {
+        Ok(_worth) => Ok(()),
+        Err(fault) => Err(fault),
     }
-    Err(FAILED)
 }

@@ -18,15 +18,16 @@ mod pages;
 mod refused;
 mod repair;
 mod repair_t6;
+mod signal_words;
 mod texts;
 
 pub use crate::answer::{DecodeAnswer, answer_decode};
-pub use crate::captured::{Captured, captured_pages};
+pub use crate::captured::{Captured, captured_in, captured_pages};
 pub use crate::decoding::{Broken, Decoded, ReadTo, decode_page};
 pub use crate::explain::{Explained, Known, is_shown};
 pub use crate::fault::{FAILED, NO_MEMORY, ToolFault};
 pub use crate::fault_kind::FaultKind;
-pub use crate::frames::frames_engine;
+pub use crate::frames::{ListOptions, frames_engine, list_engine};
 pub use crate::line_fault::LineFault;
 pub use crate::missing::Missing;
 pub use crate::numbers::PageNumbers;

@@ -61,31 +61,32 @@ width_none rows none n is =
 
 -- ---- the words
 
-pub faxtool_simple : (codings orders sizes modems later_codings later_sizes later_modems widths : ValueParser)
-    → is_simple (with_later (call_and_page_app codings orders sizes modems) later_codings later_sizes later_modems widths) ≡ true
+pub faxtool_simple : (codings orders sizes modems ends later_codings later_sizes later_modems widths : ValueParser)
+    → is_simple (with_later (call_and_page_app codings orders sizes modems ends) later_codings later_sizes later_modems widths) ≡ true
 unfolding clap_on_literals
-faxtool_simple codings orders sizes modems later_codings later_sizes later_modems widths = refl
+faxtool_simple codings orders sizes modems ends later_codings later_sizes later_modems widths = refl
 
-pub faxtool_free : (codings orders sizes modems later_codings later_sizes later_modems widths : ValueParser)
-    → is_simple_and_free (with_later (call_and_page_app codings orders sizes modems) later_codings later_sizes later_modems widths) ≡ true
+pub faxtool_free : (codings orders sizes modems ends later_codings later_sizes later_modems widths : ValueParser)
+    → is_simple_and_free (with_later (call_and_page_app codings orders sizes modems ends) later_codings later_sizes later_modems widths)
+    ≡ true
 unfolding clap_on_literals
-faxtool_free codings orders sizes modems later_codings later_sizes later_modems widths = refl
+faxtool_free codings orders sizes modems ends later_codings later_sizes later_modems widths = refl
 
 -- the whole program, by its parsers alone
 whole : (a : App) (is : IsFaxtool a)
-    → a ≡ with_later (call_and_page_app is.first.codings is.first.orders is.first.sizes is.first.modems) is.codings is.sizes is.modems
-    is.widths
+    → a ≡ with_later (call_and_page_app is.first.codings is.first.orders is.first.sizes is.first.modems is.first.ends) is.codings
+    is.sizes is.modems is.widths
 whole a is = is.commands ∙ ap (λ (begun : App). with_later begun is.codings is.sizes is.modems is.widths) is.first.commands
 
 pub is_faxtool_simple : (a : App) → IsFaxtool a → is_simple a ≡ true
 is_faxtool_simple a is =
-    ap is_simple (whole a is) ∙ faxtool_simple is.first.codings is.first.orders is.first.sizes is.first.modems is.codings is.sizes is.modems
-    is.widths
+    ap is_simple (whole a is) ∙ faxtool_simple is.first.codings is.first.orders is.first.sizes is.first.modems is.first.ends is.codings
+    is.sizes is.modems is.widths
 
 pub is_faxtool_free : (a : App) → IsFaxtool a → is_simple_and_free a ≡ true
 is_faxtool_free a is =
-    ap is_simple_and_free (whole a is) ∙ faxtool_free is.first.codings is.first.orders is.first.sizes is.first.modems is.codings is.sizes
-    is.modems is.widths
+    ap is_simple_and_free (whole a is) ∙ faxtool_free is.first.codings is.first.orders is.first.sizes is.first.modems is.first.ends
+    is.codings is.sizes is.modems is.widths
 
 -- clap's own refusal
 pub refused_by_kind : (words : List Text) (a : App) (error : Error) (outcome : Outcome) → IsFaxtool a
@@ -195,11 +196,11 @@ no_width rows none (Show coding order width input) (others, e, is) =
     none width (subst (λ (xs : List Row). IsWidthIn xs width) (sym (some_rows (codes "show") (codes "show") rows others e)) is.width_is)
 no_width rows none (Decode form options input output) (others, e, is) =
     show_is_decode (some_name (codes "show") (codes "decode") rows others e)
-no_width rows none (Frames most pages input) (others, e, reads, folder, is) =
+no_width rows none (Frames most order words pages input) (others, e, reads, of, said, folder, is) =
     show_is_frames (some_name (codes "show") (codes "frames") rows others e)
-no_width rows none (Call script options out bits input) (others, e, is) =
+no_width rows none (Call script options out bits normal input) (others, e, is) =
     show_is_call (some_name (codes "show") (codes "call") rows others e)
-no_width rows none (Drive line times options out bits input) (others, e, is) =
+no_width rows none (Drive line times options out bits normal input) (others, e, is) =
     show_is_call (some_name (codes "show") (codes "call") rows others e)
 no_width rows none (Answer caps limit waits out trace) (others, e, is) =
     show_is_station (some_name (codes "show") (codes "station") rows others e)
@@ -216,17 +217,18 @@ no_width_to_decode rows none (Show coding order width input) (others, e, is) =
 no_width_to_decode rows none (Decode form options input output) (others, e, is) =
     none form.width (subst (λ (xs : List Row). IsWidthIn xs form.width) (sym (some_rows (codes "decode") (codes "decode") rows others e))
     is.shown.width_is)
-no_width_to_decode rows none (Frames most pages input) (others, e, reads, folder, is) =
+no_width_to_decode rows none (Frames most order words pages input) (others, e, reads, of, said, folder, is) =
     decode_is_frames (some_name (codes "decode") (codes "frames") rows others e)
-no_width_to_decode rows none (Call script options out bits input) (others, e, is) =
+no_width_to_decode rows none (Call script options out bits normal input) (others, e, is) =
     decode_is_call (some_name (codes "decode") (codes "call") rows others e)
-no_width_to_decode rows none (Drive line times options out bits input) (others, e, is) =
+no_width_to_decode rows none (Drive line times options out bits normal input) (others, e, is) =
     decode_is_call (some_name (codes "decode") (codes "call") rows others e)
 no_width_to_decode rows none (Answer caps limit waits out trace) (others, e, is) =
     decode_is_station (some_name (codes "decode") (codes "station") rows others e)
 no_width_to_decode rows none (Dial options waits trace input) (others, e, is) =
     decode_is_station (some_name (codes "decode") (codes "station") rows others e)
-no_width_to_decode rows none (Version proof) (others, e, is) = decode_is_version (some_name (codes "decode") (codes "version") rows others e)
+no_width_to_decode rows none (Version proof) (others, e, is) =
+    decode_is_version (some_name (codes "decode") (codes "version") rows others e)
 
 -- without options there is no job for `call`
 pub no_options : (rows : List Row) → HasNoOptions rows → HasNoJob (Some (codes "call", rows))
@@ -236,12 +238,12 @@ no_options rows none (Show coding order width input) (others, e, is) =
     show_is_call (sym (some_name (codes "call") (codes "show") rows others e))
 no_options rows none (Decode form options input output) (others, e, is) =
     decode_is_call (sym (some_name (codes "call") (codes "decode") rows others e))
-no_options rows none (Frames most pages input) (others, e, reads, folder, is) =
+no_options rows none (Frames most order words pages input) (others, e, reads, of, said, folder, is) =
     call_is_frames (some_name (codes "call") (codes "frames") rows others e)
-no_options rows none (Call script options out bits input) (others, e, is) =
+no_options rows none (Call script options out bits normal input) (others, e, is) =
     none options (subst (λ (xs : List Row). AreOptionsIn xs options) (sym (some_rows (codes "call") (codes "call") rows others e))
     is.options_are)
-no_options rows none (Drive line times options out bits input) (others, e, is) =
+no_options rows none (Drive line times options out bits normal input) (others, e, is) =
     none options (subst (λ (xs : List Row). AreOptionsIn xs options) (sym (some_rows (codes "call") (codes "call") rows others e))
     is.options_are)
 no_options rows none (Answer caps limit waits out trace) (others, e, is) =
@@ -286,14 +288,14 @@ no_line rows open_end none (Show coding order width input) (others, e, is) =
     show_is_call (sym (some_name (codes "call") (codes "show") rows others e))
 no_line rows open_end none (Decode form options input output) (others, e, is) =
     decode_is_call (sym (some_name (codes "call") (codes "decode") rows others e))
-no_line rows open_end none (Frames most pages input) (others, e, reads, folder, is) =
+no_line rows open_end none (Frames most order words pages input) (others, e, reads, of, said, folder, is) =
     call_is_frames (some_name (codes "call") (codes "frames") rows others e)
-no_line rows open_end none (Call script options out bits input) (others, e, is) =
+no_line rows open_end none (Call script options out bits normal input) (others, e, is) =
     let same : rows ≡ others = some_rows (codes "call") (codes "call") rows others e in
     let no : ◌≡◌ {A = Option Text} None (Some (string_bytes script)) =
     open_end ∙ (ap (λ (xs : List Row). first_of (codes "script") xs) same ∙ is.script_is) in
     cc
-no_line rows open_end none (Drive line times options out bits input) (others, e, is) =
+no_line rows open_end none (Drive line times options out bits normal input) (others, e, is) =
     none line (subst (λ (xs : List Row). IsLineIn xs line) (sym (some_rows (codes "call") (codes "call") rows others e)) is.line_is)
 no_line rows open_end none (Answer caps limit waits out trace) (others, e, is) =
     call_is_station (some_name (codes "call") (codes "station") rows others e)
@@ -310,14 +312,14 @@ no_times rows open_end none (Show coding order width input) (others, e, is) =
     show_is_call (sym (some_name (codes "call") (codes "show") rows others e))
 no_times rows open_end none (Decode form options input output) (others, e, is) =
     decode_is_call (sym (some_name (codes "call") (codes "decode") rows others e))
-no_times rows open_end none (Frames most pages input) (others, e, reads, folder, is) =
+no_times rows open_end none (Frames most order words pages input) (others, e, reads, of, said, folder, is) =
     call_is_frames (some_name (codes "call") (codes "frames") rows others e)
-no_times rows open_end none (Call script options out bits input) (others, e, is) =
+no_times rows open_end none (Call script options out bits normal input) (others, e, is) =
     let same : rows ≡ others = some_rows (codes "call") (codes "call") rows others e in
     let no : ◌≡◌ {A = Option Text} None (Some (string_bytes script)) =
     open_end ∙ (ap (λ (xs : List Row). first_of (codes "script") xs) same ∙ is.script_is) in
     cc
-no_times rows open_end none (Drive line times options out bits input) (others, e, is) =
+no_times rows open_end none (Drive line times options out bits normal input) (others, e, is) =
     none times (subst (λ (xs : List Row). IsTimesIn xs times) (sym (some_rows (codes "call") (codes "call") rows others e)) is.times_is)
 no_times rows open_end none (Answer caps limit waits out trace) (others, e, is) =
     call_is_station (some_name (codes "call") (codes "station") rows others e)

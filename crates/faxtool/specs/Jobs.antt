@@ -117,11 +117,12 @@ abbrev pub decode_app : ValueParser → ValueParser → App
 decode_app codings orders = with_explain (with_rule (with_rule (with_flags (with_page_options (new_app (codes "decode")) codings orders))
     (file_rule (codes "file"))) (file_rule (codes "out")))
 
--- `frames`: how many octets of a content are shown, 0 to 300, the folder of the pages, and the file of the bits
-abbrev pub frames_app : App
-frames_app = with_explain (with_rule (with_rule (with_rule (new_app (codes "frames"))
-    (record (option_rule (codes "data")) { parser = Some (vp.Signed (pos 0) (pos 300)) })) (file_option_rule (codes "pages")))
-    (file_rule (codes "file")))
+-- `frames`: how many octets of a content are shown, 0 to 300, the order, which is `lsb` where it isn't given, the folder of the pages, and
+-- the file of the bits
+abbrev pub frames_app : ValueParser → App
+frames_app orders = with_explain (with_rule (with_rule (with_rule (with_rule (new_app (codes "frames"))
+    (record (option_rule (codes "data")) { parser = Some (vp.Signed (pos 0) (pos 300)) }))
+    (choice_rule (codes "order") orders (codes "lsb"))) (file_option_rule (codes "pages"))) (file_rule (codes "file")))
 
 -- the command with `--code`, `--frame` and `--modems`
 abbrev pub with_choices : App → ValueParser → ValueParser → ValueParser → App
@@ -139,20 +140,25 @@ with_line app = with_rule (with_rule (with_rule (with_rule (with_rule (with_rule
     (option_rule (codes "spoil"))) (option_rule (codes "busy"))) (number_rule (codes "seed") 0 4294967295))
     (number_rule (codes "calls") 1 1000000)) (number_rule (codes "times") 1 4294967295)
 
+-- an option that is one of several names, with none where it isn't given
+abbrev pub named_rule : Text → ValueParser → Rule
+named_rule id names = record (option_rule id) { parser = Some names }
+
+-- the command with the file of the stored pages, the end that is wanted, and the folder of what is sent
+abbrev pub with_outcome : App → ValueParser → App
+with_outcome app ends = with_rule (with_rule (with_rule app (file_option_rule (codes "out"))) (named_rule (codes "expect") ends))
+    (file_option_rule (codes "bits"))
+
 -- `call`: the file of the script, or the options of a bad line, the code, the size of frames, the modems, fine or not, the file of the
--- stored pages, the folder of what is sent, and the file of the document
-abbrev pub call_app : ValueParser → ValueParser → ValueParser → App
-call_app codings sizes modems = with_explain (with_rule (with_rule (with_rule (with_rule (with_choices (with_line (with_rule
-    (new_app (codes "call")) (file_option_rule (codes "script")))) codings sizes modems) (flag_rule (codes "fine")))
-    (file_option_rule (codes "out"))) (file_option_rule (codes "bits"))) (file_rule (codes "in")))
+-- stored pages, the end that is wanted, the folder of what is sent, and the file of the document
+abbrev pub call_app : ValueParser → ValueParser → ValueParser → ValueParser → App
+call_app codings sizes modems ends = with_explain (with_rule (with_outcome (with_rule (with_choices (with_line (with_rule
+    (new_app (codes "call")) (file_option_rule (codes "script")))) codings sizes modems) (flag_rule (codes "fine"))) ends)
+    (file_rule (codes "in")))
 
 -- how long a wait runs, in milliseconds
 abbrev pub millis_rule : Text → Rule
 millis_rule id = number_rule id 1 3600000
-
--- an option that is one of several names, with none where it isn't given
-abbrev pub named_rule : Text → ValueParser → Rule
-named_rule id names = record (option_rule id) { parser = Some names }
 
 -- the name of a file that need not be there
 abbrev pub optional_file_rule : Text → Rule
@@ -189,15 +195,15 @@ empty_app = let app = new_app (codes "faxtool") in record app {
 -- the program with the commands that code, show and decode pages and list frames
 abbrev pub page_app : ValueParser → ValueParser → App
 page_app codings orders = with_subcommand (with_subcommand (with_subcommand (with_subcommand empty_app (code_app codings orders).top)
-    (show_app codings orders).top) (decode_app codings orders).top) frames_app.top
+    (show_app codings orders).top) (decode_app codings orders).top) (frames_app orders).top
 
 -- `version`, with `--proof`
 abbrev pub version_app : App
 version_app = with_rule (new_app (codes "version")) (flag_rule (codes "proof"))
 
 -- the program with the command that runs calls too
-abbrev pub call_and_page_app : ValueParser → ValueParser → ValueParser → ValueParser → App
-call_and_page_app codings orders sizes modems = with_subcommand (page_app codings orders) (call_app codings sizes modems).top
+abbrev pub call_and_page_app : ValueParser → ValueParser → ValueParser → ValueParser → ValueParser → App
+call_and_page_app codings orders sizes modems ends = with_subcommand (page_app codings orders) (call_app codings sizes modems ends).top
 
 -- and with the command that is one end of a call, and `version`
 abbrev pub with_later : App → ValueParser → ValueParser → ValueParser → ValueParser → App
@@ -221,9 +227,11 @@ pub record BeginsFaxtool (a : App) : Type 0 where
   pub orders : ValueParser
   pub sizes : ValueParser
   pub modems : ValueParser
+  pub ends : ValueParser
   pub names : TakeNames codings sizes modems
   pub takes_orders : TakesNames orders (codes "msb" ∷ codes "lsb" ∷ [])
-  pub commands : a ≡ call_and_page_app codings orders sizes modems
+  pub takes_ends : TakesNames ends (codes "normal" ∷ [])
+  pub commands : a ≡ call_and_page_app codings orders sizes modems ends
 
 -- the command that the program hands to clap
 pub record IsFaxtool (a : App) : Type 0 where
@@ -248,6 +256,11 @@ coding_named (Some name) = if bytes_eq name (codes "mh") then Some OneDim else i
 abbrev pub order_named : Option Text → Order
 order_named None = MsbFirst
 order_named (Some name) = if bytes_eq name (codes "lsb") then LsbFirst else MsbFirst
+
+-- the same of the bits on a line: `lsb` but for `msb`
+abbrev pub line_order_named : Option Text → Order
+line_order_named None = LsbFirst
+line_order_named (Some name) = if bytes_eq name (codes "msb") then MsbFirst else LsbFirst
 
 -- the value is the name
 abbrev pub is_named : Text → Option Text → Bool
@@ -361,13 +374,18 @@ pub record IsLineIn (rows : List Row) (line : BadLine) : Type 0 where
   pub given : ReadsNumber (codes "calls") rows calls
   pub calls_is : line.calls ≡ calls_of calls
 
--- the number is that of the calls that are asked for, whose pages and octets are not kept
+-- the call is to end normally for both stations
+abbrev pub is_normal_wanted : List Row → Bool
+is_normal_wanted rows = is_named (codes "normal") (first_of (codes "expect") rows)
+
+-- the number is that of the calls that are asked for, whose pages and octets are not kept and of which no end is wanted
 pub record AreManyIn (rows : List Row) (times : ℕ) : Type 0 where
   pub given : ReadsNumber (codes "times") rows (Some times)
   pub least : 1 ≤ times
   pub small : times < 2 ^ 32
   pub unkept : first_of (codes "out") rows ≡ None
   pub unsent : first_of (codes "bits") rows ≡ None
+  pub unwanted : first_of (codes "expect") rows ≡ None
 
 -- how many calls are asked for, where that is said
 abbrev pub IsTimesIn : List Row → Option ℕ → Type 0
@@ -376,22 +394,24 @@ IsTimesIn rows (Some times) = AreManyIn rows times
 
 -- the values of the command `call` are those of a call over a bad line, or of many, with no script
 pub record IsDriveOf (rows : List Row) (line : BadLine) (times : Option ℕ) (options : CallOptions)
-    (out bits : Option Text) (input : Text) : Type 0 where
+    (out bits : Option Text) (normal : Bool) (input : Text) : Type 0 where
   pub script_is : first_of (codes "script") rows ≡ None
   pub line_is : IsLineIn rows line
   pub times_is : IsTimesIn rows times
   pub options_are : AreOptionsIn rows options
   pub out_is : first_of (codes "out") rows ≡ out
   pub bits_is : first_of (codes "bits") rows ≡ bits
+  pub normal_is : normal ≡ is_normal_wanted rows
   pub input_is : first_of (codes "in") rows ≡ Some input
 
 -- the values of the command `call` are those of the job, which has a script and no bad line, and reads standard input once at most
-pub record IsCallOf (rows : List Row) (script : Text) (options : CallOptions) (out bits : Option Text) (input : Text)
+pub record IsCallOf (rows : List Row) (script : Text) (options : CallOptions) (out bits : Option Text) (normal : Bool) (input : Text)
     : Type 0 where
   pub script_is : first_of (codes "script") rows ≡ Some script
   pub options_are : AreOptionsIn rows options
   pub out_is : first_of (codes "out") rows ≡ out
   pub bits_is : first_of (codes "bits") rows ≡ bits
+  pub normal_is : normal ≡ is_normal_wanted rows
   pub input_is : first_of (codes "in") rows ≡ Some input
   pub apart : are_both_standard script input ≡ false
   pub alone : has_line rows ≡ false
@@ -476,17 +496,21 @@ IsJobOf met (Show coding order width input) = (rows : List Row)
 IsJobOf met (Decode form options input output) = (rows : List Row)
     × (met ≡ Some (codes "decode", rows))
     × IsDecodeOf rows form options (string_bytes input) (string_bytes output)
-IsJobOf met (Frames most pages input) = (rows : List Row)
+IsJobOf met (Frames most order words pages input) = (rows : List Row)
     × (met ≡ Some (codes "frames", rows))
     × ReadsNumber (codes "data") rows most
+    × (order ≡ line_order_named (first_of (codes "order") rows))
+    × (words ≡ is_named (codes "true") (first_of (codes "explain") rows))
     × (first_of (codes "pages") rows ≡ option_map string_bytes pages)
     × (first_of (codes "file") rows ≡ Some (string_bytes input))
-IsJobOf met (Call script options out bits input) = (rows : List Row)
+IsJobOf met (Call script options out bits normal input) = (rows : List Row)
     × (met ≡ Some (codes "call", rows))
-    × IsCallOf rows (string_bytes script) options (option_map string_bytes out) (option_map string_bytes bits) (string_bytes input)
-IsJobOf met (Drive line times options out bits input) = (rows : List Row)
+    × IsCallOf rows (string_bytes script) options (option_map string_bytes out) (option_map string_bytes bits) normal
+    (string_bytes input)
+IsJobOf met (Drive line times options out bits normal input) = (rows : List Row)
     × (met ≡ Some (codes "call", rows))
-    × IsDriveOf rows line times options (option_map string_bytes out) (option_map string_bytes bits) (string_bytes input)
+    × IsDriveOf rows line times options (option_map string_bytes out) (option_map string_bytes bits) normal
+    (string_bytes input)
 IsJobOf met (Answer caps limit waits out trace) = (rows : List Row)
     × (met ≡ Some (codes "station", rows))
     × IsAnswerOf rows caps limit waits (string_bytes out) (option_map string_bytes trace)
@@ -543,9 +567,9 @@ abbrev pub HasWidth : Job → Type 0
 HasWidth (Code coding order input output) = Unit {0}
 HasWidth (Show coding order width input) = IsWidth width
 HasWidth (Decode form options input output) = IsWidth form.width
-HasWidth (Frames most pages input) = Unit {0}
-HasWidth (Call script options out bits input) = Unit {0}
-HasWidth (Drive line times options out bits input) = Unit {0}
+HasWidth (Frames most order words pages input) = Unit {0}
+HasWidth (Call script options out bits normal input) = Unit {0}
+HasWidth (Drive line times options out bits normal input) = Unit {0}
 HasWidth (Answer caps limit waits out trace) = Unit {0}
 HasWidth (Dial options waits trace input) = Unit {0}
 HasWidth (Version proof) = Unit {0}

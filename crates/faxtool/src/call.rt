@@ -8,19 +8,19 @@ use crate::bits::{self, CallFiles};
 use crate::files::{read_file, read_input};
 use crate::notes::{Notes, Part};
 use crate::outputs;
-use calls::{CallOptions, call_engine, read_script};
+use calls::{CallOptions, call_to_end, ended_normally, read_script};
 use engines::{NO_MEMORY, ToolFault};
 use raster::{Page, write_pbm};
 
 /// Runs a call by a script's file, and prints what has become of it. The file of the stored pages is
-/// opened last, and only where there are any.
+/// opened last, and only where there are any. Answers whether the call ended normally for both stations.
 pub fn call_file(
     rt: &HostRuntime,
     script: &str,
     options: &CallOptions,
     files: CallFiles<'_>,
     notes: &mut Notes,
-) -> Result<(), ToolFault> {
+) -> Result<bool, ToolFault> {
     notes.script = read_file(rt, script, Part::Script, notes)?;
     // a script that is refused is so before anything waits for images
     let _commands = read_script(rt.alloc(), notes.script.as_slice())?;
@@ -28,11 +28,12 @@ pub fn call_file(
     let mut writer = bits::open(rt, files.bits, notes)?;
     let mut script = notes.script.as_slice();
     let mut images = notes.octets.as_slice();
-    let called = call_engine(rt.alloc(), &mut script, &mut images, &mut writer, options);
+    let called = call_to_end(rt.alloc(), &mut script, &mut images, &mut writer, options);
     let ended = bits::close(rt, writer, called.is_ok(), notes);
-    let pages = called?;
+    let ending = called?;
     ended?;
-    write_pages(rt, files.out, &pages, notes)
+    write_pages(rt, files.out, &ending.pages, notes)?;
+    Ok(ended_normally(&ending))
 }
 
 /// Writes the pages that a call has stored into a file, one after the other, where one is named and there are any.

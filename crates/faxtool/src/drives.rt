@@ -5,10 +5,11 @@ use crate::bits::CallFiles;
 use crate::call::write_pages;
 use crate::files::{self, read_input};
 use crate::notes::Notes;
-use calls::{BadLine, CallOptions, drive_engine, drive_many};
+use calls::{BadLine, CallOptions, drive_many, drive_to_end, ended_normally};
 use engines::ToolFault;
 
-/// Runs the first call over a bad line, or many where a number is given.
+/// Runs the first call over a bad line, or many where a number is given. Answers whether the first one ended normally for both
+/// stations, and yes for many.
 pub(crate) fn drive(
     rt: &HostRuntime,
     line: &BadLine,
@@ -16,30 +17,32 @@ pub(crate) fn drive(
     options: &CallOptions,
     files: CallFiles<'_>,
     notes: &mut Notes,
-) -> Result<(), ToolFault> {
-    match times {
-        None => drive_file(rt, line, options, files, notes),
-        Some(times) => drive_times(rt, line, times, options, files.input, notes),
-    }
+) -> Result<bool, ToolFault> {
+    let Some(times) = times else {
+        return drive_file(rt, line, options, files, notes);
+    };
+    drive_times(rt, line, times, options, files.input, notes)?;
+    Ok(true)
 }
 
 /// Runs the first call over a bad line, and prints what has become of it. The file of the stored pages is opened last, and only
-/// where there are any.
+/// where there are any. Answers whether the call ended normally for both stations.
 fn drive_file(
     rt: &HostRuntime,
     line: &BadLine,
     options: &CallOptions,
     files: CallFiles<'_>,
     notes: &mut Notes,
-) -> Result<(), ToolFault> {
+) -> Result<bool, ToolFault> {
     read_input(rt, files.input, notes)?;
     let mut writer = bits::open(rt, files.bits, notes)?;
     let mut images = notes.octets.as_slice();
-    let driven = drive_engine(rt.alloc(), &mut images, &mut writer, options, line, 0);
+    let driven = drive_to_end(rt.alloc(), &mut images, &mut writer, options, line, 0);
     let ended = bits::close(rt, writer, driven.is_ok(), notes);
-    let pages = driven?;
+    let ending = driven?;
     ended?;
-    write_pages(rt, files.out, &pages, notes)
+    write_pages(rt, files.out, &ending.pages, notes)?;
+    Ok(ended_normally(&ending))
 }
 
 /// Runs many calls over a bad line, and prints the line of each as it is over, and then the table.

@@ -7,14 +7,29 @@ use crate::files::{self, read_input};
 use crate::notes::{Notes, Part};
 use crate::outputs;
 use engines::{
-    Captured, Missing, NO_MEMORY, PageNumbers, ToolFault, captured_pages, frames_engine,
+    Captured, ListOptions, Missing, NO_MEMORY, PageNumbers, ToolFault, captured_in, list_engine,
 };
 use raster::{Page, write_pbm};
+use run_tables::Order;
 
-/// Lists the frames in a file, with at most `most` octets of a content.
+/// Says on standard error what to try where no frame was found.
+fn say_other_order(rt: &HostRuntime, how: ListOptions, worth: bool) -> Result<(), ToolFault>
+    ensures { IfErr result IsOutside }
+{
+    if worth {
+        let other = match how.order {
+            Order::LsbFirst => "msb",
+            Order::MsbFirst => "lsb",
+        };
+        eprintln!(rt; "no good frame: try --order {other}")?;
+    }
+    Ok(())
+}
+
+/// Lists the frames in a file.
 fn list_file(
     rt: &HostRuntime,
-    most: Option<u32>,
+    how: ListOptions,
     input: &str,
     notes: &mut Notes,
 ) -> Result<(), ToolFault>
@@ -22,19 +37,19 @@ fn list_file(
 {
     let mut reader = files::open(rt, input, Part::Input, notes)?;
     let mut writer = files::print(rt)?;
-    let most = most.map(|most| most as usize);
-    let listed = frames_engine(rt.alloc(), &mut reader, &mut writer, most);
+    let listed = list_engine(rt.alloc(), &mut reader, &mut writer, how);
     reader.close(notes);
     let printed = files::end_print(writer, listed.is_ok(), notes);
-    listed?;
-    printed
+    let worth = listed?;
+    printed?;
+    say_other_order(rt, how, worth)
 }
 
 /// Lists the frames in a file. Where a folder is given, writes the pages that they carry into its files page-1.pbm and so on,
 /// and names what is missing of others on standard error. Answers whether nothing is.
 pub fn frames_file(
     rt: &HostRuntime,
-    most: Option<u32>,
+    how: ListOptions,
     folder: Option<&str>,
     input: &str,
     notes: &mut Notes,
@@ -42,29 +57,34 @@ pub fn frames_file(
     ensures { IfErr result IsOutside }
 {
     let Some(folder) = folder else {
-        list_file(rt, most, input, notes)?;
+        list_file(rt, how, input, notes)?;
         return Ok(true);
     };
     read_input(rt, input, notes)?;
     let mut writer = files::print(rt)?;
-    let most = most.map(|most| most as usize);
     let mut bits = notes.octets.as_slice();
-    let listed = frames_engine(rt.alloc(), &mut bits, &mut writer, most);
+    let listed = list_engine(rt.alloc(), &mut bits, &mut writer, how);
     let printed = files::end_print(writer, listed.is_ok(), notes);
-    listed?;
+    let worth = listed?;
     printed?;
-    write_found(rt, folder, notes)
+    say_other_order(rt, how, worth)?;
+    write_found(rt, folder, how.order, notes)
 }
 
 /// Writes the pages that the frames in bits carry into a folder, and names what is missing of others. Answers whether
 /// nothing is.
-fn write_found(rt: &HostRuntime, folder: &str, notes: &mut Notes) -> Result<bool, ToolFault>
+fn write_found(
+    rt: &HostRuntime,
+    folder: &str,
+    order: Order,
+    notes: &mut Notes,
+) -> Result<bool, ToolFault>
     ensures { IfErr result IsOutside }
 {
     let mut bits = notes.octets.as_slice();
     let mut numbers = PageNumbers::new();
     let mut is_whole = true;
-    let all_found = captured_pages(rt.alloc(), &mut bits)?;
+    let all_found = captured_in(rt.alloc(), &mut bits, order)?;
     if all_found.is_empty() {
         eprintln!(rt; "no error correction: no pages")?;
         return Ok(false);

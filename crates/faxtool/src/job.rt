@@ -18,7 +18,7 @@ use crate::station_run::{end_station, run_station};
 use crate::version::print_version;
 use crate::words::{Job, Outcome, Request};
 use crate::{drives, outputs};
-use engines::ToolFault;
+use engines::{ListOptions, ToolFault};
 
 /// Does a job, and shows its fault: a line, and on a terminal or where that is asked for, one of words.
 pub fn run_request(rt: &HostRuntime, request: &Request) -> Outcome
@@ -93,14 +93,29 @@ pub fn run_job(
         return Ok(end_station(rt, job, &talked?, notes, explains));
     }
     let is_complete = match job {
+        Job::Call { normal, .. } | Job::Drive { normal, .. } => {
+            let is_normal = run_call(rt, job, notes)?;
+            is_normal || !*normal
+        }
         Job::Decode {
             form,
             options,
             input,
             output,
         } => decode_file(rt, *form, *options, InAndOut { input, output }, notes)?,
-        Job::Frames { most, pages, input } => {
-            frames_file(rt, *most, pages.as_deref(), input, notes)?
+        Job::Frames {
+            most,
+            order,
+            words,
+            pages,
+            input,
+        } => {
+            let how = ListOptions {
+                most: most.map(|most| most as usize),
+                order: *order,
+                words: *words,
+            };
+            frames_file(rt, how, pages.as_deref(), input, notes)?
         }
         _ => {
             do_whole(rt, job, notes)?;
@@ -114,7 +129,7 @@ pub fn run_job(
     })
 }
 
-/// Does a job that either is done whole or fails; not one that decodes a page or lists frames.
+/// Does a job that either is done whole or fails; not one that decodes a page, lists frames or runs a call.
 pub fn do_whole(rt: &HostRuntime, job: &Job, notes: &mut Notes) -> Result<(), ToolFault>
     requires { HasWidth job.now }
 {
@@ -131,11 +146,22 @@ pub fn do_whole(rt: &HostRuntime, job: &Job, notes: &mut Notes) -> Result<(), To
             width,
             input,
         } => show_file(rt, *coding, *order, *width, input, notes),
+        Job::Version { proof } => print_version(rt, *proof, notes),
+        Job::Decode { .. } | Job::Frames { .. } | Job::Answer { .. } | Job::Dial { .. } => Ok(()),
+        Job::Call { .. } | Job::Drive { .. } => Ok(()),
+    }
+}
+
+/// Runs the call of a job, or its calls. Answers whether one that runs alone ended normally for both stations, and yes for
+/// many.
+fn run_call(rt: &HostRuntime, job: &Job, notes: &mut Notes) -> Result<bool, ToolFault> {
+    match job {
         Job::Call {
             script,
             options,
             out,
             bits,
+            normal: _,
             input,
         } => call_file(rt, script, options, CallFiles::of(out, bits, input), notes),
         Job::Drive {
@@ -144,6 +170,7 @@ pub fn do_whole(rt: &HostRuntime, job: &Job, notes: &mut Notes) -> Result<(), To
             options,
             out,
             bits,
+            normal: _,
             input,
         } => drives::drive(
             rt,
@@ -153,7 +180,6 @@ pub fn do_whole(rt: &HostRuntime, job: &Job, notes: &mut Notes) -> Result<(), To
             CallFiles::of(out, bits, input),
             notes,
         ),
-        Job::Version { proof } => print_version(rt, *proof, notes),
-        Job::Decode { .. } | Job::Frames { .. } | Job::Answer { .. } | Job::Dial { .. } => Ok(()),
+        _ => Ok(true),
     }
 }

@@ -2,7 +2,8 @@
 ghost use Rattle.std.specs.Prelude.{◌≡◌, IfOk, MatchOption, Some, codes, false, option_map, true};
 ghost use Rattle.std.specs.Str.{bytes_eq};
 ghost use Rattle.clap.specs.Words.{first_of, found_of, rows_of};
-ghost use Rattle.faxtool.specs.Jobs.{AreWaitsIn, HasNoJob, IsJobOf, caps_in, has_answerer, has_caller, limit_of, is_named, takes_t6, widest_named};
+ghost use Rattle.faxtool.specs.Jobs.{AreWaitsIn, HasNoJob, IsJobOf, caps_in, has_answerer, has_caller, limit_of, is_named, takes_t6};
+ghost use Rattle.faxtool.specs.Jobs.{widest_named};
 
 use crate::words::{
     Job, coding_in, copy_of, is_named, modems_named, number_in, options_in, text_in,

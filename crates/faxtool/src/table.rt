@@ -92,6 +92,13 @@ const ORDER: Argument<'static> = Argument {
     ..FILE_OPTION
 };
 
+/// The order of the bits that a modem hands over.
+const LINE_ORDER: Argument<'static> = Argument {
+    defaults: &["lsb"],
+    help: "Which bit of an octet comes first on the line, the most or the least significant",
+    ..ORDER
+};
+
 const CODED_PAGE: Argument<'static> = Argument {
     id: "file",
     help: "The file of the coded page; - is standard input",
@@ -171,6 +178,7 @@ const FRAMES_ARGUMENTS: &[Argument<'static>] = &[
         help: "Shows at most N octets of a content, and `..` where it has more",
         ..FILE_OPTION
     },
+    LINE_ORDER,
     Argument {
         id: "pages",
         help: "The folder that the pages in the frames are written to, as page-1.pbm and so on",
@@ -181,7 +189,10 @@ const FRAMES_ARGUMENTS: &[Argument<'static>] = &[
         help: "The file of the bits; - is standard input",
         ..FILE
     },
-    EXPLAIN,
+    Argument {
+        help: "Says what each DIS, DCS, PPS and PPR says in words, on a line after its own; and explains a fault in words too",
+        ..EXPLAIN
+    },
 ];
 
 const CALL_ARGUMENTS: &[Argument<'static>] = &[
@@ -258,6 +269,13 @@ const CALL_ARGUMENTS: &[Argument<'static>] = &[
     Argument {
         id: "out",
         help: "The file that the stored pages are written to, as PBM",
+        ..FILE_OPTION
+    },
+    Argument {
+        id: "expect",
+        shown: &["END"],
+        parser: Some(ValueParser::Names(&["normal"])),
+        help: "Ends with status 1 where the call didn't end so, as normal, for both stations (not with --times)",
         ..FILE_OPTION
     },
     Argument {
@@ -404,7 +422,7 @@ static COMMANDS: [Entry<'static>; 5] = [
     },
     Entry {
         name: "frames",
-        about: "Lists the frames in a file of bits, the least significant of an octet first",
+        about: "Lists the frames in a file of bits",
         arguments: FRAMES_ARGUMENTS,
     },
     Entry {

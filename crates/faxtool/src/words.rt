@@ -3,9 +3,11 @@ ghost use Rattle.std.specs.Prelude.{◌≡◌, ◌≢◌, IfOk, IfSome, MatchOpt
 ghost use Rattle.std.specs.Prelude.{ℕ, Option, map, option_map, string_bytes};
 ghost use Rattle.clap.specs.Words.{first_of, found_of, kind_of, rows_of, subcommand_rows_of};
 ghost use Rattle.clap.specs.declared.error.kind.ErrorKind.TheVariants.{OutOfMemory};
-ghost use Rattle.faxtool.specs.Jobs.{AreDecodeOptionsIn, AreOptionsIn, HasNoJob, HasNoOptions, IsJobOf, IsOutcomeOf, IsRefusalOf, IsWidthIn, ReadsAs};
+ghost use Rattle.faxtool.specs.Jobs.{AreDecodeOptionsIn, AreOptionsIn, HasNoJob, HasNoOptions, IsJobOf, IsOutcomeOf, IsRefusalOf};
+ghost use Rattle.faxtool.specs.Jobs.{IsWidthIn, ReadsAs};
 ghost use Rattle.faxtool.specs.Jobs.{ReadsNumber, are_both_standard, coding_named, explains, is_named, modems_named};
-ghost use Rattle.faxtool.specs.Jobs.{IsLineIn, IsRateIn, IsSpoilIn, IsBusyIn, IsTimesIn, calls_of, has_line, order_named, status_of};
+ghost use Rattle.faxtool.specs.Jobs.{IsLineIn, IsRateIn, IsSpoilIn, IsBusyIn, IsTimesIn, calls_of, has_line, is_normal_wanted};
+ghost use Rattle.faxtool.specs.Jobs.{line_order_named, order_named, status_of};
 ghost use Rattle.calls.specs.declared.losses.BadLine.{BadLine as LineValue};
 
 use crate::commands::faxtool_command;
@@ -62,6 +64,10 @@ pub enum Job {
     Frames {
         /// At most how many octets of a content are shown, where it isn't all of them.
         most: Option<u32>,
+        /// Which bit of an octet of the file comes first.
+        order: Order,
+        /// Whether what signals say is said in words too.
+        words: bool,
         /// The name of the folder that the pages in the frames go to, where one is given.
         pages: Option<String>,
         /// The name of the file.
@@ -77,6 +83,8 @@ pub enum Job {
         out: Option<String>,
         /// The name of the folder that the octets on the line go to, where one is given.
         bits: Option<String>,
+        /// Whether the call is to end normally for both stations.
+        normal: bool,
         /// The name of the document's file.
         input: String,
     },
@@ -92,6 +100,8 @@ pub enum Job {
         out: Option<String>,
         /// The name of the folder that the octets on the line go to, where one is given.
         bits: Option<String>,
+        /// Whether the call is to end normally for both stations.
+        normal: bool,
         /// The name of the document's file.
         input: String,
     },
@@ -140,7 +150,7 @@ pub struct Request {
 pub enum Outcome {
     /// The job is done.
     Done,
-    /// The job is done as far as it can be, and what is missing was named.
+    /// The job is done as far as it can be, and what is missing was named; or a call was run, and didn't end as it was to.
     Incomplete,
     /// The job failed.
     Fault(ToolFault),
@@ -354,6 +364,8 @@ fn frames_job(alloc: Global, matches: &ArgMatches<'_>) -> Result<Option<Job>, Al
     };
     Ok(Some(Job::Frames {
         most: number_in(matches, "data"),
+        order: line_order_in(matches),
+        words: is_named(text_in(matches, "explain"), "true"),
         pages: copy_of(alloc, text_in(matches, "pages"))?,
         input: String::from_str(alloc, input)?,
     }))
@@ -382,6 +394,7 @@ fn call_job(alloc: Global, matches: &ArgMatches<'_>) -> Result<Option<Job>, Allo
             options,
             out: copy_of(alloc, text_in(matches, "out"))?,
             bits: copy_of(alloc, text_in(matches, "bits"))?,
+            normal: is_normal_wanted(matches),
             input: String::from_str(alloc, input)?,
         }));
     };
@@ -393,8 +406,16 @@ fn call_job(alloc: Global, matches: &ArgMatches<'_>) -> Result<Option<Job>, Allo
         options,
         out: copy_of(alloc, text_in(matches, "out"))?,
         bits: copy_of(alloc, text_in(matches, "bits"))?,
+        normal: is_normal_wanted(matches),
         input: String::from_str(alloc, input)?,
     }))
+}
+
+// Whether a call is to end normally for both stations.
+fn is_normal_wanted(matches: &ArgMatches<'_>) -> bool
+    ensures { result ≡ is_normal_wanted (rows_of (found_of matches.now)) }
+{
+    is_named(text_in(matches, "expect"), "normal")
 }
 
 // Whether a value is of a bad line.
@@ -438,7 +459,7 @@ fn line_in(matches: &ArgMatches<'_>) -> Option<BadLine>
     })
 }
 
-// How many calls are asked for, where that is said; their pages and octets are not kept.
+// How many calls are asked for, where that is said; their pages and octets are not kept, and no end is wanted of them.
 fn times_in(matches: &ArgMatches<'_>) -> Option<Option<u32>>
     ensures { let rows = rows_of (found_of matches.now) in
         MatchOption result ((times : Option ℕ) → IsTimesIn rows times → ⊥) (IsTimesIn rows) }
@@ -450,6 +471,9 @@ fn times_in(matches: &ArgMatches<'_>) -> Option<Option<u32>>
         return None;
     }
     if text_in(matches, "bits").is_some() {
+        return None;
+    }
+    if text_in(matches, "expect").is_some() {
         return None;
     }
     match number_in(matches, "times") {
@@ -578,6 +602,22 @@ fn order_in(matches: &ArgMatches<'_>) -> Order
     order_named(text_in(matches, "order"))
 }
 
+// The order of the bits on a line, which is `lsb` but for `msb`.
+fn line_order_in(matches: &ArgMatches<'_>) -> Order
+    ensures { result ≡ line_order_named (first_of (codes "order") (rows_of (found_of matches.now))) }
+{
+    line_order_named(text_in(matches, "order"))
+}
+
+fn line_order_named(name: Option<&str>) -> Order
+    ensures { result ≡ line_order_named (option_map (λ name. name.now) name.entry) }
+{
+    match name {
+        Some(name) if name == "msb" => Order::MsbFirst,
+        _ => Order::LsbFirst,
+    }
+}
+
 fn order_named(name: Option<&str>) -> Order
     ensures { result ≡ order_named (option_map (λ name. name.now) name.entry) }
 {
@@ -649,6 +689,9 @@ fn unfit_call(matches: &ArgMatches<'_>) -> &'static str {
     }
     if text_in(matches, "times").is_some() && text_in(matches, "bits").is_some() {
         return "--times keeps no octets, and can't be used with --bits";
+    }
+    if text_in(matches, "times").is_some() && text_in(matches, "expect").is_some() {
+        return "--times counts the ends of many calls, and can't be used with --expect";
     }
     "--lose and --spoil are more than 100% together"
 }

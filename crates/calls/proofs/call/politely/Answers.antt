@@ -11,8 +11,8 @@ pub returns-then-not-whole-clause-told : goal.returns-then-not-whole-clause-told
 returns-then-not-whole-clause-told g c w shows =
     ends_along c.loop-delivery._delivery c.args.most w c.loop-delivery.live c.deliver_next.new.live c.args.number.now
     c.loop-delivery.number c.deliver_next.new.number (g.T.CallWriter.written c.args.writer.now)
-    (g.T.CallWriter.written c.loop-delivery.writer) (g.T.CallWriter.written c.deliver_next.new.writer) _ c.loop-delivery-test.true c.if-not-whole.true
-    (c.loop-delivery.invariant.1 w shows) c.in_ok-whole.ensures.told
+    (g.T.CallWriter.written c.loop-delivery.writer) (g.T.CallWriter.written c.deliver_next.new.writer) _ c.loop-delivery-test.true
+    c.if-not-whole.true (c.loop-delivery.invariant.1 w shows) c.in_ok-whole.ensures.told
 
 pub loop-delivery-preserved : goal.loop-delivery-preserved
 loop-delivery-preserved g c = (

@@ -29,5 +29,5 @@ returns-clause-told g c =
 pub returns-clause-rows : goal.returns-clause-rows
 returns-clause-rows g c =
     told_rows c.args.options.now c.args.document c.args.commands.now (g.T.CallWriter.written c.args.writer.now)
-    (g.T.CallWriter.written c.ending.new.self) c.into_ending-ending.result.pages.items (returns-clause-told g c)
+    (g.T.CallWriter.written c.ending.new.self) c.into_ending-ending.result.pages.items (returns-clause-told g c).0
     c.pages-pages.ensures.document.rows
