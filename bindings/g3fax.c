@@ -30,6 +30,7 @@ g3_status g3_core_document_pages(handle *, uint64_t *);
 g3_status g3_core_answerer_new(handle *, const g3_caps *);
 g3_status g3_core_caller_new(handle *, handle *, const g3_wish *);
 g3_status g3_core_terminal_hear(handle *, const uint8_t *, size_t);
+g3_status g3_core_terminal_hear_frame(handle *, const uint8_t *, size_t);
 g3_status g3_core_terminal_hear_training(handle *, const uint8_t *, size_t);
 g3_status g3_core_terminal_wait_over(handle *, uint32_t);
 uint32_t g3_core_wait_millis(uint32_t);
@@ -39,11 +40,21 @@ g3_status g3_core_terminal_hang_up(handle *);
 g3_status g3_core_terminal_lost(handle *);
 g3_status g3_core_terminal_next_burst(handle *, handle *, g3_burst *);
 g3_status g3_core_terminal_state(handle *, g3_state *);
+g3_status g3_core_terminal_progress(handle *, g3_progress *);
+g3_status g3_core_terminal_params(handle *, g3_params *);
 g3_status g3_core_terminal_take_page(handle *, handle *);
 /* of a signal these reach what is before its octets, which are passed beside it */
+g3_status g3_core_terminal_peer(handle *, g3_signal *);
 g3_status g3_core_signal_read(const uint8_t *, size_t, g3_signal *, uint8_t *, size_t);
 g3_status g3_core_signal_write(const g3_signal *, const uint8_t *, size_t, uint32_t, uint32_t, uint8_t *, size_t, uint64_t *);
 g3_status g3_core_agree(const g3_dis *, const g3_wish *, uint32_t, uint32_t, g3_params *, uint32_t *);
+g3_status g3_core_row_coder_new(const g3_code *, handle *);
+g3_status g3_core_row_coder_push_row(handle *, const uint8_t *, size_t);
+g3_status g3_core_row_coder_take(handle *, handle *);
+g3_status g3_core_row_coder_finish(handle *, handle *);
+g3_status g3_core_row_reader_new(const g3_code *, handle *);
+g3_status g3_core_row_reader_feed(handle *, const uint8_t *, size_t, uint64_t *);
+g3_status g3_core_row_reader_next(handle *, uint8_t *, size_t, uint64_t *, uint64_t *);
 
 #define HANDLE(it) do { if ((it) == NULL) return G3_EMPTY_HANDLE; } while (0)
 #define PLACE(it) do { if ((it) == NULL) return G3_BAD_LENGTH; } while (0)
@@ -56,6 +67,8 @@ void g3_octets_free(g3_octets *octets) { if (octets != NULL) g3_core_free((handl
 void g3_deframer_free(g3_deframer *deframer) { if (deframer != NULL) g3_core_free((handle *)deframer); }
 void g3_document_free(g3_document *document) { if (document != NULL) g3_core_free((handle *)document); }
 void g3_terminal_free(g3_terminal *terminal) { if (terminal != NULL) g3_core_free((handle *)terminal); }
+void g3_row_coder_free(g3_row_coder *coder) { if (coder != NULL) g3_core_free((handle *)coder); }
+void g3_row_reader_free(g3_row_reader *reader) { if (reader != NULL) g3_core_free((handle *)reader); }
 
 g3_status g3_page_new(g3_page *out, uint32_t width, uint32_t fine)
 {
@@ -116,6 +129,41 @@ g3_status g3_page_write_pbm(g3_page *page, g3_octets *out)
 {
     HANDLE(page); HANDLE(out);
     return g3_core_page_write_pbm((handle *)page, (handle *)out);
+}
+g3_status g3_row_coder_new(g3_row_coder *out, const g3_code *code)
+{
+    HANDLE(out); PLACE(code);
+    return g3_core_row_coder_new(code, (handle *)out);
+}
+g3_status g3_row_coder_push_row(g3_row_coder *coder, const uint8_t *octets, size_t length)
+{
+    HANDLE(coder); OCTETS(octets, length);
+    return g3_core_row_coder_push_row((handle *)coder, octets, length);
+}
+g3_status g3_row_coder_take(g3_row_coder *coder, g3_octets *out)
+{
+    HANDLE(coder); HANDLE(out);
+    return g3_core_row_coder_take((handle *)coder, (handle *)out);
+}
+g3_status g3_row_coder_finish(g3_row_coder *coder, g3_octets *out)
+{
+    HANDLE(coder); HANDLE(out);
+    return g3_core_row_coder_finish((handle *)coder, (handle *)out);
+}
+g3_status g3_row_reader_new(g3_row_reader *out, const g3_code *code)
+{
+    HANDLE(out); PLACE(code);
+    return g3_core_row_reader_new(code, (handle *)out);
+}
+g3_status g3_row_reader_feed(g3_row_reader *reader, const uint8_t *octets, size_t length, uint64_t *taken)
+{
+    HANDLE(reader); OCTETS(octets, length); PLACE(taken);
+    return g3_core_row_reader_feed((handle *)reader, octets, length, taken);
+}
+g3_status g3_row_reader_next(g3_row_reader *reader, uint8_t *buffer, size_t room, uint64_t *count, uint64_t *place)
+{
+    HANDLE(reader); OCTETS(buffer, room); PLACE(count); PLACE(place);
+    return g3_core_row_reader_next((handle *)reader, buffer, room, count, place);
 }
 g3_status g3_octets_len(g3_octets *octets, uint64_t *count)
 {
@@ -183,6 +231,11 @@ g3_status g3_terminal_hear(g3_terminal *terminal, const uint8_t *octets, size_t 
     HANDLE(terminal); OCTETS(octets, length);
     return g3_core_terminal_hear((handle *)terminal, octets, length);
 }
+g3_status g3_terminal_hear_frame(g3_terminal *terminal, const uint8_t *content, size_t length)
+{
+    HANDLE(terminal); OCTETS(content, length);
+    return g3_core_terminal_hear_frame((handle *)terminal, content, length);
+}
 g3_status g3_terminal_hear_training(g3_terminal *terminal, const uint8_t *octets, size_t length)
 {
     HANDLE(terminal); OCTETS(octets, length);
@@ -223,6 +276,21 @@ g3_status g3_terminal_state(g3_terminal *terminal, g3_state *state)
 {
     HANDLE(terminal); PLACE(state);
     return g3_core_terminal_state((handle *)terminal, state);
+}
+g3_status g3_terminal_progress(g3_terminal *terminal, g3_progress *progress)
+{
+    HANDLE(terminal); PLACE(progress);
+    return g3_core_terminal_progress((handle *)terminal, progress);
+}
+g3_status g3_terminal_params(g3_terminal *terminal, g3_params *params)
+{
+    HANDLE(terminal); PLACE(params);
+    return g3_core_terminal_params((handle *)terminal, params);
+}
+g3_status g3_terminal_peer(g3_terminal *terminal, g3_signal *signal)
+{
+    HANDLE(terminal); PLACE(signal);
+    return g3_core_terminal_peer((handle *)terminal, signal);
 }
 g3_status g3_terminal_take_page(g3_terminal *terminal, g3_page *out)
 {

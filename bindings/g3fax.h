@@ -15,6 +15,8 @@ typedef struct g3_octets { void *at; } g3_octets;
 typedef struct g3_deframer { void *at; } g3_deframer;
 typedef struct g3_document { void *at; } g3_document;
 typedef struct g3_terminal { void *at; } g3_terminal;
+typedef struct g3_row_coder { void *at; } g3_row_coder;
+typedef struct g3_row_reader { void *at; } g3_row_reader;
 #define G3_EMPTY {NULL}
 
 /* What each function answers. By any status above 0, G3_FRAME_LOST aside, each handle is as it was. */
@@ -73,6 +75,8 @@ void g3_octets_free(g3_octets *octets);
 void g3_deframer_free(g3_deframer *deframer);
 void g3_document_free(g3_document *document);
 void g3_terminal_free(g3_terminal *terminal);
+void g3_row_coder_free(g3_row_coder *coder);
+void g3_row_reader_free(g3_row_reader *reader);
 
 /* The text of a status, in English; never NULL, and not to be freed. */
 const char *g3_status_text(g3_status status);
@@ -109,6 +113,26 @@ g3_status g3_page_repair(const uint8_t *octets, size_t length, const g3_code *co
 /* The first image of a raw PBM file in memory, and how many images it has; and a page as such an image. */
 g3_status g3_page_read_pbm(const uint8_t *octets, size_t length, uint32_t fine, g3_page *out, uint64_t *count);
 g3_status g3_page_write_pbm(g3_page *page, g3_octets *out);
+
+/* A page is coded row by row: the memory doesn't grow with its rows where the octets are taken as they come. `fine` of the code is
+ * ignored. */
+g3_status g3_row_coder_new(g3_row_coder *out, const g3_code *code);
+/* Codes a row of the first bits of octets; later bits are ignored. G3_BAD_LENGTH: too few octets. */
+g3_status g3_row_coder_push_row(g3_row_coder *coder, const uint8_t *octets, size_t length);
+/* The octets of the code that are whole so far, after those that were taken; there may be none. */
+g3_status g3_row_coder_take(g3_row_coder *coder, g3_octets *out);
+/* The last octets of the code; 0 bits fill the last one. The coder's handle is empty then. */
+g3_status g3_row_coder_finish(g3_row_coder *coder, g3_octets *out);
+
+/* A page whose octets come in pieces is read row by row: the memory doesn't grow with its rows. `fine` of the code is ignored. */
+g3_status g3_row_reader_new(g3_row_reader *out, const g3_code *code);
+/* Takes the next octets of the page, as many as there is room for, and tells how many: 65536 octets that weren't read are held at most.
+ * Where none are taken though all rows were, a row is longer than that, or the page has ended or is refused. */
+g3_status g3_row_reader_feed(g3_row_reader *reader, const uint8_t *octets, size_t length, uint64_t *taken);
+/* Copies the next row that is whole in the octets so far. Where none is, all octets so far are answered for as by g3_page_decode, and more
+ * octets may change the answer: G3_NOTHING is the page's end, and *place the bits used; of G3_NO_ROWS and 10 to 18 *place is the bit from 0
+ * where no page can go on. *count: the octets of a row, also where G3_NO_ROOM is answered; no row is given then. */
+g3_status g3_row_reader_next(g3_row_reader *reader, uint8_t *buffer, size_t room, uint64_t *count, uint64_t *place);
 
 /* Octets that a call has made. *count: how many there are, also where G3_NO_ROOM is answered. */
 g3_status g3_octets_len(g3_octets *octets, uint64_t *count);
@@ -163,6 +187,9 @@ g3_status g3_caller_new(g3_terminal *out, g3_document *document, const g3_wish *
 /* Hears octets that came by V.21 or by the carrier of a page: flags and frames, the least significant bit of each first, in pieces of any
  * size. G3_NO_MEMORY: nothing was taken; give the octets again. G3_FRAME_LOST: don't. */
 g3_status g3_terminal_hear(g3_terminal *terminal, const uint8_t *octets, size_t length);
+/* Hears a good frame by its content, 3 to 300 octets, as g3_terminal_hear hears the octets of this frame between two flags: for a modem that
+ * finds the frames itself. G3_NO_MEMORY: nothing was taken; give it again. G3_FRAME_LOST: don't. */
+g3_status g3_terminal_hear_frame(g3_terminal *terminal, const uint8_t *content, size_t length);
 /* Hears the octets of a training check that has come. */
 g3_status g3_terminal_hear_training(g3_terminal *terminal, const uint8_t *octets, size_t length);
 
@@ -195,7 +222,8 @@ typedef struct g3_burst {
 } g3_burst;
 
 /* The next burst that is to be sent, 75 ms after the one before it. Its octets hold the bits, the least significant of each first.
- * G3_NOTHING: nothing is left to be sent. */
+ * G3_NOTHING: nothing is left to be sent. For a modem that wants frames and not bits: a g3_deframer that is fed the octets gives the contents
+ * of the burst's frames, in order. */
 g3_status g3_terminal_next_burst(g3_terminal *terminal, g3_octets *out, g3_burst *burst);
 
 /* what a station listens for: V.21 alone; a training check by `carrier`; V.21, and the frames of a page by `carrier` */
@@ -226,6 +254,22 @@ typedef struct g3_state {
     uint32_t end;     /* 0: the call goes on; else G3_END_.. */
 } g3_state;
 g3_status g3_terminal_state(g3_terminal *terminal, g3_state *state);
+
+/* how far a call is; what belongs to the other station is 0 */
+typedef struct g3_progress {
+    uint64_t pages;          /* of a caller's document; or those that an answerer has stored and that weren't taken */
+    uint64_t confirmed;      /* pages of a caller that are confirmed: the one under way is the next */
+    uint64_t block;          /* the block of its page that a caller sends, from 1; 0 in phase B and after the end */
+    uint64_t blocks;         /* how many blocks that page has; 0 where block is */
+    uint64_t octets;         /* octets of code that an answerer has of the page under way, in the blocks that it accepted */
+    uint32_t resends;        /* how often frames of the block were asked for again: 0 to 3 */
+    uint32_t tries;          /* how often a caller's last command was sent: DCS, PPS or RR; 0 before the first one */
+    uint32_t frames;         /* frames that an answerer has of the block under way: 0 to 256 */
+    uint32_t accepted;       /* 1: an answerer has accepted a block, the last one that of the next two */
+    uint32_t accepted_page;  /* the number of its page modulo 256 */
+    uint32_t accepted_block; /* its number in that page modulo 256 */
+} g3_progress;
+g3_status g3_terminal_progress(g3_terminal *terminal, g3_progress *progress);
 
 /* The oldest page that an answerer has stored and that wasn't taken. G3_NOTHING: there is none. Where none waits in the handle, all stored
  * pages leave the station, which isn't busy for them then: there are never more than 2 * limit - 1 in memory. */
@@ -298,6 +342,12 @@ enum { G3_NO_RECEIVER = 1, G3_NO_ECM = 2, G3_TOO_WIDE = 3, G3_NO_FINE = 4, G3_NO
 /* What a caller of this wish agrees on with a station of this DIS, for pages of a width in pixels, `fine` or not: what its DCS says.
  * G3_NOT_COMPATIBLE: *reason is why not. G3_NOT_CALLABLE: the width isn't 1728, 2048 or 2432. */
 g3_status g3_agree(const g3_dis *dis, const g3_wish *wish, uint32_t width, uint32_t fine, g3_params *params, uint32_t *reason);
+
+/* How the pages of the group that is under way are sent. G3_NOTHING: none is; a caller waits for a DIS, or an answerer for a DCS. */
+g3_status g3_terminal_params(g3_terminal *terminal, g3_params *params);
+/* What is known of the other station, as a signal without octets: of a caller's terminal the last DIS that was agreed on, of an answerer's
+ * the last DCS that it took; in both it stays known after the end where a page, or a block of one, went over. G3_NOTHING: nothing is known. */
+g3_status g3_terminal_peer(g3_terminal *terminal, g3_signal *signal);
 
 #ifdef __cplusplus
 }

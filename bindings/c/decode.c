@@ -1,50 +1,80 @@
-/* decode IN OUT.pbm mh|mmr msb|lsb WIDTH: a coded page as a raw PBM file, row by row. Of a page that can't be read, the rows that are
- * whole. */
+/* decode IN OUT.pbm mh|mmr msb|lsb WIDTH: a coded page as a raw PBM file, row by row, in memory that doesn't grow with the page. Of a page
+ * that can't be read, the rows that are whole. */
 #include "g3fax.h"
-#include "files.h"
+#include <stdio.h>
+#include <stdlib.h>
 #include <string.h>
 
-/* Reads a page. Of one that can't be read it tells the bit, and reads the rows that are whole. */
-static g3_status read_page(const uint8_t *octets, size_t length, const g3_code *code, g3_page *page)
+/* Whether a page can't be read. */
+static int is_fault(g3_status status)
 {
-    uint64_t place = 0;
-    g3_status status = g3_page_decode(octets, length, code, page, &place);
-    if (status != G3_NO_ROWS && (status < G3_BAD_CODE || status > G3_TOO_MANY_CODED_ROWS)) return status;
-    fprintf(stderr, "fault %u at bit %llu: %s\n", status, (unsigned long long)place, g3_status_text(status));
-    g3_status salvaged = g3_page_salvage(octets, length, code, page);
-    return salvaged == G3_OK ? status : salvaged;
+    return status == G3_NO_ROWS || (status >= G3_BAD_CODE && status <= G3_TOO_MANY_CODED_ROWS);
 }
 
-/* A page as a raw PBM file; a status. */
-static g3_status save(g3_page *page, const char *name)
+/* Gives the rows that are whole to a file, unless it is NULL, and counts them. Answers why no row more is given, and the place of that. */
+static g3_status give_rows(g3_row_reader *reader, FILE *to, uint32_t *rows, uint64_t *place)
 {
-    g3_size size;
     uint8_t row[304];
-    uint64_t count;
-    g3_status status = g3_page_size(page, &size);
-    if (status != G3_OK) return status;
-    FILE *file = fopen(name, "wb");
-    if (file == NULL) return perror(name), G3_NOTHING;
-    fprintf(file, "P4\n%u %u\n", size.width, size.rows);
-    for (uint32_t y = 0; status == G3_OK && y < size.rows; y++) {
-        status = g3_page_row(page, y, row, sizeof row, &count);
-        if (status == G3_OK && fwrite(row, 1, count, file) != count) status = G3_NOTHING;
+    uint64_t count = 0;
+    g3_status status;
+    while ((status = g3_row_reader_next(reader, row, sizeof row, &count, place)) == G3_OK) {
+        if (to != NULL && fwrite(row, 1, count, to) != count) return G3_NO_ROOM;
+        *rows += 1;
     }
-    return fclose(file) == 0 ? status : G3_NOTHING;
+    return status;
+}
+
+/* Feeds octets to a reader, and gives the rows. G3_OK where it can take more of them. */
+static g3_status feed(g3_row_reader *reader, const uint8_t *octets, size_t length, FILE *to, uint32_t *rows, uint64_t *place)
+{
+    uint64_t taken = 0;
+    for (size_t at = 0; at < length; at += taken) {
+        g3_status status = g3_row_reader_feed(reader, octets + at, length - at, &taken);
+        if (status == G3_OK) status = give_rows(reader, to, rows, place);
+        if (taken == 0 || (status != G3_NOTHING && !is_fault(status))) return status;
+    }
+    return G3_OK;
+}
+
+/* Reads a page. The status is G3_NOTHING at the page's end; of a page that can't be read it is that of the fault, and *place its bit. */
+static g3_status read_page(FILE *from, const g3_code *code, FILE *to, uint32_t *rows, uint64_t *place)
+{
+    g3_row_reader reader = G3_EMPTY;
+    uint8_t octets[4096];
+    size_t length = 0;
+    g3_status status = g3_row_reader_new(&reader, code);
+    while (status == G3_OK && (length = fread(octets, 1, sizeof octets, from)) > 0)
+        status = feed(&reader, octets, length, to, rows, place);
+    if (status == G3_OK) status = give_rows(&reader, to, rows, place);
+    g3_row_reader_free(&reader);
+    return status;
+}
+
+/* Reads the page once to count its rows, which a PBM file names first, and once more to write them. */
+static g3_status decode(FILE *from, const g3_code *code, FILE *to)
+{
+    uint32_t rows = 0, written = 0;
+    uint64_t place = 0;
+    g3_status status = read_page(from, code, NULL, &rows, &place);
+    if (is_fault(status))
+        fprintf(stderr, "fault %u at bit %llu: %s\n", status, (unsigned long long)place, g3_status_text(status));
+    else if (status != G3_NOTHING)
+        return status;
+    rewind(from);
+    fprintf(to, "P4\n%u %u\n", code->width, rows);
+    return read_page(from, code, to, &written, &place);
 }
 
 int main(int argc, char **argv)
 {
-    g3_page page = G3_EMPTY;
-    size_t length = 0;
     if (argc != 6) return fprintf(stderr, "usage: decode IN OUT.pbm mh|mmr msb|lsb WIDTH\n"), 2;
     g3_code code = {strcmp(argv[3], "mh") ? G3_MMR : G3_MH, strcmp(argv[4], "msb") ? G3_LSB_FIRST : G3_MSB_FIRST,
                     (uint32_t)atoi(argv[5]), 0};
-    uint8_t *octets = read_file(argv[1], &length);
-    if (octets == NULL) return perror(argv[1]), 1;
-    g3_status status = read_page(octets, length, &code, &page), saved = save(&page, argv[2]);
-    if (saved != G3_OK) fprintf(stderr, "decode: %s\n", g3_status_text(status != G3_OK ? status : saved));
-    free(octets);
-    g3_page_free(&page);
-    return status == G3_OK && saved == G3_OK ? 0 : 1;
+    FILE *from = fopen(argv[1], "rb"), *to = from == NULL ? NULL : fopen(argv[2], "wb");
+    if (to == NULL) return perror(from == NULL ? argv[1] : argv[2]), 1;
+    g3_status status = decode(from, &code, to);
+    if (status != G3_NOTHING && !is_fault(status)) fprintf(stderr, "decode: %s\n", g3_status_text(status));
+    fclose(from);
+    if (fclose(to) != 0) return perror(argv[2]), 1;
+    return status == G3_NOTHING ? 0 : 1;
 }

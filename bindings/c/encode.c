@@ -1,38 +1,57 @@
-/* encode IN.pbm OUT mh|mmr msb|lsb: the code of the first image of a raw PBM file. */
+/* encode IN.pbm OUT mh|mmr msb|lsb: the code of the first image of a raw PBM file, row by row, in memory that doesn't grow with the image.
+ * Its header has no comment. */
 #include "g3fax.h"
-#include "files.h"
+#include <stdio.h>
 #include <string.h>
 
-/* The octets of a handle in a file; a status. */
-static g3_status save(g3_octets *code, const char *name)
+/* Writes the octets of a handle to a file, and frees them. */
+static g3_status give_octets(g3_octets *octets, FILE *to)
 {
-    uint64_t length = 0;
-    g3_status status = g3_octets_len(code, &length);
-    if (status != G3_OK) return status;
-    uint8_t *octets = malloc(length + 1);
-    if (octets == NULL) return G3_NO_MEMORY;
-    status = g3_octets_copy(code, octets, length, &length);
-    if (status == G3_OK && !write_file(name, octets, length)) perror(name), status = G3_NOTHING;
-    free(octets);
+    static uint8_t buffer[1 << 16]; /* what a row and the end of a page want, and more */
+    uint64_t count = 0;
+    g3_status status = g3_octets_copy(octets, buffer, sizeof buffer, &count);
+    g3_octets_free(octets);
+    return status != G3_OK || fwrite(buffer, 1, count, to) == count ? status : G3_NO_ROOM;
+}
+
+/* Codes the rows of an image, and the end of the page. */
+static g3_status code_rows(FILE *from, uint32_t width, uint32_t rows, g3_row_coder *coder, FILE *to)
+{
+    uint8_t row[304];
+    size_t length = (width + 7) / 8;
+    g3_octets octets = G3_EMPTY;
+    for (uint32_t y = 0; y < rows; y++) {
+        if (fread(row, 1, length, from) != length) return G3_SHORT_DATA;
+        g3_status status = g3_row_coder_push_row(coder, row, length);
+        if (status == G3_OK) status = g3_row_coder_take(coder, &octets);
+        if (status == G3_OK) status = give_octets(&octets, to);
+        if (status != G3_OK) return status;
+    }
+    g3_status status = g3_row_coder_finish(coder, &octets);
+    return status == G3_OK ? give_octets(&octets, to) : status;
+}
+
+static g3_status encode(FILE *from, g3_code *code, FILE *to)
+{
+    g3_row_coder coder = G3_EMPTY;
+    unsigned width = 0, rows = 0;
+    if (fscanf(from, "P4 %u %u", &width, &rows) != 2 || fgetc(from) < 0) return G3_BAD_HEADER;
+    code->width = width;
+    g3_status status = g3_row_coder_new(&coder, code);
+    if (status == G3_OK) status = code_rows(from, width, rows, &coder, to);
+    g3_row_coder_free(&coder);
     return status;
 }
 
 int main(int argc, char **argv)
 {
-    g3_page page = G3_EMPTY;
-    g3_octets code = G3_EMPTY;
-    size_t length = 0;
-    uint64_t images = 0;
     if (argc != 5) return fprintf(stderr, "usage: encode IN.pbm OUT mh|mmr msb|lsb\n"), 2;
-    uint8_t *image = read_file(argv[1], &length);
-    if (image == NULL) return perror(argv[1]), 1;
-    g3_status status = g3_page_read_pbm(image, length, 0, &page, &images);
-    if (status == G3_OK)
-        status = g3_page_encode(&page, strcmp(argv[3], "mh") ? G3_MMR : G3_MH, strcmp(argv[4], "msb") ? G3_LSB_FIRST : G3_MSB_FIRST, &code);
-    if (status == G3_OK) status = save(&code, argv[2]);
+    g3_code code = {strcmp(argv[3], "mh") ? G3_MMR : G3_MH, strcmp(argv[4], "msb") ? G3_LSB_FIRST : G3_MSB_FIRST, 0, 0};
+    FILE *from = fopen(argv[1], "rb"), *to = from == NULL ? NULL : fopen(argv[2], "wb");
+    if (to == NULL) return perror(from == NULL ? argv[1] : argv[2]), 1;
+    g3_status status = encode(from, &code, to);
     if (status != G3_OK) fprintf(stderr, "encode: %s\n", g3_status_text(status));
-    free(image);
-    g3_octets_free(&code);
-    g3_page_free(&page);
+    fclose(from);
+    if (fclose(to) != 0) return perror(argv[2]), 1;
     return status == G3_OK ? 0 : 1;
 }

@@ -110,6 +110,60 @@ static void coded(void)
     g3_page_free(&a);
 }
 
+static void rows(void)
+{
+    g3_row_coder c = G3_EMPTY;
+    g3_row_reader r = G3_EMPTY;
+    g3_octets code = G3_EMPTY, none = G3_EMPTY;
+    uint64_t n = 0, place = 0;
+    uint8_t coded[8];
+    g3_code odd = {3, G3_MSB_FIRST, 9, 0}, other = {G3_MH, 2, 9, 0}, wide = {G3_MMR, G3_MSB_FIRST, 2433, 0};
+    g3_code mmr = {G3_MMR, G3_MSB_FIRST, 9, 0};
+    g3_row_coder_free(&c); g3_row_coder_free(NULL); g3_row_reader_free(&r); g3_row_reader_free(NULL);
+    IS(G3_EMPTY_HANDLE, g3_row_coder_push_row(&c, octets, 2));
+    IS(G3_EMPTY_HANDLE, g3_row_coder_take(&c, &code));
+    IS(G3_EMPTY_HANDLE, g3_row_coder_finish(NULL, &code));
+    IS(G3_BAD_CHOICE, g3_row_coder_new(&c, &odd));
+    IS(G3_BAD_CHOICE, g3_row_coder_new(&c, &other));
+    IS(G3_BAD_WIDTH, g3_row_coder_new(&c, &wide));
+    IS(G3_BAD_LENGTH, g3_row_coder_new(&c, NULL));
+    IS(G3_OK, g3_row_coder_new(&c, &mmr));
+    IS(G3_FULL_HANDLE, g3_row_coder_new(&c, &mmr));
+    IS(G3_NO_ROWS, g3_row_coder_finish(&c, &code));
+    IS(G3_BAD_LENGTH, g3_row_coder_push_row(&c, octets, 1));
+    IS(G3_OK, g3_row_coder_push_row(&c, octets, 2));
+    IS(G3_OTHER_HANDLE, g3_row_reader_next((g3_row_reader *)&c, octets, 400, &n, &place));
+    IS(G3_OK, g3_row_coder_take(&c, &none));
+    IS(G3_FULL_HANDLE, g3_row_coder_take(&c, &none));
+    IS(G3_FULL_HANDLE, g3_row_coder_finish(&c, &none));
+    IS(G3_OK, g3_row_coder_finish(&c, &code));
+    IS(G3_EMPTY_HANDLE, g3_row_coder_finish(&c, &code)); /* the coder has ended */
+    IS(G3_OK, g3_octets_copy(&code, coded, sizeof coded, &n));
+    IS(4, (g3_status)n); /* a white row has a bit in T.6, and EOFB 24 */
+
+    IS(G3_EMPTY_HANDLE, g3_row_reader_feed(&r, coded, 4, &n));
+    IS(G3_BAD_CHOICE, g3_row_reader_new(&r, &odd));
+    IS(G3_BAD_CHOICE, g3_row_reader_new(&r, &other));
+    IS(G3_BAD_WIDTH, g3_row_reader_new(&r, &wide));
+    IS(G3_BAD_LENGTH, g3_row_reader_new(&r, NULL));
+    IS(G3_OK, g3_row_reader_new(&r, &mmr));
+    IS(G3_FULL_HANDLE, g3_row_reader_new(&r, &mmr));
+    IS(G3_OTHER_HANDLE, g3_row_coder_push_row((g3_row_coder *)&r, octets, 2));
+    IS(G3_BAD_LENGTH, g3_row_reader_feed(&r, NULL, 1, &n));
+    IS(G3_BAD_LENGTH, g3_row_reader_feed(&r, coded, 1, NULL));
+    IS(G3_MISSING_EOFB, g3_row_reader_next(&r, octets, 400, &n, &place));
+    IS(G3_OK, g3_row_reader_feed(&r, coded, 4, &n));
+    IS(4, (g3_status)n);
+    IS(G3_NO_ROOM, g3_row_reader_next(&r, octets, 1, &n, &place));
+    IS(2, (g3_status)n);
+    IS(G3_BAD_LENGTH, g3_row_reader_next(&r, octets, 400, &n, NULL));
+    IS(G3_OK, g3_row_reader_next(&r, octets, 2, &n, &place));
+    IS(G3_NOTHING, g3_row_reader_next(&r, octets, 2, &n, &place));
+    IS(25, (g3_status)place);
+    g3_row_reader_free(&r); g3_row_reader_free(&r); g3_octets_free(&code); g3_octets_free(&none);
+    IS(G3_EMPTY_HANDLE, g3_row_reader_next(&r, octets, 400, &n, &place));
+}
+
 static void frames(void)
 {
     g3_deframer d = G3_EMPTY;
@@ -198,6 +252,44 @@ static void terminals(void)
     IS(G3_OTHER_HANDLE, g3_page_write_pbm((g3_page *)&t, &o));
     g3_terminal_free(&t); g3_terminal_free(&t); g3_terminal_free(NULL);
     IS(G3_EMPTY_HANDLE, g3_terminal_stop(&t));
+}
+
+static void agreed(void)
+{
+    g3_terminal t = G3_EMPTY, empty = G3_EMPTY;
+    g3_caps caps = {G3_V17, 1, 1, 2432, 1};
+    g3_state state;
+    g3_progress far;
+    g3_params params = {7, 7, 7, 7, 7};
+    g3_signal dcs = {0}, peer = {0};
+    uint64_t n = 0;
+    dcs.kind = G3_DCS, dcs.dcs.carrier = G3_V29_9600, dcs.dcs.width = 1728, dcs.dcs.coding = G3_MMR, dcs.dcs.frame = 64;
+    peer.kind = 77;
+    IS(G3_OK, g3_answerer_new(&t, &caps));
+    IS(G3_EMPTY_HANDLE, g3_terminal_hear_frame(&empty, octets, 3));
+    IS(G3_BAD_LENGTH, g3_terminal_hear_frame(&t, octets, 2));
+    IS(G3_BAD_LENGTH, g3_terminal_hear_frame(&t, octets, 301));
+    IS(G3_BAD_LENGTH, g3_terminal_hear_frame(&t, NULL, 3));
+    IS(G3_EMPTY_HANDLE, g3_terminal_progress(&empty, &far));
+    IS(G3_BAD_LENGTH, g3_terminal_progress(&t, NULL));
+    IS(G3_OK, g3_terminal_progress(&t, &far));
+    IS(0, far.pages + far.accepted + far.octets + far.frames);
+    IS(G3_EMPTY_HANDLE, g3_terminal_params(&empty, &params));
+    IS(G3_BAD_LENGTH, g3_terminal_params(&t, NULL));
+    IS(G3_NOTHING, g3_terminal_params(&t, &params)); /* no DCS has come */
+    IS(G3_EMPTY_HANDLE, g3_terminal_peer(NULL, &peer));
+    IS(G3_BAD_LENGTH, g3_terminal_peer(&t, NULL));
+    IS(G3_NOTHING, g3_terminal_peer(&t, &peer));
+    IS(1, params.carrier == 7 && peer.kind == 77); /* they are as they were */
+    IS(G3_OK, g3_signal_write(&dcs, G3_CALLER, 1, octets, sizeof octets, &n));
+    IS(G3_OK, g3_terminal_hear_frame(&t, octets, n));
+    IS(G3_OK, g3_terminal_params(&t, &params));
+    IS(0, (g3_status)memcmp(&params, &dcs.dcs, sizeof params));
+    IS(G3_OK, g3_terminal_peer(&t, &peer));
+    IS(1, peer.kind == G3_DCS && memcmp(&params, &peer.dcs, sizeof params) == 0);
+    IS(G3_OK, g3_terminal_state(&t, &state));
+    IS(1, state.frames == 1 && state.listens == G3_HEARS_CHECK && state.carrier == G3_V29_9600);
+    g3_terminal_free(&t);
 }
 
 /* Writes a signal, which is refused by this status: the buffer and the count stay. */
@@ -306,9 +398,11 @@ int main(void)
     pages();
     rasters();
     coded();
+    rows();
     frames();
     documents();
     terminals();
+    agreed();
     signals();
     agreement();
     return bad;

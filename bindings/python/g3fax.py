@@ -21,17 +21,17 @@ import sys
 import threading
 import weakref
 from enum import IntEnum
-from typing import Any, Iterable, Iterator, List, NamedTuple, Optional, Tuple
+from typing import Any, Iterable, Iterator, List, NamedTuple, Optional, Tuple, Union
 
 if sys.version_info >= (3, 12):
     from collections.abc import Buffer
 else:
     Buffer = Any
 
-__all__ = ["Coding", "Order", "Fault", "CodeFault", "NoMemory", "Counts", "Frame", "Page", "Deframer", "decode", "encode", "salvage",
-           "repair", "write_frame", "frames", "version"]
-__all__ += ["FrameLost", "NotCompatible", "Modems", "Carrier", "Wait", "Listens", "End", "State", "Burst", "Document", "Terminal", "Caller",
-            "Answerer", "Kind", "Side", "PageEnd", "Reason", "Dis", "Params", "Pps", "Signal", "read_signal", "write_signal", "agree"]
+__all__ = ["Coding", "Order", "Fault", "CodeFault", "NoMemory", "Counts", "Frame", "Page", "RowCoder", "RowReader", "Deframer", "decode",
+           "encode", "salvage", "repair", "write_frame", "frames", "version"]
+__all__ += ["FrameLost", "NotCompatible", "Modems", "Carrier", "Wait", "Listens", "End", "State", "Progress", "Burst", "Document",
+            "Terminal", "Caller", "Answerer", "Kind", "Side", "PageEnd", "Reason", "Dis", "Params", "Pps", "Signal", "read_signal", "write_signal", "agree"]
 
 
 class Coding(IntEnum):
@@ -148,6 +148,11 @@ class _Dis(ctypes.Structure):
     _fields_ = [(name, _u32) for name in ("receiver", "modems", "fine", "widest", "t6", "ecm")]
 
 
+class _Progress(ctypes.Structure):
+    _fields_ = [(name, _u64) for name in ("pages", "confirmed", "block", "blocks", "octets")] + [
+        (name, _u32) for name in ("resends", "tries", "frames", "accepted", "accepted_page", "accepted_block")]
+
+
 class _Params(ctypes.Structure):
     _fields_ = [(name, _u32) for name in ("carrier", "fine", "width", "coding", "frame")]
 
@@ -174,6 +179,13 @@ _FUNCTIONS = {
     "g3_page_repair": [_address, _size, _address, _address, _address],
     "g3_page_read_pbm": [_address, _size, _u32, _address, _address],
     "g3_page_write_pbm": [_address, _address],
+    "g3_row_coder_new": [_address, _address],
+    "g3_row_coder_push_row": [_address, _address, _size],
+    "g3_row_coder_take": [_address, _address],
+    "g3_row_coder_finish": [_address, _address],
+    "g3_row_reader_new": [_address, _address],
+    "g3_row_reader_feed": [_address, _address, _size, _address],
+    "g3_row_reader_next": [_address, _address, _size, _address, _address],
     "g3_octets_len": [_address, _address],
     "g3_octets_copy": [_address, _address, _size, _address],
     "g3_deframer_new": [_address],
@@ -187,6 +199,7 @@ _FUNCTIONS = {
     "g3_answerer_new": [_address, _address],
     "g3_caller_new": [_address, _address, _address],
     "g3_terminal_hear": [_address, _address, _size],
+    "g3_terminal_hear_frame": [_address, _address, _size],
     "g3_terminal_hear_training": [_address, _address, _size],
     "g3_terminal_wait_over": [_address, _u32],
     "g3_wait_millis": [_u32],
@@ -196,6 +209,9 @@ _FUNCTIONS = {
     "g3_terminal_lost": [_address],
     "g3_terminal_next_burst": [_address, _address, _address],
     "g3_terminal_state": [_address, _address],
+    "g3_terminal_progress": [_address, _address],
+    "g3_terminal_params": [_address, _address],
+    "g3_terminal_peer": [_address, _address],
     "g3_terminal_take_page": [_address, _address],
     "g3_signal_read": [_address, _size, _address],
     "g3_signal_write": [_address, _u32, _u32, _address, _size, _address],
@@ -208,7 +224,8 @@ def _load() -> ctypes.CDLL:
     for name, words in _FUNCTIONS.items():
         function = getattr(library, name)
         function.argtypes, function.restype = words, _u32
-    for name in "g3_page_free", "g3_octets_free", "g3_deframer_free", "g3_document_free", "g3_terminal_free":
+    kinds = "page", "octets", "deframer", "row_coder", "row_reader", "document", "terminal"
+    for name in (f"g3_{kind}_free" for kind in kinds):
         function = getattr(library, name)
         function.argtypes, function.restype = [_address], None
     library.g3_status_text.argtypes, library.g3_status_text.restype = [_u32], ctypes.c_char_p
@@ -450,6 +467,87 @@ class Page(_Owner):
         return _taken(out)
 
 
+# ---- pages row by row
+
+
+class RowCoder(_Owner):
+    """Codes a page whose rows come one by one, in memory that doesn't grow with the page where its octets are taken as they come."""
+
+    def __init__(self, width: int = 1728, coding: Coding = Coding.MMR, order: Order = Order.MSB_FIRST) -> None:
+        super().__init__("g3_row_coder_free")
+        code = _code(coding, order, width, False)
+        _done(_library.g3_row_coder_new(self._at, ctypes.byref(code)))
+
+    def append(self, octets: Buffer) -> None:
+        """Codes a row of the first bits of octets."""
+        address, length = _octets(octets)
+        with self._lock:
+            _done(_library.g3_row_coder_push_row(self._at, address, length))
+
+    def take(self) -> memoryview:
+        """The octets of the code that are whole so far, after those that were taken."""
+        out = _Handle()
+        with self._lock:
+            _done(_library.g3_row_coder_take(self._at, ctypes.byref(out)))
+        return _taken(out)
+
+    def finish(self) -> memoryview:
+        """The last octets of the code; 0 bits fill the last one. The coder is done with then, and later calls raise Fault 100."""
+        out = _Handle()
+        with self._lock:
+            _done(_library.g3_row_coder_finish(self._at, ctypes.byref(out)))
+        return _taken(out)
+
+
+class RowReader(_Owner):
+    """Reads a page whose octets come in pieces, row by row, and holds 65,536 octets of it at most. Iterating gives the rows that are whole
+    so far."""
+
+    def __init__(self, width: int = 1728, coding: Coding = Coding.MMR, order: Order = Order.MSB_FIRST) -> None:
+        super().__init__("g3_row_reader_free")
+        #: the bits that the page uses, where its end was found
+        self.bits: Optional[int] = None
+        #: why no row more is whole in the octets so far; more octets may change it
+        self.fault: Optional[CodeFault] = None
+        self._row = (width + 7) // 8
+        code = _code(coding, order, width, False)
+        _done(_library.g3_row_reader_new(self._at, ctypes.byref(code)))
+
+    def feed(self, octets: Buffer) -> int:
+        """Takes the next octets of the page, as many as there is room for, and answers how many."""
+        taken, (address, length) = _u64(), _octets(octets)
+        with self._lock:
+            _done(_library.g3_row_reader_feed(self._at, address, length, ctypes.byref(taken)))
+        return taken.value
+
+    def next(self) -> Optional[memoryview]:
+        """The next row that is whole in the octets so far. Where none is, None, and `bits` is set at the page's end, else `fault`."""
+        buffer, address = _room(self._row)
+        count, place = _u64(), _u64()
+        with self._lock:
+            status = _library.g3_row_reader_next(self._at, address, len(buffer), ctypes.byref(count), ctypes.byref(place))
+            self.bits = place.value if status == _NOTHING else None
+            self.fault = None
+            try:
+                if status != _NOTHING:
+                    _done(status, place.value)
+            except CodeFault as fault:
+                self.fault = fault
+                return None
+        return None if status == _NOTHING else memoryview(buffer)
+
+    def __iter__(self) -> Iterator[memoryview]:
+        return iter(self.next, None)
+
+    def finish(self) -> int:
+        """The bits that the page uses, after its last row. Raises CodeFault with the bit where the octets so far are refused."""
+        for _ in self:
+            pass
+        if self.fault is not None:
+            raise self.fault
+        return self.bits or 0
+
+
 def _code(coding: int, order: int, width: int, fine: bool) -> _Code:
     return _Code(_number(coding, "coding"), _number(order, "order"), _number(width, "width"), bool(fine))
 
@@ -611,6 +709,23 @@ class State(NamedTuple):
     end: Optional[End]
 
 
+class Progress(NamedTuple):
+    """How far a call is; what belongs to the other station is 0. Of a caller: the `pages` of its document, how many are `confirmed`, the
+    `block` of the next one that it sends, from 1, of so many `blocks`, its `resends`, and the `tries` of the last command. Of an answerer:
+    the `pages` that it has stored and that weren't taken, the `octets` of the page under way, the `frames` of the block under way, and the
+    page and block that it has `accepted` last, by their numbers modulo 256, or None."""
+
+    pages: int
+    confirmed: int
+    block: int
+    blocks: int
+    octets: int
+    resends: int
+    tries: int
+    frames: int
+    accepted: Optional[Tuple[int, int]]
+
+
 class Burst(NamedTuple):
     """What is to be sent: the bits, the least significant of each octet first; what it goes out on; whether it is a training check, and
     whether it is the last before the other station has its turn."""
@@ -620,6 +735,10 @@ class Burst(NamedTuple):
     carrier: Carrier
     check: bool
     last: bool
+
+    def frames(self) -> List[bytes]:
+        """The contents of its frames, in order, for a modem that wants frames and not bits. A training check has none."""
+        return [] if self.check else frames(self.octets)[0]
 
 
 class Document(_Owner):
@@ -657,6 +776,12 @@ class Terminal(_Owner):
         address, length = _octets(octets)
         with self._lock:
             _done(_library.g3_terminal_hear(self._at, address, length))
+
+    def hear_frame(self, content: Buffer) -> None:
+        """Hears a good frame by its content of 3 to 300 octets, for a modem that finds the frames itself."""
+        address, length = _octets(content)
+        with self._lock:
+            _done(_library.g3_terminal_hear_frame(self._at, address, length))
 
     def hear_training(self, octets: Buffer) -> None:
         """Hears the octets of a training check."""
@@ -712,6 +837,38 @@ class Terminal(_Owner):
         return State(told.pages, told.frames, Listens(told.listens), Carrier(told.carrier) if told.carrier else None,
                      Wait(told.wait) if told.wait else None, Wait(told.longer) if told.longer else None,
                      End(told.end) if told.end else None)
+
+    @property
+    def progress(self) -> "Progress":
+        """How far the call is."""
+        told = _Progress()
+        with self._lock:
+            _done(_library.g3_terminal_progress(self._at, ctypes.byref(told)))
+        numbers = {name: getattr(told, name) for name in Progress._fields}
+        numbers["accepted"] = (told.accepted_page, told.accepted_block) if told.accepted else None
+        return Progress(**numbers)
+
+    @property
+    def params(self) -> "Optional[Params]":
+        """How the pages of the group that is under way are sent, or None."""
+        told = _Params()
+        with self._lock:
+            status = _library.g3_terminal_params(self._at, ctypes.byref(told))
+        if status == _NOTHING:
+            return None
+        _done(status)
+        return _params(told)
+
+    @property
+    def peer(self) -> "Union[Dis, Params, None]":
+        """What is known of the other station: the Dis of a caller's answerer, the Params of an answerer's caller, or None."""
+        told = _Signal()
+        with self._lock:
+            status = _library.g3_terminal_peer(self._at, ctypes.byref(told))
+        if status == _NOTHING:
+            return None
+        _done(status)
+        return _dis(told.dis) if told.kind == Kind.DIS else _params(told.dcs)
 
     def take_page(self) -> Optional[Page]:
         """The oldest page that an answerer has stored and that wasn't taken, or None."""
@@ -843,6 +1000,10 @@ class Signal(NamedTuple):
     octets: bytes = b""
 
 
+def _dis(told: _Dis) -> Dis:
+    return Dis(bool(told.receiver), Modems(told.modems), bool(told.fine), told.widest, bool(told.t6), bool(told.ecm))
+
+
 def _params(told: _Params) -> Params:
     return Params(Carrier(told.carrier), bool(told.fine), told.width, Coding(told.coding), told.frame)
 
@@ -856,10 +1017,10 @@ def read_signal(content: Buffer) -> Signal:
     it says none."""
     told, (address, length) = _Signal(), _octets(content)
     _done(_library.g3_signal_read(address, length, ctypes.byref(told)))
-    kind, dis, pps = Kind(told.kind), told.dis, told.pps
+    kind, pps = Kind(told.kind), told.pps
     return Signal(
         kind,
-        Dis(bool(dis.receiver), Modems(dis.modems), bool(dis.fine), dis.widest, bool(dis.t6), bool(dis.ecm)) if kind == Kind.DIS else None,
+        _dis(told.dis) if kind == Kind.DIS else None,
         _params(told.dcs) if kind == Kind.DCS else None,
         Pps(PageEnd(pps.ends), pps.page, pps.block, pps.last) if kind == Kind.PPS else None,
         told.number, told.control, bytes(told.octets[:told.length]))

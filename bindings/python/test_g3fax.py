@@ -43,6 +43,48 @@ def to_pbm(octets: bytes, width: int) -> memoryview:
         return page.pbm()
 
 
+class RowByRow(unittest.TestCase):
+    def test_coder(self):
+        for name, coding, order in FORMS:
+            with self.subTest(name), g3fax.RowCoder(WIDTH, coding, order) as coder:
+                octets = bytearray()
+                for at in range(0, len(PACKED), ROW):
+                    coder.append(PACKED[at:at + ROW])
+                    octets += coder.take()
+                octets += coder.finish()
+                self.assertEqual(octets, coded(name))
+                with self.assertRaises(g3fax.Fault) as raised:
+                    coder.append(PACKED)
+                self.assertEqual(raised.exception.number, 100)
+        with g3fax.RowCoder(WIDTH) as coder:
+            self.assertRaises(g3fax.CodeFault, coder.finish)
+
+    def test_reader(self):
+        for name, coding, order in FORMS:
+            code = coded(name)
+            for piece in 1, 7, len(code):
+                with self.subTest((name, piece)), g3fax.RowReader(WIDTH, coding, order) as reader:
+                    rows = []
+                    for at in range(0, len(code), piece):
+                        self.assertEqual(reader.feed(code[at:at + piece]), len(code[at:at + piece]))
+                        rows += reader
+                    self.assertEqual(b"".join(rows), PACKED)
+                    with g3fax.Page.decode(code, WIDTH, coding, order) as page:
+                        self.assertEqual(reader.finish(), page.bits)
+
+    def test_refusal(self):
+        with g3fax.RowReader(WIDTH) as reader:
+            reader.feed(coded("mmr.msb")[:500])
+            rows = b"".join(reader)
+            self.assertEqual(rows, g3fax.salvage(coded("mmr.msb")[:500], WIDTH).tobytes())
+            self.assertEqual((reader.fault.number, reader.fault.bit, reader.bits), (11, 3999, None))
+            self.assertRaises(g3fax.CodeFault, reader.finish)
+            reader.feed(coded("mmr.msb")[500:])
+            self.assertEqual(rows + b"".join(reader), PACKED)
+        with g3fax.RowReader(WIDTH) as reader:
+            self.assertEqual((reader.feed(bytes(70000)), reader.feed(b"7")), (65536, 0))
+
+
 class Pages(unittest.TestCase):
     def test_example(self):
         [block] = re.findall(r"^```python\n(.*?)^```$", (HERE.parent / "README.md").read_text(), re.M | re.S)
@@ -333,6 +375,46 @@ class Calls(unittest.TestCase):
                     self.assertEqual([page.rows().tobytes() for page in stored], [rows, rows[:216 * 3]])
                     self.assertEqual([page.fine for page in stored], [True, True])
                     self.assertIsNone(answerer.take_page())
+
+    def test_frames(self):
+        page, rows = self.document()
+        with g3fax.Document([page]) as document, g3fax.Answerer(limit=2) as answerer, g3fax.Caller(document) as caller:
+            self.assertEqual((caller.params, caller.peer, answerer.params, answerer.peer), (None, None, None, None))
+            self.assertEqual(caller.progress, g3fax.Progress(1, 0, 0, 0, 0, 0, 0, 0, None))
+            [dis] = next(answerer.bursts()).frames()
+            caller.hear_frame(dis)
+            params = Params(Carrier.V17_14400, True, 1728, Coding.MMR, 256)
+            self.assertEqual(caller.params, params)
+            self.assertEqual(caller.peer, g3fax.read_signal(dis).dis)
+            self.assertEqual(caller.progress.tries, 1)
+            dcs, check = caller.bursts()
+            for content in dcs.frames():
+                answerer.hear_frame(content)
+            self.assertEqual((answerer.params, answerer.peer, check.frames()), (params, params, []))
+            answerer.hear_training(check.octets)
+            [cfr] = next(answerer.bursts()).frames()
+            caller.hear_frame(cfr)
+            self.assertEqual(caller.progress[:5], (1, 0, 1, 1, 0))
+            block, pps = caller.bursts()
+            data = [content for content in block.frames() if g3fax.read_signal(content).kind == Kind.FCD]
+            for content in data[1:]:  # the first one is lost
+                answerer.hear_frame(content)
+            self.assertEqual(answerer.progress, g3fax.Progress(0, 0, 0, 0, 0, 0, 0, len(data) - 1, None))
+            for content in pps.frames():
+                answerer.hear_frame(content)
+            [ppr] = next(answerer.bursts()).frames()
+            self.assertEqual(g3fax.read_signal(ppr).octets[0], 1)
+            caller.hear_frame(ppr)
+            self.assertEqual((caller.progress.resends, caller.progress.block), (1, 1))
+            for burst in caller.bursts():
+                for content in burst.frames():
+                    answerer.hear_frame(content)
+            self.assertEqual((answerer.progress.pages, answerer.progress.accepted), (1, (0, 0)))
+            [mcf] = next(answerer.bursts()).frames()
+            caller.hear_frame(mcf)
+            self.assertEqual((caller.progress.confirmed, caller.progress.block), (1, 0))
+            self.assertEqual(answerer.take_page().rows().tobytes(), rows)
+            self.fault(105, caller.hear_frame, b"12")
 
     def test_ends(self):
         answerer = g3fax.Answerer()

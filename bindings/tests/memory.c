@@ -50,6 +50,44 @@ static void codes(size_t length, uint32_t coding)
     g3_octets_free(&octets); g3_octets_free(&text);
 }
 
+/* A page is coded row by row, and read row by row from pieces of three octets. */
+static void rows_of(uint32_t coding)
+{
+    g3_row_coder coder = G3_EMPTY;
+    g3_row_reader reader = G3_EMPTY;
+    g3_octets octets = G3_EMPTY;
+    g3_code form = {coding, G3_LSB_FIRST, 315, 0};
+    uint64_t count = 0, size = 0, place = 0, taken = 0;
+    unsigned read = 0;
+    g3_status status = G3_OK;
+    DOES(g3_row_coder_new(&coder, &form));
+    for (unsigned row = 0; row < 7; row++) {
+        DOES(g3_row_coder_push_row(&coder, image + row, 40));
+        DOES(g3_row_coder_take(&coder, &octets));
+        DOES(g3_octets_copy(&octets, code + size, sizeof code - size, &count));
+        g3_octets_free(&octets);
+        size += count;
+    }
+    DOES(g3_row_coder_finish(&coder, &octets));
+    DOES(g3_octets_copy(&octets, code + size, sizeof code - size, &count));
+    size += count;
+    DOES(g3_row_reader_new(&reader, &form));
+    for (size_t at = 0; at < size; at += taken) {
+        DOES(g3_row_reader_feed(&reader, code + at, size - at < 3 ? size - at : 3, &taken));
+        for (;;) {
+            status = g3_row_reader_next(&reader, again, sizeof again, &count, &place);
+            if (status == G3_NO_MEMORY) status = g3_row_reader_next(&reader, again, sizeof again, &count, &place);
+            if (status != G3_OK) break;
+            again[39] &= 0xE0; /* 315 pixels are 39 octets and three bits */
+            if (count != 40 || memcmp(again, image + read, 39) != 0 || again[39] != (image[read + 39] & 0xE0))
+                printf("growth %lu refused: another row\n", refused), bad = 1;
+            read++;
+        }
+    }
+    if (read != 7 || status != G3_NOTHING) printf("growth %lu refused: %u rows, %u\n", refused, read, status), bad = 1;
+    g3_row_coder_free(&coder); g3_row_reader_free(&reader); g3_octets_free(&octets);
+}
+
 static void frames(size_t length)
 {
     g3_deframer deframer = G3_EMPTY;
@@ -84,8 +122,38 @@ static void signals(size_t length)
     if (grown != before) printf("signals take memory\n"), bad = 1;
 }
 
+/* A station hears the frames of a burst by their contents. */
+static void hear_frames(g3_terminal *to, size_t size)
+{
+    g3_deframer deframer = G3_EMPTY;
+    uint8_t content[300];
+    uint64_t length = 0;
+    DOES(g3_deframer_new(&deframer));
+    DOES(g3_deframer_feed(&deframer, again, size));
+    while (g3_deframer_next(&deframer, content, sizeof content, &length) == G3_OK) {
+        g3_status status = g3_terminal_hear_frame(to, content, length);
+        if (status == G3_NO_MEMORY) status = g3_terminal_hear_frame(to, content, length);
+        if (status != G3_OK && status != G3_FRAME_LOST) printf("growth %lu refused: a frame: %u\n", refused, status), bad = 1;
+    }
+    g3_deframer_free(&deframer);
+}
+
+/* What a terminal tells of the call takes no memory. */
+static void tells(g3_terminal *of)
+{
+    g3_progress far;
+    g3_params params;
+    g3_signal peer;
+    unsigned long before = grown;
+    g3_status known = G3_OK;
+    DOES(g3_terminal_progress(of, &far));
+    if ((known = g3_terminal_peer(of, &peer)) != g3_terminal_params(of, &params) && known != G3_OK)
+        printf("growth %lu refused: a group of nobody: %u\n", refused, known), bad = 1;
+    if (grown != before) printf("what is told takes memory\n"), bad = 1;
+}
+
 /* One station says its turn to the other one. Tells how many bursts there were. */
-static unsigned say(g3_terminal *from, g3_terminal *to)
+static unsigned say(g3_terminal *from, g3_terminal *to, int by_frames)
 {
     unsigned said = 0;
     for (;; said++) {
@@ -104,13 +172,17 @@ static unsigned say(g3_terminal *from, g3_terminal *to)
             if (state.listens == G3_HEARS_CHECK) DOES(g3_terminal_hear_training(to, again, size));
             continue;
         }
+        if (by_frames) {
+            hear_frames(to, size);
+            continue;
+        }
         status = g3_terminal_hear(to, again, size);
         if (status == G3_NO_MEMORY) status = g3_terminal_hear(to, again, size);
         if (status != G3_OK && status != G3_FRAME_LOST) printf("growth %lu refused: hearing: %u\n", refused, status), bad = 1;
     }
 }
 
-static void calls(void)
+static void calls(int by_frames)
 {
     g3_page page = G3_EMPTY, stored = G3_EMPTY;
     g3_document document = G3_EMPTY;
@@ -126,8 +198,10 @@ static void calls(void)
     DOES(g3_answerer_new(&answerer, &caps));
     DOES(g3_caller_new(&caller, &document, &wish));
     for (unsigned turns = 0; turns < 40 && (here.end == 0 || there.end == 0); turns++) {
-        unsigned said = say(&answerer, &caller);
-        said += say(&caller, &answerer);
+        unsigned said = say(&answerer, &caller, 0);
+        said += say(&caller, &answerer, by_frames);
+        tells(&caller);
+        tells(&answerer);
         DOES(g3_terminal_state(&caller, &here));
         DOES(g3_terminal_state(&answerer, &there));
         if (said == 0 && here.end == 0) DOES(g3_terminal_wait_over(&caller, here.wait));
@@ -153,9 +227,12 @@ int main(int argc, char **argv)
         refused++;
         codes(length, G3_MH);
         codes(length, G3_MMR);
+        rows_of(G3_MH);
+        rows_of(G3_MMR);
         frames(bits);
         signals(bits);
-        calls();
+        calls(0);
+        calls(1);
         if (blocks != before) printf("growth %lu refused: %ld blocks are left\n", refused, blocks - before), bad = 1;
     } while (grown >= refused);
     printf("growths %lu\n", refused - 1);

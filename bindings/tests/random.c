@@ -34,13 +34,14 @@ static g3_status hears(void *from, void *to)
 
 static g3_status call(uint32_t which, void *a, void *b)
 {
-    static uint64_t told;
+    static uint64_t told, place;
     static g3_size size;
     static g3_counts counts;
     static g3_burst burst;
     static g3_state shown;
     static g3_signal signal;
     static g3_params params;
+    static g3_progress far;
     static uint32_t why;
     static const uint8_t heads[] = {0x80, 0x83, 0x84, 0x44, 0x06, 0x86, 0xBF, 0xBC, 0x8C, 0xEC, 0x6F, 0xFB};
     g3_dis dis = {below(9) != 0, 0, below(2), below(9) ? 2432 : below(3000), below(2), below(9) != 0};
@@ -102,6 +103,17 @@ static g3_status call(uint32_t which, void *a, void *b)
     case 41:
         dis.modems = below(7);
         return g3_agree(below(50) ? &dis : NULL, &wish, below(9) ? 1728 : below(3000), below(2), below(50) ? &params : NULL, &why);
+    case 42: return g3_row_coder_new(a, below(50) ? &code : NULL);
+    case 43: return g3_row_coder_push_row(a, octets, length);
+    case 44: return g3_row_coder_take(a, b);
+    case 45: return g3_row_coder_finish(a, b);
+    case 46: return g3_row_reader_new(a, below(50) ? &code : NULL);
+    case 47: return g3_row_reader_feed(a, octets, length, number);
+    case 48: case 49: return g3_row_reader_next(a, octets, length, number, below(50) ? &place : NULL);
+    case 50: return g3_terminal_hear_frame(a, octets, length);
+    case 51: return g3_terminal_progress(a, below(50) ? &far : NULL);
+    case 52: return g3_terminal_params(a, below(50) ? &params : NULL);
+    case 53: return g3_terminal_peer(a, below(50) ? &signal : NULL);
     default: g3_page_free(a); return G3_OK;
     }
 }
@@ -113,7 +125,7 @@ int main(int argc, char **argv)
     for (int calls = argc == 2 ? atoi(argv[1]) : 0; calls > 0; calls--) {
         uint32_t first = below(8), second = (first + 1 + below(7)) % 8;
         if (below(20) == 0) refused = grown + 1 + below(4);
-        g3_status status = call(below(45), below(50) ? &handles[first] : NULL, below(50) ? &handles[second] : NULL);
+        g3_status status = call(below(57), below(50) ? &handles[first] : NULL, below(50) ? &handles[second] : NULL);
         int is_known = status <= G3_TOO_MANY_CODED_ROWS || (status >= G3_BAD_ADDRESS && status <= G3_SHORT_FIELD)
             || status == G3_NOT_CALLABLE || status == G3_NOT_COMPATIBLE || status == G3_FRAME_LOST
             || (status >= G3_EMPTY_HANDLE && status <= G3_NOTHING);

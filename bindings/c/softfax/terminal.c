@@ -153,18 +153,6 @@ static void note_ctc(terminal *it, const uint8_t *content, uint64_t length)
     it->trains_anew = it->ctr = 1;
 }
 
-/* Gives a frame that a receiver has brought to the library, as the bits of a line of its own: so those of two receivers never mix. */
-static void give_frame(terminal *it, const uint8_t *content, uint64_t length)
-{
-    g3_octets frame = G3_EMPTY;
-    uint64_t bits = 0, count = 0;
-    if (!is_done(it, g3_frame_write(content, length, &frame, &bits))) return;
-    uint8_t *octets = octets_of(&frame, &count);
-    if (octets == NULL) tell(it, "is refused memory: a frame is lost", NULL, 0);
-    else is_done(it, g3_terminal_hear(it->station, octets, count));
-    free(octets);
-}
-
 /* Hears octets of a receiver as flags and frames. */
 static void hear_frames(terminal *it, int receiver, const uint8_t *octets, uint32_t count)
 {
@@ -176,7 +164,7 @@ static void hear_frames(terminal *it, int receiver, const uint8_t *octets, uint3
         it->heard = it->now;
         it->reads = 1;
         if (receiver == BY_V21 && it->answers_ctc) note_ctc(it, content, length);
-        give_frame(it, content, length);
+        is_done(it, g3_terminal_hear_frame(it->station, content, length)); /* as a line of its own: two receivers never mix */
     }
 }
 

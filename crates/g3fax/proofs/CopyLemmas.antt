@@ -1,10 +1,9 @@
 -- Rows that are copied by their octets.
 use Rattle.std.proofs.Common.{◌≡◌, ℕ, ◌+◌, ◌*◌, ◌<◌, ◌≤◌, false, List, [], ◌∷◌, ◌++◌, length, take, replicate}
-use Rattle.std.proofs.Common.{refl, sym, ap, ◌∙◌, arith, get_or}
+use Rattle.std.proofs.Common.{sym, ap, ◌∙◌, arith, get_or}
 use Rattle.std.proofs.lemmas.List.{take_at, take_more}
 use Rattle.raster.specs.declared.packed.Order.TheVariants.{MsbFirst}
 use Rattle.raster.specs.declared.row.Color.{Color}
-use Rattle.raster.specs.Packed.{bits_in}
 use Rattle.raster.specs.Pages.{PagePixels, IsPage}
 use Rattle.raster.specs.Pbm.{row_pixels}
 use Rattle.raster.specs.PbmText.{HoldsRow}

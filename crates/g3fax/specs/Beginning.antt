@@ -14,7 +14,6 @@ use Rattle.signals.specs.declared.params.Wish.{Wish}
 use Rattle.stations.specs.AnswererStep.{new_answerer}
 use Rattle.stations.specs.CallerFields.{AreCallable, NewCaller}
 use Rattle.stations.specs.CallerStep.{no_params}
-use Rattle.stations.specs.Limiting.{LimitedFields}
 use Rattle.stations.specs.Stopping.{StoppableCallerFields}
 use Rattle.stations.specs.declared.turn.Turn.TheVariants.{Dis, Silent}
 use Rattle.terminals.specs.Runs.{TerminalFields}

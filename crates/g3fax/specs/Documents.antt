@@ -6,7 +6,7 @@ use Rattle.raster.specs.Pages.{PagePixels}
 use Rattle.g3fax.specs.Handles.{OnDocument}
 use Rattle.g3fax.specs.Statuses.{ok, no_memory, empty_handle, other_handle}
 use Rattle.g3fax.specs.declared.handle.Kept.{Kept}
-use Rattle.g3fax.specs.declared.handle.Kept.TheVariants.{Octets, Page, Deframer, Document, Caller, Answerer}
+use Rattle.g3fax.specs.declared.handle.Kept.TheVariants.{Octets, Page, Deframer, Document, Caller, Answerer, RowCoder, RowReader}
 
 -- the pages of a document that has some, or none yet
 abbrev pub pages_of : Option (List PagePixels) → List PagePixels
@@ -36,3 +36,5 @@ MovesPage (Some (Deframer state)) left old new status = (status ≡ other_handle
 MovesPage (Some (Document pages)) left old new status = (status ≡ other_handle) × (left ≡ Some (Document pages)) × (new ≡ old)
 MovesPage (Some (Caller terminal)) left old new status = (status ≡ other_handle) × (left ≡ Some (Caller terminal)) × (new ≡ old)
 MovesPage (Some (Answerer answering)) left old new status = (status ≡ other_handle) × (left ≡ Some (Answerer answering)) × (new ≡ old)
+MovesPage (Some (RowCoder coder)) left old new status = (status ≡ other_handle) × (left ≡ Some (RowCoder coder)) × (new ≡ old)
+MovesPage (Some (RowReader reader)) left old new status = (status ≡ other_handle) × (left ≡ Some (RowReader reader)) × (new ≡ old)

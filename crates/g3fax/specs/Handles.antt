@@ -7,10 +7,12 @@ use Rattle.hdlc.specs.DeframerState.{DeframerState}
 use Rattle.stations.specs.Limiting.{LimitedFields}
 use Rattle.stations.specs.Stopping.{StoppableCallerFields}
 use Rattle.terminals.specs.Runs.{TerminalFields}
+use Rattle.page_code.specs.RowCoders.{RowCoding}
+use Rattle.page_code.specs.RowReaders.{RowReading}
 use Rattle.g3fax.specs.Answering.{AnsweringFields}
 use Rattle.g3fax.specs.Statuses.{ok, empty_handle, other_handle, full_handle, no_room}
 use Rattle.g3fax.specs.declared.handle.Kept.{Kept}
-use Rattle.g3fax.specs.declared.handle.Kept.TheVariants.{Octets, Page, Deframer, Document, Caller, Answerer}
+use Rattle.g3fax.specs.declared.handle.Kept.TheVariants.{Octets, Page, Deframer, Document, Caller, Answerer, RowCoder, RowReader}
 
 -- a handle of octets for which this holds
 abbrev pub HasOctets : (List ℕ → Type 0) → Option Kept → Type 0
@@ -21,6 +23,8 @@ HasOctets Holds (Some (Deframer state)) = ⊥
 HasOctets Holds (Some (Document pages)) = ⊥
 HasOctets Holds (Some (Caller terminal)) = ⊥
 HasOctets Holds (Some (Answerer answering)) = ⊥
+HasOctets Holds (Some (RowCoder coder)) = ⊥
+HasOctets Holds (Some (RowReader reader)) = ⊥
 
 -- a handle of a page for which this holds
 abbrev pub HasPage : (PagePixels → Type 0) → Option Kept → Type 0
@@ -31,6 +35,8 @@ HasPage Holds (Some (Deframer state)) = ⊥
 HasPage Holds (Some (Document pages)) = ⊥
 HasPage Holds (Some (Caller terminal)) = ⊥
 HasPage Holds (Some (Answerer answering)) = ⊥
+HasPage Holds (Some (RowCoder coder)) = ⊥
+HasPage Holds (Some (RowReader reader)) = ⊥
 
 -- a handle of a deframer for which this holds
 abbrev pub HasDeframer : (DeframerState → Type 0) → Option Kept → Type 0
@@ -41,6 +47,8 @@ HasDeframer Holds (Some (Deframer state)) = Holds state
 HasDeframer Holds (Some (Document pages)) = ⊥
 HasDeframer Holds (Some (Caller terminal)) = ⊥
 HasDeframer Holds (Some (Answerer answering)) = ⊥
+HasDeframer Holds (Some (RowCoder coder)) = ⊥
+HasDeframer Holds (Some (RowReader reader)) = ⊥
 
 -- a handle of a document for which this holds
 abbrev pub HasDocument : (Option (List PagePixels) → Type 0) → Option Kept → Type 0
@@ -51,6 +59,8 @@ HasDocument Holds (Some (Deframer state)) = ⊥
 HasDocument Holds (Some (Document pages)) = Holds pages
 HasDocument Holds (Some (Caller terminal)) = ⊥
 HasDocument Holds (Some (Answerer answering)) = ⊥
+HasDocument Holds (Some (RowCoder coder)) = ⊥
+HasDocument Holds (Some (RowReader reader)) = ⊥
 
 -- a handle of a caller's terminal for which this holds
 abbrev pub HasCaller : (TerminalFields StoppableCallerFields → Type 0) → Option Kept → Type 0
@@ -61,6 +71,8 @@ HasCaller Holds (Some (Deframer state)) = ⊥
 HasCaller Holds (Some (Document pages)) = ⊥
 HasCaller Holds (Some (Caller terminal)) = Holds terminal
 HasCaller Holds (Some (Answerer answering)) = ⊥
+HasCaller Holds (Some (RowCoder coder)) = ⊥
+HasCaller Holds (Some (RowReader reader)) = ⊥
 
 -- a handle of an answerer's terminal for which this holds
 abbrev pub HasAnswerer : (AnsweringFields → Type 0) → Option Kept → Type 0
@@ -71,6 +83,32 @@ HasAnswerer Holds (Some (Deframer state)) = ⊥
 HasAnswerer Holds (Some (Document pages)) = ⊥
 HasAnswerer Holds (Some (Caller terminal)) = ⊥
 HasAnswerer Holds (Some (Answerer answering)) = Holds answering
+HasAnswerer Holds (Some (RowCoder coder)) = ⊥
+HasAnswerer Holds (Some (RowReader reader)) = ⊥
+
+-- a handle of a coder of rows for which this holds
+abbrev pub HasRowCoder : (RowCoding → Type 0) → Option Kept → Type 0
+HasRowCoder Holds None = ⊥
+HasRowCoder Holds (Some (Octets octets)) = ⊥
+HasRowCoder Holds (Some (Page page)) = ⊥
+HasRowCoder Holds (Some (Deframer state)) = ⊥
+HasRowCoder Holds (Some (Document pages)) = ⊥
+HasRowCoder Holds (Some (Caller terminal)) = ⊥
+HasRowCoder Holds (Some (Answerer answering)) = ⊥
+HasRowCoder Holds (Some (RowCoder coder)) = Holds coder
+HasRowCoder Holds (Some (RowReader reader)) = ⊥
+
+-- a handle of a reader of rows for which this holds
+abbrev pub HasRowReader : (RowReading → Type 0) → Option Kept → Type 0
+HasRowReader Holds None = ⊥
+HasRowReader Holds (Some (Octets octets)) = ⊥
+HasRowReader Holds (Some (Page page)) = ⊥
+HasRowReader Holds (Some (Deframer state)) = ⊥
+HasRowReader Holds (Some (Document pages)) = ⊥
+HasRowReader Holds (Some (Caller terminal)) = ⊥
+HasRowReader Holds (Some (Answerer answering)) = ⊥
+HasRowReader Holds (Some (RowCoder coder)) = ⊥
+HasRowReader Holds (Some (RowReader reader)) = Holds reader
 
 -- what is answered of a handle of octets; 100 of an empty one, and 101 of another one
 abbrev pub OfOctets : (List ℕ → Type 0) → Option Kept → ℕ → Type 0
@@ -81,6 +119,8 @@ OfOctets Answers (Some (Deframer state)) status = status ≡ other_handle
 OfOctets Answers (Some (Document pages)) status = status ≡ other_handle
 OfOctets Answers (Some (Caller terminal)) status = status ≡ other_handle
 OfOctets Answers (Some (Answerer answering)) status = status ≡ other_handle
+OfOctets Answers (Some (RowCoder coder)) status = status ≡ other_handle
+OfOctets Answers (Some (RowReader reader)) status = status ≡ other_handle
 
 -- what is answered of a handle of a page; 100 of an empty one, and 101 of another one
 abbrev pub OfPage : (PagePixels → Type 0) → Option Kept → ℕ → Type 0
@@ -91,6 +131,8 @@ OfPage Answers (Some (Deframer state)) status = status ≡ other_handle
 OfPage Answers (Some (Document pages)) status = status ≡ other_handle
 OfPage Answers (Some (Caller terminal)) status = status ≡ other_handle
 OfPage Answers (Some (Answerer answering)) status = status ≡ other_handle
+OfPage Answers (Some (RowCoder coder)) status = status ≡ other_handle
+OfPage Answers (Some (RowReader reader)) status = status ≡ other_handle
 
 -- what is answered of a handle of a deframer; 100 of an empty one, and 101 of another one
 abbrev pub OfDeframer : (DeframerState → Type 0) → Option Kept → ℕ → Type 0
@@ -101,6 +143,8 @@ OfDeframer Answers (Some (Deframer state)) status = Answers state
 OfDeframer Answers (Some (Document pages)) status = status ≡ other_handle
 OfDeframer Answers (Some (Caller terminal)) status = status ≡ other_handle
 OfDeframer Answers (Some (Answerer answering)) status = status ≡ other_handle
+OfDeframer Answers (Some (RowCoder coder)) status = status ≡ other_handle
+OfDeframer Answers (Some (RowReader reader)) status = status ≡ other_handle
 
 -- what is answered of a handle of a document; 100 of an empty one, and 101 of another one
 abbrev pub OfDocument : (Option (List PagePixels) → Type 0) → Option Kept → ℕ → Type 0
@@ -111,6 +155,8 @@ OfDocument Answers (Some (Deframer state)) status = status ≡ other_handle
 OfDocument Answers (Some (Document pages)) status = Answers pages
 OfDocument Answers (Some (Caller terminal)) status = status ≡ other_handle
 OfDocument Answers (Some (Answerer answering)) status = status ≡ other_handle
+OfDocument Answers (Some (RowCoder coder)) status = status ≡ other_handle
+OfDocument Answers (Some (RowReader reader)) status = status ≡ other_handle
 
 -- what is made of the page of a handle; an empty handle is answered by 100, one of another kind by 101, and both stay
 abbrev pub OnPage : (PagePixels → PagePixels → Type 0) → Option Kept → Option Kept → ℕ → Type 0
@@ -123,10 +169,14 @@ OnPage Makes (Some (Page old)) (Some (Deframer state)) status = ⊥
 OnPage Makes (Some (Page old)) (Some (Document pages)) status = ⊥
 OnPage Makes (Some (Page old)) (Some (Caller terminal)) status = ⊥
 OnPage Makes (Some (Page old)) (Some (Answerer answering)) status = ⊥
+OnPage Makes (Some (Page old)) (Some (RowCoder coder)) status = ⊥
+OnPage Makes (Some (Page old)) (Some (RowReader reader)) status = ⊥
 OnPage Makes (Some (Deframer state)) new status = (status ≡ other_handle) × (new ≡ Some (Deframer state))
 OnPage Makes (Some (Document pages)) new status = (status ≡ other_handle) × (new ≡ Some (Document pages))
 OnPage Makes (Some (Caller terminal)) new status = (status ≡ other_handle) × (new ≡ Some (Caller terminal))
 OnPage Makes (Some (Answerer answering)) new status = (status ≡ other_handle) × (new ≡ Some (Answerer answering))
+OnPage Makes (Some (RowCoder coder)) new status = (status ≡ other_handle) × (new ≡ Some (RowCoder coder))
+OnPage Makes (Some (RowReader reader)) new status = (status ≡ other_handle) × (new ≡ Some (RowReader reader))
 
 -- what is made of the deframer of a handle; an empty handle is answered by 100, one of another kind by 101, and both stay
 abbrev pub OnDeframer : (DeframerState → DeframerState → Type 0) → Option Kept → Option Kept → ℕ → Type 0
@@ -140,9 +190,13 @@ OnDeframer Makes (Some (Deframer old)) (Some (Deframer new)) status = Makes old 
 OnDeframer Makes (Some (Deframer old)) (Some (Document pages)) status = ⊥
 OnDeframer Makes (Some (Deframer old)) (Some (Caller terminal)) status = ⊥
 OnDeframer Makes (Some (Deframer old)) (Some (Answerer answering)) status = ⊥
+OnDeframer Makes (Some (Deframer old)) (Some (RowCoder coder)) status = ⊥
+OnDeframer Makes (Some (Deframer old)) (Some (RowReader reader)) status = ⊥
 OnDeframer Makes (Some (Document pages)) new status = (status ≡ other_handle) × (new ≡ Some (Document pages))
 OnDeframer Makes (Some (Caller terminal)) new status = (status ≡ other_handle) × (new ≡ Some (Caller terminal))
 OnDeframer Makes (Some (Answerer answering)) new status = (status ≡ other_handle) × (new ≡ Some (Answerer answering))
+OnDeframer Makes (Some (RowCoder coder)) new status = (status ≡ other_handle) × (new ≡ Some (RowCoder coder))
+OnDeframer Makes (Some (RowReader reader)) new status = (status ≡ other_handle) × (new ≡ Some (RowReader reader))
 
 -- what is made of the document of a handle; an empty handle is answered by 100, one of another kind by 101, and both stay
 abbrev pub OnDocument :
@@ -158,8 +212,12 @@ OnDocument Makes (Some (Document old)) (Some (Deframer state)) status = ⊥
 OnDocument Makes (Some (Document old)) (Some (Document new)) status = Makes old new
 OnDocument Makes (Some (Document old)) (Some (Caller terminal)) status = ⊥
 OnDocument Makes (Some (Document old)) (Some (Answerer answering)) status = ⊥
+OnDocument Makes (Some (Document old)) (Some (RowCoder coder)) status = ⊥
+OnDocument Makes (Some (Document old)) (Some (RowReader reader)) status = ⊥
 OnDocument Makes (Some (Caller terminal)) new status = (status ≡ other_handle) × (new ≡ Some (Caller terminal))
 OnDocument Makes (Some (Answerer answering)) new status = (status ≡ other_handle) × (new ≡ Some (Answerer answering))
+OnDocument Makes (Some (RowCoder coder)) new status = (status ≡ other_handle) × (new ≡ Some (RowCoder coder))
+OnDocument Makes (Some (RowReader reader)) new status = (status ≡ other_handle) × (new ≡ Some (RowReader reader))
 
 -- what is made of the answerer of a handle; an empty handle is answered by 100, one of another kind by 101, and both stay
 abbrev pub OnAnswerer : (AnsweringFields → AnsweringFields → Type 0) → Option Kept → Option Kept → ℕ → Type 0
@@ -176,6 +234,50 @@ OnAnswerer Makes (Some (Answerer old)) (Some (Deframer state)) status = ⊥
 OnAnswerer Makes (Some (Answerer old)) (Some (Document pages)) status = ⊥
 OnAnswerer Makes (Some (Answerer old)) (Some (Caller terminal)) status = ⊥
 OnAnswerer Makes (Some (Answerer old)) (Some (Answerer new)) status = Makes old new
+OnAnswerer Makes (Some (Answerer old)) (Some (RowCoder coder)) status = ⊥
+OnAnswerer Makes (Some (Answerer old)) (Some (RowReader reader)) status = ⊥
+OnAnswerer Makes (Some (RowCoder coder)) new status = (status ≡ other_handle) × (new ≡ Some (RowCoder coder))
+OnAnswerer Makes (Some (RowReader reader)) new status = (status ≡ other_handle) × (new ≡ Some (RowReader reader))
+
+-- what is made of the coder of rows of a handle; an empty handle is answered by 100, one of another kind by 101, and both stay
+abbrev pub OnRowCoder : (RowCoding → RowCoding → Type 0) → Option Kept → Option Kept → ℕ → Type 0
+OnRowCoder Makes None new status = (status ≡ empty_handle) × (new ≡ None)
+OnRowCoder Makes (Some (Octets octets)) new status = (status ≡ other_handle) × (new ≡ Some (Octets octets))
+OnRowCoder Makes (Some (Page page)) new status = (status ≡ other_handle) × (new ≡ Some (Page page))
+OnRowCoder Makes (Some (Deframer state)) new status = (status ≡ other_handle) × (new ≡ Some (Deframer state))
+OnRowCoder Makes (Some (Document pages)) new status = (status ≡ other_handle) × (new ≡ Some (Document pages))
+OnRowCoder Makes (Some (Caller terminal)) new status = (status ≡ other_handle) × (new ≡ Some (Caller terminal))
+OnRowCoder Makes (Some (Answerer answering)) new status = (status ≡ other_handle) × (new ≡ Some (Answerer answering))
+OnRowCoder Makes (Some (RowCoder old)) None status = ⊥
+OnRowCoder Makes (Some (RowCoder old)) (Some (Octets octets)) status = ⊥
+OnRowCoder Makes (Some (RowCoder old)) (Some (Page page)) status = ⊥
+OnRowCoder Makes (Some (RowCoder old)) (Some (Deframer state)) status = ⊥
+OnRowCoder Makes (Some (RowCoder old)) (Some (Document pages)) status = ⊥
+OnRowCoder Makes (Some (RowCoder old)) (Some (Caller terminal)) status = ⊥
+OnRowCoder Makes (Some (RowCoder old)) (Some (Answerer answering)) status = ⊥
+OnRowCoder Makes (Some (RowCoder old)) (Some (RowCoder new)) status = Makes old new
+OnRowCoder Makes (Some (RowCoder old)) (Some (RowReader reader)) status = ⊥
+OnRowCoder Makes (Some (RowReader reader)) new status = (status ≡ other_handle) × (new ≡ Some (RowReader reader))
+
+-- what is made of the reader of rows of a handle; an empty handle is answered by 100, one of another kind by 101, and both stay
+abbrev pub OnRowReader : (RowReading → RowReading → Type 0) → Option Kept → Option Kept → ℕ → Type 0
+OnRowReader Makes None new status = (status ≡ empty_handle) × (new ≡ None)
+OnRowReader Makes (Some (Octets octets)) new status = (status ≡ other_handle) × (new ≡ Some (Octets octets))
+OnRowReader Makes (Some (Page page)) new status = (status ≡ other_handle) × (new ≡ Some (Page page))
+OnRowReader Makes (Some (Deframer state)) new status = (status ≡ other_handle) × (new ≡ Some (Deframer state))
+OnRowReader Makes (Some (Document pages)) new status = (status ≡ other_handle) × (new ≡ Some (Document pages))
+OnRowReader Makes (Some (Caller terminal)) new status = (status ≡ other_handle) × (new ≡ Some (Caller terminal))
+OnRowReader Makes (Some (Answerer answering)) new status = (status ≡ other_handle) × (new ≡ Some (Answerer answering))
+OnRowReader Makes (Some (RowCoder coder)) new status = (status ≡ other_handle) × (new ≡ Some (RowCoder coder))
+OnRowReader Makes (Some (RowReader old)) None status = ⊥
+OnRowReader Makes (Some (RowReader old)) (Some (Octets octets)) status = ⊥
+OnRowReader Makes (Some (RowReader old)) (Some (Page page)) status = ⊥
+OnRowReader Makes (Some (RowReader old)) (Some (Deframer state)) status = ⊥
+OnRowReader Makes (Some (RowReader old)) (Some (Document pages)) status = ⊥
+OnRowReader Makes (Some (RowReader old)) (Some (Caller terminal)) status = ⊥
+OnRowReader Makes (Some (RowReader old)) (Some (Answerer answering)) status = ⊥
+OnRowReader Makes (Some (RowReader old)) (Some (RowCoder coder)) status = ⊥
+OnRowReader Makes (Some (RowReader old)) (Some (RowReader new)) status = Makes old new
 
 -- what is answered of a handle of a terminal, a caller's or an answerer's; 100 of an empty one, and 101 of another one
 abbrev pub OfTerminal : (TerminalFields StoppableCallerFields → Type 0) → (AnsweringFields → Type 0) → Option Kept → ℕ → Type 0
@@ -186,6 +288,8 @@ OfTerminal Calls Answers (Some (Deframer state)) status = status ≡ other_handl
 OfTerminal Calls Answers (Some (Document pages)) status = status ≡ other_handle
 OfTerminal Calls Answers (Some (Caller terminal)) status = Calls terminal
 OfTerminal Calls Answers (Some (Answerer answering)) status = Answers answering
+OfTerminal Calls Answers (Some (RowCoder coder)) status = status ≡ other_handle
+OfTerminal Calls Answers (Some (RowReader reader)) status = status ≡ other_handle
 
 -- what is made of the terminal of a handle, a caller's or an answerer's, whose pages that wait stay; an empty handle is answered by 100,
 -- one of another kind by 101, and both stay
@@ -204,6 +308,8 @@ OnTerminal Calls Answers (Some (Caller old)) (Some (Deframer state)) status = �
 OnTerminal Calls Answers (Some (Caller old)) (Some (Document pages)) status = ⊥
 OnTerminal Calls Answers (Some (Caller old)) (Some (Caller new)) status = Calls old new
 OnTerminal Calls Answers (Some (Caller old)) (Some (Answerer answering)) status = ⊥
+OnTerminal Calls Answers (Some (Caller old)) (Some (RowCoder coder)) status = ⊥
+OnTerminal Calls Answers (Some (Caller old)) (Some (RowReader reader)) status = ⊥
 OnTerminal Calls Answers (Some (Answerer old)) None status = ⊥
 OnTerminal Calls Answers (Some (Answerer old)) (Some (Octets octets)) status = ⊥
 OnTerminal Calls Answers (Some (Answerer old)) (Some (Page page)) status = ⊥
@@ -211,6 +317,10 @@ OnTerminal Calls Answers (Some (Answerer old)) (Some (Deframer state)) status = 
 OnTerminal Calls Answers (Some (Answerer old)) (Some (Document pages)) status = ⊥
 OnTerminal Calls Answers (Some (Answerer old)) (Some (Caller terminal)) status = ⊥
 OnTerminal Calls Answers (Some (Answerer old)) (Some (Answerer new)) status = Answers old.terminal new.terminal × (new.waiting ≡ old.waiting)
+OnTerminal Calls Answers (Some (Answerer old)) (Some (RowCoder coder)) status = ⊥
+OnTerminal Calls Answers (Some (Answerer old)) (Some (RowReader reader)) status = ⊥
+OnTerminal Calls Answers (Some (RowCoder coder)) new status = (status ≡ other_handle) × (new ≡ Some (RowCoder coder))
+OnTerminal Calls Answers (Some (RowReader reader)) new status = (status ≡ other_handle) × (new ≡ Some (RowReader reader))
 
 -- an empty handle is filled with something of this kind; a full one is answered by 102, and by any status above 0 it stays
 pub record Fills (Holds : Option Kept → Type 0) (old : Option Kept) (status : ℕ) (new : Option Kept) : Type 0 where

@@ -1,5 +1,5 @@
 -- What calls answer and make of the terminal of a station: what it hears, and how its call is stopped.
-use Rattle.std.specs.Prelude.{ℕ, ◌≡◌, ◌≢◌, ◌⊎◌, List, Ok, Err}
+use Rattle.std.specs.Prelude.{ℕ, ◌≡◌, ◌≢◌, ◌<◌, ◌≤◌, ◌⊎◌, List, Ok, Err, length}
 use Rattle.std.specs.declared.option.Option.{Option}
 use Rattle.std.specs.declared.option.Option.TheVariants.{None, Some}
 use Rattle.stations.specs.Limiting.{LimitedFields}
@@ -12,7 +12,8 @@ use Rattle.terminals.specs.Runs.{Hears, TerminalFields}
 use Rattle.terminals.specs.Speaking.{StepOf, Takes}
 use Rattle.terminals.specs.Stopping.{CallerStepsUnlessCut, LimitedStepsUnlessCut, hung_up, silenced, stopped}
 use Rattle.terminals.specs.declared.fault.HearFault.TheVariants.{FrameLost}
-use Rattle.g3fax.specs.Statuses.{ok, no_memory, bad_choice, frame_lost}
+use Rattle.g3fax.specs.Frames.{HoldsFrame, longest_content}
+use Rattle.g3fax.specs.Statuses.{ok, no_memory, bad_choice, bad_length, frame_lost}
 
 -- the steps of a caller that can be stopped
 abbrev pub caller_steps : StepOf StoppableCallerFields
@@ -28,6 +29,18 @@ pub record HearsOctets (S : Type 0) (steps : StepOf S) (old : TerminalFields S) 
   pub lost : status ≡ frame_lost → Hears steps old octets new (Err FrameLost)
   pub kept : status ≡ no_memory → new ≡ old
   pub only : (status ≡ ok) ⊎ ((status ≡ no_memory) ⊎ (status ≡ frame_lost))
+
+-- octets that hold the frame of a content, and how many bits it has, were heard
+abbrev pub HearsItsOctets : (S : Type 0) → StepOf S → TerminalFields S → List ℕ → TerminalFields S → ℕ → Type 0
+HearsItsOctets S steps old content new status = (octets : List ℕ) × (bits : ℕ) × HoldsFrame content octets bits
+    × HearsOctets S steps old octets new status
+
+-- octets that hold the frame of a content were heard; one that has not 3 to 300 octets is answered by 105
+pub record HearsFrame (S : Type 0) (steps : StepOf S) (old : TerminalFields S) (content : List ℕ) (new : TerminalFields S) (status : ℕ) : Type 0 where
+  pub short : length content < 3 → (status ≡ bad_length) × (new ≡ old)
+  pub long : longest_content < length content → (status ≡ bad_length) × (new ≡ old)
+  pub heard : 3 ≤ length content → length content ≤ longest_content → status ≢ no_memory → HearsItsOctets S steps old content new status
+  pub kept : status ≡ no_memory → new ≡ old
 
 -- the station has taken an input; or memory was refused, and nothing has changed
 pub record TakesInput (S : Type 0) (steps : StepOf S) (old : TerminalFields S) (input : PlainInput) (new : TerminalFields S) (status : ℕ) : Type 0 where

@@ -1,7 +1,7 @@
 -- What calls answer that read and write images of Netpbm's raw PBM format.
 use Rattle.std.specs.Prelude.{ℕ, ◌≡◌, ◌≢◌, ◌<◌, ◌∷◌, ◌⊎◌, [], List, Err, length}
 use Rattle.std.specs.declared.option.Option.{Option}
-use Rattle.std.specs.declared.option.Option.TheVariants.{None, Some}
+use Rattle.std.specs.declared.option.Option.TheVariants.{None}
 use Rattle.raster.specs.Faults.{number_of}
 use Rattle.raster.specs.Pages.{PagePixels}
 use Rattle.raster.specs.Pbm.{BeginsImages}

@@ -1,3 +1,4 @@
+pub mod Agreed
 pub mod Agreeing
 pub mod Answering
 pub mod Beginning
@@ -11,8 +12,11 @@ pub mod Images
 pub mod Numbers
 pub mod Owned
 pub mod Pages
+pub mod Progress
 pub mod Rasters
 pub mod Repairs
+pub mod RowCoders
+pub mod RowReaders
 pub mod SignalNumbers
 pub mod Signals
 pub mod SignalsMeant

@@ -13,10 +13,11 @@ use Rattle.g3fax.specs.Statuses.{ok, no_memory, bad_length, nothing_there}
 use Rattle.g3fax.specs.declared.handle.Kept.{Kept}
 use Rattle.g3fax.specs.declared.pages.G3Size.{G3Size}
 
--- the statuses of the faults of a page: a width that isn't 1 to 2,432, and more than 20,000 rows
+-- the status of a page whose width isn't 1 to 2,432
 abbrev pub bad_width : ℕ
 bad_width = 1
 
+-- the status of a page that has 20,000 rows and is to have more
 abbrev pub too_many_rows : ℕ
 too_many_rows = 3
 

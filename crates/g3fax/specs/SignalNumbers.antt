@@ -1,5 +1,5 @@
 -- The numbers by which C knows what signals say.
-use Rattle.std.specs.Prelude.{ℕ, Bool, true, false, cond, if◌then◌else◌, nat_eq, nat_lt}
+use Rattle.std.specs.Prelude.{ℕ, Bool, cond, if◌then◌else◌, nat_eq, nat_lt}
 use Rattle.std.specs.declared.option.Option.{Option}
 use Rattle.std.specs.declared.option.Option.TheVariants.{None, Some}
 use Rattle.page_code.specs.declared.coding.Coding.{Coding}
@@ -37,6 +37,7 @@ modems_number V17 = 3
 modems_number V29 = 4
 modems_number Fallback = 5
 
+-- the modems of a DIS by their number
 abbrev pub modems_of_number : ℕ → Option Modems
 modems_of_number n = at_number 4 n V29 (at_number 5 n Fallback (modems_of n))
 
@@ -62,6 +63,7 @@ page_end_number Mps = 2
 page_end_number Eom = 3
 page_end_number Eop = 4
 
+-- what ends with a block, by its number
 abbrev pub end_of_number : ℕ → Option PageEnd
 end_of_number n = at_number 1 n Null (at_number 2 n Mps (at_number 3 n Eom (at_number 4 n Eop None)))
 

@@ -1,10 +1,10 @@
 -- The signals that C describes by numbers.
-use Rattle.std.specs.Prelude.{ℕ, ◌≡◌, ◌<◌, ◌≤◌, ◌++◌, Bool, ◌||◌, List, Result, Ok, Err, length, take, if◌then◌else◌, nat_eq, nat_lt, not}
+use Rattle.std.specs.Prelude.{ℕ, ◌≡◌, ◌<◌, ◌++◌, Bool, ◌||◌, List, Result, Ok, Err, length, take, if◌then◌else◌, nat_eq, nat_lt, not}
 use Rattle.std.specs.declared.option.Option.{Option}
 use Rattle.std.specs.declared.option.Option.TheVariants.{None, Some}
 use Rattle.page_code.specs.declared.coding.Coding.{Coding}
 use Rattle.signals.specs.Agreement.{width_of_pixels}
-use Rattle.signals.specs.Signals.{PlainSignal, plain, dis, dcs, cfr, ftt, fcd, rcp, pps, ppr, mcf, rnr, rr, dcn, other}
+use Rattle.signals.specs.Signals.{PlainSignal, plain, dis, dcs, cfr, ftt, fcd, rcp, pps, ppr, mcf, rnr, rr, dcn}
 use Rattle.signals.specs.Writing.{IsWritable}
 use Rattle.signals.specs.declared.params.Caps.{Caps}
 use Rattle.signals.specs.declared.params.Modems.{Modems}
@@ -67,11 +67,12 @@ abbrev pub params_meant : G3Params → Option Params
 params_meant given =
     params_with given (speed_of_number given.carrier) (width_of_pixels given.width) (coding_of given.coding) (small_of given.frame)
 
--- the signal of a DIS, and of a DCS
+-- the DIS of capabilities that numbers say; 104 where they say none
 abbrev pub dis_signal : Option Caps → Result PlainSignal ℕ
 dis_signal None = Err bad_choice
 dis_signal (Some caps) = Ok (dis caps)
 
+-- the DCS of parameters that numbers say; 104 where they say none
 abbrev pub dcs_signal : Option Params → Result PlainSignal ℕ
 dcs_signal None = Err bad_choice
 dcs_signal (Some params) = Ok (dcs params)
@@ -84,6 +85,7 @@ pps_with (Some ends) (Some page) None last = Err bad_choice
 pps_with (Some ends) (Some page) (Some block) None = Err bad_choice
 pps_with (Some ends) (Some page) (Some block) (Some last) = Ok (pps ends page block last)
 
+-- the PPS that numbers say
 abbrev pub pps_meant : G3Block → Result PlainSignal ℕ
 pps_meant given = pps_with (end_of_number given.ends) (octet_of given.page) (octet_of given.block) (octet_of given.last)
 
@@ -93,6 +95,7 @@ fcd_with None count octets = Err bad_choice
 fcd_with (Some number) count octets =
     if nat_lt count 1 || nat_lt 256 count || nat_lt (length octets) count then Err bad_length else Ok (fcd number (take count octets))
 
+-- the FCD that numbers say, whose data are the first octets
 abbrev pub fcd_meant : G3Signal → List ℕ → Result PlainSignal ℕ
 fcd_meant given octets = fcd_with (octet_of given.number) given.length octets
 

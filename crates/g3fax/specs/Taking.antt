@@ -1,7 +1,7 @@
 -- What a call answers that hands out the pages of an answerer.
 use Rattle.std.specs.Prelude.{ℕ, ◌≡◌, ◌≢◌, ◌⊎◌, ◌++◌, ◌∷◌, [], List}
 use Rattle.std.specs.declared.option.Option.{Option}
-use Rattle.std.specs.declared.option.Option.TheVariants.{None, Some}
+use Rattle.std.specs.declared.option.Option.TheVariants.{None}
 use Rattle.raster.specs.Pages.{PagePixels}
 use Rattle.terminals.specs.Stopping.{with_pages_taken}
 use Rattle.g3fax.specs.Answering.{AnsweringFields}

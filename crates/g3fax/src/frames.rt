@@ -14,7 +14,7 @@ use run_tables::{BitWriter, Order};
 use std::alloc::{AllocError, Global};
 
 /// The greatest number of octets of a frame's content.
-const LONGEST_CONTENT: usize = 300;
+pub(crate) const LONGEST_CONTENT: usize = 300;
 
 /// How many gaps between flags there were of each class (ISO/IEC 13239, invalid frames).
 #[repr(C)]
@@ -124,7 +124,7 @@ pub extern "C" fn g3_core_deframer_counts(
 }
 
 /// The octets of a frame, and how many bits it has.
-fn framed(alloc: Global, content: &[u8]) -> Result<(Vec<u8>, u64), AllocError>
+pub(crate) fn framed(alloc: Global, content: &[u8]) -> Result<(Vec<u8>, u64), AllocError>
     requires least { 3 ≤ length content.now }
     requires most { length content.now ≤ 300 }
     ensures { IfOk result (λ written. HoldsFrame content.now written.0.items written.1) }

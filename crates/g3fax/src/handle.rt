@@ -8,6 +8,7 @@ use crate::answering::Answering;
 use crate::loose::Loose;
 use crate::status::{FULL_HANDLE, NO_MEMORY, OK};
 use hdlc::Deframer;
+use page_code::{RowCoder, RowReader};
 use raster::{Document, Page};
 use stations::StoppableCaller;
 use std::alloc::Global;
@@ -30,6 +31,10 @@ pub enum Kept {
     Caller(Terminal<StoppableCaller>),
     /// The terminal of an answerer, with pages that were taken out of it.
     Answerer(Answering),
+    /// A coder of a page row by row.
+    RowCoder(RowCoder),
+    /// A reader of a page row by row.
+    RowReader(RowReader),
 }
 
 /// A handle: null, or the place of a value that the handle owns. C begins it as null.

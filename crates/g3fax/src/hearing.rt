@@ -1,7 +1,7 @@
 //! What terminals hear, for C, and how their calls are stopped.
 
 ghost use Rattle.g3fax.specs.Handles.{OnTerminal};
-ghost use Rattle.g3fax.specs.Hearing.{EndsWait, HangsUp, HearsOctets, LosesLine, StopsCall, TakesInput, answerer_steps, caller_steps};
+ghost use Rattle.g3fax.specs.Hearing.{EndsWait, HangsUp, HearsFrame, HearsOctets, LosesLine, StopsCall, TakesInput, answerer_steps, caller_steps};
 ghost use Rattle.g3fax.specs.Numbers.{wait_of};
 ghost use Rattle.g3fax.specs.Pages.{is_set};
 ghost use Rattle.std.specs.Prelude.{◌≡◌};
@@ -10,9 +10,10 @@ ghost use Rattle.stations.specs.Stopping.{StoppableCallerFields};
 ghost use Rattle.terminals.specs.Hearing.{busy, check};
 ghost use Rattle.terminals.specs.Stopping.{caller_cut_off, caller_stop_says, limited_cut_off, limited_stop_says};
 
+use crate::frames::{LONGEST_CONTENT, framed};
 use crate::handle::{G3Handle, opened_terminal};
 use crate::numbers::wait_of;
-use crate::status::{BAD_CHOICE, FRAME_LOST, NO_MEMORY, OK};
+use crate::status::{BAD_CHOICE, BAD_LENGTH, FRAME_LOST, NO_MEMORY, OK};
 use std::alloc::Global;
 use terminals::{HearFault, Station, Stoppable, Terminal};
 
@@ -40,6 +41,34 @@ pub extern "C" fn g3_core_terminal_hear(
         (λ old new. HearsOctets LimitedFields answerer_steps old octets.now new result) terminal.old.value terminal.new.value result }
 {
     opened_terminal!(alloc, terminal, terminal => hear(terminal, octets))
+}
+
+/// Hears a frame of this content.
+fn hear_frame<S: Station>(alloc: Global, terminal: &mut Terminal<S>, content: &[u8]) -> u32
+    ensures { HearsFrame S S.steps terminal.old content.now terminal.new result }
+{
+    if content.len() < 3 || content.len() > LONGEST_CONTENT {
+        return BAD_LENGTH;
+    }
+    match framed(alloc, content) {
+        Ok((octets, _)) => hear(terminal, &octets),
+        Err(_) => NO_MEMORY,
+    }
+}
+
+/// Hears a good frame by its content of 3 to 300 octets, as `g3_core_terminal_hear` hears the octets of that frame between two flags: for a
+/// modem that finds frames itself. Answers 105 for any other length, 9 where memory is refused and nothing was taken, and 108 where memory is
+/// refused and the frame is lost.
+#[unsafe(no_mangle)]
+pub extern "C" fn g3_core_terminal_hear_frame(
+    alloc: Global,
+    terminal: &mut G3Handle,
+    content: &[u8],
+) -> u32
+    ensures { OnTerminal (λ old new. HearsFrame StoppableCallerFields caller_steps old content.now new result)
+        (λ old new. HearsFrame LimitedFields answerer_steps old content.now new result) terminal.old.value terminal.new.value result }
+{
+    opened_terminal!(alloc, terminal, terminal => hear_frame(alloc, terminal, content))
 }
 
 /// Hears a training check.

@@ -2,6 +2,7 @@
 //! status, 0 where it did what it says; results go out through references.
 #![tactic(auto)]
 
+mod agreed;
 mod agreeing;
 mod answering;
 mod beginning;
@@ -17,8 +18,11 @@ mod loose;
 mod numbers;
 mod octets;
 mod pages;
+mod progress;
 mod rasters;
 mod repairs;
+mod row_coders;
+mod row_readers;
 mod signal;
 mod signalling;
 mod states;
@@ -32,6 +36,7 @@ pub use crate::codes::G3Code;
 pub use crate::frames::G3Counts;
 pub use crate::handle::{G3Handle, Kept};
 pub use crate::pages::G3Size;
+pub use crate::progress::G3Progress;
 pub use crate::rasters::G3Raster;
 pub use crate::signal::{G3Block, G3Dis, G3Params, G3Signal, Kind};
 pub use crate::states::G3State;

@@ -1,0 +1,52 @@
+-- What calls tell of what a terminal and the other station have agreed on.
+use Rattle.std.specs.Prelude.{ℕ, ◌≡◌}
+use Rattle.std.specs.declared.option.Option.{Option}
+use Rattle.std.specs.declared.option.Option.TheVariants.{None, Some}
+use Rattle.signals.specs.Signals.{dcs, dis}
+use Rattle.signals.specs.declared.params.Caps.{Caps}
+use Rattle.signals.specs.declared.params.Params.{Params}
+use Rattle.stations.specs.CallerFields.{Represents}
+use Rattle.stations.specs.CallerStep.{Caller, confirmed}
+use Rattle.stations.specs.Listening.{answerer_params, answerer_peer, caller_params, caller_peer}
+use Rattle.stations.specs.Stopping.{StoppableCallerFields}
+use Rattle.terminals.specs.Runs.{TerminalFields}
+use Rattle.g3fax.specs.Answering.{AnsweringFields}
+use Rattle.g3fax.specs.Signals.{params_told, told}
+use Rattle.g3fax.specs.Statuses.{ok, nothing_there}
+use Rattle.g3fax.specs.declared.signal.G3Params.{G3Params}
+use Rattle.g3fax.specs.declared.signal.G3Signal.{G3Signal}
+
+-- parameters are told; where there are none, 106 is answered
+abbrev pub TellsParams : Option Params → G3Params → G3Params → ℕ → Type 0
+TellsParams None old new status = (status ≡ nothing_there) × (new ≡ old)
+TellsParams (Some params) old new status = (status ≡ ok) × (new ≡ params_told params)
+
+-- the parameters of the group that a caller has under way are told
+abbrev pub CallerTellsParams : TerminalFields StoppableCallerFields → G3Params → G3Params → ℕ → Type 0
+CallerTellsParams terminal old new status = (t : Caller) → Represents terminal.speaking.station.station t
+    → TellsParams (caller_params t.state t.params) old new status
+
+-- the parameters of the group that an answerer has under way are told
+abbrev pub AnswererTellsParams : AnsweringFields → G3Params → G3Params → ℕ → Type 0
+AnswererTellsParams answering old new status = TellsParams (answerer_params answering.terminal.speaking.station.station.state
+    answering.terminal.speaking.station.station.params) old new status
+
+-- a DIS is told as a signal; where there is none, 106 is answered
+abbrev pub TellsDis : Option Caps → G3Signal → G3Signal → ℕ → Type 0
+TellsDis None old new status = (status ≡ nothing_there) × (new ≡ old)
+TellsDis (Some caps) old new status = (status ≡ ok) × (new ≡ told (dis caps))
+
+-- a DCS is told as a signal; where there is none, 106 is answered
+abbrev pub TellsDcs : Option Params → G3Signal → G3Signal → ℕ → Type 0
+TellsDcs None old new status = (status ≡ nothing_there) × (new ≡ old)
+TellsDcs (Some params) old new status = (status ≡ ok) × (new ≡ told (dcs params))
+
+-- the last DIS that a caller has agreed on is told
+abbrev pub CallerTellsPeer : TerminalFields StoppableCallerFields → G3Signal → G3Signal → ℕ → Type 0
+CallerTellsPeer terminal old new status = (t : Caller) → Represents terminal.speaking.station.station t
+    → TellsDis (caller_peer t.state (confirmed t) t.caps) old new status
+
+-- the last DCS that an answerer has allowed is told
+abbrev pub AnswererTellsPeer : AnsweringFields → G3Signal → G3Signal → ℕ → Type 0
+AnswererTellsPeer answering old new status = TellsDcs (answerer_peer answering.terminal.speaking.station.station.state
+    answering.terminal.speaking.station.station.accepted answering.terminal.speaking.station.station.params) old new status

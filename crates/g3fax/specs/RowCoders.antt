@@ -1,0 +1,65 @@
+-- What calls answer that code a page row by row.
+use Rattle.std.specs.Prelude.{ℕ, ◌≡◌, ◌≢◌, ◌<◌, ◌≤◌, ◌*◌, ◌⊎◌, [], List, IfSome, length}
+use Rattle.std.specs.declared.option.Option.{Option}
+use Rattle.std.specs.declared.option.Option.TheVariants.{None, Some}
+use Rattle.raster.specs.Pages.{max_rows}
+use Rattle.raster.specs.Pbm.{row_pixels}
+use Rattle.raster.specs.Pixels.{IsWidth}
+use Rattle.page_code.specs.RowCoders.{BeginsCode, CodesOneMore, EndsPage, HandsOut, RowCoding}
+use Rattle.g3fax.specs.Codes.{coding_of, order_of}
+use Rattle.g3fax.specs.Documents.{IsMoved}
+use Rattle.g3fax.specs.Handles.{Fills, HasOctets, HasRowCoder}
+use Rattle.g3fax.specs.Pages.{bad_width, too_many_rows}
+use Rattle.g3fax.specs.Statuses.{ok, no_memory, bad_choice, bad_length, empty_handle, other_handle}
+use Rattle.g3fax.specs.declared.codes.G3Code.{G3Code}
+use Rattle.g3fax.specs.declared.handle.Kept.{Kept}
+use Rattle.g3fax.specs.declared.handle.Kept.TheVariants.{Octets, Page, Deframer, Document, Caller, Answerer, RowCoder, RowReader}
+
+-- a coder of a page in this form, of no rows so far
+abbrev pub BeginsIn : G3Code → RowCoding → Type 0
+BeginsIn code coder = IfSome (coding_of code.coding) (λ coding. IfSome (order_of code.order) (λ order.
+    BeginsCode coding order code.width coder))
+
+-- an empty handle is filled with a coder of no rows; a form that is none is answered by 104, or by 1 for its width
+pub record MakesCoder (code : G3Code) (old : Option Kept) (status : ℕ) (new : Option Kept) : Type 0 where
+  pub fills : Fills (HasRowCoder (BeginsIn code)) old status new
+  pub no_coding : old ≡ None → coding_of code.coding ≡ None → status ≡ bad_choice
+  pub no_order : old ≡ None → order_of code.order ≡ None → status ≡ bad_choice
+  pub no_width : old ≡ None → coding_of code.coding ≢ None → order_of code.order ≢ None → ¬ IsWidth code.width → status ≡ bad_width
+  pub only : old ≡ None → coding_of code.coding ≢ None → order_of code.order ≢ None → IsWidth code.width
+      → (status ≡ ok) ⊎ (status ≡ no_memory)
+
+-- a row is coded, of the first bits of octets; octets with too few bits are answered by 105
+pub record PushesCoded (octets : List ℕ) (old new : RowCoding) (status : ℕ) : Type 0 where
+  pub done : status ≡ ok → CodesOneMore old (row_pixels old.width octets) new
+  pub kept : status ≢ ok → new ≡ old
+  pub short : 8 * length octets < old.width → status ≡ bad_length
+  pub full : old.width ≤ 8 * length octets → max_rows ≤ old.count → status ≡ too_many_rows
+  pub only : old.width ≤ 8 * length octets → old.count < max_rows → (status ≡ ok) ⊎ (status ≡ no_memory)
+
+-- the octets that are whole so far fill an empty handle
+pub record HandsOutRows (old new : RowCoding) (before : Option Kept) (status : ℕ) (after : Option Kept) : Type 0 where
+  pub fills : Fills (HasOctets (λ octets. HandsOut old [] octets new)) before status after
+  pub kept : status ≢ ok → new ≡ old
+  pub only : before ≡ None → (status ≡ ok) ⊎ (status ≡ no_memory)
+
+-- the last octets of a page's code fill an empty handle; a page of no rows is answered by 4
+pub record EndsRows (coder : RowCoding) (before : Option Kept) (status : ℕ) (after : Option Kept) : Type 0 where
+  pub fills : Fills (HasOctets (λ octets. EndsPage coder [] octets)) before status after
+  pub some : status ≡ ok → 0 < coder.count
+  pub no_rows : before ≡ None → coder.count ≡ 0 → (status ≡ 4) ⊎ (status ≡ no_memory)
+  pub only : before ≡ None → 0 < coder.count → (status ≡ ok) ⊎ (status ≡ no_memory)
+
+-- the coder of a handle ends, and leaves it; an empty handle is answered by 100, one of another kind by 101, and both handles stay
+abbrev pub EndsCoder : Option Kept → Option Kept → Option Kept → ℕ → Option Kept → Type 0
+EndsCoder None left before status after = (status ≡ empty_handle) × (left ≡ None) × (after ≡ before)
+EndsCoder (Some (Octets octets)) left before status after = (status ≡ other_handle) × (left ≡ Some (Octets octets)) × (after ≡ before)
+EndsCoder (Some (Page page)) left before status after = (status ≡ other_handle) × (left ≡ Some (Page page)) × (after ≡ before)
+EndsCoder (Some (Deframer state)) left before status after = (status ≡ other_handle) × (left ≡ Some (Deframer state)) × (after ≡ before)
+EndsCoder (Some (Document pages)) left before status after = (status ≡ other_handle) × (left ≡ Some (Document pages)) × (after ≡ before)
+EndsCoder (Some (Caller terminal)) left before status after = (status ≡ other_handle) × (left ≡ Some (Caller terminal)) × (after ≡ before)
+EndsCoder (Some (Answerer answering)) left before status after = (status ≡ other_handle) × (left ≡ Some (Answerer answering))
+    × (after ≡ before)
+EndsCoder (Some (RowReader reader)) left before status after = (status ≡ other_handle) × (left ≡ Some (RowReader reader)) × (after ≡ before)
+EndsCoder (Some (RowCoder coder)) left before status after =
+    EndsRows coder before status after × IsMoved status (Some (RowCoder coder)) left

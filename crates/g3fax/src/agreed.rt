@@ -1,0 +1,142 @@
+//! What a terminal and the other station have agreed on, for C.
+
+ghost use Rattle.g3fax.specs.Agreed.{AnswererTellsParams, AnswererTellsPeer, CallerTellsParams, CallerTellsPeer, TellsDcs, TellsDis, TellsParams};
+ghost use Rattle.g3fax.specs.Handles.{OfTerminal};
+ghost use Rattle.std.specs.Prelude.{◌≡◌, ◌≢◌};
+
+use crate::answering::Answering;
+use crate::handle::{G3Handle, Kept};
+use crate::signal::{G3Params, G3Signal, params_told, told};
+use crate::status::{EMPTY_HANDLE, NOTHING, OK, OTHER_HANDLE};
+use signals::{Caps, Params, Signal};
+use stations::StoppableCaller;
+use std::alloc::Global;
+use terminals::Terminal;
+
+/// Tells parameters, if there are some.
+fn tell_params(found: Option<Params>, params: &mut G3Params) -> u32
+    ensures tells { TellsParams found params.old params.new result }
+    ensures untold { result ≢ 0 → params.new ≡ params.old }
+{
+    match found {
+        Some(agreed) => {
+            *params = params_told(&agreed);
+            OK
+        }
+        None => NOTHING,
+    }
+}
+
+/// Tells the parameters of a caller's group.
+fn caller_params(terminal: &Terminal<StoppableCaller>, params: &mut G3Params) -> u32
+    ensures tells { CallerTellsParams terminal.now params.old params.new result }
+    ensures untold { result ≢ 0 → params.new ≡ params.old }
+{
+    tell_params(terminal.station().station().params(), params)
+}
+
+/// Tells the parameters of an answerer's group.
+fn answerer_params(answering: &Answering, params: &mut G3Params) -> u32
+    ensures tells { AnswererTellsParams answering.now params.old params.new result }
+    ensures untold { result ≢ 0 → params.new ≡ params.old }
+{
+    tell_params(answering.terminal.station().station().params(), params)
+}
+
+/// Tells how the pages of the group that is under way are sent, as the caller's DCS says it. Answers 106 where none is under way: a caller
+/// waits for a DIS, or an answerer is in phase B.
+#[unsafe(no_mangle)]
+pub extern "C" fn g3_core_terminal_params(
+    alloc: Global,
+    terminal: &mut G3Handle,
+    params: &mut G3Params,
+) -> u32
+    ensures answers { OfTerminal (λ terminal. CallerTellsParams terminal params.old params.new result) (λ answering.
+        AnswererTellsParams answering params.old params.new result) terminal.old.value result }
+    ensures kept { terminal.new.value ≡ terminal.old.value }
+    ensures untold { result ≢ 0 → params.new ≡ params.old }
+{
+    match terminal.take(alloc) {
+        None => EMPTY_HANDLE,
+        Some(kept) => {
+            let status = match &*kept {
+                Kept::Caller(calling) => caller_params(calling, params),
+                Kept::Answerer(answering) => answerer_params(answering, params),
+                _ => OTHER_HANDLE,
+            };
+            terminal.put(kept);
+            status
+        }
+    }
+}
+
+/// Tells a DIS, if there is one.
+fn tell_dis(found: Option<Caps>, signal: &mut G3Signal) -> u32
+    ensures tells { TellsDis found signal.old signal.new result }
+    ensures untold { result ≢ 0 → signal.new ≡ signal.old }
+{
+    match found {
+        Some(caps) => {
+            *signal = told(&Signal::Dis(caps));
+            OK
+        }
+        None => NOTHING,
+    }
+}
+
+/// Tells a DCS, if there is one.
+fn tell_dcs(found: Option<Params>, signal: &mut G3Signal) -> u32
+    ensures tells { TellsDcs found signal.old signal.new result }
+    ensures untold { result ≢ 0 → signal.new ≡ signal.old }
+{
+    match found {
+        Some(params) => {
+            *signal = told(&Signal::Dcs(params));
+            OK
+        }
+        None => NOTHING,
+    }
+}
+
+/// Tells the DIS that a caller's answerer has sent.
+fn caller_peer(terminal: &Terminal<StoppableCaller>, signal: &mut G3Signal) -> u32
+    ensures tells { CallerTellsPeer terminal.now signal.old signal.new result }
+    ensures untold { result ≢ 0 → signal.new ≡ signal.old }
+{
+    tell_dis(terminal.station().station().peer(), signal)
+}
+
+/// Tells the DCS that an answerer's caller has sent.
+fn answerer_peer(answering: &Answering, signal: &mut G3Signal) -> u32
+    ensures tells { AnswererTellsPeer answering.now signal.old signal.new result }
+    ensures untold { result ≢ 0 → signal.new ≡ signal.old }
+{
+    tell_dcs(answering.terminal.station().station().peer(), signal)
+}
+
+/// Tells what is known of the other station: of a caller's terminal the last DIS that was agreed on, and of an answerer's the last DCS that
+/// was allowed, which in phase B is known once a block was accepted. Answers 106 where nothing is known.
+#[unsafe(no_mangle)]
+pub extern "C" fn g3_core_terminal_peer(
+    alloc: Global,
+    terminal: &mut G3Handle,
+    signal: &mut G3Signal,
+) -> u32
+    ensures answers { OfTerminal (λ terminal. CallerTellsPeer terminal signal.old signal.new result) (λ answering.
+        AnswererTellsPeer answering signal.old signal.new result) terminal.old.value result }
+    ensures kept { terminal.new.value ≡ terminal.old.value }
+    ensures untold { result ≢ 0 → signal.new ≡ signal.old }
+{
+    match terminal.take(alloc) {
+        None => EMPTY_HANDLE,
+        Some(kept) => {
+            let status = match &*kept {
+                Kept::Caller(calling) => caller_peer(calling, signal),
+                Kept::Answerer(answering) => answerer_peer(answering, signal),
+                _ => OTHER_HANDLE,
+            };
+            terminal.put(kept);
+            status
+        }
+    }
+}

@@ -1,0 +1,131 @@
+//! How far terminals are with their calls, for C.
+
+ghost use Rattle.g3fax.specs.Handles.{OfTerminal};
+ghost use Rattle.g3fax.specs.Progress.{TellsAnswering, TellsCalling, answering_told, calling_told};
+ghost use Rattle.std.specs.Prelude.{◌≡◌, ◌≢◌, ◌≤◌};
+
+use crate::answering::Answering;
+use crate::codes::in_64_bits;
+use crate::handle::{G3Handle, Kept};
+use crate::status::{EMPTY_HANDLE, OK, OTHER_HANDLE};
+use stations::{AnswererProgress, CallerProgress, StoppableCaller};
+use std::alloc::Global;
+use terminals::Terminal;
+
+/// How far a terminal is with its call; what belongs to the other station is 0.
+#[repr(C)]
+#[derive(Clone, Copy)]
+pub struct G3Progress {
+    /// How many pages a caller's document has, or an answerer has stored that were not handed out.
+    pub pages: u64,
+    /// How many pages of a caller are confirmed.
+    pub confirmed: u64,
+    /// Which block of its page a caller sends, from 1, from the CFR on; 0 where it sends none.
+    pub block: u64,
+    /// How many blocks that page has; 0 where the caller sends none.
+    pub blocks: u64,
+    /// How many octets of code the page has that an answerer receives, of the blocks accepted so far.
+    pub octets: u64,
+    /// How often frames of that block were asked for again by PPR, 0 to 3.
+    pub resends: u32,
+    /// How often a caller's last command was sent; 0 before the first one.
+    pub tries: u32,
+    /// How many frames of the block that is under way an answerer has, 0 to 256.
+    pub frames: u32,
+    /// 1 where an answerer has accepted a block, else 0.
+    pub accepted: u32,
+    /// The number modulo 256 of the page of the last block that was accepted.
+    pub accepted_page: u32,
+    /// The number of that block in its page modulo 256.
+    pub accepted_block: u32,
+}
+
+/// What is told of how far a caller is.
+fn calling_told(far: CallerProgress) -> G3Progress
+    ensures { result ≡ calling_told far }
+{
+    let (block, blocks, resends) = match far.block {
+        Some(block) => (block.number, block.blocks, block.resends as u32),
+        None => (0, 0, 0),
+    };
+    G3Progress {
+        pages: far.pages,
+        confirmed: far.confirmed,
+        block,
+        blocks,
+        octets: 0,
+        resends,
+        tries: far.tries as u32,
+        frames: 0,
+        accepted: 0,
+        accepted_page: 0,
+        accepted_block: 0,
+    }
+}
+
+/// What is told of how far an answerer is, with this many pages.
+fn answering_told(far: AnswererProgress, pages: u64) -> G3Progress
+    ensures { result ≡ answering_told far pages }
+{
+    let (accepted, accepted_page, accepted_block) = match far.accepted {
+        Some(mark) => (1, mark.page as u32, mark.block as u32),
+        None => (0, 0, 0),
+    };
+    G3Progress {
+        pages,
+        confirmed: 0,
+        block: 0,
+        blocks: 0,
+        octets: far.octets,
+        resends: 0,
+        tries: 0,
+        frames: far.frames as u32,
+        accepted,
+        accepted_page,
+        accepted_block,
+    }
+}
+
+/// Tells how far a caller is.
+fn tell_calling(terminal: &Terminal<StoppableCaller>, progress: &mut G3Progress) -> u32
+    ensures { TellsCalling terminal.now progress.new result }
+{
+    *progress = calling_told(terminal.station().station().progress());
+    OK
+}
+
+/// Tells how far an answerer is.
+fn tell_answering(answering: &Answering, progress: &mut G3Progress) -> u32
+    ensures { TellsAnswering answering.now progress.new result }
+{
+    let station = answering.terminal.station().station();
+    let pages = answering.waiting.len() as u128 + station.pages().len() as u128;
+    *progress = answering_told(station.progress(), in_64_bits(pages));
+    OK
+}
+
+/// Tells how far a terminal is with its call: a caller's pages, block and tries, or an answerer's pages, octets and frames.
+#[unsafe(no_mangle)]
+pub extern "C" fn g3_core_terminal_progress(
+    alloc: Global,
+    terminal: &mut G3Handle,
+    progress: &mut G3Progress,
+) -> u32
+    ensures answers { OfTerminal (λ terminal. TellsCalling terminal progress.new result) (λ answering. TellsAnswering answering progress.new
+        result) terminal.old.value result }
+    ensures kept { terminal.new.value ≡ terminal.old.value }
+    ensures untold { result ≢ 0 → progress.new ≡ progress.old }
+{
+    match terminal.take(alloc) {
+        None => EMPTY_HANDLE,
+        Some(kept) => {
+            let status = match &*kept {
+                Kept::Caller(calling) => tell_calling(calling, progress),
+                Kept::Answerer(answering) => tell_answering(answering, progress),
+                _ => OTHER_HANDLE,
+            };
+            terminal.put(kept);
+            status
+        }
+    }
+}
