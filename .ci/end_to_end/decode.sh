@@ -126,19 +126,23 @@ try_others_pages() {
 
 # A page of T.6 without its EOFB, with a part of it, and with a row that can't be read.
 try_no_eofb() {
-    for end in "" 00 0000000 00000000 000000000001 "000000000001 0000000000011" "000000000001 000000001001"; do
-        gives 0 decode --repair --verbose --code mmr --width 8 "$(bits "001 0111 11 1 1 1 $end")" "$work/repaired"
+    for end in "" 00 0000000 00000000 000000000001 "000000000001 1" "000000000001 000000001001"; do
+        gives 0 decode --repair --verbose --code mmr --width 8 "$(bits "001 0111 11 1 1 1 1 $end")" "$work/repaired"
         is_same "$work/repaired" "$(octets "50 34 0A 38 20 32 0A 30 30")" "decode --repair of a page that ends with $end"
-        printf 'the page ends without its EOFB after 2 rows, at bit 12\nrows 2\n' > "$work/wanted"
+        printf 'the page ends without its EOFB after 2 rows, at bit 13\nrows 2\n' > "$work/wanted"
         is_same "$work/error" "$work/wanted" "what decode --repair tells of a page that ends with $end"
     done
-    works decode --repair --code mmr --width 8 "$(bits "001 0111 11 1 1 1 000000000001 000000000001")" "$work/repaired"
-    for row in 0000001 "001 0111 000000000001 000000000001" 0001000; do
-        faults "fault" decode --repair --code mmr --width 8 "$(bits "001 0111 11 1 1 1 $row 1111111")" "$work/repaired"
+    works decode --repair --code mmr --width 8 "$(bits "001 0111 11 1 1 1 1 000000000001 000000000001")" "$work/repaired"
+    while IFS=: read -r line row; do
+        faults "$line" decode --repair --code mmr --width 8 "$(bits "001 0111 11 1 1 1 1 $row")" "$work/repaired"
         is_same "$work/repaired" "$(octets "50 34 0A 38 20 32 0A 30 30")" "decode --repair of a page that breaks off at $row"
-    done
+    done <<ROWS
+fault 16 at bit 13:0000001 1111111
+fault 10 at bit 20:001 0111 000000000001 000000000001
+fault 10 at bit 17:0001 000000001 1111111
+ROWS
     rm -f "$work/repaired"
-    faults "fault" decode --repair --code mmr --width 8 "$(bits "000000000001 000000000001")" "$work/repaired"
+    faults "fault 4 at bit 0" decode --repair --code mmr --width 8 "$(bits "000000000001 000000000001")" "$work/repaired"
     [ ! -e "$work/repaired" ] || fails "decode --repair made OUT of a page without a row"
 }
 
