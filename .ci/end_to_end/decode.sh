@@ -141,6 +141,12 @@ fault 16 at bit 13:0000001 1111111
 fault 10 at bit 20:001 0111 000000000001 000000000001
 fault 10 at bit 17:0001 000000001 1111111
 ROWS
+    for order in msb lsb; do
+        head -c -3 "$data/page.mmr.$order" > "$work/open"
+        gives 0 decode --repair --code mmr --order $order --width 315 --fine "$work/open" "$work/repaired"
+        is_same "$work/repaired" "$data/page.pbm" "decode --repair of a page whose last three octets are missing"
+        grep -q "^the page ends without its EOFB after [0-9]* rows, at bit [0-9]*$" "$work/error" || fails "decode --repair of $order told nothing of EOFB"
+    done
     rm -f "$work/repaired"
     faults "fault 4 at bit 0" decode --repair --code mmr --width 8 "$(bits "000000000001 000000000001")" "$work/repaired"
     [ ! -e "$work/repaired" ] || fails "decode --repair made OUT of a page without a row"
