@@ -49,6 +49,7 @@ is_same() {
 "$top/bindings/build.sh" "$work"
 for name in encode decode raster frames signals call answer misuse; do builds "c/$name.c"; done
 for name in memory random; do builds "tests/$name.c" --wrap=malloc --wrap=realloc --wrap=free; done
+for name in pages rows terminals signals; do builds "tests/statuses_$name.c"; done
 
 for code in mh mmr; do
     for order in msb lsb; do
@@ -100,8 +101,10 @@ for words in "$top"/.ci/conversations/*.words; do
 done
 [ "$answerers" -gt 5 ] || fails "there were $answerers answerers"
 
-gives 0 misuse
-[ ! -s "$work/output" ] || fails "misuse printed: $(cat "$work/output")"
+for name in misuse statuses_pages statuses_rows statuses_terminals statuses_signals; do
+    gives 0 "$name"
+    [ ! -s "$work/output" ] || fails "$name printed: $(cat "$work/output")"
+done
 
 # each growth of memory refused in turn; and random calls on random handles
 gives 0 memory "$data/page.pbm" "$data/line.bits"

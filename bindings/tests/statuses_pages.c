@@ -1,0 +1,123 @@
+/* What wrong use of pages, of rows in memory and of frames answers. Prints nothing and ends with 0 where each status is the right one. */
+#include "statuses.h"
+
+static void pages(void)
+{
+    g3_page a = G3_EMPTY;
+    g3_octets code = G3_EMPTY;
+    g3_size size = {0, 0, 0};
+    uint64_t n = 0;
+    g3_page_free(&a); g3_page_free(&a); g3_page_free(NULL);
+    IS(G3_EMPTY_HANDLE, g3_page_size(&a, &size));
+    IS(G3_EMPTY_HANDLE, g3_page_push_row(NULL, octets, 216));
+    IS(G3_BAD_WIDTH, g3_page_new(&a, 0, 1));
+    IS(G3_BAD_WIDTH, g3_page_new(&a, 2433, 1));
+    IS(G3_OK, g3_page_new(&a, 1728, 1));
+    IS(G3_FULL_HANDLE, g3_page_new(&a, 1728, 1));
+    IS(G3_OTHER_HANDLE, g3_deframer_feed((g3_deframer *)&a, octets, 1)); /* a compiler refuses this without the cast */
+    IS(G3_BAD_LENGTH, g3_page_push_row(&a, octets, 215));
+    IS(G3_BAD_LENGTH, g3_page_push_row(&a, NULL, 216));
+    IS(G3_NO_ROWS, g3_page_encode(&a, G3_MMR, G3_MSB_FIRST, &code));
+    IS(G3_NO_ROWS, g3_page_write_pbm(&a, &code));
+    IS(G3_OK, g3_page_push_row(&a, octets, 216));
+    IS(G3_BAD_CHOICE, g3_page_encode(&a, 3, G3_MSB_FIRST, &code));
+    IS(G3_BAD_CHOICE, g3_page_encode(&a, G3_MMR, 2, &code));
+    IS(G3_NO_ROOM, g3_page_row(&a, 0, octets, 215, &n));
+    IS(216, (g3_status)n);
+    IS(G3_NOTHING, g3_page_row(&a, 1, octets, 400, &n));
+    IS(G3_BAD_LENGTH, g3_page_row(&a, 0, octets, 400, NULL));
+    IS(G3_BAD_LENGTH, g3_page_size(&a, NULL));
+    IS(G3_OK, g3_page_size(&a, &size));
+    IS(1, size.width == 1728 && size.rows == 1 && size.fine == 1);
+    for (uint32_t row = 1; row < 20000; row++) IS(G3_OK, g3_page_push_row(&a, octets, 216));
+    IS(G3_TOO_MANY_ROWS, g3_page_push_row(&a, octets, 216));
+    IS(G3_EMPTY_HANDLE, g3_page_encode(&a, G3_MMR, G3_MSB_FIRST, NULL));
+    IS(G3_OK, g3_page_encode(&a, G3_MMR, G3_MSB_FIRST, &code));
+    IS(G3_FULL_HANDLE, g3_page_encode(&a, G3_MMR, G3_MSB_FIRST, &code));
+    IS(G3_OTHER_HANDLE, g3_page_size((g3_page *)&code, &size));
+    IS(G3_NO_ROOM, g3_octets_copy(&code, NULL, 0, &n));
+    g3_octets_free(&code); g3_page_free(&a); g3_page_free(&a);
+    IS(G3_EMPTY_HANDLE, g3_page_size(&a, &size));
+}
+
+static void rasters(void)
+{
+    g3_page a = G3_EMPTY;
+    uint64_t n = 0;
+    g3_raster two = {3, 9, 2, 0}, none = {2, 9, 0, 0}, wide = {400, 2433, 1, 0}, high = {2, 9, 20001, 0}, close = {1, 9, 1, 0};
+    g3_raster far = {UINT64_MAX, 9, 20000, 0}, one = {UINT64_MAX, 9, 1, 0};
+    IS(G3_BAD_WIDTH, g3_page_read_raster(octets, 400, &wide, &a));
+    IS(G3_TOO_MANY_ROWS, g3_page_read_raster(octets, 400, &high, &a));
+    IS(G3_BAD_LENGTH, g3_page_read_raster(octets, 400, &close, &a));
+    IS(G3_BAD_LENGTH, g3_page_read_raster(octets, 400, &far, &a));
+    IS(G3_BAD_LENGTH, g3_page_read_raster(octets, 4, &two, &a));
+    IS(G3_BAD_LENGTH, g3_page_read_raster(NULL, 5, &two, &a));
+    IS(G3_BAD_LENGTH, g3_page_read_raster(octets, 5, NULL, &a));
+    IS(G3_EMPTY_HANDLE, g3_page_read_raster(octets, 5, &two, NULL));
+    IS(G3_EMPTY_HANDLE, g3_page_write_raster(&a, 2, octets, 400, &n));
+    IS(G3_OK, g3_page_read_raster(octets, 5, &two, &a));
+    IS(G3_FULL_HANDLE, g3_page_read_raster(octets, 5, &two, &a));
+    IS(G3_BAD_LENGTH, g3_page_write_raster(&a, 1, octets, 400, &n));
+    IS(G3_BAD_LENGTH, g3_page_write_raster(&a, 2, octets, 400, NULL));
+    IS(G3_NO_ROOM, g3_page_write_raster(&a, 4, octets, 5, &n));
+    IS(6, (g3_status)n);
+    IS(G3_OK, g3_page_write_raster(&a, 4, octets, 6, &n));
+    IS(G3_NO_ROOM, g3_page_write_raster(&a, UINT64_MAX, octets, 400, &n));
+    IS(1, n == UINT64_MAX);
+    g3_page_free(&a);
+    IS(G3_OK, g3_page_read_raster(NULL, 0, &none, &a));
+    IS(G3_OK, g3_page_write_raster(&a, 2, NULL, 0, &n));
+    IS(0, (g3_status)n);
+    g3_page_free(&a);
+    IS(G3_OK, g3_page_read_raster(octets, 2, &one, &a));
+    IS(G3_OK, g3_page_write_raster(&a, UINT64_MAX, octets, 2, &n));
+    IS(2, (g3_status)n);
+    g3_page_free(&a);
+}
+
+static void coded(void)
+{
+    g3_page a = G3_EMPTY;
+    uint64_t place = 0;
+    g3_code odd = {3, G3_MSB_FIRST, 8, 0}, other = {G3_MH, 2, 8, 0}, wide = {G3_MH, G3_MSB_FIRST, 2433, 0};
+    g3_code mh = {G3_MH, G3_MSB_FIRST, 8, 0}, mmr = {G3_MMR, G3_MSB_FIRST, 8, 0};
+    IS(G3_BAD_CHOICE, g3_page_decode(octets, 4, &odd, &a, &place));
+    IS(G3_BAD_CHOICE, g3_page_decode(octets, 4, &other, &a, &place));
+    IS(G3_BAD_WIDTH, g3_page_decode(octets, 4, &wide, &a, &place));
+    IS(G3_NO_ROWS, g3_page_decode(NULL, 0, &mh, &a, &place));
+    IS(G3_BAD_LENGTH, g3_page_decode(octets, 4, NULL, &a, &place));
+    IS(G3_BAD_LENGTH, g3_page_decode(NULL, 4, &mh, &a, &place));
+    IS(G3_BAD_CHOICE, g3_page_repair(octets, 4, &mmr, &a, &place));
+    IS(G3_NO_ROWS, g3_page_repair(octets, 4, &mh, &a, &place));
+    IS(G3_NO_IMAGE, g3_page_read_pbm(octets, 0, 0, &a, &place));
+    IS(G3_BAD_HEADER, g3_page_read_pbm(octets, 4, 0, &a, &place));
+    IS(G3_OK, g3_page_salvage(octets, 4, &mh, &a));
+    IS(G3_FULL_HANDLE, g3_page_decode(octets, 4, &mh, &a, &place));
+    g3_page_free(&a);
+}
+
+static void frames(void)
+{
+    g3_deframer d = G3_EMPTY;
+    g3_octets frame = G3_EMPTY;
+    uint64_t n = 0;
+    IS(G3_EMPTY_HANDLE, g3_deframer_feed(&d, octets, 1));
+    IS(G3_OK, g3_deframer_new(&d));
+    IS(G3_NO_ROOM, g3_deframer_next(&d, octets, 299, &n));
+    IS(G3_NOTHING, g3_deframer_next(&d, octets, 300, &n));
+    IS(G3_BAD_LENGTH, g3_deframer_counts(&d, NULL));
+    IS(G3_BAD_LENGTH, g3_frame_write(octets, 2, &frame, &n));
+    IS(G3_BAD_LENGTH, g3_frame_write(octets, 301, &frame, &n));
+    IS(G3_OK, g3_frame_write(octets, 300, &frame, &n));
+    IS(G3_FULL_HANDLE, g3_frame_write(octets, 300, &frame, &n));
+    g3_octets_free(&frame); g3_deframer_free(&d); g3_deframer_free(&d);
+}
+
+int main(void)
+{
+    pages();
+    rasters();
+    coded();
+    frames();
+    return bad;
+}
