@@ -11,6 +11,7 @@ mod FaultKinds
 mod FirstImage
 mod CapturedSteps
 mod Capturing
+mod Following
 mod RepairedLines
 mod MissingEol
 mod CapturesMean

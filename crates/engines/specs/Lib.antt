@@ -12,6 +12,7 @@ pub mod Texts
 pub mod SignalWords
 pub mod Frames
 pub mod Captured
+pub mod Found
 pub mod PageNumbers
 pub mod Missing
 pub mod CapturesMean

@@ -66,8 +66,8 @@ pub(crate) struct Waiting {
 
 /// What is known while the signals of a line come.
 #[derive(Debug, Drop)]
-struct Capture {
-    alloc: Global,
+pub(crate) struct Capture {
+    pub(crate) alloc: Global,
     params: Option<Params>,
     coming: BlockStore,
     begun: bool,
@@ -216,7 +216,7 @@ fn name_lacking(
 
 impl Capture {
     /// Before any signal. Takes no memory.
-    fn new(alloc: Global) -> Capture
+    pub(crate) fn new(alloc: Global) -> Capture
         ensures { result ≡ empty_capture None }
     {
         Capture {
@@ -519,7 +519,7 @@ impl Capture {
 
     /// A document is at its end.
     #[tactic(auto, unfolding(crate::specs::Captured::at_end))]
-    fn end(&mut self, out: &mut Vec<Captured>) -> Result<(), ToolFault>
+    pub(crate) fn end(&mut self, out: &mut Vec<Captured>) -> Result<(), ToolFault>
         ensures named { OnOk result (out.new.items ≡ out.old.items ++ at_end self.old) }
         ensures fault { IfErr result IsOutside }
     {
@@ -554,7 +554,11 @@ impl Capture {
     }
 
     /// A content.
-    fn hear_content(&mut self, content: &[u8], out: &mut Vec<Captured>) -> Result<(), ToolFault>
+    pub(crate) fn hear_content(
+        &mut self,
+        content: &[u8],
+        out: &mut Vec<Captured>,
+    ) -> Result<(), ToolFault>
         ensures taken { OnOk result (Takes (hears_read (read_content content.now) self.old) self.new out.old.items out.new.items) }
         ensures fault { IfErr result IsOutside }
     {

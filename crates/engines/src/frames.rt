@@ -57,7 +57,7 @@ fn write_content<W: Write>(
 
 /// Writes the line of a good frame: its number, its content in hex, of which at most `most` octets are shown, and what
 /// it says; and after it in words what it says, where they are asked for.
-fn write_frame<W: Write>(
+pub(crate) fn write_frame<W: Write>(
     alloc: Global,
     number: u64,
     content: &[u8],
@@ -97,7 +97,7 @@ fn write_frames<W: Write>(
 }
 
 /// Writes how many gaps there were of each class.
-fn write_counts<W: Write>(counts: Counts, writer: &mut W) -> Result<(), ToolFault>
+pub(crate) fn write_counts<W: Write>(counts: Counts, writer: &mut W) -> Result<(), ToolFault>
     ensures line { OnOk result (Appends (W.contents writer.old) (W.contents writer.new) (counts_line counts)) }
     ensures fault { IfErr result IsOutside }
 {
@@ -162,7 +162,7 @@ pub(crate) fn feed_in(deframer: &mut Deframer, order: Order, piece: &[u8]) -> Re
 }
 
 /// Whether more than 64 octets have no good frame, where the next one would have this number.
-fn has_no_frame(octets: u64, number: u64) -> bool
+pub(crate) fn has_no_frame(octets: u64, number: u64) -> bool
     ensures { IsTrue result ↔ ((64 < octets) × (number ≡ 1)) }
 {
     octets > 64 && number == 1
