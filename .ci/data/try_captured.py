@@ -5,6 +5,7 @@ call is tried whole, with blocks sent again, twice on one line, with a frame, th
 cut short. Ends with status 1 at the first that differs."""
 
 import os
+import re
 import shutil
 import subprocess
 import sys
@@ -79,10 +80,17 @@ def tried(name, contents, wanted, said, status):
     os.mkdir(pages)
     done = subprocess.run([program, "frames", "--pages", pages, bits], capture_output=True)
     plain = subprocess.run([program, "frames", bits], capture_output=True)
-    # a page has the number that it has in what is said, where one before it lacks
+    # a page has the number that it has in what is said, where one before it is missing
     got = [open(f"{pages}/page-{number}.pbm", "rb").read() for number in range(1, 9) if os.path.exists(f"{pages}/page-{number}.pbm")]
-    if done.stdout != plain.stdout:
+    said_of = [text for text in done.stdout.splitlines() if text.startswith(b"page ")]
+    if [text for text in done.stdout.splitlines() if not text.startswith(b"page ")] != plain.stdout.splitlines():
         sys.exit(f"{name}: another list")
+    if len(said_of) != len(wanted):
+        sys.exit(f"{name}: {len(said_of)} pages are said")
+    for text, octets in zip(said_of, wanted):
+        width, height = octets.split(b"\n", 2)[1].split()
+        if not re.fullmatch(rb"page (\d): page-\1.pbm, %s x %s pixels, standard lines" % (width, height), text):
+            sys.exit(f"{name}: it said {text}")
     if done.stderr.decode().splitlines() != said:
         sys.exit(f"{name}: it said {done.stderr.decode()[:200]}")
     if got != wanted or done.returncode != status:

@@ -188,7 +188,7 @@ try_numbers() {
     gives 1 frames --pages pages "$line"
     [ "$(cat victim pages/page-1.pbm)" = "$(printf 'mine\nmine')" ] || fails "frames --pages wrote into a file that was there"
     is_same pages/page-3.pbm "$top/docs/examples/row.pbm" "the page of the next free number"
-    [ "$(tail -1 "$work/output")" = "page 1: page-3.pbm" ] || fails "frames --pages didn't print the number"
+    grep -qx "page 1: page-3.pbm, 1728 x 1 pixels, standard lines" "$work/output" || fails "frames --pages didn't print the number"
     for folder in missing victim; do
         gives 1 frames --pages $folder "$line"
         [ ! -s "$work/output" ] || fails "frames --pages printed a line before it looked at its folder"

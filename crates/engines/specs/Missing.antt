@@ -1,9 +1,11 @@
--- What is missing of the pages in a capture, in words.
-use Rattle.std.specs.Prelude.{ℕ, List, [], ◌++◌, codes}
+-- The pages in a capture, and what is missing of others, in words.
+use Rattle.std.specs.Prelude.{ℕ, Bool, true, false, List, [], ◌++◌, codes, length}
 use Rattle.std.specs.Fmt.{decimal}
+use Rattle.raster.specs.Pages.{PagePixels}
 use Rattle.run_tables.specs.Faults.{number_of}
 use Rattle.engines.specs.PageNumbers.{page_missing}
 use Rattle.engines.specs.declared.captured.Captured.{Captured}
+use Rattle.engines.specs.declared.numbers.PageNumbers.{PageNumbers}
 use Rattle.engines.specs.declared.captured.Captured.TheVariants.{Page, Unread, MissingFrame, MissingBlocks, Unfinished, BlockBeforeDcs}
 
 -- a page by its number from 1
@@ -24,3 +26,13 @@ missing_text (MissingFrame mark frame) = block_words (page_missing (MissingFrame
 missing_text (MissingBlocks mark) = block_words (page_missing (MissingBlocks mark)) mark.block ++ codes ": the blocks before it are missing"
 missing_text Unfinished = codes "a page has no end"
 missing_text (BlockBeforeDcs mark) = block_words (page_missing (BlockBeforeDcs mark)) mark.block ++ codes ": no DCS before it"
+
+-- the lines of a page
+abbrev pub lines_word : Bool → List ℕ
+lines_word true = codes "fine"
+lines_word false = codes "standard"
+
+-- a page that is in a file: its number, the file's, its size and its lines
+abbrev pub stored_text : PageNumbers → PagePixels → List ℕ
+stored_text numbers page = page_words numbers.page ++ (codes ": page-" ++ (decimal numbers.file ++ (codes ".pbm, " ++ (decimal page.width
+    ++ (codes " x " ++ (decimal (length page.rows) ++ (codes " pixels, " ++ (lines_word page.fine ++ codes " lines"))))))))

@@ -31,7 +31,7 @@ pub use crate::fault_kind::FaultKind;
 pub use crate::found::{FoundStore, pages_engine};
 pub use crate::frames::{ListOptions, frames_engine, list_engine};
 pub use crate::line_fault::LineFault;
-pub use crate::missing::Missing;
+pub use crate::missing::{Missing, Stored};
 pub use crate::numbers::PageNumbers;
 pub use crate::options::{DecodeOptions, PageForm};
 pub use crate::pages::{Salvage, code_engine, decode_engine, salvage_engine, show_engine};

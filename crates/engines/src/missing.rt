@@ -1,9 +1,10 @@
-//! What is missing of the pages in a capture, in words.
+//! The pages in a capture, and what is missing of others, in words.
 
 ghost use Rattle.std.specs.Prelude.{◌≡◌};
 
 use crate::captured::Captured;
-use crate::numbers::missing_page;
+use crate::numbers::{PageNumbers, missing_page};
+use raster::Page;
 use stations::Mark;
 use std::fmt;
 
@@ -71,5 +72,34 @@ impl fmt::Display for Missing<'_> {
                 write!(f, "{}: no DCS before it", BlockText::of(page, mark))
             }
         }
+    }
+}
+
+/// A page of a capture that is in a file, in a line with no LF: its number and that of its file, which is named `page-N.pbm`, its width
+/// and its rows in pixels, and whether its lines are fine.
+#[derive(Clone, Copy, Drop)]
+pub struct Stored<'a> {
+    /// The numbers of the page and of its file.
+    pub numbers: PageNumbers,
+    /// The page.
+    pub page: &'a Page,
+}
+
+impl fmt::Display for Stored<'_> {
+    ghost use Rattle.std.specs.Prelude.{Some};
+    ghost use Rattle.engines.specs.Missing.{stored_text};
+
+    ghost output = { λ text. Some (stored_text text.numbers text.page.now) };
+
+    fn fmt<W: fmt::Write>(&self, f: &mut fmt::Formatter<W>) -> fmt::Result {
+        let lines = if self.page.fine() { "fine" } else { "standard" };
+        write!(
+            f,
+            "page {}: page-{}.pbm, {} x {} pixels, {lines} lines",
+            self.numbers.page,
+            self.numbers.file,
+            self.page.width(),
+            self.page.rows().len(),
+        )
     }
 }

@@ -1,3 +1,4 @@
 -- The definitions of the program.
 pub mod Jobs
 pub mod Table
+pub mod Folders

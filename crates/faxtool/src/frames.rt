@@ -1,13 +1,14 @@
 //! The command `frames`.
 
 ghost use Rattle.engines.specs.Faults.{IsOutside};
-ghost use Rattle.std.specs.Prelude.{IfErr};
+ghost use Rattle.engines.specs.PageNumbers.{after, page_missing};
+ghost use Rattle.std.specs.Prelude.{◌≡◌, IfErr, OnOk, false, max};
 
-use crate::files::{self, read_input};
 use crate::notes::{Notes, Part};
-use crate::outputs;
+use crate::{files, outputs};
 use engines::{
-    Captured, ListOptions, Missing, NO_MEMORY, PageNumbers, ToolFault, captured_in, list_engine,
+    Captured, FoundStore, ListOptions, Missing, NO_MEMORY, PageNumbers, Stored, ToolFault,
+    list_engine, pages_engine,
 };
 use raster::{Page, write_pbm};
 use run_tables::Order;
@@ -45,8 +46,75 @@ fn list_file(
     say_other_order(rt, how, worth)
 }
 
-/// Lists the frames in a file. Where a folder is given, writes the pages that they carry into its files page-1.pbm and so on,
-/// and names what is missing of others on standard error. Answers whether nothing is.
+/// The folder that the pages in a capture are written into, and what was found so far.
+#[derive(Drop)]
+struct Folder<'a> {
+    rt: &'a HostRuntime,
+    name: &'a str,
+    notes: &'a mut Notes,
+    numbers: PageNumbers,
+    is_empty: bool,
+    is_whole: bool,
+}
+
+impl FoundStore for Folder<'_> {
+    ghost use Rattle.faxtool.specs.Folders.{NotesFound};
+
+    ghost takes = { λ old found new. NotesFound old.numbers old.is_whole found new.numbers new.is_whole };
+
+    fn take(&mut self, found: Captured) -> Result<(), ToolFault> {
+        self.is_empty = false;
+        match found {
+            Captured::Page(page) => self.store(page),
+            Captured::Unread { .. }
+            | Captured::MissingFrame { .. }
+            | Captured::MissingBlocks(_)
+            | Captured::Unfinished
+            | Captured::BlockBeforeDcs(_) => self.name_missing(&found),
+        }
+    }
+}
+
+impl Folder<'_> {
+    /// Writes a page into a file of its own, under the first number that is free, and says so. A page of no rows has no file: no code
+    /// is that of such a page.
+    fn store(&mut self, page: Page) -> Result<(), ToolFault>
+        ensures number { OnOk result (self.new.numbers.page ≡ after self.old.numbers.page) }
+        ensures whole { OnOk result (self.new.is_whole ≡ self.old.is_whole) }
+        ensures fault { IfErr result IsOutside }
+    {
+        let first = self.numbers.found();
+        if page.rows().is_empty() {
+            return Ok(());
+        }
+        let pages = [page];
+        let mut octets = Vec::new(self.rt.alloc());
+        write_pbm(&pages, &mut octets).map_err(|_fault| NO_MEMORY)?;
+        let file = outputs::write_page(self.rt, self.name, first, octets.as_slice(), self.notes)?;
+        let _moved = self.numbers.written(file);
+        let stored = Stored {
+            numbers: self.numbers,
+            page: &pages[0],
+        };
+        println!(self.rt; "{stored}")?;
+        Ok(())
+    }
+
+    /// Names what is missing of a page.
+    fn name_missing(&mut self, found: &Captured) -> Result<(), ToolFault>
+        ensures number { OnOk result (self.new.numbers.page ≡ max self.old.numbers.page (page_missing found.now)) }
+        ensures whole { OnOk result (self.new.is_whole ≡ false) }
+        ensures fault { IfErr result IsOutside }
+    {
+        self.is_whole = false;
+        let _page = self.numbers.missing(found);
+        eprintln!(self.rt; "{}", Missing(found))?;
+        Ok(())
+    }
+}
+
+/// Lists the frames in a file. Where a folder is given, writes the pages that they carry into its files page-1.pbm and so on, each as it
+/// ends, and names what is missing of others on standard error. Answers whether nothing is.
 pub fn frames_file(
     rt: &HostRuntime,
     how: ListOptions,
@@ -60,66 +128,26 @@ pub fn frames_file(
         list_file(rt, how, input, notes)?;
         return Ok(true);
     };
-    read_input(rt, input, notes)?;
+    let mut reader = files::open(rt, input, Part::Input, notes)?;
     let mut writer = files::print(rt)?;
-    let mut bits = notes.octets.as_slice();
-    let listed = list_engine(rt.alloc(), &mut bits, &mut writer, how);
+    let mut store = Folder {
+        rt,
+        name: folder,
+        notes,
+        numbers: PageNumbers::new(),
+        is_empty: true,
+        is_whole: true,
+    };
+    let listed = pages_engine(rt.alloc(), &mut reader, &mut writer, how, &mut store);
+    let is_empty = store.is_empty;
+    let is_whole = store.is_whole;
+    reader.close(notes);
     let printed = files::end_print(writer, listed.is_ok(), notes);
     let worth = listed?;
     printed?;
     say_other_order(rt, how, worth)?;
-    write_found(rt, folder, how.order, notes)
-}
-
-/// Writes the pages that the frames in bits carry into a folder, and names what is missing of others. Answers whether
-/// nothing is.
-fn write_found(
-    rt: &HostRuntime,
-    folder: &str,
-    order: Order,
-    notes: &mut Notes,
-) -> Result<bool, ToolFault>
-    ensures { IfErr result IsOutside }
-{
-    let mut bits = notes.octets.as_slice();
-    let mut numbers = PageNumbers::new();
-    let mut is_whole = true;
-    let all_found = captured_in(rt.alloc(), &mut bits, order)?;
-    if all_found.is_empty() {
+    if is_empty {
         eprintln!(rt; "no error correction: no pages")?;
-        return Ok(false);
     }
-    for found in all_found {
-        if let Captured::Page(page) = found {
-            let from = numbers.found();
-            let number = write_captured(rt, folder, from, page, notes)?;
-            if numbers.written(number) {
-                println!(rt; "page {}: page-{number}.pbm", numbers.page)?;
-            }
-        } else {
-            is_whole = false;
-            let _page = numbers.missing(&found);
-            eprintln!(rt; "{}", Missing(&found))?;
-        }
-    }
-    Ok(is_whole)
-}
-
-/// Writes a page into a folder, under the first number from this one on that is free, and answers that number.
-fn write_captured(
-    rt: &HostRuntime,
-    folder: &str,
-    number: u64,
-    page: Page,
-    notes: &mut Notes,
-) -> Result<u64, ToolFault>
-    ensures { IfErr result IsOutside }
-{
-    if page.rows().is_empty() {
-        // no code is that of such a page
-        return Ok(number);
-    }
-    let mut octets = Vec::new(rt.alloc());
-    write_pbm(&[page], &mut octets).map_err(|_fault| NO_MEMORY)?;
-    outputs::write_page(rt, folder, number, octets.as_slice(), notes)
+    Ok(is_whole && !is_empty)
 }

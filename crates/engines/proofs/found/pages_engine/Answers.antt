@@ -6,9 +6,10 @@ use Rattle.std.proofs.KnownBytes.{Appends-kept}
 use Rattle.engines.proofs.found.pages_engine.Goals as goal
 
 pub loop-read-init : goal.loop-read-init
-loop-read-init g c =
-    (none_listed _ _ _ c.new-deframer.result c.new-deframer.ensures,
-    none_followed _ _ _ c.new-deframer.result c.new-capture.result _ c.new-deframer.ensures c.new-capture.ensures)
+loop-read-init g c = (
+  none_listed _ _ _ c.new-deframer.result c.new-deframer.ensures,
+  none_followed _ _ _ c.new-deframer.result c.new-capture.result _ c.new-deframer.ensures c.new-capture.ensures,
+)
 
 pub returns-then-count-eq0-clause-listed : goal.returns-then-count-eq0-clause-listed
 returns-then-count-eq0-clause-listed g c =
@@ -35,13 +36,14 @@ returns-then-count-eq0-clause-given g c =
     (c.in_ok-count.ensures.end c.if-count-eq0.true) c.in_ok-end_capture.ensures.given
 
 pub loop-read-preserved : goal.loop-read-preserved
-loop-read-preserved g c =
-    (piece_listed _ _ _ _ _ _ _ c.loop-read.deframer c.feed_in.new.deframer c.take_frames.new.deframer c.loop-read.number
-    c.in_ok-number.number c.loop-read.octets c.saturating_add-octets.result (take c.in_ok-count.count c.read_some.new.piece)
-    c.loop-read.invariant.0 c.in_ok-count.ensures.came c.in_ok-feed_in.ensures.ok
-    (Appends-kept _ _ _ _ c.in_ok-number.ensures.lines c.flush.ensures.bytes) c.in_ok-number.ensures.next
-    c.in_ok-number.ensures.taken (search rules),
-    piece_followed _ c.args.how.order _ (g.R.Read.remaining c.loop-read.reader) (g.R.Read.remaining c.read_some.new.reader)
-    c.loop-read.deframer c.feed_in.new.deframer c.take_frames.new.deframer c.loop-read.capture c.take_frames.new.capture _ _ _
-    (take c.in_ok-count.count c.read_some.new.piece) c.loop-read.invariant.1 c.in_ok-count.ensures.came c.in_ok-feed_in.ensures.ok
-    c.in_ok-number.ensures.given c.in_ok-number.ensures.taken)
+loop-read-preserved g c = (
+  piece_listed _ _ _ _ _ _ _ c.loop-read.deframer c.feed_in.new.deframer c.take_frames.new.deframer c.loop-read.number
+      c.in_ok-number.number c.loop-read.octets c.saturating_add-octets.result (take c.in_ok-count.count c.read_some.new.piece)
+      c.loop-read.invariant.0 c.in_ok-count.ensures.came c.in_ok-feed_in.ensures.ok
+      (Appends-kept _ _ _ _ c.in_ok-number.ensures.lines c.flush.ensures.bytes) c.in_ok-number.ensures.next
+      c.in_ok-number.ensures.taken (search rules),
+  piece_followed _ c.args.how.order _ (g.R.Read.remaining c.loop-read.reader) (g.R.Read.remaining c.read_some.new.reader)
+      c.loop-read.deframer c.feed_in.new.deframer c.take_frames.new.deframer c.loop-read.capture c.take_frames.new.capture _ _ _
+      (take c.in_ok-count.count c.read_some.new.piece) c.loop-read.invariant.1 c.in_ok-count.ensures.came c.in_ok-feed_in.ensures.ok
+      c.in_ok-number.ensures.given c.in_ok-number.ensures.taken,
+)

@@ -1,0 +1,12 @@
+-- What is noted while the pages in a capture are written into a folder.
+use Rattle.std.specs.Prelude.{◌≡◌, Bool, false, max}
+use Rattle.engines.specs.PageNumbers.{after, page_missing}
+use Rattle.engines.specs.declared.captured.Captured.{Captured}
+use Rattle.engines.specs.declared.captured.Captured.TheVariants.{Page}
+use Rattle.engines.specs.declared.numbers.PageNumbers.{PageNumbers}
+
+-- The last page's number, and whether nothing is missing of any, before and after something found: a page has the next number; where
+-- something is missing of a page, later pages have numbers after that page's own.
+abbrev pub NotesFound : PageNumbers → Bool → Captured → PageNumbers → Bool → Type 0
+NotesFound old whole (Page page) new still = (new.page ≡ after old.page) × (still ≡ whole)
+NotesFound old whole found new still = (new.page ≡ max old.page (page_missing found)) × (still ≡ false)
