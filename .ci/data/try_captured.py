@@ -6,6 +6,7 @@ cut short. Ends with status 1 at the first that differs."""
 
 import os
 import re
+import resource
 import shutil
 import subprocess
 import sys
@@ -140,3 +141,22 @@ for mmr in False, True:
             words = [program, "show", "--code", "mmr", "--order", "lsb", "--width", "2432", f"{folder}/captured.code"]
             fault = subprocess.run(words, capture_output=True, text=True).stderr.strip()
             tried(f"{name}, cut", call([piece], mmr, small), [], [f"page 1: can't be read, {fault}"], 1)
+
+# a long capture takes no more memory than its longest page: forty pages of 20,000 white rows in 24 MiB of address space
+tall = f"{folder}/tall.pbm"
+with open(tall, "wb") as file:
+    file.write(b"P4\n1728 20000\n" + bytes(20000 * 216))
+many = [dcs(1728, True, False)] + call([coded(tall, True)] * 40, True, False)[1:]
+with open(f"{folder}/captured.bits", "wb") as file:
+    file.write(line(many))
+shutil.rmtree(f"{folder}/captured")
+os.mkdir(f"{folder}/captured")
+limit = lambda: resource.setrlimit(resource.RLIMIT_AS, (24 << 20, 24 << 20))
+words = [program, "frames", "--pages", f"{folder}/captured", f"{folder}/captured.bits"]
+done = subprocess.run(words, stdout=subprocess.DEVNULL, stderr=subprocess.PIPE, preexec_fn=limit)
+if done.returncode or done.stderr:
+    sys.exit(f"forty pages: status {done.returncode}, it said {done.stderr[:200]}")
+for number in range(1, 41):
+    if open(f"{folder}/captured/page-{number}.pbm", "rb").read() != open(tall, "rb").read():
+        sys.exit(f"forty pages: page {number} is another")
+shutil.rmtree(f"{folder}/captured")
