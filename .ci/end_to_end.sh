@@ -53,6 +53,7 @@ for program in "$@"; do
     try_safe
     try_salvage
     try_repair
+    try_pages
     try_explained
     try_terminal
     try_completion

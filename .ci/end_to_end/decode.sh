@@ -124,6 +124,59 @@ try_others_pages() {
     gives 1 decode --repair --whole --code mmr --width 64 "$code" "$work/repaired"
 }
 
+# page_is CODE NUMBER ROWS FILE WORDS: the page of the file has these rows of 8 pixels, in hex.
+page_is() {
+    works decode --code "$1" --page "$2" --width 8 "$4" "$work/page"
+    is_same "$work/page" "$(octets "50 34 0A 38 20 $(printf %02X $((48 + $(echo $3 | wc -w)))) 0A $3")" "decode --code $1 --page $2 of $5"
+}
+
+# tells_no_page LINES WORDS: the words end with status 1, these lines on standard error and no page.
+tells_no_page() {
+    rm -f "$work/page"
+    printf "$1" > "$work/wanted"
+    shift
+    gives 1 decode "$@" "$work/page"
+    is_same "$work/error" "$work/wanted" "what decode $* tells"
+    [ ! -e "$work/page" ] || fails "decode $* made OUT"
+}
+
+# Pages one after another: of T.4 at the next bit, in the next octet, after fill, and after a seventh EOL, as pbmtog3 writes it; of T.6 in
+# the next octet, and after octets of 0.
+try_pages() {
+    eol=000000000001 row="0111 11 1011" white=10011 black="00110101 000101"
+    rtc="$eol $eol $eol $eol $eol $eol"
+    for between in "" 0 0000 000000000000000 "$eol" "0000$eol" "$eol 0000 $eol"; do
+        code=$(bits "$eol $row $rtc $between $eol $white $eol $row $rtc $between $eol $black $rtc")
+        page_is mh 1 30 "$code" "pages with $between between them"
+        page_is mh 2 "00 30" "$code" "pages with $between between them"
+        page_is mh 3 FF "$code" "pages with $between between them"
+        tells_no_page "pages in the file: 3\nfault 28\n" --code mh --page 4 --width 8 "$code"
+    done
+    code=$(bits "$row $rtc 000000 $white $eol $row $rtc")
+    page_is mh 2 "00 30" "$code" "pages of which the second has no EOL before its first row"
+    tells_no_page "pages in the file: 1\nfault 28\n" --code mh --page 2 --width 8 "$(bits "$row $rtc $eol 0000")"
+    tells_no_page "page 1 begins at octet 0 and can't be read to its end\nfault 12 at bit 26\n" --code mh --page 2 --width 8 \
+        "$(bits "$eol $row $eol 00110101 000101 1011 $rtc")"
+    eofb="000000000001 000000000001" first="001 0111 11 1 1 1 1"
+    for between in 000 "000 00000000" "000 00000000 00000000 00000000"; do
+        code=$(bits "$first $eofb $between 1 $eofb 0000000 $between 00000 $first $eofb")
+        page_is mmr 1 "30 30" "$code" "pages of T.6"
+        page_is mmr 2 00 "$code" "pages of T.6"
+        page_is mmr 3 "30 30" "$code" "pages of T.6"
+        tells_no_page "pages in the file: 3\nfault 28\n" --salvage --code mmr --page 9 --width 8 "$code"
+    done
+    for code in mh mmr; do
+        for order in msb lsb; do
+            cat "$data/page.$code.$order" "$data/page.$code.$order" "$data/page.$code.$order" > "$work/pages"
+            gives 0 decode --code $code --order $order --page 3 --width 315 --fine --verbose "$work/pages" "$work/page"
+            is_same "$work/page" "$data/page.pbm" "decode --code $code --order $order --page 3"
+            at=$((2 * $(wc -c < "$data/page.$code.$order")))
+            [ "$(head -n 1 "$work/error")" = "page 3 begins at octet $at" ] || fails "decode --page --verbose told $(head -n 1 "$work/error")"
+        done
+    done
+    refuses decode --page 0 --code mh --width 8 "$work/pages" "$work/page"
+}
+
 # A page of T.6 without its EOFB, with a part of it, and with a row that can't be read.
 try_no_eofb() {
     for end in "" 00 0000000 00000000 000000000001 "000000000001 1" "000000000001 000000001001"; do

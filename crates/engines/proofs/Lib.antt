@@ -6,6 +6,7 @@ mod MarkedFrames
 mod HexText
 mod DecodedRows
 mod PageEnds
+mod LaterPages
 pub mod OneLine
 mod FaultKinds
 mod FirstImage

@@ -8,6 +8,7 @@ pub mod RepairsT6
 pub mod Decodings
 pub mod PageEnds
 pub mod Answers
+pub mod LaterPages
 pub mod Texts
 pub mod SignalWords
 pub mod Frames

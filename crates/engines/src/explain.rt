@@ -145,6 +145,7 @@ fn wrong_words(kind: FaultKind, known: Known<'_>) -> &'static str
         | FaultKind::ShortField
         | FaultKind::WidthNotCallable
         | FaultKind::SeveralPages
+        | FaultKind::FewerPages
         | FaultKind::Unknown(_)
         | FaultKind::NoCodedRows
         | FaultKind::Truncated

@@ -36,6 +36,8 @@ pub enum FaultKind {
     WidthNotCallable,
     /// Several images where one is taken.
     SeveralPages,
+    /// Fewer pages than the number of the one that is asked for.
+    FewerPages,
     /// A fault of a whole file with a number that none of the others has.
     Unknown(u8),
     /// A coded page ends before its first row.
@@ -93,6 +95,7 @@ impl FaultKind {
             FaultKind::ShortField => 22,
             FaultKind::WidthNotCallable => 26,
             FaultKind::SeveralPages => 27,
+            FaultKind::FewerPages => 28,
             FaultKind::BadLine => 30,
             FaultKind::Unknown(no) | FaultKind::UnknownAtBit(no) => no,
         }
@@ -116,6 +119,7 @@ impl FaultKind {
             FaultKind::WidthNotCallable =>
                 "a page's width isn't 1728, 2048 or 2432 pixels, the widths that a call carries",
             FaultKind::SeveralPages => "several images: code takes one",
+            FaultKind::FewerPages => "the file has fewer pages than --page says",
             FaultKind::BadAddress
             | FaultKind::BadControl
             | FaultKind::ShortField
@@ -156,6 +160,7 @@ impl FaultKind {
             22 => FaultKind::ShortField,
             26 => FaultKind::WidthNotCallable,
             27 => FaultKind::SeveralPages,
+            28 => FaultKind::FewerPages,
             _ => FaultKind::Unknown(no),
         }
     }

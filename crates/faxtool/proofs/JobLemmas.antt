@@ -194,7 +194,7 @@ pub no_width : (rows : List Row) → ((n : ℕ) → IsWidthIn rows n → ⊥) �
 no_width rows none (Code coding order input output) (others, e, is) = show_is_code (some_name (codes "show") (codes "code") rows others e)
 no_width rows none (Show coding order width input) (others, e, is) =
     none width (subst (λ (xs : List Row). IsWidthIn xs width) (sym (some_rows (codes "show") (codes "show") rows others e)) is.width_is)
-no_width rows none (Decode form options input output) (others, e, is) =
+no_width rows none (Decode form options page input output) (others, e, is) =
     show_is_decode (some_name (codes "show") (codes "decode") rows others e)
 no_width rows none (Frames most order words pages input) (others, e, reads, of, said, folder, is) =
     show_is_frames (some_name (codes "show") (codes "frames") rows others e)
@@ -214,7 +214,7 @@ no_width_to_decode rows none (Code coding order input output) (others, e, is) =
     decode_is_code (some_name (codes "decode") (codes "code") rows others e)
 no_width_to_decode rows none (Show coding order width input) (others, e, is) =
     show_is_decode (sym (some_name (codes "decode") (codes "show") rows others e))
-no_width_to_decode rows none (Decode form options input output) (others, e, is) =
+no_width_to_decode rows none (Decode form options page input output) (others, e, is) =
     none form.width (subst (λ (xs : List Row). IsWidthIn xs form.width) (sym (some_rows (codes "decode") (codes "decode") rows others e))
     is.shown.width_is)
 no_width_to_decode rows none (Frames most order words pages input) (others, e, reads, of, said, folder, is) =
@@ -236,7 +236,7 @@ no_options rows none (Code coding order input output) (others, e, is) =
     call_is_code (some_name (codes "call") (codes "code") rows others e)
 no_options rows none (Show coding order width input) (others, e, is) =
     show_is_call (sym (some_name (codes "call") (codes "show") rows others e))
-no_options rows none (Decode form options input output) (others, e, is) =
+no_options rows none (Decode form options page input output) (others, e, is) =
     decode_is_call (sym (some_name (codes "call") (codes "decode") rows others e))
 no_options rows none (Frames most order words pages input) (others, e, reads, of, said, folder, is) =
     call_is_frames (some_name (codes "call") (codes "frames") rows others e)
@@ -286,7 +286,7 @@ no_line rows open_end none (Code coding order input output) (others, e, is) =
     call_is_code (some_name (codes "call") (codes "code") rows others e)
 no_line rows open_end none (Show coding order width input) (others, e, is) =
     show_is_call (sym (some_name (codes "call") (codes "show") rows others e))
-no_line rows open_end none (Decode form options input output) (others, e, is) =
+no_line rows open_end none (Decode form options page input output) (others, e, is) =
     decode_is_call (sym (some_name (codes "call") (codes "decode") rows others e))
 no_line rows open_end none (Frames most order words pages input) (others, e, reads, of, said, folder, is) =
     call_is_frames (some_name (codes "call") (codes "frames") rows others e)
@@ -310,7 +310,7 @@ no_times rows open_end none (Code coding order input output) (others, e, is) =
     call_is_code (some_name (codes "call") (codes "code") rows others e)
 no_times rows open_end none (Show coding order width input) (others, e, is) =
     show_is_call (sym (some_name (codes "call") (codes "show") rows others e))
-no_times rows open_end none (Decode form options input output) (others, e, is) =
+no_times rows open_end none (Decode form options page input output) (others, e, is) =
     decode_is_call (sym (some_name (codes "call") (codes "decode") rows others e))
 no_times rows open_end none (Frames most order words pages input) (others, e, reads, of, said, folder, is) =
     call_is_frames (some_name (codes "call") (codes "frames") rows others e)

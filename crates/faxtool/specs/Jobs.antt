@@ -112,9 +112,10 @@ with_flags app = with_rule (with_rule (with_rule (with_rule (with_rule app (flag
     (flag_rule (codes "repair"))) (flag_rule (codes "whole"))) (flag_rule (codes "verbose"))
 
 -- `decode`: the code, the width, the order, fine or not, what is done with a page that can't be
--- read or has no end, verbose or not, and the files of the page and of its image
+-- read or has no end, verbose or not, the page's number, and the files of the page and of its image
 abbrev pub decode_app : ValueParser → ValueParser → App
-decode_app codings orders = with_explain (with_rule (with_rule (with_flags (with_page_options (new_app (codes "decode")) codings orders))
+decode_app codings orders = with_explain (with_rule (with_rule (with_rule (with_flags (with_page_options (new_app (codes "decode"))
+    codings orders)) (record (option_rule (codes "page")) { parser = Some (vp.Signed (pos 1) (pos 4294967295)) }))
     (file_rule (codes "file"))) (file_rule (codes "out")))
 
 -- `frames`: how many octets of a content are shown, 0 to 300, the order, which is `lsb` where it isn't given, the folder of the pages, and
@@ -316,12 +317,20 @@ pub record AreDecodeOptionsIn (rows : List Row) (options : DecodeOptions) : Type
   pub whole_is : options.whole ≡ is_named (codes "true") (first_of (codes "whole") rows)
   pub verbose_is : options.verbose ≡ is_named (codes "true") (first_of (codes "verbose") rows)
 
+-- the number of the page that is decoded: the first one, where no number is given
+abbrev pub page_of : Option ℕ → ℕ
+page_of None = 1
+page_of (Some page) = page
+
 -- the values of the command `decode` are those of the job
-pub record IsDecodeOf (rows : List Row) (form : PageForm) (options : DecodeOptions) (input output : Text) : Type 0 where
+pub record IsDecodeOf (rows : List Row) (form : PageForm) (options : DecodeOptions) (page : ℕ) (input output : Text) : Type 0 where
   pub shown : IsShowOf rows form.coding form.order form.width input
   pub fine_is : form.fine ≡ is_named (codes "true") (first_of (codes "fine") rows)
   pub options_are : AreDecodeOptionsIn rows options
   pub one_way : (options.salvage && options.repair) ≡ false
+  pub number : Option ℕ
+  pub number_given : ReadsNumber (codes "page") rows number
+  pub page_is : page ≡ page_of number
   pub output_is : first_of (codes "out") rows ≡ Some output
 
 -- the options are those that the values give
@@ -493,9 +502,9 @@ IsJobOf met (Code coding order input output) = (rows : List Row)
 IsJobOf met (Show coding order width input) = (rows : List Row)
     × (met ≡ Some (codes "show", rows))
     × IsShowOf rows coding order width (string_bytes input)
-IsJobOf met (Decode form options input output) = (rows : List Row)
+IsJobOf met (Decode form options page input output) = (rows : List Row)
     × (met ≡ Some (codes "decode", rows))
-    × IsDecodeOf rows form options (string_bytes input) (string_bytes output)
+    × IsDecodeOf rows form options page (string_bytes input) (string_bytes output)
 IsJobOf met (Frames most order words pages input) = (rows : List Row)
     × (met ≡ Some (codes "frames", rows))
     × ReadsNumber (codes "data") rows most
@@ -566,7 +575,7 @@ status_of (Words error) = 2
 abbrev pub HasWidth : Job → Type 0
 HasWidth (Code coding order input output) = Unit {0}
 HasWidth (Show coding order width input) = IsWidth width
-HasWidth (Decode form options input output) = IsWidth form.width
+HasWidth (Decode form options page input output) = IsWidth form.width
 HasWidth (Frames most order words pages input) = Unit {0}
 HasWidth (Call script options out bits normal input) = Unit {0}
 HasWidth (Drive line times options out bits normal input) = Unit {0}

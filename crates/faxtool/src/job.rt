@@ -100,9 +100,13 @@ pub fn run_job(
         Job::Decode {
             form,
             options,
+            page,
             input,
             output,
-        } => decode_file(rt, *form, *options, InAndOut { input, output }, notes)?,
+        } => {
+            let files = InAndOut { input, output };
+            decode_file(rt, *form, *options, *page, files, notes)?
+        }
         Job::Frames {
             most,
             order,

@@ -160,6 +160,13 @@ const DECODE_ARGUMENTS: &[Argument<'static>] = &[
         help: "Shows the page's rows, the bits of its code and the octets after it",
         ..FLAG
     },
+    Argument {
+        id: "page",
+        shown: &["N"],
+        parser: Some(ValueParser::Signed(1, 4_294_967_295)),
+        help: "Decodes the Nth page of a file with several, one after another, and not the first",
+        ..FILE_OPTION
+    },
     CODED_PAGE,
     Argument {
         id: "out",
@@ -417,7 +424,7 @@ static COMMANDS: [Entry<'static>; 5] = [
     },
     Entry {
         name: "decode",
-        about: "Writes the first page in a file as a PBM",
+        about: "Writes the first page in a file, or another one, as a PBM",
         arguments: DECODE_ARGUMENTS,
     },
     Entry {

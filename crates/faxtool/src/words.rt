@@ -5,7 +5,7 @@ ghost use Rattle.clap.specs.Words.{first_of, found_of, kind_of, rows_of, subcomm
 ghost use Rattle.clap.specs.declared.error.kind.ErrorKind.TheVariants.{OutOfMemory};
 ghost use Rattle.faxtool.specs.Jobs.{AreDecodeOptionsIn, AreOptionsIn, HasNoJob, HasNoOptions, IsJobOf, IsOutcomeOf, IsRefusalOf};
 ghost use Rattle.faxtool.specs.Jobs.{IsWidthIn, ReadsAs};
-ghost use Rattle.faxtool.specs.Jobs.{ReadsNumber, are_both_standard, coding_named, explains, is_named, modems_named};
+ghost use Rattle.faxtool.specs.Jobs.{ReadsNumber, are_both_standard, coding_named, explains, is_named, modems_named, page_of};
 ghost use Rattle.faxtool.specs.Jobs.{IsLineIn, IsRateIn, IsSpoilIn, IsBusyIn, IsTimesIn, calls_of, has_line, is_normal_wanted};
 ghost use Rattle.faxtool.specs.Jobs.{line_order_named, order_named, status_of};
 ghost use Rattle.calls.specs.declared.losses.BadLine.{BadLine as LineValue};
@@ -49,12 +49,14 @@ pub enum Job {
         /// The name of the page's file.
         input: String,
     },
-    /// Writes the first page in a file as an image.
+    /// Writes a page in a file as an image.
     Decode {
         /// How the page is read; its width is 1 to 2,432 pixels.
         form: PageForm,
         /// What is asked for of the page.
         options: DecodeOptions,
+        /// The page's number in the file, counted from 1.
+        page: u32,
         /// The name of the page's file.
         input: String,
         /// The name of the file that the image goes to.
@@ -338,9 +340,17 @@ fn decode_job(alloc: Global, matches: &ArgMatches<'_>) -> Result<Option<Job>, Al
     Ok(Some(Job::Decode {
         form,
         options,
+        page: page_of(number_in(matches, "page")),
         input: String::from_str(alloc, input)?,
         output: String::from_str(alloc, output)?,
     }))
+}
+
+// The number of the page that is decoded.
+fn page_of(given: Option<u32>) -> u32
+    ensures { result ≡ page_of given }
+{
+    given.unwrap_or(1)
 }
 
 // What is asked for of a page that is decoded.

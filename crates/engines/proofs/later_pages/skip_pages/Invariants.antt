@@ -1,0 +1,6 @@
+use Rattle.std.proofs.Common.{◌≤◌}
+use Rattle.engines.specs.LaterPages.{AreAfter}
+use Rattle.engines.proofs.later_pages.skip_pages.Given as goal
+
+abbrev pub invariant-loop-before : goal.invariant-loop-before
+invariant-loop-before l = AreAfter l.form l.fn.octets.items l.before l.octets.items
