@@ -48,6 +48,7 @@ for program in "$@"; do
     try_told
     try_codes
     try_large_pages
+    try_little_memory
     try_cut_pages
     try_kept
     try_safe

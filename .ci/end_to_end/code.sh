@@ -86,6 +86,19 @@ try_large_pages() {
     done < "$data/large.sums"
 }
 
+# A comb of 20,000 rows, whose code in T.4 is the longest that a page has, 27 MB: a command holds the page, and a code once or not at all.
+try_little_memory() {
+    { printf 'P4\n2432 20000\n'; head -c 6080000 /dev/zero | tr '\0' 'U'; } > "$work/comb.pbm"
+    for code in mh mmr; do
+        for order in lsb msb; do
+            takes_at_most 16384 code --code $code --order $order "$work/comb.pbm" "$work/comb.code"
+            takes_at_most 36864 decode --code $code --order $order --width 2432 "$work/comb.code" "$work/decoded"
+            is_same "$work/decoded" "$work/comb.pbm" "decode of a comb in $code, $order"
+        done
+    done
+    rm "$work/comb.pbm" "$work/comb.code"
+}
+
 # What can't be an image is refused by its first octets, however long it is, and also where they come one by one.
 try_no_image() {
     truncate -s 4G "$work/sparse"

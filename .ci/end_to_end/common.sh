@@ -51,6 +51,18 @@ explains() {
     [ ! -s "$work/output" ] || fails "$* --explain printed something"
 }
 
+# takes_at_most KB WORDS: the program ends well, and never has more memory than this resident, by the system's count.
+takes_at_most() {
+    most=$1
+    shift
+    python3 -B -c 'import resource, subprocess, sys
+subprocess.run(sys.argv[2:], check=True, stdin=subprocess.DEVNULL)
+most = resource.getrusage(resource.RUSAGE_CHILDREN).ru_maxrss
+sys.exit(most > int(sys.argv[1]) and f"{most} KB resident")' "$most" "$program" "$@" > "$work/output" 2> "$work/error" ||
+        fails "faxtool $* in $most KB"
+    count=$((count + 1))
+}
+
 # refuses WORDS: the words are not a command: status 2, a text on standard error and none on standard output.
 refuses() {
     gives 2 "$@"

@@ -4,6 +4,8 @@ mod TurnedBits
 mod Listing
 mod MarkedFrames
 mod HexText
+mod CodedRows
+mod DecodedPages
 mod DecodedRows
 mod PageEnds
 mod LaterPages

@@ -24,7 +24,7 @@ use Rattle.engines.specs.declared.options.PageForm.{PageForm}
 use Rattle.engines.proofs.DecodedRows.{has_row}
 
 -- a fault that isn't want of memory is told with its bit
-at_its_bit : (place : ℕ) (kind : CodeFaultKind) → kind ≢ NoMemory → fault_at place kind ≡ AtBit (kind_number kind) place
+pub at_its_bit : (place : ℕ) (kind : CodeFaultKind) → kind ≢ NoMemory → fault_at place kind ≡ AtBit (kind_number kind) place
 at_its_bit place NoMemory other = absurd (other refl)
 at_its_bit place Truncated other = refl
 at_its_bit place BadCode other = refl

@@ -1,5 +1,5 @@
 -- What the commands that code, show and decode pages do with what they read.
-use Rattle.std.specs.Prelude.{ℕ, ◌≡◌, ◌≢◌, ◌≤◌, ◌<◌, ◌⊎◌, Bool, false, List, [], ◌∷◌, Option, length, Err, MatchResult}
+use Rattle.std.specs.Prelude.{ℕ, ◌≡◌, ◌≢◌, ◌≤◌, ◌<◌, ◌⊎◌, Bool, false, List, [], ◌∷◌, ◌++◌, Option, length, Err, MatchResult}
 use Rattle.std.specs.Io.KnownBytes.{Appends}
 use Rattle.raster.specs.declared.packed.Order.{Order}
 use Rattle.raster.specs.declared.row.Color.{Color}
@@ -16,6 +16,7 @@ use Rattle.run_tables.specs.Faults.{number_of as kind_number}
 use Rattle.page_code.specs.declared.Coding.{Coding}
 use Rattle.page_code.specs.Codings.{IsLongestIn, ReadsIn, code_of}
 use Rattle.page_code.specs.PageCodes.{ReadsPage, RefusesPage}
+use Rattle.page_code.specs.RowCoders.{CodesRows, RowCoding}
 use Rattle.page_code.specs.RowsSoFar.{AreWholeRows}
 use Rattle.engines.specs.Faults.{IsOutside}
 use Rattle.engines.specs.declared.fault.ToolFault.{ToolFault}
@@ -29,6 +30,14 @@ pub record CodesImage (coding : Coding) (order : Order) (before after : Option (
   pub code : List ℕ
   pub coded : FillsOctets order (code_of coding page.width page.rows) code
   pub written : Appends before after code
+
+-- the code of a page, with 0 bits to an octet, is written
+abbrev pub AppendsCode : Coding → Order → ℕ → List (List Color) → Option (List ℕ) → Option (List ℕ) → Type 0
+AppendsCode coding order width rows before after = AppendsSome (FillsOctets order (code_of coding width rows)) before after
+
+-- of the octets that a coder handed out for these rows the first are written, and the others are held
+abbrev pub HoldsCode : RowCoding → List (List Color) → List ℕ → Option (List ℕ) → Option (List ℕ) → Type 0
+HoldsCode coder rows held before after = AppendsSome (λ octets. CodesRows coder rows (octets ++ held)) before after
 
 -- several images were read
 abbrev pub AreSeveral : List ℕ → ToolFault → Type 0
@@ -56,6 +65,11 @@ pub record DecodesPage (coding : Coding) (order : Order) (width : ℕ) (fine : B
   pub read : ReadsPage (ReadsIn coding) width fine (bits_of order octets) page used
   pub rows_are : rows ≡ length page.rows
   pub written : AppendsSome (ArePagesText (page ∷ [])) before after
+
+-- the image of a page is written where the page has a row, and else nothing
+abbrev pub WritesPage : PagePixels → Option (List ℕ) → Option (List ℕ) → Type 0
+WritesPage page before after = (0 < length page.rows → AppendsSome (ArePagesText (page ∷ [])) before after)
+    × (length page.rows ≡ 0 → after ≡ before)
 
 -- the octets read begin with no page's code: the fault's bit and number
 pub record RefusesCode (coding : Coding) (order : Order) (width : ℕ) (octets : List ℕ) (fault : ToolFault) : Type 0 where

@@ -1,24 +1,26 @@
-//! What `decode` gives of octets in memory: an image, what is told of it, and whether all is there that is asked for.
+//! What `decode` gives of octets in memory: a page, what is told of it, and whether all is there that is asked for.
 ghost use Rattle.engines.specs.Answers.{AnswersDecode, after_line, end_text, no_rtc_line, octets_after, page_line, rows_line};
+ghost use Rattle.engines.specs.CodedPages.{WritesPage};
 ghost use Rattle.engines.specs.Decodings.{RefusesDecoding, broken_asked};
 ghost use Rattle.engines.specs.Faults.{IsOutside};
 ghost use Rattle.engines.specs.PageEnds.{HasItsEnd};
 ghost use Rattle.raster.specs.Pixels.{IsWidth};
 ghost use Rattle.std.specs.Io.KnownBytes.{Appends};
-ghost use Rattle.std.specs.Prelude.{◌++◌, ◌↔◌, [], IfErr, IfOk, IsTrue, OnOk, cond};
+ghost use Rattle.std.specs.Prelude.{◌++◌, ◌↔◌, [], ℕ, List, Some, IfErr, IfOk, IsTrue, OnOk, cond};
 
 use crate::decoding::{Broken, Decoded, ReadTo, decode_page};
 use crate::fault::ToolFault;
 use crate::options::{DecodeOptions, PageForm};
 use crate::page_end::has_its_end;
+use raster::Page;
 use std::alloc::Global;
 use std::io::Write;
 
 /// What is given of octets that a page is decoded from.
 #[derive(Debug, Drop)]
 pub struct DecodeAnswer {
-    /// The page's image in Netpbm's raw PBM format, and nothing where it has no row.
-    pub image: Vec<u8>,
+    /// The page, with no row where none can be read.
+    pub page: Page,
     /// What is told of the page, in lines.
     pub told: Vec<u8>,
     /// Whether all is there that is asked for, or the fault of what can't be read.
@@ -111,36 +113,37 @@ pub fn answer_decode(
     options: DecodeOptions,
 ) -> Result<DecodeAnswer, ToolFault>
     requires { IsWidth form.width }
-    ensures answered { IfOk result (λ answer. AnswersDecode form options octets.now answer.image.items answer.told.items answer.end) }
+    ensures answered { IfOk result (λ answer. (image : List ℕ) → WritesPage answer.page (Some []) (Some image)
+        → AnswersDecode form options octets.now image answer.told.items answer.end) }
     ensures refused { IfErr result (RefusesDecoding (broken_asked options.salvage options.repair) form octets.now) }
 {
     let broken = Broken::asked(options.salvage, options.repair);
     let Decoded {
-        image,
+        page,
         lines,
-        rows,
         read_to,
     } = decode_page(alloc, octets, form, broken)?;
+    let rows = page.rows().len();
     let mut told = lines;
     match read_to {
         ReadTo::End(bits) => {
             let has_end = tell_end(octets, form, options.verbose, rows, bits, &mut told)?;
             let end = Ok(has_end || !options.whole);
-            Ok(DecodeAnswer { image, told, end })
+            Ok(DecodeAnswer { page, told, end })
         }
         ReadTo::Lines(_) => {
             tell_rows(options.verbose, rows, &mut told)?;
             let end = Ok(true);
-            Ok(DecodeAnswer { image, told, end })
+            Ok(DecodeAnswer { page, told, end })
         }
         ReadTo::NoEnd(_) => {
             tell_rows(options.verbose, rows, &mut told)?;
             let end = Ok(!options.whole);
-            Ok(DecodeAnswer { image, told, end })
+            Ok(DecodeAnswer { page, told, end })
         }
         ReadTo::Fault(fault) => {
             let end = Err(fault);
-            Ok(DecodeAnswer { image, told, end })
+            Ok(DecodeAnswer { page, told, end })
         }
     }
 }

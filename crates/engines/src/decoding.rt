@@ -1,14 +1,17 @@
-//! The way of decoding a page that is asked for, and what it gives, in memory.
+//! The way of decoding a page that is asked for, and what it gives.
+ghost use Rattle.engines.specs.CodedPages.{RefusesShow, WritesPage};
 ghost use Rattle.engines.specs.Decodings.{GivesPage, RefusesDecoding, broken_asked};
+ghost use Rattle.engines.specs.Faults.{IsOutside};
 ghost use Rattle.raster.specs.Pixels.{IsWidth};
-ghost use Rattle.std.specs.Prelude.{◌≡◌, IfErr, IfOk};
+ghost use Rattle.std.specs.Prelude.{◌≡◌, [], ℕ, List, Some, IfErr, IfOk, length};
 
-use crate::fault::ToolFault;
+use crate::fault::{NO_MEMORY, ToolFault};
 use crate::options::PageForm;
-use crate::pages::{decode_engine, salvage_engine};
-use crate::repair::repair_engine;
+use crate::repair::repair_lines;
 use crate::repair_t6::repair_t6;
 use page_code::Coding;
+use raster::Page;
+use run_tables::CodeFaultKind;
 use std::alloc::Global;
 
 /// What is given of a page that can't be read.
@@ -54,19 +57,75 @@ pub enum ReadTo {
 /// What is given of a coded page.
 #[derive(Debug, Drop)]
 pub struct Decoded {
-    /// Its image in Netpbm's raw PBM format, and nothing where it has no row.
-    pub image: Vec<u8>,
+    /// The page, with no row where none can be read.
+    pub page: Page,
     /// A line for each repaired row, and one with their number, if there is one.
     pub lines: Vec<u8>,
-    /// How many rows the image has.
-    pub rows: usize,
     /// How far the page was read.
     pub read_to: ReadTo,
 }
 
+/// The page of octets that begin with its code.
+fn decode_whole(alloc: Global, octets: &[u8], form: PageForm) -> Result<Decoded, ToolFault>
+    requires { IsWidth form.width }
+    ensures given { IfOk result (λ given. (image : List ℕ) → WritesPage given.page (Some []) (Some image)
+        → GivesPage Broken.Nothing form octets.now given.read_to (length given.page.rows) image given.lines.items) }
+    ensures refused { IfErr result (RefusesShow form.coding form.order form.width octets.now) }
+{
+    let PageForm {
+        coding,
+        order,
+        width,
+        fine,
+    } = form;
+    let (page, bits) = coding.decode(alloc, octets, order, width, fine)?;
+    let lines = Vec::new(alloc);
+    let read_to = ReadTo::End(bits);
+    Ok(Decoded {
+        page,
+        lines,
+        read_to,
+    })
+}
+
+/// The page of octets that begin with its code, or its whole rows before the bit where they are refused.
+fn salvage_rows(alloc: Global, octets: &[u8], form: PageForm) -> Result<Decoded, ToolFault>
+    requires { IsWidth form.width }
+    ensures given { IfOk result (λ given. (image : List ℕ) → WritesPage given.page (Some []) (Some image)
+        → GivesPage Broken.WholeRows form octets.now given.read_to (length given.page.rows) image given.lines.items) }
+    ensures refused { IfErr result IsOutside }
+{
+    let PageForm {
+        coding,
+        order,
+        width,
+        fine,
+    } = form;
+    let lines = Vec::new(alloc);
+    let fault = match coding.decode(alloc, octets, order, width, fine) {
+        Ok((page, bits)) => {
+            let read_to = ReadTo::End(bits);
+            return Ok(Decoded {
+                page,
+                lines,
+                read_to,
+            });
+        }
+        Err(fault) if fault.kind == CodeFaultKind::NoMemory => return Err(NO_MEMORY),
+        Err(fault) => ToolFault::from(fault),
+    };
+    let page = coding.salvage(alloc, octets, order, width, fine)?;
+    let read_to = ReadTo::Fault(fault);
+    Ok(Decoded {
+        page,
+        lines,
+        read_to,
+    })
+}
+
 /// Decodes octets that begin with the code of a page of this form, with a width of 1 to 2,432 pixels, in the way that is
-/// asked for: as `decode_engine`, `salvage_engine`, `repair_engine` or `repair_t6` does. Errs where no page is given: at the
-/// bit where they are refused, and with 8 and 9 where memory is.
+/// asked for: to the page whose image `decode_engine`, `salvage_engine` or `repair_engine` writes, or what `repair_t6` gives. Errs where
+/// no page is given: at the bit where they are refused, and with 9 where memory is.
 pub fn decode_page(
     alloc: Global,
     octets: &[u8],
@@ -74,36 +133,16 @@ pub fn decode_page(
     broken: Broken,
 ) -> Result<Decoded, ToolFault>
     requires { IsWidth form.width }
-    ensures given { IfOk result (λ given. GivesPage broken form octets.now given.read_to given.rows given.image.items given.lines.items) }
+    ensures given { IfOk result (λ given. (image : List ℕ) → WritesPage given.page (Some []) (Some image)
+        → GivesPage broken form octets.now given.read_to (length given.page.rows) image given.lines.items) }
     ensures refused { IfErr result (RefusesDecoding broken form octets.now) }
 {
-    let mut reader = octets;
-    let mut image = Vec::new(alloc);
-    let mut lines = Vec::new(alloc);
-    let (rows, read_to) = match broken {
-        Broken::Nothing => {
-            let (rows, bits) = decode_engine(alloc, &mut reader, &mut image, form)?;
-            (rows, ReadTo::End(bits))
-        }
-        Broken::WholeRows => {
-            let salvage = salvage_engine(alloc, &mut reader, &mut image, form)?;
-            match salvage.end {
-                Ok(bits) => (salvage.rows, ReadTo::End(bits)),
-                Err(fault) => (salvage.rows, ReadTo::Fault(fault)),
-            }
-        }
+    match broken {
+        Broken::Nothing => decode_whole(alloc, octets, form),
+        Broken::WholeRows => salvage_rows(alloc, octets, form),
         Broken::AllRows => match form.coding {
-            Coding::OneDim => {
-                let repair = repair_engine(alloc, &mut reader, &mut image, &mut lines, form)?;
-                (repair.rows, ReadTo::Lines(repair.repaired))
-            }
-            Coding::T6 => return repair_t6(alloc, octets, form),
+            Coding::OneDim => repair_lines(alloc, octets, form),
+            Coding::T6 => repair_t6(alloc, octets, form),
         },
-    };
-    Ok(Decoded {
-        image,
-        lines,
-        rows,
-        read_to,
-    })
+    }
 }

@@ -1,5 +1,6 @@
 //! Pages of a file one after another, and which of them is decoded.
 
+ghost use Rattle.engines.specs.CodedPages.{WritesPage};
 ghost use Rattle.engines.specs.Decodings.{RefusesDecoding, broken_asked};
 ghost use Rattle.engines.specs.Faults.{IsOutside};
 ghost use Rattle.engines.specs.LaterPages.{AfterPage, AnswersPage, AnswersReached, AreAfter, IsFrom, IsLater, IsLaterOneDim, IsLaterT6, Reaches};
@@ -11,13 +12,14 @@ ghost use Rattle.raster.specs.Packed.{bits_of, place_in};
 ghost use Rattle.raster.specs.Pixels.{IsWidth};
 ghost use Rattle.std.specs.Int.{bit_at};
 ghost use Rattle.std.specs.Io.KnownBytes.{Appends};
-ghost use Rattle.std.specs.Prelude.{◌≡◌, ◌≢◌, ◌≤◌, ◌<◌, ◌+◌, ◌-◌, ◌*◌, ◌⊎◌, ℕ};
+ghost use Rattle.std.specs.Prelude.{◌≡◌, ◌≢◌, ◌≤◌, ◌<◌, ◌+◌, ◌-◌, ◌*◌, ◌⊎◌, [], ℕ, List, Some};
 ghost use Rattle.std.specs.Prelude.{IfErr, IfOk, IfSome, OnErr, OnOk, drop, length};
 
 use crate::answer::{DecodeAnswer, answer_decode};
 use crate::fault::{NO_MEMORY, ToolFault};
 use crate::options::{DecodeOptions, PageForm};
 use page_code::Coding;
+use raster::Page;
 use raster::packed::{Order, bit_of};
 use run_tables::{CodeFault, CodeFaultKind};
 use std::alloc::Global;
@@ -226,17 +228,21 @@ fn answer_reached(
     octet: usize,
 ) -> Result<DecodeAnswer, ToolFault>
     requires { IsWidth form.width }
-    ensures answered { IfOk result (λ answer. AnswersReached form options page octet octets.now answer.image.items answer.told.items
-        answer.end) }
+    ensures answered { IfOk result (λ answer. (image : List ℕ) → WritesPage answer.page (Some []) (Some image)
+        → AnswersReached form options page octet octets.now image answer.told.items answer.end) }
     ensures refused { IfErr result (λ fault. IsOutside fault
         ⊎ RefusesDecoding (broken_asked options.salvage options.repair) form octets.now fault) }
 {
     let mut begun = Vec::new(alloc);
     tell_begins(options.verbose, page, octet, &mut begun)?;
-    let DecodeAnswer { image, told, end } = answer_decode(alloc, octets, form, options)?;
+    let DecodeAnswer {
+        page: decoded,
+        told,
+        end,
+    } = answer_decode(alloc, octets, form, options)?;
     begun.write_all(&told)?;
     Ok(DecodeAnswer {
-        image,
+        page: decoded,
         told: begun,
         end,
     })
@@ -253,27 +259,35 @@ pub fn answer_page(
     page: u32,
 ) -> Result<DecodeAnswer, ToolFault>
     requires { IsWidth form.width }
-    ensures answered { IfOk result (λ answer. AnswersPage form options page octets.old.items octets.new.items
-        answer.image.items answer.told.items answer.end) }
+    ensures answered { IfOk result (λ answer. (image : List ℕ) → WritesPage answer.page (Some []) (Some image)
+        → AnswersPage form options page octets.old.items octets.new.items image answer.told.items answer.end) }
     ensures refused { IfErr result (λ fault. IsOutside fault ⊎ (AreAfter form octets.old.items (page - 1) octets.new.items
         × RefusesDecoding (broken_asked options.salvage options.repair) form octets.new.items fault)) }
 {
     let size = octets.len();
     let reached = skip_pages(alloc, octets, form, page.saturating_sub(1))?;
     let octet = size.saturating_sub(octets.len());
+    let none = Page::new(alloc, form.width, form.fine)?;
     let mut told = Vec::new(alloc);
-    let image = Vec::new(alloc);
     match reached {
         Reached::Page => answer_reached(alloc, octets, form, options, page, octet),
         Reached::End(count) => {
             tell_count(count, &mut told)?;
             let end = Err(FEWER_PAGES);
-            Ok(DecodeAnswer { image, told, end })
+            Ok(DecodeAnswer {
+                page: none,
+                told,
+                end,
+            })
         }
         Reached::Broken(number, fault) => {
             tell_broken(number, octet, &mut told)?;
             let end = Err(fault);
-            Ok(DecodeAnswer { image, told, end })
+            Ok(DecodeAnswer {
+                page: none,
+                told,
+                end,
+            })
         }
     }
 }

@@ -3,6 +3,7 @@
 
 mod answer;
 mod captured;
+mod coded;
 mod decoding;
 mod explain;
 mod fault;
@@ -25,6 +26,7 @@ mod texts;
 
 pub use crate::answer::{DecodeAnswer, answer_decode};
 pub use crate::captured::{Captured, captured_in, captured_pages};
+pub use crate::coded::{read_image, write_code};
 pub use crate::decoding::{Broken, Decoded, ReadTo, decode_page};
 pub use crate::explain::{Explained, Known, is_shown};
 pub use crate::fault::{FAILED, NO_MEMORY, ToolFault};
@@ -36,7 +38,9 @@ pub use crate::line_fault::LineFault;
 pub use crate::missing::{Missing, Stored};
 pub use crate::numbers::PageNumbers;
 pub use crate::options::{DecodeOptions, PageForm};
-pub use crate::pages::{Salvage, code_engine, decode_engine, salvage_engine, show_engine};
+pub use crate::pages::{
+    Salvage, code_engine, decode_engine, salvage_engine, show_engine, write_some,
+};
 pub use crate::refused::{Expected, refused_at};
 pub use crate::repair::{Repair, repair_engine};
 pub use crate::texts::ContentText;

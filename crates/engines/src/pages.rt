@@ -5,10 +5,11 @@ ghost use Rattle.raster.specs.PbmText.{AppendsSome, ArePagesText};
 ghost use Rattle.raster.specs.Pixels.{IsWidth};
 ghost use Rattle.std.specs.Prelude.{◌≡◌, ◌<◌, ◌⊎◌, ◌∷◌, [], IfErr, IfOk, IfSome, OnOk, length};
 
+use crate::coded::{read_image, write_code};
 use crate::fault::{NO_MEMORY, ToolFault};
 use crate::options::PageForm;
 use page_code::Coding;
-use raster::{Page, read_first_pbm, write_pbm, write_text};
+use raster::{Page, write_pbm, write_text};
 use run_tables::{CodeFaultKind, Order};
 use std::alloc::Global;
 use std::io::{Read, Write};
@@ -22,11 +23,7 @@ pub struct Salvage {
     pub end: Result<u128, ToolFault>,
 }
 
-/// The fault of an input of more than one image.
-const SEVERAL_PAGES: ToolFault = ToolFault::No(27);
-
-/// Reads a PBM file of one image and writes the image's code, its last octet filled with 0 bits. Of a file of
-/// several images it keeps the first alone.
+/// Reads a PBM file of one image, as `read_image` does, and writes the image's code, as `write_code` does.
 /// Errs with the first fault of the file or with 27 where it has several images, and then nothing is
 /// written; with 8 where the reader or the writer fails, and with 9.
 pub fn code_engine<R: Read, W: Write>(
@@ -41,14 +38,8 @@ pub fn code_engine<R: Read, W: Write>(
     ensures refused { IfErr result (λ fault. IfSome (R.remaining reader.old) (λ octets. RefusesImage octets fault)) }
     ensures unwritten { IfErr result (λ fault. IsOutside fault ⊎ (writer.new ≡ writer.old)) }
 {
-    let (page, count) = read_first_pbm(alloc, reader, false)?;
-    if count != 1 {
-        return Err(SEVERAL_PAGES);
-    }
-    let mut octets = Vec::new(alloc);
-    coding.encode(alloc, &page, order, &mut octets)?;
-    writer.write_all(&octets)?;
-    Ok(())
+    let page = read_image(alloc, reader)?;
+    write_code(alloc, &page, coding, order, writer)
 }
 
 /// Reads octets that begin with the code of a page of this width in pixels, 1 to 2,432, and writes the
@@ -148,7 +139,7 @@ pub fn salvage_engine<R: Read, W: Write>(
 }
 
 /// Writes a page as an image where it has rows, and answers how many.
-pub(crate) fn write_some<W: Write>(page: Page, writer: &mut W) -> Result<usize, ToolFault>
+pub fn write_some<W: Write>(page: Page, writer: &mut W) -> Result<usize, ToolFault>
     ensures rows { IfOk result (λ rows. rows ≡ length page.rows) }
     ensures written { OnOk result (0 < length page.rows →
         AppendsSome (ArePagesText (page ∷ [])) (W.contents writer.old) (W.contents writer.new)) }

@@ -1,13 +1,16 @@
 //! What `decode --repair` does: an image of a coded page with rows that can't be read, over any reader and any writers.
+ghost use Rattle.engines.specs.CodedPages.{WritesPage};
+ghost use Rattle.engines.specs.Decodings.{GivesRepaired};
 ghost use Rattle.engines.specs.Faults.{IsOutside};
 ghost use Rattle.engines.specs.Repairs.{RefusesRepair, RepairsPage, count_line, repaired_line, repaired_text};
 ghost use Rattle.raster.specs.Pixels.{IsWidth};
 ghost use Rattle.std.specs.Io.KnownBytes.{Appends};
-ghost use Rattle.std.specs.Prelude.{IfErr, IfOk, IfSome, OnOk};
+ghost use Rattle.std.specs.Prelude.{[], ℕ, List, Some, IfErr, IfOk, IfSome, OnOk, length};
 
+use crate::decoding::{Decoded, ReadTo};
 use crate::fault::ToolFault;
 use crate::options::PageForm;
-use page_code::{OneDim, RepairedPage, RepairedRow};
+use page_code::{Coding, OneDim, RepairedPage, RepairedRow};
 use raster::write_pbm;
 use std::alloc::Global;
 use std::io::{Read, Write};
@@ -52,6 +55,31 @@ pub fn repair_engine<R: Read, W: Write, L: Write>(
     Ok(Repair {
         rows,
         repaired: repaired.len(),
+    })
+}
+
+/// The page of octets that begin with its lines, as `repair_engine` writes it, and the lines of its repaired rows.
+pub(crate) fn repair_lines(
+    alloc: Global,
+    octets: &[u8],
+    form: PageForm,
+) -> Result<Decoded, ToolFault>
+    requires { IsWidth form.width }
+    ensures given { IfOk result (λ given. (image : List ℕ) → WritesPage given.page (Some []) (Some image)
+        → GivesRepaired Coding.OneDim form octets.now given.read_to (length given.page.rows) image given.lines.items) }
+    ensures refused { IfErr result (RefusesRepair form.order form.width octets.now) }
+{
+    let RepairedPage { page, repaired } = OneDim::repair(
+        alloc, octets, form.order, form.width, form.fine,
+    )?;
+    let mut lines = Vec::new(alloc);
+    write_repaired(&repaired, &mut lines)?;
+    let count = repaired.len();
+    let read_to = ReadTo::Lines(count);
+    Ok(Decoded {
+        page,
+        lines,
+        read_to,
     })
 }
 

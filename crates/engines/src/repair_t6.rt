@@ -1,14 +1,14 @@
 //! What `decode --repair` does with a page in the two-dimensional code.
+ghost use Rattle.engines.specs.CodedPages.{WritesPage};
 ghost use Rattle.engines.specs.Faults.{IsOutside};
 ghost use Rattle.engines.specs.RepairsT6.{RepairsT6, no_eofb_line};
 ghost use Rattle.raster.specs.Pixels.{IsWidth};
 ghost use Rattle.std.specs.Io.KnownBytes.{Appends};
-ghost use Rattle.std.specs.Prelude.{IfErr, IfOk, OnOk};
+ghost use Rattle.std.specs.Prelude.{[], ℕ, List, Some, IfErr, IfOk, OnOk, length};
 
 use crate::decoding::{Decoded, ReadTo};
 use crate::fault::{NO_MEMORY, ToolFault};
 use crate::options::PageForm;
-use crate::pages::write_some;
 use page_code::{Coding, RowsToEnd, T6};
 use run_tables::CodeFaultKind;
 use std::alloc::Global;
@@ -31,7 +31,8 @@ fn tell_no_eofb<W: Write>(rows: usize, bit: u128, writer: &mut W) -> Result<(), 
 /// and that is no fault. Errs with 9 where memory is refused, and with 8.
 pub(crate) fn repair_t6(alloc: Global, octets: &[u8], form: PageForm) -> Result<Decoded, ToolFault>
     requires { IsWidth form.width }
-    ensures given { IfOk result (λ given. RepairsT6 form octets.now given.read_to given.rows given.image.items given.lines.items) }
+    ensures given { IfOk result (λ given. (image : List ℕ) → WritesPage given.page (Some []) (Some image)
+        → RepairsT6 form octets.now given.read_to (length given.page.rows) image given.lines.items) }
     ensures refused { IfErr result IsOutside }
 {
     let PageForm {
@@ -40,16 +41,13 @@ pub(crate) fn repair_t6(alloc: Global, octets: &[u8], form: PageForm) -> Result<
         width,
         fine,
     } = form;
-    let mut image = Vec::new(alloc);
     let mut lines = Vec::new(alloc);
     let fault = match Coding::T6.decode(alloc, octets, order, width, fine) {
         Ok((page, bits)) => {
-            let rows = write_some(page, &mut image)?;
             let read_to = ReadTo::End(bits);
             return Ok(Decoded {
-                image,
+                page,
                 lines,
-                rows,
                 read_to,
             });
         }
@@ -57,22 +55,20 @@ pub(crate) fn repair_t6(alloc: Global, octets: &[u8], form: PageForm) -> Result<
         Err(fault) => ToolFault::from(fault),
     };
     let RowsToEnd { page, bit, at_end } = T6::rows_to_end(alloc, octets, order, width, fine)?;
-    let rows = write_some(page, &mut image)?;
+    let rows = page.rows().len();
     if at_end && rows > 0 {
         tell_no_eofb(rows, bit, &mut lines)?;
         let read_to = ReadTo::NoEnd(bit);
         return Ok(Decoded {
-            image,
+            page,
             lines,
-            rows,
             read_to,
         });
     }
     let read_to = ReadTo::Fault(fault);
     Ok(Decoded {
-        image,
+        page,
         lines,
-        rows,
         read_to,
     })
 }

@@ -103,7 +103,7 @@ fn open_file(
         return Ok(Direction(None));
     };
     let name = format!(in rt.alloc(); "{folder}/{name}")?;
-    let (file, growing) = outputs::grow(rt, name, notes)?;
+    let (file, growing) = outputs::grow(rt, name, Part::Bits, notes)?;
     let noting = Noting { file, failed: None };
     let writer = BufWriter::with_capacity(rt.alloc(), WRITTEN_AT_ONCE, noting)?;
     Ok(Direction(Some(OpenFile { writer, growing })))

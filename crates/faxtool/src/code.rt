@@ -1,24 +1,27 @@
 //! The command `code`.
 
-use crate::files::{InAndOut, read_input};
-use crate::notes::Notes;
+use crate::files::{self, InAndOut};
+use crate::notes::{Notes, Part};
 use crate::outputs;
-use engines::{ToolFault, code_engine};
+use engines::{ToolFault, read_image, write_code};
 use page_code::Coding;
 use run_tables::Order;
 
-/// Codes an image's file. The output's file is opened only once its whole content is made.
+/// Codes an image's file. The output's file is opened only once the image is read, and its code is written row by row: neither the
+/// image's octets nor those of the code are held. Where the code can't be written, no file of it is left.
 pub fn code_file(
     rt: &HostRuntime,
     coding: Coding,
     order: Order,
-    files: InAndOut<'_>,
+    names: InAndOut<'_>,
     notes: &mut Notes,
 ) -> Result<(), ToolFault> {
-    read_input(rt, files.input, notes)?;
-    let mut reader = notes.octets.as_slice();
-    let mut octets = Vec::new(rt.alloc());
-    let coded = code_engine(rt.alloc(), &mut reader, &mut octets, coding, order);
-    coded.map_err(|fault| notes.in_memory(fault))?;
-    outputs::write(rt, files.output, octets.as_slice(), notes)
+    let mut reader = files::open(rt, names.input, Part::Input, notes)?;
+    let read = read_image(rt.alloc(), &mut reader);
+    reader.close(notes);
+    let page = read?;
+    let mut output = outputs::open(rt, names.output, notes)?;
+    let written = write_code(rt.alloc(), &page, coding, order, &mut output);
+    output.end(written.is_ok(), notes)?;
+    written
 }

@@ -1,33 +1,63 @@
 //! The command `decode`.
 
+ghost use Rattle.engines.specs.Faults.{IsOutside};
 ghost use Rattle.raster.specs.Pixels.{IsWidth};
+ghost use Rattle.std.specs.Prelude.{IfErr};
 
 use crate::files::{InAndOut, read_input};
 use crate::notes::Notes;
-use crate::outputs;
-use engines::{DecodeAnswer, DecodeOptions, PageForm, ToolFault, answer_page};
-use std::io::Write;
+use crate::outputs::{self, Output};
+use engines::{DecodeAnswer, DecodeOptions, PageForm, ToolFault, answer_page, write_some};
+use raster::Page;
+use std::io::{BufWriter, Write};
+
+/// How many octets of an image are written at once.
+const WRITTEN_AT_ONCE: usize = 65536;
 
 /// Decodes the page of this number in a file, counted from 1, in the way that is asked for, and tells what is asked for of it on
-/// standard error. Answers
-/// whether all is there that is asked for. The image's file is opened only once its whole content is made, and where there
-/// is a row.
+/// standard error. Answers whether all is there that is asked for. The image's file is opened only once the whole page is read, and
+/// where there is a row.
 pub fn decode_file(
     rt: &HostRuntime,
     form: PageForm,
     options: DecodeOptions,
-    page: u32,
+    number: u32,
     files: InAndOut<'_>,
     notes: &mut Notes,
 ) -> Result<bool, ToolFault>
     requires { IsWidth form.width }
 {
     read_input(rt, files.input, notes)?;
-    let answer = answer_page(rt.alloc(), &mut notes.octets, form, options, page);
-    let DecodeAnswer { image, told, end } = answer.map_err(|fault| notes.in_memory(fault))?;
-    if !image.is_empty() {
-        outputs::write(rt, files.output, image.as_slice(), notes)?;
+    let answer = answer_page(rt.alloc(), &mut notes.octets, form, options, number);
+    let DecodeAnswer { page, told, end } = answer.map_err(|fault| notes.in_memory(fault))?;
+    if !page.rows().is_empty() {
+        write_page(rt, files.output, page, notes)?;
     }
     rt.stderr().write_all(told.as_slice())?;
     end
+}
+
+/// Writes a page's image as an output. Where it can't be written, no file of it is left.
+fn write_page(
+    rt: &HostRuntime,
+    name: &str,
+    page: Page,
+    notes: &mut Notes,
+) -> Result<(), ToolFault>
+    ensures { IfErr result IsOutside }
+{
+    let mut output = outputs::open(rt, name, notes)?;
+    let written = write_image(rt, page, &mut output);
+    output.end(written.is_ok(), notes)?;
+    written
+}
+
+/// Writes the rows of a page's image together.
+fn write_image(rt: &HostRuntime, page: Page, output: &mut Output<'_>) -> Result<(), ToolFault>
+    ensures { IfErr result IsOutside }
+{
+    let mut writer = BufWriter::with_capacity(rt.alloc(), WRITTEN_AT_ONCE, output)?;
+    let _rows = write_some(page, &mut writer)?;
+    writer.flush()?;
+    Ok(())
 }

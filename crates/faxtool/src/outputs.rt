@@ -222,30 +222,37 @@ fn make(rt: &HostRuntime, name: &str, private: bool) -> io::Result<Option<File>>
 /// A file that is written while a job goes on: beside its place where that is free or a regular file's, or at it.
 #[derive(Drop)]
 pub struct Growing {
+    part: Part,
     name: String,
     beside: Option<String>,
 }
 
 /// Makes the file that grows for a place. What is there stays until the file is ended. Errs with 8 where it can't be made, which is
 /// noted, and with 9.
-pub fn grow(rt: &HostRuntime, name: String, notes: &mut Notes) -> Result<(File, Growing), ToolFault>
+pub fn grow(
+    rt: &HostRuntime,
+    name: String,
+    part: Part,
+    notes: &mut Notes,
+) -> Result<(File, Growing), ToolFault>
     ensures { IfErr result IsOutside }
 {
-    let grown = begin(rt, name);
+    let grown = begin(rt, name, part);
     if let Err(error) = &grown {
-        notes.blame(Part::Bits, error.kind());
+        notes.blame(part, error.kind());
     }
     Ok(grown?)
 }
 
-fn begin(rt: &HostRuntime, name: String) -> io::Result<(File, Growing)> {
+fn begin(rt: &HostRuntime, name: String, part: Part) -> io::Result<(File, Growing)> {
     check_writable(rt, name.as_str())?;
     let permissions = match place_of(rt, name.as_str())? {
         Place::Free => None,
         Place::Regular(permissions) => Some(permissions),
         Place::Other => {
             let file = File::create(rt, name.as_str())?;
-            return Ok((file, Growing { name, beside: None }));
+            let beside = None;
+            return Ok((file, Growing { part, name, beside }));
         }
     };
     let made = make_beside(rt, name.as_str(), permissions.is_some())?;
@@ -256,7 +263,7 @@ fn begin(rt: &HostRuntime, name: String) -> io::Result<(File, Growing)> {
         }
     }
     let beside = Some(made.name);
-    Ok((made.file, Growing { name, beside }))
+    Ok((made.file, Growing { part, name, beside }))
 }
 
 impl Growing {
@@ -264,7 +271,7 @@ impl Growing {
     pub fn end(self, rt: &HostRuntime, is_whole: bool, notes: &mut Notes) -> Result<(), ToolFault>
         ensures { IfErr result IsOutside }
     {
-        let Growing { name, beside } = self;
+        let Growing { part, name, beside } = self;
         let Some(beside) = beside else {
             return Ok(());
         };
@@ -277,9 +284,74 @@ impl Growing {
             let _removed = fs::remove_file(rt, beside.as_str());
         }
         if let Err(error) = &ended {
-            notes.blame(Part::Bits, error.kind());
+            notes.blame(part, error.kind());
         }
         Ok(ended?)
+    }
+}
+
+/// An output that is written while it is made: a file that grows, or standard output, and why writing failed.
+#[derive(Drop)]
+pub struct Output<'a> {
+    rt: &'a HostRuntime,
+    file: Option<(File, Growing)>,
+    failed: Option<ErrorKind>,
+}
+
+/// Opens an output: a file as `grow` makes it, or standard output. Errs with 8 where it can't be made, which is noted, and with 9.
+pub fn open<'a>(
+    rt: &'a HostRuntime,
+    name: &str,
+    notes: &mut Notes,
+) -> Result<Output<'a>, ToolFault>
+    ensures { IfErr result IsOutside }
+{
+    let file = if name == STANDARD {
+        None
+    } else {
+        let name = String::from_str(rt.alloc(), name)?;
+        Some(grow(rt, name, Part::Output, notes)?)
+    };
+    Ok(Output {
+        rt,
+        file,
+        failed: None,
+    })
+}
+
+impl Write for Output<'_> {
+    fn write(&mut self, octets: &[u8]) -> io::Result<usize> {
+        let written = match &mut self.file {
+            Some((file, _)) => file.write(octets),
+            None => io::writer(self.rt).write(octets),
+        };
+        self.failed = match &written {
+            Ok(0) if !octets.is_empty() => Some(ErrorKind::WriteZero),
+            Ok(_) => None,
+            Err(error) => Some(error.kind()),
+        };
+        written
+    }
+
+    fn flush(&mut self) -> io::Result<()> {
+        Ok(())
+    }
+}
+
+impl Output<'_> {
+    /// Ends the output, and notes why writing it failed: a file is put into its place where it is whole, and else removed. Errs with 8
+    /// where it can't be, which is noted, and with 9.
+    pub fn end(self, is_whole: bool, notes: &mut Notes) -> Result<(), ToolFault>
+        ensures { IfErr result IsOutside }
+    {
+        let Output { rt, file, failed } = self;
+        if let Some(kind) = failed {
+            notes.blame(Part::Output, kind);
+        }
+        match file {
+            Some((_, growing)) => growing.end(rt, is_whole, notes),
+            None => Ok(()),
+        }
     }
 }
 

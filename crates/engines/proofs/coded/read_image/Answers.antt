@@ -1,6 +1,6 @@
--- What the check asks of `code_engine`.
+-- What the check asks of `read_image`.
 use Rattle.engines.proofs.FirstImage.{are_several}
-use Rattle.engines.proofs.pages.code_engine.Goals as goal
+use Rattle.engines.proofs.coded.read_image.Goals as goal
 
 pub returns-then-count-ne1-clause-refused : goal.returns-then-count-ne1-clause-refused
 returns-then-count-ne1-clause-refused g c =
