@@ -38,12 +38,7 @@ pub fn decode_file(
 }
 
 /// Writes a page's image as an output. Where it can't be written, no file of it is left.
-fn write_page(
-    rt: &HostRuntime,
-    name: &str,
-    page: Page,
-    notes: &mut Notes,
-) -> Result<(), ToolFault>
+fn write_page(rt: &HostRuntime, name: &str, page: Page, notes: &mut Notes) -> Result<(), ToolFault>
     ensures { IfErr result IsOutside }
 {
     let mut output = outputs::open(rt, name, notes)?;
