@@ -17,15 +17,15 @@ use Rattle.page_code.proofs.OneDimension.ZerosBefore.{length-eol, none_zeros, ze
 use Rattle.engines.specs.LaterPages.{AfterPage, AreAfter, BeginsByEol, IsFrom, IsLater, IsLaterIn, IsLaterOneDim, NothingLeft}
 use Rattle.engines.specs.declared.options.PageForm.{PageForm}
 
--- EOLs were read from the bit `used` on up to a place, and the last of them begins at the bit `start`
+-- EOLs were read from the bit `used` on up to a place, and the last of them begins without its fill at the bit `start`
 pub record AfterEols (used : ℕ) (bits : List Bool) (place start : ℕ) : Type 0 where
   pub before : List ℕ
   pub last : ℕ
   pub long : AllByRecursion (λ count. 11 ≤ count) before
   pub long_last : 11 ≤ last
   pub split : drop used bits ≡ eol_words before ++ (eol_word last ++ drop place bits)
-  pub start_is : start ≡ used + length (eol_words before)
-  pub place_is : place ≡ start + (last + 1)
+  pub start_is : start ≡ used + length (eol_words before) + (last - 11)
+  pub place_is : place ≡ used + length (eol_words before) + (last + 1)
 
 -- no EOL was read yet, and the next octet begins at the bit `start`; or some were
 abbrev pub Standing : ℕ → List Bool → ℕ → ℕ → Type 0
@@ -54,15 +54,15 @@ eol_there bits place zeros is =
 
 -- one EOL more
 pub one_eol : (used : ℕ) (bits : List Bool) (place start zeros : ℕ) → Standing used bits place start
-    → zeros_before (drop place bits) ≡ Some zeros → 11 ≤ zeros → Standing used bits (place + (zeros + 1)) place
+    → zeros_before (drop place bits) ≡ Some zeros → 11 ≤ zeros → Standing used bits (place + (zeros + 1)) (place + zeros - 11)
 one_eol used bits place start zeros (inl (at, next)) is long = inr (record {
   before = [];
   last = zeros;
   long = tt;
   long_last = long;
   split = ap (λ (k : ℕ). drop k bits) (sym at) ∙ eol_there bits place zeros is;
-  start_is = omega (arith, at);
-  place_is = refl;
+  start_is = omega (arith, at, long);
+  place_is = omega (arith, at);
 })
 one_eol used bits place start zeros (inr eols) is long = inr (record {
   before = eols.before ++ eols.last ∷ [];
@@ -72,13 +72,13 @@ one_eol used bits place start zeros (inr eols) is long = inr (record {
   split = eols.split ∙ (ap (λ (l : List Bool). eol_words eols.before ++ (eol_word eols.last ++ l)) (eol_there bits place zeros is)
       ∙ (sym (append_assoc (eol_words eols.before) (eol_word eols.last) (eol_word zeros ++ drop (place + (zeros + 1)) bits))
       ∙ ap (λ (l : List Bool). l ++ (eol_word zeros ++ drop (place + (zeros + 1)) bits)) (sym (eols_push eols.before eols.last))));
-  start_is =
-      let size : length (eol_words (eols.before ++ eols.last ∷ [])) ≡ length (eol_words eols.before) + (eols.last + 1) =
-      ap length (eols_push eols.before eols.last) ∙ (length-append (eol_words eols.before) (eol_word eols.last)
-      ∙ ap (λ (n : ℕ). length (eol_words eols.before) + n) (length-eol eols.last)) in
-      omega (arith, size, eols.start_is, eols.place_is);
-  place_is = refl;
+  start_is = omega (arith, size, eols.place_is, long);
+  place_is = omega (arith, size, eols.place_is);
 })
+  where
+    size : length (eol_words (eols.before ++ eols.last ∷ [])) ≡ length (eol_words eols.before) + (eols.last + 1)
+    size = ap length (eols_push eols.before eols.last) ∙ (length-append (eol_words eols.before) (eol_word eols.last)
+        ∙ ap (λ (n : ℕ). length (eol_words eols.before) + n) (length-eol eols.last))
 
 -- a page begins
 pub page_there : (used : ℕ) (bits : List Bool) (place start zeros : ℕ) → Standing used bits place start

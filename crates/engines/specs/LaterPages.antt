@@ -22,7 +22,7 @@ use Rattle.engines.specs.declared.options.DecodeOptions.{DecodeOptions}
 use Rattle.engines.specs.declared.options.PageForm.{PageForm}
 
 -- EOLs stand at the bits' beginning, with fill, and after the last of them neither an EOL nor only 0 bits: a page begins with the last
--- one (ITU-T T.4, 4.1.2), which begins at a bit, where the bits themselves begin at the bit `used`
+-- one (ITU-T T.4, 4.1.2), without its fill, where the bits themselves begin at the bit `used`
 pub record BeginsByEol (used start : ℕ) (x : List Bool) : Type 0 where
   pub before : List ℕ
   pub last : ℕ
@@ -31,7 +31,7 @@ pub record BeginsByEol (used start : ℕ) (x : List Bool) : Type 0 where
   pub long_last : 11 ≤ last
   pub split : x ≡ eol_words before ++ (eol_word last ++ rest)
   pub code : CodeBegins rest
-  pub start_is : start ≡ used + length (eol_words before)
+  pub start_is : start ≡ used + length (eol_words before) + (last - 11)
 
 -- EOLs, or none, and then only 0 bits or nothing
 abbrev pub NothingLeft : List Bool → Type 0

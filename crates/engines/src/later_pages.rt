@@ -59,7 +59,8 @@ fn zeros_at(octets: &[u8], order: Order, place: u128) -> Option<u128>
     None
 }
 
-/// Where the page begins in the octets that comes after one in the one-dimensional code, which has the first `used` bits.
+/// Where the page begins in the octets that comes after one in the one-dimensional code, which has the first `used` bits: with the last EOL
+/// that stands there, without its fill, or in the next octet where none does.
 fn later_one_dim(octets: &[u8], order: Order, used: u128) -> Option<u128>
     requires { used ≤ 8 * length octets.now }
     ensures later { IsLaterOneDim used (drop used (bits_of order octets.now)) result }
@@ -75,7 +76,7 @@ fn later_one_dim(octets: &[u8], order: Order, used: u128) -> Option<u128>
         if zeros < EOL_ZEROS {
             return Some(start);
         }
-        start = place;
+        start = place + zeros - EOL_ZEROS;
         place += zeros + 1;
     }
     None

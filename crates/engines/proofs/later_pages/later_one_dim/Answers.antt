@@ -21,7 +21,7 @@ returns-then-zeros-lt-EOL_ZEROS-clause-later c = page_there c.args.used (bits_of
 pub loop-place-preserved : goal.loop-place-preserved
 loop-place-preserved c = record {
   within = omega (arith, c.in-Some.ensures.within);
-  begun = c.loop-place.invariant.within;
+  begun = omega (arith, c.in-Some.ensures.within);
   stands = one_eol c.args.used (bits_of c.args.order c.args.octets.now) c.loop-place.place c.loop-place.start c.in-Some.zeros
       c.loop-place.invariant.stands (sym c.in-Some.ensures.zeros) c.if-zeros-lt-EOL_ZEROS.false;
 }
