@@ -7,13 +7,14 @@ use Rattle.std.specs.List.{AllByRecursion}
 use Rattle.raster.specs.declared.packed.Order.{Order}
 use Rattle.raster.specs.declared.row.Color.{Color}
 use Rattle.raster.specs.Packed.{bit_in, bits_of}
+use Rattle.raster.specs.Pages.{PagePixels}
 use Rattle.page_code.specs.declared.Coding.{Coding}
 use Rattle.page_code.specs.declared.Coding.TheVariants.{OneDim, T6}
 use Rattle.page_code.specs.Codings.{ReadsIn}
 use Rattle.page_code.specs.OneDimension.Fronts.{CodeBegins}
 use Rattle.page_code.specs.OneDimension.Pages.{AreZeros, eol_word, eol_words}
 use Rattle.engines.specs.Answers.{AnswersDecode}
-use Rattle.engines.specs.CodedPages.{RefusesCode}
+use Rattle.engines.specs.CodedPages.{RefusesCode, WritesPage}
 use Rattle.engines.specs.declared.fault.ToolFault.{ToolFault}
 use Rattle.engines.specs.declared.fault.ToolFault.TheVariants.{No}
 use Rattle.engines.specs.declared.later_pages.Reached.{Reached}
@@ -102,25 +103,25 @@ broken_line number octet = codes "page " ++ (decimal number ++ (codes " begins a
     ++ codes " and can't be read to its end\n")))
 
 -- what `decode` gives of octets that begin with the page of this number, and before it the line of where they begin in the file
-pub record AnswersReached (form : PageForm) (options : DecodeOptions) (page octet : ℕ) (octets image told : List ℕ)
-    (end : Result Bool ToolFault) : Type 0 where
+pub record AnswersReached (form : PageForm) (options : DecodeOptions) (page octet : ℕ) (octets : List ℕ) (decoded : PagePixels)
+    (told : List ℕ) (end : Result Bool ToolFault) : Type 0 where
   pub lines : List ℕ
-  pub answers : AnswersDecode form options octets image lines end
+  pub answers : (image : List ℕ) → WritesPage decoded (Some []) (Some image) → AnswersDecode form options octets image lines end
   pub told_is : told ≡ begins_text options.verbose page octet ++ lines
 
 -- What is given of a page of octets, whose own ones are `later`: what `decode` gives of those, with the line of where they begin. Where
 -- the file has no such page, how many it has, and fault 28; where one before it can't be read to its end, which one, and its fault.
-abbrev pub GivesReached : PageForm → DecodeOptions → ℕ → List ℕ → List ℕ → List ℕ → List ℕ → Result Bool ToolFault → Reached → Type 0
-GivesReached form options page octets later image told end Page =
-    AnswersReached form options page (length octets - length later) later image told end
-GivesReached form options page octets later image told end (End count) =
-    (image ≡ []) × (told ≡ pages_line count) × (end ≡ Err (No 28))
-GivesReached form options page octets later image told end (Broken number fault) =
-    (image ≡ []) × (told ≡ broken_line number (length octets - length later)) × (end ≡ Err fault)
+abbrev pub GivesReached : PageForm → DecodeOptions → ℕ → List ℕ → List ℕ → PagePixels → List ℕ → Result Bool ToolFault → Reached → Type 0
+GivesReached form options page octets later decoded told end Page =
+    AnswersReached form options page (length octets - length later) later decoded told end
+GivesReached form options page octets later decoded told end (End count) =
+    (decoded.rows ≡ []) × (told ≡ pages_line count) × (end ≡ Err (No 28))
+GivesReached form options page octets later decoded told end (Broken number fault) =
+    (decoded.rows ≡ []) × (told ≡ broken_line number (length octets - length later)) × (end ≡ Err fault)
 
 -- the page of this number is decoded, counted from 1, and this is told of it
-pub record AnswersPage (form : PageForm) (options : DecodeOptions) (page : ℕ) (octets later image told : List ℕ)
-    (end : Result Bool ToolFault) : Type 0 where
+pub record AnswersPage (form : PageForm) (options : DecodeOptions) (page : ℕ) (octets later : List ℕ) (decoded : PagePixels)
+    (told : List ℕ) (end : Result Bool ToolFault) : Type 0 where
   pub reached : Reached
   pub reaches : Reaches form (page - 1) octets later reached
-  pub gives : GivesReached form options page octets later image told end reached
+  pub gives : GivesReached form options page octets later decoded told end reached

@@ -1,6 +1,5 @@
 //! Pages of a file one after another, and which of them is decoded.
 
-ghost use Rattle.engines.specs.CodedPages.{WritesPage};
 ghost use Rattle.engines.specs.Decodings.{RefusesDecoding, broken_asked};
 ghost use Rattle.engines.specs.Faults.{IsOutside};
 ghost use Rattle.engines.specs.LaterPages.{AfterPage, AnswersPage, AnswersReached, AreAfter, IsFrom, IsLater, IsLaterOneDim, IsLaterT6, Reaches};
@@ -12,7 +11,7 @@ ghost use Rattle.raster.specs.Packed.{bits_of, place_in};
 ghost use Rattle.raster.specs.Pixels.{IsWidth};
 ghost use Rattle.std.specs.Int.{bit_at};
 ghost use Rattle.std.specs.Io.KnownBytes.{Appends};
-ghost use Rattle.std.specs.Prelude.{◌≡◌, ◌≢◌, ◌≤◌, ◌<◌, ◌+◌, ◌-◌, ◌*◌, ◌⊎◌, [], ℕ, List, Some};
+ghost use Rattle.std.specs.Prelude.{◌≡◌, ◌≢◌, ◌≤◌, ◌<◌, ◌+◌, ◌-◌, ◌*◌, ◌⊎◌, ℕ};
 ghost use Rattle.std.specs.Prelude.{IfErr, IfOk, IfSome, OnErr, OnOk, drop, length};
 
 use crate::answer::{DecodeAnswer, answer_decode};
@@ -229,8 +228,8 @@ fn answer_reached(
     octet: usize,
 ) -> Result<DecodeAnswer, ToolFault>
     requires { IsWidth form.width }
-    ensures answered { IfOk result (λ answer. (image : List ℕ) → WritesPage answer.page (Some []) (Some image)
-        → AnswersReached form options page octet octets.now image answer.told.items answer.end) }
+    ensures answered { IfOk result (λ answer.
+        AnswersReached form options page octet octets.now answer.page answer.told.items answer.end) }
     ensures refused { IfErr result (λ fault. IsOutside fault
         ⊎ RefusesDecoding (broken_asked options.salvage options.repair) form octets.now fault) }
 {
@@ -260,8 +259,8 @@ pub fn answer_page(
     page: u32,
 ) -> Result<DecodeAnswer, ToolFault>
     requires { IsWidth form.width }
-    ensures answered { IfOk result (λ answer. (image : List ℕ) → WritesPage answer.page (Some []) (Some image)
-        → AnswersPage form options page octets.old.items octets.new.items image answer.told.items answer.end) }
+    ensures answered { IfOk result (λ answer.
+        AnswersPage form options page octets.old.items octets.new.items answer.page answer.told.items answer.end) }
     ensures refused { IfErr result (λ fault. IsOutside fault ⊎ (AreAfter form octets.old.items (page - 1) octets.new.items
         × RefusesDecoding (broken_asked options.salvage options.repair) form octets.new.items fault)) }
 {
