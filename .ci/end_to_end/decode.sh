@@ -155,7 +155,7 @@ try_pages() {
     code=$(bits "$row $rtc 000000 $white $eol $row $rtc")
     page_is mh 2 "00 30" "$code" "pages of which the second has no EOL before its first row"
     tells_no_page "pages in the file: 1\nfault 28\n" --code mh --page 2 --width 8 "$(bits "$row $rtc $eol 0000")"
-    tells_no_page "page 1 begins at octet 0 and can't be read to its end\nfault 12 at bit 26\n" --code mh --page 2 --width 8 \
+    tells_no_page "page 1 begins at octet 0 and can't be read to its end\nfault 10 at bit 48\n" --code mh --page 2 --width 8 \
         "$(bits "$eol $row $eol 00110101 000101 1011 $rtc")"
     eofb="000000000001 000000000001" first="001 0111 11 1 1 1 1"
     for between in 000 "000 00000000" "000 00000000 00000000 00000000"; do
