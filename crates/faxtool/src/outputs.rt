@@ -299,11 +299,7 @@ pub struct Output<'a> {
 }
 
 /// Opens an output: a file as `grow` makes it, or standard output. Errs with 8 where it can't be made, which is noted, and with 9.
-pub fn open<'a>(
-    rt: &'a HostRuntime,
-    name: &str,
-    notes: &mut Notes,
-) -> Result<Output<'a>, ToolFault>
+pub fn open<'a>(rt: &'a HostRuntime, name: &str, notes: &mut Notes) -> Result<Output<'a>, ToolFault>
     ensures { IfErr result IsOutside }
 {
     let file = if name == STANDARD {
