@@ -1,5 +1,5 @@
 -- What is given of a page in T.6 that is repaired.
-use Rattle.std.proofs.Common.{ℕ, ◌≡◌, ◌<◌, ◌≤◌, Bool, true, false, List, [], ◌∷◌, ◌++◌, Some, length, drop, inl, inr, refl, ap, sym, ◌∙◌, subst, arith}
+use Rattle.std.proofs.Common.{ℕ, ◌≡◌, ◌<◌, List, [], ◌∷◌, Some, length, drop, inl, inr, refl, ap, ◌∙◌, subst, arith}
 use Rattle.std.specs.Prelude.{◌≢◌, ◌⊎◌, Option}
 use Rattle.std.proofs.lemmas.Bool.{cases_eq}
 use Rattle.raster.specs.Packed.{bits_of}

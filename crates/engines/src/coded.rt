@@ -1,15 +1,15 @@
 //! An image that is read, and its code, which is written row by row.
 
-ghost use Rattle.engines.specs.CodedPages.{AppendsCode, HoldsCode, RefusesImage};
+ghost use Rattle.engines.specs.CodedPages.{AppendsCode, RefusesImage};
 ghost use Rattle.engines.specs.Faults.{IsOutside};
-ghost use Rattle.page_code.specs.RowCoders.{CodesOneMore, CodesRows, EndsPage, IsSameCoder};
+ghost use Rattle.page_code.specs.RowCoders.{CodesRows, EndsPage, IsSameCoder};
 ghost use Rattle.raster.specs.Pages.{max_rows};
 ghost use Rattle.raster.specs.Pbm.{AreImages};
 ghost use Rattle.raster.specs.declared.row.Color.{Color};
 ghost use Rattle.std.specs.Io.KnownBytes.{Appends};
-ghost use Rattle.std.specs.Prelude.{◌≡◌, ◌<◌, ◌++◌, ◌∷◌, [], List, ℕ, Option, false, IfErr, IfOk, IfSome, OnOk, length};
+ghost use Rattle.std.specs.Prelude.{◌≡◌, ◌<◌, ◌++◌, ◌∷◌, [], List, ℕ, false, IfErr, IfOk, IfSome, OnOk, length};
 
-use crate::fault::{NO_MEMORY, ToolFault};
+use crate::fault::ToolFault;
 use page_code::{Coding, RowCoder};
 use raster::{Page, Row, read_first_pbm};
 use run_tables::Order;

@@ -31,14 +31,19 @@ pub fn decode_file(
     let answer = answer_page(rt.alloc(), &mut notes.octets, form, options, number);
     let DecodeAnswer { page, told, end } = answer.map_err(|fault| notes.in_memory(fault))?;
     if !page.rows().is_empty() {
-        write_page(rt, files.output, page, notes)?;
+        write_decoded(rt, files.output, page, notes)?;
     }
     rt.stderr().write_all(told.as_slice())?;
     end
 }
 
 /// Writes a page's image as an output. Where it can't be written, no file of it is left.
-fn write_page(rt: &HostRuntime, name: &str, page: Page, notes: &mut Notes) -> Result<(), ToolFault>
+fn write_decoded(
+    rt: &HostRuntime,
+    name: &str,
+    page: Page,
+    notes: &mut Notes,
+) -> Result<(), ToolFault>
     ensures { IfErr result IsOutside }
 {
     let mut output = outputs::open(rt, name, notes)?;

@@ -1,5 +1,5 @@
 -- What the check asks of `repair_lines`.
-use Rattle.std.proofs.Common.{rules, ◌<◌, arith, length, refl}
+use Rattle.std.proofs.Common.{rules, arith, refl}
 use Rattle.engines.proofs.repair.repair_lines.Goals as goal
 
 pub returns-clause-given : goal.returns-clause-given

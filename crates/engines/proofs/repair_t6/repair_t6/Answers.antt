@@ -1,5 +1,5 @@
 -- What the check asks of `repair_t6`.
-use Rattle.std.proofs.Common.{rules, ◌<◌, ◌≡◌, List, [], ◌++◌, length, inl, inr, arith, refl, sym, ap, ◌∙◌, Some, ℕ}
+use Rattle.std.proofs.Common.{rules, ◌≡◌, List, [], ◌++◌, length, inl, inr, arith, refl, ap, ◌∙◌, ℕ}
 use Rattle.raster.specs.declared.row.Color.{Color}
 use Rattle.engines.specs.RepairsT6.{no_eofb_line}
 use Rattle.engines.proofs.RepairsT6.{broken, decoded, ended}
