@@ -85,6 +85,8 @@ pub enum Job {
         bits: Option<String>,
         /// Whether the call is to end normally for both stations.
         normal: bool,
+        /// The name of the file that the call is drawn in, where one is given.
+        diagram: Option<String>,
         /// The name of the document's file.
         input: String,
     },
@@ -102,6 +104,8 @@ pub enum Job {
         bits: Option<String>,
         /// Whether the call is to end normally for both stations.
         normal: bool,
+        /// The name of the file that the call is drawn in, where one is given.
+        diagram: Option<String>,
         /// The name of the document's file.
         input: String,
     },
@@ -395,6 +399,7 @@ fn call_job(alloc: Global, matches: &ArgMatches<'_>) -> Result<Option<Job>, Allo
             out: copy_of(alloc, text_in(matches, "out"))?,
             bits: copy_of(alloc, text_in(matches, "bits"))?,
             normal: is_normal_wanted(matches),
+            diagram: copy_of(alloc, text_in(matches, "diagram"))?,
             input: String::from_str(alloc, input)?,
         }));
     };
@@ -407,6 +412,7 @@ fn call_job(alloc: Global, matches: &ArgMatches<'_>) -> Result<Option<Job>, Allo
         out: copy_of(alloc, text_in(matches, "out"))?,
         bits: copy_of(alloc, text_in(matches, "bits"))?,
         normal: is_normal_wanted(matches),
+        diagram: copy_of(alloc, text_in(matches, "diagram"))?,
         input: String::from_str(alloc, input)?,
     }))
 }
@@ -474,6 +480,9 @@ fn times_in(matches: &ArgMatches<'_>) -> Option<Option<u32>>
         return None;
     }
     if text_in(matches, "expect").is_some() {
+        return None;
+    }
+    if text_in(matches, "diagram").is_some() {
         return None;
     }
     match number_in(matches, "times") {
@@ -692,6 +701,9 @@ fn unfit_call(matches: &ArgMatches<'_>) -> &'static str {
     }
     if text_in(matches, "times").is_some() && text_in(matches, "expect").is_some() {
         return "--times counts the ends of many calls, and can't be used with --expect";
+    }
+    if text_in(matches, "times").is_some() && text_in(matches, "diagram").is_some() {
+        return "--times draws no call, and can't be used with --diagram";
     }
     "--lose and --spoil are more than 100% together"
 }
