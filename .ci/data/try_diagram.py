@@ -14,6 +14,7 @@ import xml.etree.ElementTree as tree
 SVG = "{http://www.w3.org/2000/svg}"
 CALLER, ANSWERER, ROW = 250, 530, 26
 WAITS = {"caller-timeout": "time-out", "caller-t5": "T5 is over", "answerer-t1": "T1 is over", "answerer-t2": "T2 is over"}
+NOTHING = {"to-c": "nothing under way", "to-a": "nothing under way", "lose": "nothing to lose", "spoi": "no check to spoil"}
 AT_CALLER = ("to-caller", "lose-to-caller", "caller-timeout", "caller-t5")
 
 
@@ -51,7 +52,8 @@ def span(path):
             y += values[0]
         elif letter == "z":
             x, y = start
-        pairs = [(values[at], values[at + 1]) for at in range(2 if letter == "m" else 0, len(values) - 1, 2)] if letter in "lm" else []
+        first = {"l": 0, "m": 2}.get(letter, len(values))
+        pairs = [(values[at], values[at + 1]) for at in range(first, len(values) - 1, 2)]
         seen = [x]
         for right, down in pairs:
             x, y = x + right, y + down
@@ -89,7 +91,7 @@ def words_of(line, times):
     if item != "-":
         label = item + {"lose": " lost", "spoi": " spoiled"}.get(word[:4], "")
     else:
-        label = {"to-c": "nothing under way", "to-a": "nothing under way", "lose": "nothing to lose", "spoi": "no check to spoil"}.get(word[:4], "")
+        label = NOTHING.get(word[:4], "")
     own = WAITS.get(word, word if word in ("busy", "ready") else "")
     sends = [] if turn == "-" else [f"sends {turn}"]
     beside = ", ".join(([own] if own else []) + sends) + (" (memory refused)" if refused else "")
@@ -99,7 +101,8 @@ def words_of(line, times):
 def main():
     lines = open(sys.argv[1]).read().splitlines()
     text = open(sys.argv[2]).read()
-    needs(not re.search(r"<script|href|url\(|@font|<!|fill=\"(?!white)|stroke:(?!black)", text), "it has a script, a link, a font or a color")
+    strange = re.search(r"<script|href|url\(|@font|<!|fill=\"(?!white)|stroke:(?!black)", text)
+    needs(not strange, "it has a script, a link, a font or a color")
     root = tree.fromstring(text)
     needs(root.tag == SVG + "svg", "it is no SVG")
     needs(root.get("viewBox") == f"0 0 {root.get('width')} {root.get('height')}", "its view is not its size")

@@ -1,5 +1,5 @@
 -- What a call is written to that is drawn too: one line more, in both.
-use Rattle.std.proofs.Common.{◌≡◌, ℕ, Bool, true, false, cond, List, [], ◌∷◌, ◌++◌, length, Option, Some, None, refl, ap, sym, subst, ◌∙◌}
+use Rattle.std.proofs.Common.{◌≡◌, ℕ, Bool, true, false, List, ◌++◌, Option, Some, None, refl, ap, sym, subst, ◌∙◌}
 use Rattle.std.proofs.lemmas.Slice.Eq.{bytes_eq-Decides}
 use Rattle.std.specs.Io.KnownBytes.{Appends}
 use Rattle.std.specs.Str.{bytes_eq}
@@ -7,7 +7,7 @@ use Rattle.signals.specs.declared.signal.Side.{Side}
 use Rattle.signals.specs.declared.signal.Side.TheVariants.{Caller, Answerer}
 use Rattle.calls.specs.Diagrams.{beside, lines_of}
 use Rattle.calls.specs.Ladders.{Drawn, drawn_text}
-use Rattle.calls.specs.SentBits.{WritesLines, WritesOctets, Written, bits_to, only_to}
+use Rattle.calls.specs.SentBits.{WritesLines, Written, bits_to}
 
 -- where both are the same, both have one line more
 both_on : (xs ys drawn line : List ℕ) (alike : Bool) → bytes_eq xs drawn ≡ alike → ys ≡ xs ++ line →
@@ -38,18 +38,3 @@ writes_both before after old new line more wrote = record {
         bits_to side (beside after (Some new)) ≡ bits_to side (beside before (Some old))
     sent_as before after old new Answerer is = is
     sent_as before after old new Caller is = is
-
--- octets were written, and nothing is drawn
-pub octets_beside : (before after : Written) (to : Side) (drawn : Option Drawn) (octets : List ℕ) → WritesOctets to before after octets →
-    WritesOctets to (beside before drawn) (beside after drawn) octets
-octets_beside before after to None octets wrote = wrote
-octets_beside before after to (Some drawn) octets wrote = record {
-  lines = ap (λ l. lines_of l (drawn_text drawn)) wrote.lines;
-  sent = λ side. sent_as before after drawn octets to side (wrote.sent side);
-}
-  where
-    sent_as : (before after : Written) (drawn : Drawn) (octets : List ℕ) (to side : Side) →
-        Appends (bits_to side before) (bits_to side after) (only_to to side octets) →
-        Appends (bits_to side (beside before (Some drawn))) (bits_to side (beside after (Some drawn))) (only_to to side octets)
-    sent_as before after drawn octets to Answerer is = is
-    sent_as before after drawn octets to Caller is = is

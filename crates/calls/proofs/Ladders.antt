@@ -1,26 +1,10 @@
--- The rows and rounds of a ladder, with one more.
-use Rattle.std.proofs.Common.{◌≡◌, ℕ, zero, suc, ◌+◌, List, [], ◌∷◌, ◌++◌, length, Option, Some, None, refl, ap, sym, subst, ◌∙◌, arith, append_assoc}
+-- What is drawn of a call, with one event more.
+use Rattle.std.proofs.Common.{◌≡◌, ℕ, ◌+◌, List, [], ◌∷◌, ◌++◌, length, None, ap, sym, ◌∙◌, arith}
 use Rattle.std.proofs.lemmas.List.{append-nil}
-use Rattle.std.proofs.lemmas.Grind.{flat_map-append}
-use Rattle.std.specs.List.{flat_map}
 use Rattle.line_sim.specs.declared.event.Entry.{Entry}
-use Rattle.calls.specs.Ladders.{Drawn, drawn_text, entries_in, entries_of_round, entries_of_rounds, entries_of_row, entries_of_rows}
-use Rattle.calls.specs.Ladders.{entry_after, feet_text, repeated}
+use Rattle.calls.specs.Ladders.{Drawn, drawn_text, feet_text}
 use Rattle.calls.specs.Transcripts.{entry_line, entry_lines}
-use Rattle.calls.specs.declared.ladder.Round.{Round}
-use Rattle.calls.specs.declared.ladder.Row.{Row}
 use Rattle.calls.proofs.EntryLines.{lines_both}
-
--- one more at the end
-pub one_more : {X A : Type 0} (f : X → List A) (xs : List X) (x : X) → flat_map f (xs ++ x ∷ []) ≡ flat_map f xs ++ f x
-one_more f xs x = flat_map-append f xs (x ∷ []) ∙ ap (λ l. flat_map f xs ++ l) (append-nil (f x))
-
--- a longer one in place of the last
-pub longer_last : {X A : Type 0} (f : X → List A) (xs : List X) (x y : X) (more : List A) → f y ≡ f x ++ more →
-    flat_map f (xs ++ y ∷ []) ≡ flat_map f (xs ++ x ∷ []) ++ more
-longer_last f xs x y more is =
-    one_more f xs y ∙ ap (λ l. flat_map f xs ++ l) is ∙ sym (append_assoc (flat_map f xs) (f x) more)
-    ∙ ap (λ l. l ++ more) (sym (one_more f xs x))
 
 -- the text of what is drawn, with the line of one event more
 pub text_with : (entries : List Entry) (entry : Entry) (number : ℕ) → number ≡ length entries + 1 →

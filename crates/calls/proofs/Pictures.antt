@@ -1,9 +1,13 @@
 -- The texts of rows and rounds, one after the other.
-use Rattle.std.proofs.Common.{◌≡◌, ℕ, subst, ◌+◌, ◌*◌, ◌<◌, ◌≤◌, List, [], ◌∷◌, ◌++◌, drop, get_or, length, Option, refl, ap, sym, ◌∙◌, append_assoc, arith}
-use Rattle.std.proofs.lemmas.List.{append-nil, at_drop_all, at_drop_more}
+use Rattle.std.proofs.Common.{◌≡◌, ℕ, ◌+◌, ◌<◌, List, [], ◌++◌, drop, get_or, length, Option, refl, ap, sym, subst, ◌∙◌}
+use Rattle.std.proofs.Common.{append_assoc, arith}
+use Rattle.std.proofs.lemmas.List.{at_drop_more}
 use Rattle.std.proofs.KnownBytes.{Appends-nil, Appends-trans}
 use Rattle.std.specs.Io.KnownBytes.{Appends}
-use Rattle.calls.specs.Pictures.{height_of, items_in, round_height, round_items, round_text, rounds_text, row_text, rows_text}
+use Rattle.calls.specs.Ladders.{Drawn, entries_of_rounds}
+use Rattle.calls.specs.Pictures.{IsPicture, items_in, picture_text, round_height, round_items, round_text, rounds_text, row_text}
+use Rattle.calls.specs.Pictures.{rows_text}
+use Rattle.calls.specs.declared.ladder.Feet.{Feet}
 use Rattle.calls.specs.declared.ladder.Round.{Round}
 use Rattle.calls.specs.declared.ladder.Row.{Row}
 
@@ -32,33 +36,17 @@ one_row before mid after y number at next later more rows xs i d left within wro
       omega (arith, step, after_it, left.numbers);
 }
 
-pub all_rows : (before after : Option (List ℕ)) (y number at next : ℕ) (rows xs : List Row) (i : ℕ) →
-    RowsLeft before after y number at next rows (drop i xs) → length xs ≤ i → Appends before after (rows_text y number rows)
-all_rows before after y number at next rows xs i left past =
-    let whole : left.text ≡ rows_text y number rows =
-    sym (append-nil left.text) ∙ ap (λ l. left.text ++ l) (sym (at_drop_all (rows_text at next) xs i past)) ∙ left.all in
-    subst (λ l. Appends before after l) whole left.wrote
-
-pub all_numbers : (before after : Option (List ℕ)) (y number at next : ℕ) (rows xs : List Row) (i : ℕ) →
-    RowsLeft before after y number at next rows (drop i xs) → length xs ≤ i → next ≡ number + items_in rows
-all_numbers before after y number at next rows xs i left past =
-    let none : items_in (drop i xs) ≡ 0 = at_drop_all items_in xs i past in
-    omega (arith, none, left.numbers)
-
 -- the same of rounds
 pub record RoundsLeft (before after : Option (List ℕ)) (at next : ℕ) (rounds left : List Round) : Type 0 where
   pub text : List ℕ
   pub wrote : Appends before after text
   pub all : text ++ rounds_text at next left ≡ rounds_text 72 1 rounds
 
-pub no_round_yet : (w : Option (List ℕ)) (rounds : List Round) → RoundsLeft w w 72 1 rounds rounds
-no_round_yet w rounds = record { text = []; wrote = Appends-nil w; all = refl }
-
-pub one_round : (before mid after : Option (List ℕ)) (at next later more : ℕ) (rounds xs : List Round) (i : ℕ) (d : Round) →
+one_round_at : (before mid after : Option (List ℕ)) (at next later more : ℕ) (rounds xs : List Round) (i : ℕ) (d : Round) →
     RoundsLeft before mid at next rounds (drop i xs) → i < length xs → Appends mid after (round_text at next (get_or xs i d)) →
     later ≡ at + round_height (get_or xs i d) → more ≡ next + round_items (get_or xs i d) →
     RoundsLeft before after later more rounds (drop (i + 1) xs)
-one_round before mid after at next later more rounds xs i d left within wrote below after_it = record {
+one_round_at before mid after at next later more rounds xs i d left within wrote below after_it = record {
   text = left.text ++ round_text at next (get_or xs i d);
   wrote = Appends-trans before mid after left.text (round_text at next (get_or xs i d)) left.wrote wrote;
   all =
@@ -67,9 +55,22 @@ one_round before mid after at next later more rounds xs i d left within wrote be
       ∙ ap (λ l. left.text ++ l) (sym (at_drop_more (rounds_text at next) xs i d within)) ∙ left.all);
 }
 
-pub all_rounds : (before after : Option (List ℕ)) (at next : ℕ) (rounds xs : List Round) (i : ℕ) →
-    RoundsLeft before after at next rounds (drop i xs) → length xs ≤ i → Appends before after (rounds_text 72 1 rounds)
-all_rounds before after at next rounds xs i left past =
-    let whole : left.text ≡ rounds_text 72 1 rounds =
-    sym (append-nil left.text) ∙ ap (λ l. left.text ++ l) (sym (at_drop_all (rounds_text at next) xs i past)) ∙ left.all in
-    subst (λ l. Appends before after l) whole left.wrote
+pub one_round : (before mid after : Option (List ℕ)) (at next later more : ℕ) (rounds xs : List Round) (i : ℕ) (item : Round) (height : ℕ) →
+    RoundsLeft before mid at next rounds (drop i xs) → i < length xs → item ≡ get_or xs i item →
+    Appends mid after (round_text at next item) → height ≡ round_height item → later ≡ at + height → more ≡ next + round_items item →
+    RoundsLeft before after later more rounds (drop (i + 1) xs)
+one_round before mid after at next later more rounds xs i item height left within is wrote high below after_it =
+    one_round_at before mid after at next later more rounds xs i item left within
+    (subst (λ r. Appends mid after (round_text at next r)) is wrote)
+    (below ∙ ap (λ h. at + h) high ∙ ap (λ r. at + round_height r) is)
+    (after_it ∙ ap (λ r. next + round_items r) is)
+
+-- the picture of a call's rounds is one of the call
+pub is_picture : (drawn : Drawn) (before after : Option (List ℕ)) (rounds lent : List Round) (feet : Option Feet) → lent ≡ rounds →
+    entries_of_rounds rounds ≡ drawn.entries → feet ≡ drawn.feet → Appends before after (picture_text lent feet) →
+    IsPicture drawn before after
+is_picture drawn before after rounds lent feet same all left wrote = record {
+  rounds = lent;
+  all = ap entries_of_rounds same ∙ all;
+  written = subst (λ f. Appends before after (picture_text lent f)) left wrote;
+}

@@ -1,6 +1,7 @@
--- A call as a picture: what is written of rounds and of what a call has left, as SVG. A row is 26 pixels high, and 10 are left after a round.
-use Rattle.std.specs.Prelude.{◌≡◌, ℕ, ◌+◌, ◌-◌, ◌*◌, ◌++◌, ◌∷◌, [], Bool, true, false, cond, nat_eq, List, Option, Some, None, codes, length}
-use Rattle.std.specs.Prelude.{sum_by}
+-- A call as a picture: what is written of rounds and of what a call has left, as SVG. A row is 26 pixels high, and 10 are left after
+-- a round.
+use Rattle.std.specs.Prelude.{◌≡◌, ℕ, ◌+◌, ◌-◌, ◌*◌, ◌++◌, ◌∷◌, [], Bool, true, false, cond, nat_eq, List, Option, Some, None, codes}
+use Rattle.std.specs.Prelude.{length, sum_by}
 use Rattle.std.specs.Fmt.{decimal}
 use Rattle.std.specs.Io.KnownBytes.{Appends}
 use Rattle.stations.specs.declared.turn.Turn.{Turn}
@@ -305,7 +306,8 @@ unfoldable pub picture_text : List Round → Option Feet → List ℕ
 picture_text rounds feet =
     head_text (height_of rounds) ++ rounds_text 72 1 rounds ++ end_lines feet (height_of rounds) ++ last_line
 
--- What was written is a picture of the call: of rounds whose events, each time that they come, are those of the call, each once and in order.
+-- What was written is a picture of the call: of rounds whose events, each time that they come, are those of the call, each once and in
+-- order.
 pub record IsPicture (drawn : Drawn) (before after : Option (List ℕ)) : Type 0 where
   pub rounds : List Round
   pub all : entries_of_rounds rounds ≡ drawn.entries

@@ -1,9 +1,5 @@
 //! What a call is written to that is drawn too.
 
-ghost use Rattle.engines.specs.Faults.{IsOutside};
-ghost use Rattle.calls.specs.Ladders.{Drawn};
-ghost use Rattle.std.specs.Prelude.{◌≡◌, IfErr, OnOk};
-
 use crate::call_writer::CallWriter;
 use crate::ladder::Ladder;
 use engines::ToolFault;

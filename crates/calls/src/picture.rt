@@ -4,8 +4,8 @@ ghost use Rattle.calls.specs.Pictures.{IsPicture, answerer_foot, answerer_pages,
 ghost use Rattle.calls.specs.Pictures.{bracket_begin, bracket_line, bracket_middle, bracket_text, bracket_word, caller_foot, caller_pages};
 ghost use Rattle.calls.specs.Pictures.{caller_reason, caller_side, end_lines, fate_text, feet_begin, feet_end, feet_lines, gap_text};
 ghost use Rattle.calls.specs.Pictures.{head_text, height_of, items_in, joint_text, last_line, mark_text, names_text, own_text, page_mark};
-ghost use Rattle.calls.specs.Pictures.{paper_text, picture_text, refused_text, round_text, rounds_text, row_begin, row_label, row_numbers, row_shape};
-ghost use Rattle.calls.specs.Pictures.{row_side, row_text, row_words, rows_text, shape_text, sheet_text, size_text, stations_text};
+ghost use Rattle.calls.specs.Pictures.{paper_text, picture_text, refused_text, round_text, rounds_text, row_begin, row_label, row_numbers};
+ghost use Rattle.calls.specs.Pictures.{row_shape, row_side, row_text, row_words, rows_text, shape_text, sheet_text, size_text, stations_text};
 ghost use Rattle.calls.specs.Pictures.{style_text, view_text};
 ghost use Rattle.engines.specs.Faults.{IsOutside};
 ghost use Rattle.std.specs.Io.KnownBytes.{Appends};
@@ -747,5 +747,6 @@ pub fn write_picture<W: Write>(ladder: Ladder, writer: &mut W) -> Result<(), Too
     ensures fault { IfErr result IsOutside }
 {
     let (rounds, feet) = ladder.into_rounds()?;
-    write_all(&rounds, &feet, writer)
+    write_all(&rounds, &feet, writer)?;
+    Ok(())
 }

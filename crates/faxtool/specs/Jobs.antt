@@ -378,7 +378,8 @@ pub record IsLineIn (rows : List Row) (line : BadLine) : Type 0 where
 abbrev pub is_normal_wanted : List Row → Bool
 is_normal_wanted rows = is_named (codes "normal") (first_of (codes "expect") rows)
 
--- the number is that of the calls that are asked for, whose pages and octets are not kept, of which no end is wanted, and which are not drawn
+-- the number is that of the calls that are asked for, whose pages and octets are not kept, of which no end is wanted, and which are
+-- not drawn
 pub record AreManyIn (rows : List Row) (times : ℕ) : Type 0 where
   pub given : ReadsNumber (codes "times") rows (Some times)
   pub least : 1 ≤ times
@@ -407,9 +408,8 @@ pub record IsDriveOf (rows : List Row) (line : BadLine) (times : Option ℕ) (op
   pub input_is : first_of (codes "in") rows ≡ Some input
 
 -- the values of the command `call` are those of the job, which has a script and no bad line, and reads standard input once at most
-pub record IsCallOf (rows : List Row) (script : Text) (options : CallOptions) (out bits : Option Text) (normal : Bool) (diagram : Option Text)
-    (input : Text)
-    : Type 0 where
+pub record IsCallOf (rows : List Row) (script : Text) (options : CallOptions) (out bits : Option Text) (normal : Bool)
+    (diagram : Option Text) (input : Text) : Type 0 where
   pub script_is : first_of (codes "script") rows ≡ Some script
   pub options_are : AreOptionsIn rows options
   pub out_is : first_of (codes "out") rows ≡ out
