@@ -5,8 +5,8 @@ ghost use Rattle.calls.specs.Pictures.{bracket_begin, bracket_line, bracket_midd
 ghost use Rattle.calls.specs.Pictures.{caller_reason, caller_side, end_lines, fate_text, feet_begin, feet_end, feet_lines, gap_text};
 ghost use Rattle.calls.specs.Pictures.{head_text, height_of, items_in, joint_text, last_line, mark_text, names_text, own_text, page_mark};
 ghost use Rattle.calls.specs.Pictures.{paper_text, picture_text, refused_text, round_text, rounds_text, row_begin, row_label, row_numbers};
-ghost use Rattle.calls.specs.Pictures.{row_shape, row_side, row_text, row_words, rows_text, shape_text, sheet_text, size_text, stations_text};
-ghost use Rattle.calls.specs.Pictures.{style_text, view_text};
+ghost use Rattle.calls.specs.Pictures.{row_shape, row_side, row_text, row_words, rows_text, shape_text, sheet_text, size_text};
+ghost use Rattle.calls.specs.Pictures.{stations_text, style_text, view_text};
 ghost use Rattle.engines.specs.Faults.{IsOutside};
 ghost use Rattle.std.specs.Io.KnownBytes.{Appends};
 ghost use Rattle.std.specs.Prelude.{◌≡◌, ◌+◌, ◌*◌, length, IfErr, IfOk, OnOk};
