@@ -19,7 +19,7 @@ white="50 34 0A 31 37 32 38 20 31 0A$(seq 216 | sed 's/.*/ 00/' | tr -d '\n')"
 count=0
 # How many runs of the program there are at least, so that cases that go missing are seen.
 least=2100
-for part in common code decode frames call drive bits words man files reference station readme; do
+for part in common code decode frames call drive bits diagram words man files reference station readme; do
     . "$top/.ci/end_to_end/$part.sh"
 done
 
@@ -75,6 +75,7 @@ for program in "$@"; do
     try_counts
     try_drives
     try_bits
+    try_diagrams
     try_stations
     try_reference
     try_readme

@@ -8,7 +8,7 @@ _faxtool_options() {
         show) echo --code --width --order --explain --help ;;
         decode) echo --code --width --order --fine --salvage --repair --whole --verbose --page --explain --help ;;
         frames) echo --data --order --pages --explain --help ;;
-        call) echo --script --lose --spoil --busy --seed --calls --times --code --frame --modems --fine --out --expect --bits --explain --help ;;
+        call) echo --script --lose --spoil --busy --seed --calls --times --code --frame --modems --fine --out --expect --bits --diagram --explain --help ;;
         station) echo --answer --call --out --code --modems --standard --widest --limit --frame --fine --t1 --t2 --t4 --t5 --trace --explain --help ;;
         version) echo --proof --help ;;
         *) echo --help ;;

@@ -51,6 +51,7 @@ complete -c faxtool -n '__fish_seen_subcommand_from call' -l fine -d 'Sends 7.7 
 complete -c faxtool -n '__fish_seen_subcommand_from call' -l out -r -F -d 'The file that the stored pages are written to, as PBM'
 complete -c faxtool -n '__fish_seen_subcommand_from call' -l expect -x -a 'normal' -d 'Ends with status 1 where the call didn\'t end so, as normal, for both stations (not with --times)'
 complete -c faxtool -n '__fish_seen_subcommand_from call' -l bits -x -a '(__fish_complete_directories)' -d 'The folder that what is sent on the line is written to, as to-answerer.bits and to-caller.bits'
+complete -c faxtool -n '__fish_seen_subcommand_from call' -l diagram -r -F -d 'The file that the call is drawn in, as an SVG'
 complete -c faxtool -n '__fish_seen_subcommand_from call' -l explain -d 'Explains a fault in words too, on a second line, as on a terminal or with FAXTOOL_EXPLAIN=1 in the environment'
 complete -c faxtool -n '__fish_seen_subcommand_from call' -l help -d 'Print help'
 complete -c faxtool -n '__fish_seen_subcommand_from station' -l answer -d 'The station answers, and stores pages (with --out)'

@@ -20,3 +20,6 @@ mod CountedSteps
 mod Shares
 mod ManyCalls
 mod FewBorne
+mod Ladders
+mod Pictures
+mod Diagrams

@@ -14,3 +14,6 @@ pub mod FewTries
 pub mod ManyCalls
 pub mod TriesCounted
 pub mod Ends
+pub mod Ladders
+pub mod Pictures
+pub mod Diagrams

@@ -52,7 +52,7 @@ pub fn end_word(ending: Option<End>) -> &'static str
 
 /// What was delivered or lost.
 #[derive(Drop)]
-struct ItemText(Option<Kind>);
+pub(crate) struct ItemText(pub(crate) Option<Kind>);
 
 impl fmt::Display for ItemText {
     ghost use Rattle.std.specs.Prelude.{Some};
@@ -82,7 +82,7 @@ impl fmt::Display for ItemText {
 
 /// What was transmitted: a turn, and the number of its FCDs.
 #[derive(Drop)]
-struct TurnText(Turn, u16);
+pub(crate) struct TurnText(pub(crate) Turn, pub(crate) u16);
 
 impl fmt::Display for TurnText {
     ghost use Rattle.std.specs.Prelude.{Some};

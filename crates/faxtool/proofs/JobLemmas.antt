@@ -198,9 +198,9 @@ no_width rows none (Decode form options page input output) (others, e, is) =
     show_is_decode (some_name (codes "show") (codes "decode") rows others e)
 no_width rows none (Frames most order words pages input) (others, e, reads, of, said, folder, is) =
     show_is_frames (some_name (codes "show") (codes "frames") rows others e)
-no_width rows none (Call script options out bits normal input) (others, e, is) =
+no_width rows none (Call script options out bits normal diagram input) (others, e, is) =
     show_is_call (some_name (codes "show") (codes "call") rows others e)
-no_width rows none (Drive line times options out bits normal input) (others, e, is) =
+no_width rows none (Drive line times options out bits normal diagram input) (others, e, is) =
     show_is_call (some_name (codes "show") (codes "call") rows others e)
 no_width rows none (Answer caps limit waits out trace) (others, e, is) =
     show_is_station (some_name (codes "show") (codes "station") rows others e)
@@ -219,9 +219,9 @@ no_width_to_decode rows none (Decode form options page input output) (others, e,
     is.shown.width_is)
 no_width_to_decode rows none (Frames most order words pages input) (others, e, reads, of, said, folder, is) =
     decode_is_frames (some_name (codes "decode") (codes "frames") rows others e)
-no_width_to_decode rows none (Call script options out bits normal input) (others, e, is) =
+no_width_to_decode rows none (Call script options out bits normal diagram input) (others, e, is) =
     decode_is_call (some_name (codes "decode") (codes "call") rows others e)
-no_width_to_decode rows none (Drive line times options out bits normal input) (others, e, is) =
+no_width_to_decode rows none (Drive line times options out bits normal diagram input) (others, e, is) =
     decode_is_call (some_name (codes "decode") (codes "call") rows others e)
 no_width_to_decode rows none (Answer caps limit waits out trace) (others, e, is) =
     decode_is_station (some_name (codes "decode") (codes "station") rows others e)
@@ -240,10 +240,10 @@ no_options rows none (Decode form options page input output) (others, e, is) =
     decode_is_call (sym (some_name (codes "call") (codes "decode") rows others e))
 no_options rows none (Frames most order words pages input) (others, e, reads, of, said, folder, is) =
     call_is_frames (some_name (codes "call") (codes "frames") rows others e)
-no_options rows none (Call script options out bits normal input) (others, e, is) =
+no_options rows none (Call script options out bits normal diagram input) (others, e, is) =
     none options (subst (λ (xs : List Row). AreOptionsIn xs options) (sym (some_rows (codes "call") (codes "call") rows others e))
     is.options_are)
-no_options rows none (Drive line times options out bits normal input) (others, e, is) =
+no_options rows none (Drive line times options out bits normal diagram input) (others, e, is) =
     none options (subst (λ (xs : List Row). AreOptionsIn xs options) (sym (some_rows (codes "call") (codes "call") rows others e))
     is.options_are)
 no_options rows none (Answer caps limit waits out trace) (others, e, is) =
@@ -290,12 +290,12 @@ no_line rows open_end none (Decode form options page input output) (others, e, i
     decode_is_call (sym (some_name (codes "call") (codes "decode") rows others e))
 no_line rows open_end none (Frames most order words pages input) (others, e, reads, of, said, folder, is) =
     call_is_frames (some_name (codes "call") (codes "frames") rows others e)
-no_line rows open_end none (Call script options out bits normal input) (others, e, is) =
+no_line rows open_end none (Call script options out bits normal diagram input) (others, e, is) =
     let same : rows ≡ others = some_rows (codes "call") (codes "call") rows others e in
     let no : ◌≡◌ {A = Option Text} None (Some (string_bytes script)) =
     open_end ∙ (ap (λ (xs : List Row). first_of (codes "script") xs) same ∙ is.script_is) in
     cc
-no_line rows open_end none (Drive line times options out bits normal input) (others, e, is) =
+no_line rows open_end none (Drive line times options out bits normal diagram input) (others, e, is) =
     none line (subst (λ (xs : List Row). IsLineIn xs line) (sym (some_rows (codes "call") (codes "call") rows others e)) is.line_is)
 no_line rows open_end none (Answer caps limit waits out trace) (others, e, is) =
     call_is_station (some_name (codes "call") (codes "station") rows others e)
@@ -314,12 +314,12 @@ no_times rows open_end none (Decode form options page input output) (others, e, 
     decode_is_call (sym (some_name (codes "call") (codes "decode") rows others e))
 no_times rows open_end none (Frames most order words pages input) (others, e, reads, of, said, folder, is) =
     call_is_frames (some_name (codes "call") (codes "frames") rows others e)
-no_times rows open_end none (Call script options out bits normal input) (others, e, is) =
+no_times rows open_end none (Call script options out bits normal diagram input) (others, e, is) =
     let same : rows ≡ others = some_rows (codes "call") (codes "call") rows others e in
     let no : ◌≡◌ {A = Option Text} None (Some (string_bytes script)) =
     open_end ∙ (ap (λ (xs : List Row). first_of (codes "script") xs) same ∙ is.script_is) in
     cc
-no_times rows open_end none (Drive line times options out bits normal input) (others, e, is) =
+no_times rows open_end none (Drive line times options out bits normal diagram input) (others, e, is) =
     none times (subst (λ (xs : List Row). IsTimesIn xs times) (sym (some_rows (codes "call") (codes "call") rows others e)) is.times_is)
 no_times rows open_end none (Answer caps limit waits out trace) (others, e, is) =
     call_is_station (some_name (codes "call") (codes "station") rows others e)

@@ -151,11 +151,11 @@ with_outcome app ends = with_rule (with_rule (with_rule app (file_option_rule (c
     (file_option_rule (codes "bits"))
 
 -- `call`: the file of the script, or the options of a bad line, the code, the size of frames, the modems, fine or not, the file of the
--- stored pages, the end that is wanted, the folder of what is sent, and the file of the document
+-- stored pages, the end that is wanted, the folder of what is sent, the file of the picture, and the file of the document
 abbrev pub call_app : ValueParser → ValueParser → ValueParser → ValueParser → App
-call_app codings sizes modems ends = with_explain (with_rule (with_outcome (with_rule (with_choices (with_line (with_rule
+call_app codings sizes modems ends = with_explain (with_rule (with_rule (with_outcome (with_rule (with_choices (with_line (with_rule
     (new_app (codes "call")) (file_option_rule (codes "script")))) codings sizes modems) (flag_rule (codes "fine"))) ends)
-    (file_rule (codes "in")))
+    (file_option_rule (codes "diagram"))) (file_rule (codes "in")))
 
 -- how long a wait runs, in milliseconds
 abbrev pub millis_rule : Text → Rule
@@ -387,7 +387,8 @@ pub record IsLineIn (rows : List Row) (line : BadLine) : Type 0 where
 abbrev pub is_normal_wanted : List Row → Bool
 is_normal_wanted rows = is_named (codes "normal") (first_of (codes "expect") rows)
 
--- the number is that of the calls that are asked for, whose pages and octets are not kept and of which no end is wanted
+-- the number is that of the calls that are asked for, whose pages and octets are not kept, of which no end is wanted, and which are
+-- not drawn
 pub record AreManyIn (rows : List Row) (times : ℕ) : Type 0 where
   pub given : ReadsNumber (codes "times") rows (Some times)
   pub least : 1 ≤ times
@@ -395,6 +396,7 @@ pub record AreManyIn (rows : List Row) (times : ℕ) : Type 0 where
   pub unkept : first_of (codes "out") rows ≡ None
   pub unsent : first_of (codes "bits") rows ≡ None
   pub unwanted : first_of (codes "expect") rows ≡ None
+  pub undrawn : first_of (codes "diagram") rows ≡ None
 
 -- how many calls are asked for, where that is said
 abbrev pub IsTimesIn : List Row → Option ℕ → Type 0
@@ -403,7 +405,7 @@ IsTimesIn rows (Some times) = AreManyIn rows times
 
 -- the values of the command `call` are those of a call over a bad line, or of many, with no script
 pub record IsDriveOf (rows : List Row) (line : BadLine) (times : Option ℕ) (options : CallOptions)
-    (out bits : Option Text) (normal : Bool) (input : Text) : Type 0 where
+    (out bits : Option Text) (normal : Bool) (diagram : Option Text) (input : Text) : Type 0 where
   pub script_is : first_of (codes "script") rows ≡ None
   pub line_is : IsLineIn rows line
   pub times_is : IsTimesIn rows times
@@ -411,16 +413,18 @@ pub record IsDriveOf (rows : List Row) (line : BadLine) (times : Option ℕ) (op
   pub out_is : first_of (codes "out") rows ≡ out
   pub bits_is : first_of (codes "bits") rows ≡ bits
   pub normal_is : normal ≡ is_normal_wanted rows
+  pub diagram_is : first_of (codes "diagram") rows ≡ diagram
   pub input_is : first_of (codes "in") rows ≡ Some input
 
 -- the values of the command `call` are those of the job, which has a script and no bad line, and reads standard input once at most
-pub record IsCallOf (rows : List Row) (script : Text) (options : CallOptions) (out bits : Option Text) (normal : Bool) (input : Text)
-    : Type 0 where
+pub record IsCallOf (rows : List Row) (script : Text) (options : CallOptions) (out bits : Option Text) (normal : Bool)
+    (diagram : Option Text) (input : Text) : Type 0 where
   pub script_is : first_of (codes "script") rows ≡ Some script
   pub options_are : AreOptionsIn rows options
   pub out_is : first_of (codes "out") rows ≡ out
   pub bits_is : first_of (codes "bits") rows ≡ bits
   pub normal_is : normal ≡ is_normal_wanted rows
+  pub diagram_is : first_of (codes "diagram") rows ≡ diagram
   pub input_is : first_of (codes "in") rows ≡ Some input
   pub apart : are_both_standard script input ≡ false
   pub alone : has_line rows ≡ false
@@ -512,14 +516,14 @@ IsJobOf met (Frames most order words pages input) = (rows : List Row)
     × (words ≡ is_named (codes "true") (first_of (codes "explain") rows))
     × (first_of (codes "pages") rows ≡ option_map string_bytes pages)
     × (first_of (codes "file") rows ≡ Some (string_bytes input))
-IsJobOf met (Call script options out bits normal input) = (rows : List Row)
+IsJobOf met (Call script options out bits normal diagram input) = (rows : List Row)
     × (met ≡ Some (codes "call", rows))
     × IsCallOf rows (string_bytes script) options (option_map string_bytes out) (option_map string_bytes bits) normal
-    (string_bytes input)
-IsJobOf met (Drive line times options out bits normal input) = (rows : List Row)
+    (option_map string_bytes diagram) (string_bytes input)
+IsJobOf met (Drive line times options out bits normal diagram input) = (rows : List Row)
     × (met ≡ Some (codes "call", rows))
     × IsDriveOf rows line times options (option_map string_bytes out) (option_map string_bytes bits) normal
-    (string_bytes input)
+    (option_map string_bytes diagram) (string_bytes input)
 IsJobOf met (Answer caps limit waits out trace) = (rows : List Row)
     × (met ≡ Some (codes "station", rows))
     × IsAnswerOf rows caps limit waits (string_bytes out) (option_map string_bytes trace)
@@ -577,8 +581,8 @@ HasWidth (Code coding order input output) = Unit {0}
 HasWidth (Show coding order width input) = IsWidth width
 HasWidth (Decode form options page input output) = IsWidth form.width
 HasWidth (Frames most order words pages input) = Unit {0}
-HasWidth (Call script options out bits normal input) = Unit {0}
-HasWidth (Drive line times options out bits normal input) = Unit {0}
+HasWidth (Call script options out bits normal diagram input) = Unit {0}
+HasWidth (Drive line times options out bits normal diagram input) = Unit {0}
 HasWidth (Answer caps limit waits out trace) = Unit {0}
 HasWidth (Dial options waits trace input) = Unit {0}
 HasWidth (Version proof) = Unit {0}

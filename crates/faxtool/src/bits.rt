@@ -24,6 +24,8 @@ pub(crate) struct CallFiles<'a> {
     pub(crate) out: Option<&'a str>,
     /// The name of the folder that the octets on the line go to, where one is given.
     pub(crate) bits: Option<&'a str>,
+    /// The name of the file that the call is drawn in, where one is given.
+    pub(crate) diagram: Option<&'a str>,
 }
 
 impl<'a> CallFiles<'a> {
@@ -31,12 +33,14 @@ impl<'a> CallFiles<'a> {
     pub(crate) fn of(
         out: &'a Option<String>,
         bits: &'a Option<String>,
+        diagram: &'a Option<String>,
         input: &'a str,
     ) -> CallFiles<'a> {
         CallFiles {
             input,
             out: out.as_deref(),
             bits: bits.as_deref(),
+            diagram: diagram.as_deref(),
         }
     }
 }

@@ -4,10 +4,10 @@ ghost use Rattle.calls.specs.Calls.{HaveRows};
 ghost use Rattle.engines.specs.Faults.{IsOutside};
 ghost use Rattle.std.specs.Prelude.{IfErr};
 
-use crate::bits::{self, CallFiles};
+use crate::bits::CallFiles;
 use crate::files::{read_file, read_input};
 use crate::notes::{Notes, Part};
-use crate::outputs;
+use crate::{diagram, outputs};
 use calls::{CallOptions, call_to_end, ended_normally, read_script};
 use engines::{NO_MEMORY, ToolFault};
 use raster::{Page, write_pbm};
@@ -25,11 +25,11 @@ pub fn call_file(
     // a script that is refused is so before anything waits for images
     let _commands = read_script(rt.alloc(), notes.script.as_slice())?;
     read_input(rt, files.input, notes)?;
-    let mut writer = bits::open(rt, files.bits, notes)?;
+    let mut writer = diagram::open(rt, files, notes)?;
     let mut script = notes.script.as_slice();
     let mut images = notes.octets.as_slice();
     let called = call_to_end(rt.alloc(), &mut script, &mut images, &mut writer, options);
-    let ended = bits::close(rt, writer, called.is_ok(), notes);
+    let ended = diagram::close(rt, writer, called.is_ok(), files.diagram, notes);
     let ending = called?;
     ended?;
     write_pages(rt, files.out, &ending.pages, notes)?;

@@ -1,8 +1,8 @@
 //! Calls over a bad line.
 
-use crate::bits;
 use crate::bits::CallFiles;
 use crate::call::write_pages;
+use crate::diagram;
 use crate::files::{self, read_input};
 use crate::notes::Notes;
 use calls::{BadLine, CallOptions, drive_many, drive_to_end, ended_normally};
@@ -35,10 +35,10 @@ fn drive_file(
     notes: &mut Notes,
 ) -> Result<bool, ToolFault> {
     read_input(rt, files.input, notes)?;
-    let mut writer = bits::open(rt, files.bits, notes)?;
+    let mut writer = diagram::open(rt, files, notes)?;
     let mut images = notes.octets.as_slice();
     let driven = drive_to_end(rt.alloc(), &mut images, &mut writer, options, line, 0);
-    let ended = bits::close(rt, writer, driven.is_ok(), notes);
+    let ended = diagram::close(rt, writer, driven.is_ok(), files.diagram, notes);
     let ending = driven?;
     ended?;
     write_pages(rt, files.out, &ending.pages, notes)?;

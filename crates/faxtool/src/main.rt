@@ -7,6 +7,7 @@ mod call;
 mod code;
 mod commands;
 mod decode;
+mod diagram;
 mod drives;
 mod explain;
 mod faults;

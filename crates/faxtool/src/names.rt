@@ -23,6 +23,14 @@ pub fn bits_of<'a>(job: &'a Job) -> Option<&'a str> {
     }
 }
 
+/// The name of the file that a job's call is drawn in, where one is given.
+fn diagram_of<'a>(job: &'a Job) -> Option<&'a str> {
+    match job {
+        Job::Call { diagram, .. } | Job::Drive { diagram, .. } => diagram.as_deref(),
+        _ => None,
+    }
+}
+
 /// The name of the file of a job's script.
 fn script_of<'a>(job: &'a Job) -> Option<&'a str> {
     match job {
@@ -60,6 +68,7 @@ pub fn file_of<'a>(job: &'a Job, part: Part) -> &'a str {
         Part::Output => output_of(job),
         Part::Script => script_of(job),
         Part::Bits => bits_of(job),
+        Part::Diagram => diagram_of(job),
         Part::Trace => trace_of(job),
         Part::Input => None,
     };
@@ -69,7 +78,7 @@ pub fn file_of<'a>(job: &'a Job, part: Part) -> &'a str {
 /// A name as messages have it.
 fn shown_name<'a>(named: &'a str, part: Part) -> &'a str {
     match part {
-        Part::Output | Part::Printed if named == STANDARD => "standard output",
+        Part::Output | Part::Diagram | Part::Printed if named == STANDARD => "standard output",
         _ if named == STANDARD => "standard input",
         _ => named,
     }

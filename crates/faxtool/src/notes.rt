@@ -19,6 +19,8 @@ pub enum Part {
     Output,
     /// The folder of `--bits`, and its files.
     Bits,
+    /// The file of `--diagram`.
+    Diagram,
     /// The file of `--trace`.
     Trace,
     /// What is printed.

@@ -79,6 +79,22 @@ pub fn write(
     noted(put(rt, name, octets), notes)
 }
 
+/// Does what `write` does with the file of a call's picture.
+pub fn write_diagram(
+    rt: &HostRuntime,
+    name: &str,
+    octets: &[u8],
+    notes: &mut Notes,
+) -> Result<(), ToolFault>
+    ensures { IfErr result IsOutside }
+{
+    let written = put(rt, name, octets);
+    if let Err(error) = &written {
+        notes.blame(Part::Diagram, error.kind());
+    }
+    Ok(written?)
+}
+
 /// Writes these octets into a new file of a folder, `page-N.pbm` of the first number from this one on that is free,
 /// and answers the number.
 /// Errs with 8 where it can't be written, which is noted, and with 9.

@@ -292,6 +292,12 @@ const CALL_ARGUMENTS: &[Argument<'static>] = &[
         ..FILE_OPTION
     },
     Argument {
+        id: "diagram",
+        shown: &["OUT"],
+        help: "The file that the call is drawn in, as an SVG",
+        ..FILE_OPTION
+    },
+    Argument {
         id: "in",
         shown: &["IN"],
         help: "The file of the document, a PBM; - is standard input",

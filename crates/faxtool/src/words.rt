@@ -87,6 +87,8 @@ pub enum Job {
         bits: Option<String>,
         /// Whether the call is to end normally for both stations.
         normal: bool,
+        /// The name of the file that the call is drawn in, where one is given.
+        diagram: Option<String>,
         /// The name of the document's file.
         input: String,
     },
@@ -104,6 +106,8 @@ pub enum Job {
         bits: Option<String>,
         /// Whether the call is to end normally for both stations.
         normal: bool,
+        /// The name of the file that the call is drawn in, where one is given.
+        diagram: Option<String>,
         /// The name of the document's file.
         input: String,
     },
@@ -405,6 +409,7 @@ fn call_job(alloc: Global, matches: &ArgMatches<'_>) -> Result<Option<Job>, Allo
             out: copy_of(alloc, text_in(matches, "out"))?,
             bits: copy_of(alloc, text_in(matches, "bits"))?,
             normal: is_normal_wanted(matches),
+            diagram: copy_of(alloc, text_in(matches, "diagram"))?,
             input: String::from_str(alloc, input)?,
         }));
     };
@@ -417,6 +422,7 @@ fn call_job(alloc: Global, matches: &ArgMatches<'_>) -> Result<Option<Job>, Allo
         out: copy_of(alloc, text_in(matches, "out"))?,
         bits: copy_of(alloc, text_in(matches, "bits"))?,
         normal: is_normal_wanted(matches),
+        diagram: copy_of(alloc, text_in(matches, "diagram"))?,
         input: String::from_str(alloc, input)?,
     }))
 }
@@ -484,6 +490,9 @@ fn times_in(matches: &ArgMatches<'_>) -> Option<Option<u32>>
         return None;
     }
     if text_in(matches, "expect").is_some() {
+        return None;
+    }
+    if text_in(matches, "diagram").is_some() {
         return None;
     }
     match number_in(matches, "times") {
@@ -702,6 +711,9 @@ fn unfit_call(matches: &ArgMatches<'_>) -> &'static str {
     }
     if text_in(matches, "times").is_some() && text_in(matches, "expect").is_some() {
         return "--times counts the ends of many calls, and can't be used with --expect";
+    }
+    if text_in(matches, "times").is_some() && text_in(matches, "diagram").is_some() {
+        return "--times draws no call, and can't be used with --diagram";
     }
     "--lose and --spoil are more than 100% together"
 }

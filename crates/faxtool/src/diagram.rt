@@ -1,0 +1,55 @@
+//! The picture of a call.
+
+ghost use Rattle.engines.specs.Faults.{IsOutside};
+ghost use Rattle.std.specs.Prelude.{IfErr};
+
+use crate::bits::{self, CallFiles, CallOutput};
+use crate::notes::Notes;
+use crate::outputs;
+use calls::{Ladder, WithDiagram, write_picture};
+use engines::ToolFault;
+
+/// Opens what a call is written to, which is drawn too where that is asked for. Errs with 8 where a file can't be made or standard
+/// output is closed, which is noted, and with 9.
+pub(crate) fn open<'a>(
+    rt: &'a HostRuntime,
+    files: CallFiles<'_>,
+    notes: &mut Notes,
+) -> Result<WithDiagram<CallOutput<'a>>, ToolFault>
+    ensures { IfErr result IsOutside }
+{
+    let writer = bits::open(rt, files.bits, notes)?;
+    let ladder = match files.diagram {
+        Some(_name) => Some(Ladder::new(rt.alloc())),
+        None => None,
+    };
+    Ok(WithDiagram { writer, ladder })
+}
+
+/// Ends what a call is written to, and then writes the picture where the call is drawn, all was done and the rest is written. Errs
+/// with 8 where a file can't be written, which is noted, and with 9.
+pub(crate) fn close(
+    rt: &HostRuntime,
+    output: WithDiagram<CallOutput<'_>>,
+    done: bool,
+    name: Option<&str>,
+    notes: &mut Notes,
+) -> Result<(), ToolFault>
+    ensures { IfErr result IsOutside }
+{
+    let WithDiagram { writer, ladder } = output;
+    bits::close(rt, writer, done, notes)?;
+    match (name, ladder) {
+        (Some(name), Some(ladder)) if done => draw(rt, name, ladder, notes),
+        _ => Ok(()),
+    }
+}
+
+/// Writes the picture of a call into a file. Errs with 8 where it can't be written, which is noted, and with 9.
+fn draw(rt: &HostRuntime, name: &str, ladder: Ladder, notes: &mut Notes) -> Result<(), ToolFault>
+    ensures { IfErr result IsOutside }
+{
+    let mut octets = Vec::new(rt.alloc());
+    write_picture(ladder, &mut octets)?;
+    outputs::write_diagram(rt, name, octets.as_slice(), notes)
+}
