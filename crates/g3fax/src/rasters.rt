@@ -10,9 +10,8 @@ ghost use Rattle.std.specs.Prelude.{◌≡◌, ◌≢◌, ◌≤◌, ◌+◌, �
 
 use crate::codes::in_64_bits;
 use crate::handle::{G3Handle, Kept, opened};
-use crate::pages::push_octets;
-use crate::status::{BAD_LENGTH, BAD_WIDTH, FULL_HANDLE, NO_ROOM, OK, TOO_MANY_ROWS};
-use raster::{MAX_ROWS, MAX_WIDTH, Page};
+use crate::status::{BAD_LENGTH, BAD_WIDTH, FULL_HANDLE, NO_MEMORY, NO_ROOM, OK, TOO_MANY_ROWS};
+use raster::{MAX_ROWS, MAX_WIDTH, Page, Row};
 use std::alloc::Global;
 
 /// How rows lie in octets: how many octets are between the beginnings of two rows, how wide a row is in pixels, how many rows there
@@ -61,9 +60,13 @@ fn rows_of(alloc: Global, octets: &[u8], raster: &G3Raster) -> Result<Page, u32>
     };
     for number in 0..raster.rows {
         let at = raster.stride as u128 * number as u128;
-        let status = push_octets(alloc, &mut page, &octets[at as usize..]);
-        if status != OK {
-            return Err(status);
+        let row = match Row::from_octets(alloc, &octets[at as usize..], raster.width) {
+            Ok(row) => row,
+            Err(_) => return Err(NO_MEMORY),
+        };
+        match page.push_row(row) {
+            Ok(()) => {}
+            Err(_) => return Err(NO_MEMORY),
         }
     }
     Ok(page)
