@@ -86,8 +86,8 @@ try_large_pages() {
     done < "$data/large.sums"
 }
 
-# A comb of 20,000 rows, whose code in T.4 is the longest that a page has, 27 MB: a command holds the page, and a code once or not at all;
-# with the least significant bit first decode holds it twice, in both orders of bits.
+# A comb of 20,000 rows, whose code in T.4, 27 MB, is about the longest that a page has: a command holds the page, and a code once or not
+# at all; with the least significant bit first decode holds it twice, in both orders of bits.
 try_little_memory() {
     { printf 'P4\n2432 20000\n'; head -c 6080000 /dev/zero | tr '\0' 'U'; } > "$work/comb.pbm"
     for code in mh mmr; do
