@@ -143,16 +143,16 @@ tells_no_page() {
 # Pages one after another: of T.4 at the next bit, in the next octet, after fill, and after a seventh EOL, as pbmtog3 writes it; of T.6 in
 # the next octet, and after octets of 0.
 try_pages() {
-    eol=000000000001 row="0111 11 1011" white=10011 black="00110101 000101"
+    eol=000000000001 row="0111 11 1011" blank=10011 black="00110101 000101"
     rtc="$eol $eol $eol $eol $eol $eol"
     for between in "" 0 0000 000000000000000 "$eol" "0000$eol" "$eol 0000 $eol"; do
-        code=$(bits "$eol $row $rtc $between $eol $white $eol $row $rtc $between $eol $black $rtc")
+        code=$(bits "$eol $row $rtc $between $eol $blank $eol $row $rtc $between $eol $black $rtc")
         page_is mh 1 30 "$code" "pages with $between between them"
         page_is mh 2 "00 30" "$code" "pages with $between between them"
         page_is mh 3 FF "$code" "pages with $between between them"
         tells_no_page "pages in the file: 3\nfault 28\n" --code mh --page 4 --width 8 "$code"
     done
-    code=$(bits "$row $rtc 000000 $white $eol $row $rtc")
+    code=$(bits "$row $rtc 000000 $blank $eol $row $rtc")
     page_is mh 2 "00 30" "$code" "pages of which the second has no EOL before its first row"
     tells_no_page "pages in the file: 1\nfault 28\n" --code mh --page 2 --width 8 "$(bits "$row $rtc $eol 0000")"
     tells_no_page "page 1 begins at octet 0 and can't be read to its end\nfault 10 at bit 48\n" --code mh --page 2 --width 8 \
