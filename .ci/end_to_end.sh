@@ -18,7 +18,7 @@ trap 'rm -rf "$work"' EXIT
 white="50 34 0A 31 37 32 38 20 31 0A$(seq 216 | sed 's/.*/ 00/' | tr -d '\n')"
 count=0
 # How many runs of the program there are at least, so that cases that go missing are seen.
-least=2100
+least=2220
 for part in common code decode frames call drive bits diagram words man files reference station readme; do
     . "$top/.ci/end_to_end/$part.sh"
 done
