@@ -289,7 +289,7 @@ try_environment() {
 try_memory() {
     "$program" code --code mh "$work/large.pbm" "$work/large.mh"
     named=0
-    for most in $(seq 3300 20 3900) 4500; do
+    for most in $(seq 3000 20 5000); do
         status=0
         (ulimit -v "$most"; exec "$program" decode --explain --code mh --width 2432 "$work/large.mh" "$work/made") \
             > "$work/output" 2> "$work/error" || status=$?
