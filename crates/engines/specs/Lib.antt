@@ -9,6 +9,7 @@ pub mod Decodings
 pub mod PageEnds
 pub mod Answers
 pub mod LaterPages
+pub mod Identified
 pub mod Texts
 pub mod SignalWords
 pub mod Frames
