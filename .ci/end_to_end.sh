@@ -18,8 +18,8 @@ trap 'rm -rf "$work"' EXIT
 white="50 34 0A 31 37 32 38 20 31 0A$(seq 216 | sed 's/.*/ 00/' | tr -d '\n')"
 count=0
 # How many runs of the program there are at least, so that cases that go missing are seen.
-least=2220
-for part in common code decode frames call drive bits diagram words man files reference station readme; do
+least=2350
+for part in common code decode frames identify call drive bits diagram words man files reference station readme; do
     . "$top/.ci/end_to_end/$part.sh"
 done
 
@@ -42,6 +42,8 @@ for program in "$@"; do
     try_frames
     try_gaps
     try_signal_words
+    try_records
+    try_identify
     try_images
     try_data
     try_standard

@@ -7,7 +7,8 @@ Each document's lines run in a copy of docs/examples of their own, where `faxtoo
 a line that begins with `$ ` is a command, one that begins with `> ` goes on with it, and the lines up to the next command are all that it
 prints, on standard output and standard error; a line `...` stands for any lines. In a table each cell that is a `faxtool` command is run:
 it must end with status 0 and say nothing on standard error, but how a station's call ended. Blocks of another name are not run.
-Prints how many commands were run, or the first difference, and ends with status 1 then. It needs Python's standard library alone."""
+A command with `jq` is named and left out where there is none. Prints how many commands there are, or the first difference, and ends with
+status 1 then. It needs Python's standard library alone."""
 
 import os
 import re
@@ -70,6 +71,9 @@ def try_document(program, document):
         shutil.copytree(TOP / "docs" / "examples", folder / "work")
         status = 0
         for command, shown in commands:
+            if "| jq " in command and shutil.which("jq") is None:
+                print(f"{document.name}: there is no jq, so this was not run: {command}", file=sys.stderr)
+                continue
             printed, errors, status = run(command, folder, status, subprocess.PIPE if shown is None else subprocess.STDOUT)
             if shown is None and (status != 0 or errors and not ENDED.fullmatch(errors)):
                 sys.exit(f"{document.name}: `{command}` ended with status {status}:\n{errors}")

@@ -87,15 +87,13 @@ try_large_pages() {
 }
 
 # A comb of 20,000 rows, whose code in T.4, 27 MB, is about the longest that a page has: a command holds the page, and a code once or not
-# at all; with the least significant bit first decode holds it twice, in both orders of bits.
+# at all, in both orders of bits.
 try_little_memory() {
     { printf 'P4\n2432 20000\n'; head -c 6080000 /dev/zero | tr '\0' 'U'; } > "$work/comb.pbm"
     for code in mh mmr; do
         for order in lsb msb; do
             takes_at_most 16384 code --code $code --order $order "$work/comb.pbm" "$work/comb.code"
-            bound=36864
-            [ $order = msb ] || bound=65536
-            takes_at_most $bound decode --code $code --order $order --width 2432 "$work/comb.code" "$work/decoded"
+            takes_at_most 36864 decode --code $code --order $order --width 2432 "$work/comb.code" "$work/decoded"
             is_same "$work/decoded" "$work/comb.pbm" "decode of a comb in $code, $order"
         done
     done

@@ -64,6 +64,15 @@ sys.stdout.buffer.write(bytes(int(f"{octet:08b}"[::-1], 2) for octet in open(sys
     is_same "$work/turned_pages/page-1.pbm" "$top/docs/examples/row.pbm" "the page in the bits of docs/examples/line.bits in the other order"
 }
 
+# Records of frames, of pages and of what is missing say what the lines say.
+try_records() {
+    mkdir -p "$work/recorded"
+    for records in "$data/line.bits" "$top/docs/examples/line.bits"; do
+        python3 -B "$data/try_json.py" "$program" "$records" "$work/recorded" || fails "frames --json of $records"
+        count=$((count + 13))
+    done
+}
+
 # A mebibyte of frames.
 try_large_frames() {
     works frames "$work/frames.bits"

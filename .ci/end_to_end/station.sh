@@ -124,6 +124,14 @@ LINES
     count=$((count + 2))
 }
 
+# Records of a trace, of how a call ended and of a fault say what the lines say.
+try_station_records() {
+    rm -rf "$work/stored"
+    mkdir "$work/stored"
+    runs=$(python3 -B "$data/try_json_station.py" "$program" "$work/stored") || fails "station --json"
+    count=$((count + runs))
+}
+
 # Two processes that are joined: each line is answered at once, and the pages arrive.
 try_joined() {
     for words in "--lose 0 --seed 1" "--lose 0.1 --seed 4" "--lose 0.1 --seed 5"; do
@@ -171,6 +179,7 @@ CASES
     try_unwritten
     try_no_lines
     try_trace
+    try_station_records
     try_joined
     python3 -B "$top/bench/fuzz/reference_station.py" --dry > "$work/output" || fails "reference_station.py: $(cat "$work/output")"
     FAXTOOL=$program timeout 600 python3 -B "$top/bench/fuzz/fuzz_station.py" --seconds 60 --seed 36 > "$work/output" ||

@@ -218,12 +218,12 @@ try_completion() {
         echo "end to end: no bash, so the completion wasn't tried"
         return
     fi
-    completes "code show decode frames call station version help --help" ""
+    completes "code show decode frames call identify station version help --help" ""
     completes "code call" c
     gives 2 --help
     commands=$(sed -n 's/^  \([a-z][a-z]*\)  .*/\1/p' "$work/error")
-    [ "$(echo $commands)" = "code show decode frames call station version help" ] || fails "--help has other commands: $commands"
-    for command in code show decode frames call station version; do
+    [ "$(echo $commands)" = "code show decode frames call identify station version help" ] || fails "--help has other commands: $commands"
+    for command in code show decode frames call identify station version; do
         gives 2 "$command" --help
         options=$(sed -n 's/^  *\(-h, \)\{0,1\}\(--[a-z0-9]*\).*/\2/p' "$work/error" | sort)
         [ -n "$options" ] || fails "$command --help has no options"

@@ -43,9 +43,10 @@ pub mod laws;
 pub use crate::event::{Entry, Event, Kind};
 """
 STEP, ANSWERER = "stations/specs/AnswererStep.antt", "stations/src/answerer.rt"
+MARK, ASSEMBLER = "stations/src/mark.rt", "stations/src/assembler.rt"
 CALLER_STEP, CALLER = "stations/specs/CallerStep.antt", "stations/src/caller.rt"
 ROWS, SPENDING = "stations/proofs/CallerRows.antt", "stations/proofs/Spending.antt"
-LIMITS, RUN_LAWS = "stations/proofs/Limits.antt", "stations/proofs/RunLaws.antt"
+LIMITS, RUN_LAWS = "stations/proofs/OpenLimits.antt", "stations/proofs/RunLaws.antt"
 LINE, CALL, SENT = "line_sim/specs/Line.antt", "line_sim/src/call.rt", "line_sim/proofs/Sent.antt"
 SENDS, MARKS = "line_sim/proofs/call/Call/caller_sends/Answers.antt", "line_sim/proofs/Marks.antt"
 # Of each wrong body its edits: the file, its text and what takes its place. Those of a proof keep what is true of
@@ -53,14 +54,14 @@ SENDS, MARKS = "line_sim/proofs/call/Call/caller_sends/Answers.antt", "line_sim/
 WRONG = {
     "repeat stored twice": [
         (STEP, "is_repeated (Some accepted) mark = same_mark accepted.mark mark", "is_repeated (Some accepted) mark = false"),
-        (ANSWERER, "Some(accepted) => is_same(accepted.mark, mark),", "Some(_) => false,"),
+        (ANSWERER, "Some(accepted) => accepted.mark.is_same(mark),", "Some(_) => false,"),
         # what is still true of it
         (MARKS, "k (Some before) block e f same = neighbours_differ groups document readable k before block e f same",
          "k (Some before) block e f same = cc"),
     ],
     "repeat known by the block count alone": [
         (STEP, "same_mark m n = nat_eq m.page n.page && nat_eq m.block n.block", "same_mark m n = nat_eq m.block n.block"),
-        (ANSWERER, "mark.page == other.page && mark.block == other.block", "mark.block == other.block"),
+        (MARK, "self.page == other.page && self.block == other.block", "self.block == other.block"),
         (MARKS, "rw (eq-eqb m.page m.page refl, eq-eqb m.block m.block refl)", "eq-eqb m.block m.block refl"),
     ],
     "old frames fill the next block": [
@@ -69,10 +70,11 @@ WRONG = {
          "abbrev pub kept : PageEnd → Frames → Frames\nkept Eom frames = no_frames\nkept _ frames = frames\n\n"
          "-- a block is accepted: its frames are cleared\n"),
         (STEP, "        octets = octets;\n        frames = no_frames;", "        octets = octets;\n        frames = kept ends s.frames;"),
-        (ANSWERER, "is_clear, Frames, state_after, stores};", "is_clear, Frames, state_after, stores, kept};"),
-        (ANSWERER, "asked = None; frames = no_frames } }", "asked = None; frames = kept ends self.old.frames } }"),
-        (ANSWERER, "        self.store.clear();\n        self.state = match ends {\n            PageEnd::Eom => AnswererState::PhaseB,",
-         "        self.state = match ends {\n            PageEnd::Eom => {\n                self.store.clear();\n"
+        (ANSWERER, "{state_after, stores};", "{state_after, stores, kept};"),
+        (ANSWERER, "          frames = no_frames;\n        } }", "          frames = kept ends self.old.frames;\n        } }"),
+        (ANSWERER, "        self.block.clear();\n        self.state = match ends {\n            PageEnd::Eom => AnswererState::PhaseB,",
+         "        self.block.asked = None;\n        self.state = match ends {\n            PageEnd::Eom => {\n"
+         "                self.block.clear();\n"
          "                AnswererState::PhaseB\n            }"),
         # the station's own laws
         (LIMITS, "(pages : List PagePixels) → length octets ≤ 8388608 →",
@@ -97,10 +99,13 @@ WRONG = {
         (STEP, "cond (same_mark asked.mark mark) (max asked.last last) last",
          "cond (same_mark asked.mark mark) (max asked.last (last - 1)) (last - 1)"),
         (STEP, "suc, ◌+◌, Bool", "suc, ◌+◌, ◌-◌, Bool"),
-        (ANSWERER,
-         "    fn counted(&self, mark: Mark, last: u8) -> u8\n        ensures { result ≡ last_counted self.now.asked mark last }\n    {\n",
-         "    fn counted(&self, mark: Mark, last: u8) -> u8\n        ensures { result ≡ last_counted self.now.asked mark last }\n    {\n"
-         "        let last = last.saturating_sub(1);\n"),
+        (ASSEMBLER,
+         "    pub fn counted(&self, pps: Pps) -> Pps\n"
+         "        ensures { result ≡ record pps { last = last_counted (option_map asked_by self.now.asked) pps.mark pps.last } }\n    {\n",
+         "    pub fn counted(&self, pps: Pps) -> Pps\n"
+         "        ensures { result ≡ record pps { last = last_counted (option_map asked_by self.now.asked) pps.mark pps.last } }\n    {\n"
+         "        let pps = Pps {\n            ends: pps.ends,\n            mark: pps.mark,\n"
+         "            last: pps.last.saturating_sub(1),\n        };\n"),
     ],
     "confirmed when sent": [
         (CALLER_STEP, "-- the number of confirmed pages: those whose last block comes before the present one\nabbrev pub confirmed :",

@@ -7,9 +7,10 @@ _faxtool_options() {
         code) echo --code --order --explain --help ;;
         show) echo --code --width --order --explain --help ;;
         decode) echo --code --width --order --fine --salvage --repair --whole --verbose --page --explain --help ;;
-        frames) echo --data --order --pages --explain --help ;;
+        frames) echo --data --order --pages --json --explain --help ;;
         call) echo --script --lose --spoil --busy --seed --calls --times --code --frame --modems --fine --out --expect --bits --diagram --explain --help ;;
-        station) echo --answer --call --out --code --modems --standard --widest --limit --frame --fine --t1 --t2 --t4 --t5 --trace --explain --help ;;
+        identify) echo --explain --help ;;
+        station) echo --answer --call --out --code --modems --standard --widest --limit --frame --fine --t1 --t2 --t4 --t5 --trace --json --explain --help ;;
         version) echo --proof --help ;;
         *) echo --help ;;
     esac
@@ -44,7 +45,7 @@ _faxtool() {
     local word=${COMP_WORDS[COMP_CWORD]} before=${COMP_WORDS[COMP_CWORD - 1]} values
     COMPREPLY=()
     if [ "$COMP_CWORD" = 1 ]; then
-        mapfile -t COMPREPLY < <(compgen -W "code show decode frames call station version help --help" -- "$word")
+        mapfile -t COMPREPLY < <(compgen -W "code show decode frames call identify station version help --help" -- "$word")
         return
     fi
     # bash takes --code=mh as three words
@@ -54,7 +55,7 @@ _faxtool() {
     if [ -n "$values" ]; then
         mapfile -t COMPREPLY < <(compgen -W "$values" -- "$word")
     elif [ "${COMP_WORDS[1]}" = help ]; then
-        mapfile -t COMPREPLY < <(compgen -W "code show decode frames call station version" -- "$word")
+        mapfile -t COMPREPLY < <(compgen -W "code show decode frames call identify station version" -- "$word")
     elif [ "${word#-}" != "$word" ]; then
         mapfile -t COMPREPLY < <(compgen -W "$(_faxtool_options "${COMP_WORDS[1]}")" -- "$word")
     else

@@ -17,7 +17,7 @@ use Rattle.line_sim.specs.Line.{World, Outcome, Done, Nothing, InputLost, Cut, r
 use Rattle.line_sim.specs.PageMachine.{IsBeginning}
 use Rattle.line_sim.specs.Polite.{and_on, next_steps, polite_steps}
 use Rattle.line_sim.specs.Putting.{Puts}
-use Rattle.line_sim.specs.Standing.{Acts, Shows}
+use Rattle.line_sim.specs.Represents.{Acts, Shows}
 use Rattle.line_sim.specs.declared.call.Call.{Call}
 use Rattle.line_sim.specs.declared.event.Entry.{Entry}
 use Rattle.line_sim.specs.declared.event.Event.{Event}

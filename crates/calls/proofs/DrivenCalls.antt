@@ -13,7 +13,7 @@ use Rattle.line_sim.specs.Fates.{DrivenFields}
 use Rattle.line_sim.specs.Headline.{IsSafeWorld, RunsAreSafe}
 use Rattle.line_sim.specs.Line.{World}
 use Rattle.line_sim.specs.Report.{all_done}
-use Rattle.line_sim.specs.Standing.{Shows}
+use Rattle.line_sim.specs.Represents.{Shows}
 use Rattle.line_sim.specs.declared.call.Call.{Call}
 use Rattle.line_sim.specs.declared.live.Ending.{Ending}
 use Rattle.calls.specs.BadLines.{DrivesCall, Going, LeavesAfter, LeavesDriven, RefusesDriven, TellsAll, TellsDriven, bad_call, gone}

@@ -19,7 +19,7 @@ use Rattle.line_sim.specs.Fates.{plain_fate}
 use Rattle.line_sim.specs.Line.{Done, run}
 use Rattle.line_sim.specs.Octets.{under_way_to}
 use Rattle.line_sim.specs.Report.{all_done}
-use Rattle.line_sim.specs.Standing.{Shows}
+use Rattle.line_sim.specs.Represents.{Shows}
 use Rattle.line_sim.specs.declared.call.Call.{Call}
 use Rattle.line_sim.specs.declared.drive.Fate.{Fate as CallFate}
 use Rattle.line_sim.specs.declared.drive.Fate.TheVariants.{Comes}

@@ -13,7 +13,7 @@ use Rattle.line_sim.specs.Driving.{events_waiting}
 use Rattle.line_sim.specs.Driving.{first_fate, is_rnr_item, meets_answerer, meets_caller, somebody_waits, step_events}
 use Rattle.line_sim.specs.Driving.Fate.{comes, lost, spoiled}
 use Rattle.line_sim.specs.Entries.{entries, head_kind}
-use Rattle.line_sim.specs.Standing.{Shows}
+use Rattle.line_sim.specs.Represents.{Shows}
 use Rattle.line_sim.specs.declared.event.Kind.TheVariants.{Training}
 use Rattle.line_sim.specs.EventsMean.{IsForCaller}
 use Rattle.line_sim.specs.Fates.{DrivenFields, MakesStep, entries_of, events_of, next_of}

@@ -5,7 +5,7 @@ use Rattle.signals.specs.declared.signal.Side.{Side}
 use Rattle.signals.specs.declared.signal.Side.TheVariants.{Answerer, Caller}
 use Rattle.stations.specs.Inputs.{PlainItem}
 use Rattle.line_sim.specs.Octets.{IsFirstLent, IsLentAt, form_of, sender_to, under_way_to}
-use Rattle.line_sim.specs.Standing.{Shows}
+use Rattle.line_sim.specs.Represents.{Shows}
 use Rattle.line_sim.specs.declared.call.Call.{Call}
 use Rattle.line_sim.specs.declared.event.LineItem.{LineItem}
 use Rattle.calls.specs.BadLines.{Going, gone, put_by_step, put_by_steps}

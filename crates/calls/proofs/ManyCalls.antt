@@ -15,7 +15,7 @@ use Rattle.stations.specs.Layers.{Document}
 use Rattle.stations.specs.declared.turn.End.{End}
 use Rattle.line_sim.specs.Fates.{DrivenFields}
 use Rattle.line_sim.specs.Line.{World}
-use Rattle.line_sim.specs.Standing.{Shows}
+use Rattle.line_sim.specs.Represents.{Shows}
 use Rattle.line_sim.specs.declared.live.Ending.{Ending}
 use Rattle.calls.specs.BadLines.{RefusesDriven, bad_call, gone}
 use Rattle.calls.specs.Calls.{EndsAs}

@@ -11,7 +11,7 @@ use Rattle.line_sim.specs.Entries.{is_refused}
 use Rattle.line_sim.specs.Line.{World, Outcome, run}
 use Rattle.line_sim.specs.Octets.{IsFirstLent, IsLentAt, sender_to, under_way_to}
 use Rattle.line_sim.specs.Putting.{IsPut, Puts, put_to, puts_to}
-use Rattle.line_sim.specs.Standing.{Shows}
+use Rattle.line_sim.specs.Represents.{Shows}
 use Rattle.line_sim.specs.declared.call.Call.{Call}
 use Rattle.line_sim.specs.declared.event.Event.{Event}
 use Rattle.line_sim.specs.declared.event.LineItem.{LineItem}

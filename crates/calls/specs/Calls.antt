@@ -17,7 +17,7 @@ use Rattle.line_sim.specs.Entries.{entries, is_refused}
 use Rattle.line_sim.specs.Headline.{IsSafe}
 use Rattle.line_sim.specs.Line.{World, Outcome, Done, new_world, run}
 use Rattle.line_sim.specs.Polite.{next_steps, polite_steps}
-use Rattle.line_sim.specs.Standing.{Shows}
+use Rattle.line_sim.specs.Represents.{Shows}
 use Rattle.line_sim.specs.declared.call.Call.{Call}
 use Rattle.line_sim.specs.declared.event.Event.{Event}
 use Rattle.line_sim.specs.declared.live.Ending.{Ending}

@@ -8,7 +8,7 @@ ghost use Rattle.engines.specs.declared.fault.ToolFault.TheVariants.{No};
 ghost use Rattle.calls.specs.declared.script.Command.TheVariants.{Events, Polite};
 ghost use Rattle.line_sim.specs.Line.{World as WorldValue};
 ghost use Rattle.line_sim.specs.Report.{number_of};
-ghost use Rattle.line_sim.specs.Standing.{Shows};
+ghost use Rattle.line_sim.specs.Represents.{Shows};
 ghost use Rattle.raster.specs.Pages.{IsDocument};
 ghost use Rattle.stations.specs.CallerFields.{AreCallable};
 ghost use Rattle.std.specs.Prelude.{◌≡◌, ◌+◌, ◌⊎◌, IfErr, IfOk, IfSome, OnOk};

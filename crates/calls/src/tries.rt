@@ -6,7 +6,7 @@ ghost use Rattle.engines.specs.Faults.{IsOutside};
 ghost use Rattle.line_sim.specs.Entries.{head_kind};
 ghost use Rattle.line_sim.specs.Fates.{entries_of};
 ghost use Rattle.line_sim.specs.Line.{World};
-ghost use Rattle.line_sim.specs.Standing.{Shows};
+ghost use Rattle.line_sim.specs.Represents.{Shows};
 ghost use Rattle.line_sim.specs.Tolerance.{bad_with};
 ghost use Rattle.line_sim.specs.declared.event.Kind.TheVariants.{Training};
 ghost use Rattle.std.specs.Prelude.{◌≡◌, ◌≢◌, IfErr, IfOk, Some};

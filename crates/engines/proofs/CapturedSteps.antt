@@ -3,7 +3,7 @@ use Rattle.std.proofs.Common.{◌≡◌, ◌≢◌, ◌<◌, ◌+◌, ℕ, zero,
 use Rattle.std.proofs.Common.{refl, ap, sym, ◌∙◌, arith, append_assoc, eqb, inl, inr}
 use Rattle.std.proofs.lemmas.Bool.{cases_eq}
 use Rattle.std.proofs.lemmas.Bool.Decides.{nat_tests}
-use Rattle.std.specs.Prelude.{Option, None, Ok, Err, IsTrue, ◌↔◌}
+use Rattle.std.specs.Prelude.{Option, None, Ok, Err}
 use Rattle.std.specs.List.{filter, range_with_len}
 use Rattle.std.proofs.lemmas.List.{ext_get_or, map-append}
 use Rattle.std.proofs.lemmas.List.Elements.{filter-append}
@@ -12,8 +12,6 @@ use Rattle.raster.specs.Packed.{bits_of}
 use Rattle.raster.specs.Pages.{PagePixels}
 use Rattle.raster.specs.declared.packed.Order.TheVariants.{LsbFirst}
 use Rattle.run_tables.specs.declared.fault.CodeFault.{CodeFault}
-use Rattle.run_tables.specs.declared.fault.CodeFaultKind.{CodeFaultKind}
-use Rattle.run_tables.specs.declared.fault.CodeFaultKind.TheVariants.{NoMemory}
 use Rattle.page_code.specs.Codings.{read_rows}
 use Rattle.partial_page.specs.Store.{frame_of, is_missing}
 use Rattle.signals.specs.Agreement.{pixels_of}
@@ -43,10 +41,6 @@ pub page_not_found : (params : Params) (mark : Mark) (octets : List ℕ) (fault 
     → ◌≡◌ {A = Captured} (Unread mark fault) (page_in params mark octets)
 unfolding page_in
 page_not_found params mark octets fault width e is = rw (← e, is) refl
-
--- memory was not refused
-pub no_memory : (kind : CodeFaultKind) (b : Bool) → IsTrue b ↔ (kind ≡ NoMemory) → b ≡ false → kind ≢ NoMemory
-no_memory kind b says none e = let yes = says.1 e in cc
 
 -- ---- frames that lack
 

@@ -17,6 +17,7 @@ use Rattle.stations.specs.AnswererStep.{all_there}
 use Rattle.stations.specs.Layers.{within_frame_size}
 use Rattle.stations.specs.TurnsMean.{IsTooLong}
 use Rattle.stations.specs.declared.mark.Mark.{Mark}
+use Rattle.stations.specs.declared.mark.Pps.{Pps}
 use Rattle.engines.specs.Captured.{Capture, Step, at_end, empty_capture, finds_none, gathers, gives_up, hears, hears_block, hears_fcd}
 use Rattle.engines.specs.Captured.{hears_pps}
 use Rattle.engines.specs.Captured.{is_waiting, judges, left_open, overlaid, page_in, takes_block, turns_from, turns_to, last_of, ◌>>>◌}
@@ -24,7 +25,6 @@ use Rattle.engines.specs.CapturesMean.{BlocksEnd, CapturesMean, FramesAreKept, I
 use Rattle.engines.specs.CapturesMean.{found_in, hears_signals, mark_of}
 use Rattle.engines.specs.declared.captured.Captured.{Captured}
 use Rattle.engines.specs.declared.captured.Captured.TheVariants.{MissingFrame, MissingBlocks, Unfinished, BlockBeforeDcs}
-use Rattle.engines.specs.declared.captured.Waiting.{Waiting}
 
 -- ---- sequences
 
@@ -307,7 +307,7 @@ either P true x y f g = f
 either P false x y f g = g
 
 -- a PPS of a block leaves it waiting, or takes it
-abbrev Leaves : PageEnd → Mark → ℕ → Option Waiting → Step → Type 0
+abbrev Leaves : PageEnd → Mark → ℕ → Option Pps → Step → Type 0
 Leaves ends mark last before step = (step.then.coming ≡ no_frames) × (step.then.begun ≡ false)
     × (IsAwaited ends mark last before step.then.waiting
     ⊎ ((step.then.waiting ≡ None) × (step.then.taken ≡ Some mark) × IsAfterBlock ends mark step.then))
@@ -315,7 +315,7 @@ Leaves ends mark last before step = (step.then.coming ≡ no_frames) × (step.th
 next_is : (n : ℕ) → n < 255 → (n + 1) % 256 ≡ n + 1
 next_is n less = omega (arith, less)
 
-judged : (params : Params) (ends : PageEnd) (mark : Mark) (last counts : ℕ) (before : Option Waiting) (s : Capture)
+judged : (params : Params) (ends : PageEnd) (mark : Mark) (last counts : ℕ) (before : Option Pps) (s : Capture)
     → IsAwaited ends mark last before (Some (record { mark = mark; ends = ends; last = counts }))
     → Leaves ends mark last before (judges params ends mark counts (gathers s))
 unfolding judges takes_block
@@ -332,7 +332,7 @@ judged params ends mark last counts before s awaited = either (Leaves ends mark 
     taken Eop = (refl, refl, inr (refl, refl, (refl, refl, refl)))
 
 -- the last frame that counts is one or the other
-counts_new : (before : Option Waiting) (last : ℕ) → last ≤ last_of before last
+counts_new : (before : Option Pps) (last : ℕ) → last ≤ last_of before last
 counts_new None last = omega arith
 counts_new (Some waiting) last = omega arith
 
@@ -365,7 +365,7 @@ blocks_end params ends mark last s is new =
       new = counts_new turned.waiting last;
       old = λ waiting e same.
           let waits : turned.waiting ≡ Some waiting = still_waits mark s same ∙ e in
-          subst (λ (w : Option Waiting). waiting.last ≤ last_of w last) (sym waits) (omega arith);
+          subst (λ (w : Option Pps). waiting.last ≤ last_of w last) (sym waits) (omega arith);
     }
 
     heard : hears_pps s.params ends mark last s ≡ hears_block params ends mark last s

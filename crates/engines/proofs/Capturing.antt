@@ -30,7 +30,8 @@ pub record FindsLeft (start framing : DeframerState) (old now : Capture) (before
 pub none_found : (start : DeframerState) (old : Capture) (before : List Captured) → FindsLeft start start old old before before
 none_found start old before = record { left = λ new all h. h; rest = refl }
 
-takes_first : (step : Step) (f : Capture → Step) (now new : Capture) (before out all : List Captured) → Takes step now before out
+-- a step after a step, where both were taken
+pub takes_first : (step : Step) (f : Capture → Step) (now new : Capture) (before out all : List Captured) → Takes step now before out
     → Takes (f now) new out all → Takes (step >>> f) new before all
 takes_first step f now new before out all a b = record {
   is = b.is ∙ ap (λ (s : Capture). (f s).then) a.is;

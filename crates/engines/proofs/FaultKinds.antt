@@ -9,7 +9,8 @@ use Rattle.engines.specs.declared.fault.ToolFault.TheVariants.{No, AtBit, AtLine
 use Rattle.engines.specs.declared.fault_kind.FaultKind.{FaultKind}
 use Rattle.engines.specs.declared.fault_kind.FaultKind.TheVariants.{BadWidth, WrongRowWidth, TooManyRows, NoRows, BadHeader, ShortData}
 use Rattle.engines.specs.declared.fault_kind.FaultKind.TheVariants.{NoPages, Io, NoMemory, BadAddress, BadControl, ShortField}
-use Rattle.engines.specs.declared.fault_kind.FaultKind.TheVariants.{WidthNotCallable, SeveralPages, FewerPages, Unknown, NoCodedRows, BadCode}
+use Rattle.engines.specs.declared.fault_kind.FaultKind.TheVariants.{WidthNotCallable, SeveralPages, FewerPages, Unidentified, Unknown}
+use Rattle.engines.specs.declared.fault_kind.FaultKind.TheVariants.{NoCodedRows, BadCode}
 use Rattle.engines.specs.declared.fault_kind.FaultKind.TheVariants.{Truncated, RunTooLong, Backwards, PastEnd, EmptyHorizontal}
 use Rattle.engines.specs.declared.fault_kind.FaultKind.TheVariants.{Extension, MissingEofb, TooManyCodedRows, UnknownAtBit, BadLine}
 
@@ -45,6 +46,7 @@ kind_of_number ShortField at = inl refl
 kind_of_number WidthNotCallable at = inl refl
 kind_of_number SeveralPages at = inl refl
 kind_of_number FewerPages at = inl refl
+kind_of_number Unidentified at = inl refl
 kind_of_number (Unknown number) at = tt
 kind_of_number NoCodedRows at = inr refl
 kind_of_number BadCode at = inr refl

@@ -1,5 +1,6 @@
 -- The lemmas of the engines.
 mod SignalWords
+mod RecordData
 mod TurnedBits
 mod Listing
 mod MarkedFrames
@@ -13,6 +14,7 @@ pub mod OneLine
 mod FaultKinds
 mod FirstImage
 mod CapturedSteps
+mod LastFrames
 mod Capturing
 mod Following
 mod RepairedLines
@@ -20,4 +22,5 @@ mod MissingEol
 mod CapturesMean
 mod RepairsMean
 mod RepairsT6
+mod Identifying
 pub mod FirstElements

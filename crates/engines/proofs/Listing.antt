@@ -19,7 +19,7 @@ use Rattle.hdlc.specs.declared.counts.Counts.{Counts}
 use Rattle.raster.proofs.OctetBits.{bits_of-join}
 use Rattle.hdlc.proofs.Gaps.{good_stays}
 use Rattle.engines.specs.declared.frames.ListOptions.{ListOptions}
-use Rattle.engines.specs.Frames.{IsOtherOrderWorth, counted, counts_line, counts_of, frame_line, frame_lines, listing}
+use Rattle.engines.specs.Frames.{IsOtherOrderWorth, counted, counts_of, frame_line, frame_lines, last_line, listing}
 
 -- What is still to be written of the contents that waited: with it the writer holds what it held before and the lines of
 -- all of them.
@@ -179,13 +179,13 @@ pub all_listed : (how : ListOptions) (start left rest before now new : Option (L
     → ListedSo how start left before now framing number octets → Consumes left rest [] → IsAtEnd rest
     → ((bits : List Bool) (handed : ℕ) → IsAfter framing bits handed → (class : Class)
     → count_in counts class ≡ min (2 ^ 64 - 1) (count_of class bits))
-    → Appends now new (counts_line counts)
+    → Appends now new (last_line how.form counts)
     → IfSome start (λ octets. Appends before new (listing how (bits_of how.order octets)))
 all_listed how start left rest before now new framing number octets counts old none end each written =
     let bits = bits_of how.order old.came in
     let are : counts ≡ counts_of bits = counts_are counts bits (each bits (length (good bits)) old.stands) in
     let text : Appends before new (listing how bits) = Appends-trans before now new _ _ old.lines
-    (subst (λ c. Appends now new (counts_line c)) are written) in
+    (subst (λ c. Appends now new (last_line how.form c)) are written) in
     whole start (Consumes-trans start left rest old.came [] old.read none) text
   where
     whole : (start : Option (List ℕ)) → Consumes start rest (old.came ++ []) → Appends before new (listing how (bits_of how.order old.came))

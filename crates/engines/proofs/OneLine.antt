@@ -24,7 +24,8 @@ use Rattle.engines.specs.declared.fault.ToolFault.TheVariants.{No, AtBit, AtLine
 use Rattle.engines.specs.declared.fault_kind.FaultKind.{FaultKind}
 use Rattle.engines.specs.declared.fault_kind.FaultKind.TheVariants.{BadWidth, WrongRowWidth, TooManyRows, NoRows, BadHeader, ShortData}
 use Rattle.engines.specs.declared.fault_kind.FaultKind.TheVariants.{NoPages, Io, NoMemory, BadAddress, BadControl, ShortField}
-use Rattle.engines.specs.declared.fault_kind.FaultKind.TheVariants.{WidthNotCallable, SeveralPages, FewerPages, Unknown, NoCodedRows, BadCode}
+use Rattle.engines.specs.declared.fault_kind.FaultKind.TheVariants.{WidthNotCallable, SeveralPages, FewerPages, Unidentified, Unknown}
+use Rattle.engines.specs.declared.fault_kind.FaultKind.TheVariants.{NoCodedRows, BadCode}
 use Rattle.engines.specs.declared.fault_kind.FaultKind.TheVariants.{Truncated, RunTooLong, Backwards, PastEnd, EmptyHorizontal}
 use Rattle.engines.specs.declared.fault_kind.FaultKind.TheVariants.{Extension, MissingEofb, TooManyCodedRows, UnknownAtBit, BadLine}
 use Rattle.engines.specs.Explanations.{IsOneLine, are_shown, explained, is_at_end, is_plain, is_shown, line_words, missing_code, name_text}
@@ -119,6 +120,7 @@ kind_line ShortField = refl
 kind_line WidthNotCallable = refl
 kind_line SeveralPages = refl
 kind_line FewerPages = refl
+kind_line Unidentified = refl
 kind_line (Unknown number) = refl
 kind_line NoCodedRows = refl
 kind_line BadCode = refl

@@ -49,7 +49,7 @@ TellsPage form options octets (NoEnd bit) rows lines told end =
     (told ≡ lines ++ cond options.verbose (rows_line rows) []) × (end ≡ Ok (not options.whole))
 TellsPage form options octets (Fault fault) rows lines told end = (told ≡ []) × (end ≡ Err fault)
 
--- a page is decoded in the way that the options ask for, and this is told of it
+-- a page is decoded in the way that the options ask for, with these lines for standard error
 pub record AnswersDecode (form : PageForm) (options : DecodeOptions) (octets image told : List ℕ) (end : Result Bool ToolFault)
     : Type 0 where
   pub read_to : ReadTo

@@ -19,9 +19,9 @@ use Rattle.signals.specs.declared.signal.PageEnd.TheVariants.{Null}
 use Rattle.stations.specs.AnswererStep.{Frames, all_there, same_mark}
 use Rattle.stations.specs.Layers.{within_frame_size}
 use Rattle.stations.specs.declared.mark.Mark.{Mark}
+use Rattle.stations.specs.declared.mark.Pps.{Pps}
 use Rattle.engines.specs.declared.captured.Captured.{Captured}
 use Rattle.engines.specs.declared.captured.Captured.TheVariants.{Page, Unread, MissingFrame, MissingBlocks, Unfinished, BlockBeforeDcs}
-use Rattle.engines.specs.declared.captured.Waiting.{Waiting}
 
 -- ---- what is known while signals come
 
@@ -32,7 +32,7 @@ pub record Capture : Type 0 where
   pub params : Option Params
   pub coming : Frames
   pub begun : Bool
-  pub waiting : Option Waiting
+  pub waiting : Option Pps
   pub kept : Frames
   pub taken : Option Mark
   pub octets : List ℕ
@@ -83,7 +83,7 @@ abbrev pub lacking : Frames → ℕ → List ℕ
 lacking frames last = filter (is_missing frames) (range_with_len 0 (last + 1))
 
 -- the block that waits for frames is given up: each frame that is missing is named
-unfoldable pub gives_up : Capture → Option Waiting → Step
+unfoldable pub gives_up : Capture → Option Pps → Step
 gives_up s None = finds_none s
 gives_up s (Some waiting) = record {
   then = after_lack waiting.ends waiting.mark (record s { waiting = None; kept = no_frames });
@@ -91,7 +91,7 @@ gives_up s (Some waiting) = record {
 }
 
 -- a block is the one that waits for frames
-abbrev pub is_waiting : Option Waiting → Mark → Bool
+abbrev pub is_waiting : Option Pps → Mark → Bool
 is_waiting None mark = false
 is_waiting (Some waiting) mark = same_mark waiting.mark mark
 
@@ -120,7 +120,7 @@ abbrev pub gathers : Capture → Capture
 gathers s = record s { coming = no_frames; begun = false; kept = overlaid s.kept s.coming }
 
 -- the last frame that counts of a block that was sent again: the greater of the two
-abbrev pub last_of : Option Waiting → ℕ → ℕ
+abbrev pub last_of : Option Pps → ℕ → ℕ
 last_of None last = last
 last_of (Some waiting) last = max waiting.last last
 

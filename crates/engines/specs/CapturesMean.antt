@@ -7,10 +7,10 @@ use Rattle.signals.specs.declared.signal.PageEnd.{PageEnd}
 use Rattle.signals.specs.declared.signal.PageEnd.TheVariants.{Null, Mps, Eom, Eop}
 use Rattle.stations.specs.TurnsMean.{IsTooLong}
 use Rattle.stations.specs.declared.mark.Mark.{Mark}
+use Rattle.stations.specs.declared.mark.Pps.{Pps}
 use Rattle.engines.specs.Captured.{Capture, Step, at_end, empty_capture, finds_none, hears, is_taken, is_waiting, page_in, ◌>>>◌}
 use Rattle.engines.specs.declared.captured.Captured.{Captured}
 use Rattle.engines.specs.declared.captured.Captured.TheVariants.{MissingFrame, MissingBlocks, Unfinished, BlockBeforeDcs}
-use Rattle.engines.specs.declared.captured.Waiting.{Waiting}
 
 -- signals, one after the other
 abbrev pub hears_signals : List PlainSignal → Capture → Step
@@ -103,11 +103,11 @@ IsAfterBlock Null mark s = (mark.block < 255 → s.next ≡ mark.block + 1) × (
 IsAfterBlock ends mark s = (s.octets ≡ []) × (s.next ≡ 0) × (s.spoiled ≡ false)
 
 -- a block waits for frames: its last frame is the one of the PPS, or the greater one of a PPS of this block before it
-pub record IsAwaited (ends : PageEnd) (mark : Mark) (last : ℕ) (before after : Option Waiting) : Type 0 where
+pub record IsAwaited (ends : PageEnd) (mark : Mark) (last : ℕ) (before after : Option Pps) : Type 0 where
   pub counts : ℕ
   pub waits : after ≡ Some (record { mark = mark; ends = ends; last = counts })
   pub new : last ≤ counts
-  pub old : (waiting : Waiting) → before ≡ Some waiting → is_waiting before mark ≡ true → waiting.last ≤ counts
+  pub old : (waiting : Pps) → before ≡ Some waiting → is_waiting before mark ≡ true → waiting.last ≤ counts
 
 -- a PPS of a block that wasn't whole before takes the frames since the PPS before it: the block waits for others, or it is whole, and then
 -- its end says what comes

@@ -10,8 +10,11 @@ use Rattle.hdlc.specs.declared.counts.Counts.{Counts}
 use Rattle.raster.specs.Packed.{bits_of}
 use Rattle.raster.specs.declared.packed.Order.{Order}
 use Rattle.raster.specs.declared.packed.Order.TheVariants.{LsbFirst}
+use Rattle.engines.specs.Records.{counts_record, frame_record, record_line}
 use Rattle.engines.specs.SignalWords.{content_words}
 use Rattle.engines.specs.Texts.{content_text, spaced}
+use Rattle.engines.specs.declared.frames.ListForm.{ListForm}
+use Rattle.engines.specs.declared.frames.ListForm.TheVariants.{Plain, Explained, Records}
 use Rattle.engines.specs.declared.frames.ListOptions.{ListOptions}
 
 -- words with a space between each two, and a line feed
@@ -23,10 +26,19 @@ abbrev pub shown : Option ℕ → List ℕ → List ℕ
 shown None content = encode_lower content
 shown (Some most) content = encode_lower (take most content) ++ (if nat_lt most (length content) then codes ".." else [])
 
--- the line of a good frame: its number, its content in hex, and what it says; and where words are asked for, what it says in them
+-- the line of a good frame: its number, its content in hex, and what it says
+abbrev pub plain_line : Option ℕ → ℕ → List ℕ → List ℕ
+plain_line most number content = line (decimal number ∷ shown most content ∷ content_text content ∷ [])
+
+-- the same, and after it in words what the frame says; or its record, for programs
+abbrev pub line_in : ListForm → Option ℕ → ℕ → List ℕ → List ℕ
+line_in Plain most number content = plain_line most number content
+line_in Explained most number content = plain_line most number content ++ content_words content
+line_in Records most number content = record_line (frame_record most number content)
+
+-- what is written of a good frame
 abbrev pub frame_line : ListOptions → ℕ → List ℕ → List ℕ
-frame_line how number content = line (decimal number ∷ shown how.most content ∷ content_text content ∷ [])
-    ++ cond how.words (content_words content) []
+frame_line how number content = line_in how.form how.most number content
 
 -- the lines of good frames, numbered from the first one's number
 abbrev pub frame_lines : ListOptions → ℕ → List (List ℕ) → List ℕ
@@ -54,13 +66,19 @@ counts_line counts = line (codes "good" ∷ decimal counts.good ∷ codes "abort
     ∷ codes "ragged" ∷ decimal counts.ragged ∷ codes "short" ∷ decimal counts.short
     ∷ codes "long" ∷ decimal counts.long ∷ codes "damaged" ∷ decimal counts.damaged ∷ [])
 
+-- the last line: that of the counts, or their record
+abbrev pub last_line : ListForm → Counts → List ℕ
+last_line Plain counts = counts_line counts
+last_line Explained counts = counts_line counts
+last_line Records counts = record_line (counts_record counts)
+
 -- a line for each good frame of bits, numbered from 1, and the line of the counts
 abbrev pub listing : ListOptions → List Bool → List ℕ
-listing how bits = frame_lines how 1 (good bits) ++ counts_line (counts_of bits)
+listing how bits = frame_lines how 1 (good bits) ++ last_line how.form (counts_of bits)
 
 -- frames are listed with no words, of bits the least significant of an octet first
 abbrev pub plain_list : Option ℕ → ListOptions
-plain_list most = record { most = most; order = LsbFirst; words = false }
+plain_list most = record { most = most; order = LsbFirst; form = Plain }
 
 -- more than 64 octets have no good frame, so that the other order of bits is worth a try
 abbrev pub IsOtherOrderWorth : Order → List ℕ → Type 0

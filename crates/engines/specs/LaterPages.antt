@@ -22,7 +22,7 @@ use Rattle.engines.specs.declared.later_pages.Reached.TheVariants.{Page, End, Br
 use Rattle.engines.specs.declared.options.DecodeOptions.{DecodeOptions}
 use Rattle.engines.specs.declared.options.PageForm.{PageForm}
 
--- EOLs stand at the bits' beginning, with fill, and after the last of them neither an EOL nor only 0 bits: a page begins with the last
+-- The bits begin with EOLs, with fill, and after the last of them comes neither an EOL nor only 0 bits: a page begins with the last
 -- one (ITU-T T.4, 4.1.2), without its fill, where the bits themselves begin at the bit `used`
 pub record BeginsByEol (used start : ℕ) (x : List Bool) : Type 0 where
   pub before : List ℕ
@@ -39,8 +39,8 @@ abbrev pub NothingLeft : List Bool → Type 0
 NothingLeft x = (eols : List ℕ) × (rest : List Bool) × AllByRecursion (λ count. 11 ≤ count) eols × (x ≡ eol_words eols ++ rest) × AreZeros
     rest
 
--- Where the page begins that comes after one of T.4, of the bits from the bit `used` on: with the last of the EOLs that stand there; where
--- none does, in the next octet. None comes where only EOLs and 0 bits are left.
+-- Where the page begins that comes after one of T.4, of the bits from the bit `used` on: with the last of the EOLs that they begin
+-- with; where they begin with none, in the next octet. None comes where only EOLs and 0 bits are left.
 abbrev pub IsLaterOneDim : ℕ → List Bool → Option ℕ → Type 0
 IsLaterOneDim used x (Some start) = BeginsByEol used start x ⊎ (CodeBegins x × (start ≡ 8 * div_ceil used 8))
 IsLaterOneDim used x None = NothingLeft x
@@ -56,6 +56,7 @@ abbrev pub IsLaterIn : Coding → Order → List ℕ → ℕ → Option ℕ → 
 IsLaterIn OneDim order octets used start = IsLaterOneDim used (drop used (bits_of order octets)) start
 IsLaterIn T6 order octets used start = IsLaterT6 (div_ceil used 8) octets start
 
+-- where the page begins that comes after the one of the first `used` bits, if one comes
 abbrev pub IsLater : PageForm → List ℕ → ℕ → Option ℕ → Type 0
 IsLater form octets used start = IsLaterIn form.coding form.order octets used start
 
@@ -75,12 +76,12 @@ AfterPage true form octets later = (used : ℕ) × (start : ℕ) × BeginsWith f
     × IsFrom form.order start octets later
 AfterPage false form octets later = (used : ℕ) × BeginsWith form octets used × IsLater form octets used None × (later ≡ octets)
 
--- so many pages, one after another, come before the page whose octets are `later`
+-- a number of pages, one after another, come before the page whose octets are `later`
 abbrev pub AreAfter : PageForm → List ℕ → ℕ → List ℕ → Type 0
 AreAfter form octets zero later = later ≡ octets
 AreAfter form octets (suc pages) later = (before : List ℕ) × AreAfter form octets pages before × AfterPage true form before later
 
--- what comes after so many pages: another one; or one of them is the last one, or can't be read
+-- what comes after a number of pages: another one; or one of them is the last one, or can't be read
 abbrev pub Reaches : PageForm → ℕ → List ℕ → List ℕ → Reached → Type 0
 Reaches form pages octets later Page = AreAfter form octets pages later
 Reaches form pages octets later (End count) = (1 ≤ count) × (count ≤ pages) × AreAfter form octets (count - 1) later
@@ -119,7 +120,7 @@ GivesReached form options page octets later decoded told end (End count) =
 GivesReached form options page octets later decoded told end (Broken number fault) =
     (decoded.rows ≡ []) × (told ≡ broken_line number (length octets - length later)) × (end ≡ Err fault)
 
--- the page of this number is decoded, counted from 1, and this is told of it
+-- what `decode` gives of the page of this number, counted from 1
 pub record AnswersPage (form : PageForm) (options : DecodeOptions) (page : ℕ) (octets later : List ℕ) (decoded : PagePixels)
     (told : List ℕ) (end : Result Bool ToolFault) : Type 0 where
   pub reached : Reached

@@ -1,7 +1,7 @@
 //! The pages in what is sent on a line, by its signals alone, over any reader.
 
 ghost use Rattle.engines.specs.Captured.{Takes, after_lack, at_end, captured, empty_capture, gathers, gives_up, hears, hears_all};
-ghost use Rattle.engines.specs.Captured.{hears_block, hears_fcd, hears_pps, hears_read, is_taken, is_waiting, judges, lacking, last_of};
+ghost use Rattle.engines.specs.Captured.{hears_block, hears_fcd, hears_pps, hears_read, is_taken, is_waiting, judges, lacking};
 ghost use Rattle.engines.specs.Captured.{later_one, left_open, overlaid, page_in, takes_block, turns_from, turns_to, with_block};
 ghost use Rattle.engines.specs.Faults.{IsOutside};
 ghost use Rattle.hdlc.specs.Gaps.{good};
@@ -10,19 +10,21 @@ ghost use Rattle.raster.specs.Packed.{bits_of};
 ghost use Rattle.raster.specs.declared.packed.Order.TheVariants.{LsbFirst};
 ghost use Rattle.signals.specs.Reading.{read_content};
 ghost use Rattle.signals.specs.Signals.{plain};
-ghost use Rattle.std.specs.Prelude.{◌≡◌, ◌↔◌, ◌+◌, ◌++◌, ◌∷◌, [], ℕ, IfErr, IfOk, IfSome, IsTrue};
-ghost use Rattle.std.specs.Prelude.{None, OnOk, Some, cond, false, map, nat_eq, true};
-ghost use Rattle.stations.specs.AnswererStep.{all_there, same_mark};
+ghost use Rattle.std.specs.Prelude.{◌≡◌, ◌+◌, ◌++◌, ◌∷◌, [], ℕ, IfErr, IfOk, IfSome};
+ghost use Rattle.std.specs.Prelude.{None, OnOk, Some, cond, false, map, nat_eq, option_map, true};
+ghost use Rattle.stations.specs.AnswererStep.{all_there, last_counted};
+ghost use Rattle.stations.specs.Assembling.{asked_by};
 
 use crate::fault::{FAILED, NO_MEMORY, ToolFault};
 use crate::frames::{PIECE, feed_in, read_some};
 use hdlc::Deframer;
+use page_code::PageRead;
 use partial_page::{BlockFault, BlockStore};
 use raster::Page;
-use run_tables::{CodeFault, CodeFaultKind, Order};
+use run_tables::{CodeFault, Order};
 use signals::{PageEnd, Params, Signal};
-use stations::Mark;
-use std::alloc::Global;
+use stations::{BlockAssembler, Mark, Pps};
+use std::alloc::{AllocError, Global};
 use std::io::Read;
 use std::marker::Model;
 
@@ -53,17 +55,6 @@ pub enum Captured {
     BlockBeforeDcs(Mark),
 }
 
-/// A block of which frames are missing.
-#[derive(Clone, Copy, Debug, PartialEq, Eq)]
-pub(crate) struct Waiting {
-    /// The block's mark.
-    mark: Mark,
-    /// What ends with it.
-    ends: PageEnd,
-    /// The number of its last frame.
-    last: u8,
-}
-
 /// What is known while the signals of a line come.
 #[derive(Debug, Drop)]
 pub(crate) struct Capture {
@@ -71,8 +62,7 @@ pub(crate) struct Capture {
     params: Option<Params>,
     coming: BlockStore,
     begun: bool,
-    waiting: Option<Waiting>,
-    kept: BlockStore,
+    block: BlockAssembler,
     taken: Option<Mark>,
     octets: Vec<u8>,
     next: u8,
@@ -89,22 +79,15 @@ impl Model for Capture {
       params = c.params;
       coming = c.coming.frames;
       begun = c.begun;
-      waiting = c.waiting;
-      kept = c.kept.frames;
+      waiting = c.block.asked;
+      kept = c.block.frames.frames;
       taken = c.taken;
       octets = c.octets.items;
       next = c.next;
       spoiled = c.spoiled;
     } };
 
-    ghost invariant = { λ c. (c.kept.small ≡ c.coming.small) × IfSome c.params (λ params. c.coming.small ≡ params.small) };
-}
-
-/// Whether two marks are the same.
-fn is_same(mark: Mark, other: Mark) -> bool
-    ensures { result ≡ same_mark mark other }
-{
-    mark.page == other.page && mark.block == other.block
+    ghost invariant = { λ c. (c.block.frames.small ≡ c.coming.small) × IfSome c.params (λ params. c.coming.small ≡ params.small) };
 }
 
 /// Appends what is found.
@@ -116,13 +99,6 @@ fn tell(out: &mut Vec<Captured>, found: Captured) -> Result<(), ToolFault>
         Ok(()) => Ok(()),
         Err(_) => Err(NO_MEMORY),
     }
-}
-
-/// Whether memory was refused.
-fn is_memory(kind: CodeFaultKind) -> bool
-    ensures { IsTrue result ↔ (kind ≡ CodeFaultKind.NoMemory) }
-{
-    kind == CodeFaultKind::NoMemory
 }
 
 /// The page that octets are, by the DCS.
@@ -138,15 +114,14 @@ fn read_page(
     let width = params.width.pixels();
     match params
         .coding
-        .decode(alloc, octets, Order::LsbFirst, width, params.fine)
+        .page(alloc, octets, Order::LsbFirst, width, params.fine)
     {
-        Ok((page, _used)) => Ok(Captured::Page(page)),
-        Err(fault) => {
-            if is_memory(fault.kind) {
-                return Err(NO_MEMORY);
-            }
-            Ok(Captured::Unread { mark, fault })
-        }
+        Ok(PageRead::Page(page, _used)) => Ok(Captured::Page(page)),
+        Ok(PageRead::Refused(refused)) => Ok(Captured::Unread {
+            mark,
+            fault: refused.fault,
+        }),
+        Err(AllocError) => Err(NO_MEMORY),
     }
 }
 
@@ -199,11 +174,7 @@ fn name_one(
 }
 
 /// Names the frames of a block that are missing.
-fn name_lacking(
-    frames: &BlockStore,
-    waiting: Waiting,
-    out: &mut Vec<Captured>,
-) -> Result<(), ToolFault>
+fn name_lacking(frames: &BlockStore, waiting: Pps, out: &mut Vec<Captured>) -> Result<(), ToolFault>
     ensures named { OnOk result (out.new.items ≡ out.old.items
         ++ map (λ number. Captured.MissingFrame waiting.mark number) (lacking frames.now.frames waiting.last)) }
     ensures fault { IfErr result IsOutside }
@@ -224,8 +195,7 @@ impl Capture {
             params: None,
             coming: BlockStore::new(alloc, false),
             begun: false,
-            waiting: None,
-            kept: BlockStore::new(alloc, false),
+            block: BlockAssembler::new(alloc, false),
             taken: None,
             octets: Vec::new(alloc),
             next: 0,
@@ -240,8 +210,7 @@ impl Capture {
         self.params = Some(params);
         self.coming = BlockStore::new(self.alloc, params.small);
         self.begun = false;
-        self.waiting = None;
-        self.kept = BlockStore::new(self.alloc, params.small);
+        self.block = BlockAssembler::new(self.alloc, params.small);
         self.taken = None;
         self.octets.clear();
         self.next = 0;
@@ -252,8 +221,8 @@ impl Capture {
     fn is_waiting(&self, mark: Mark) -> bool
         ensures { result ≡ is_waiting self.now.waiting mark }
     {
-        match self.waiting {
-            Some(waiting) => is_same(waiting.mark, mark),
+        match self.block.asked {
+            Some(waiting) => waiting.mark.is_same(mark),
             None => false,
         }
     }
@@ -263,19 +232,16 @@ impl Capture {
         ensures { result ≡ is_taken self.now.taken mark }
     {
         match self.taken {
-            Some(taken) => is_same(taken, mark),
+            Some(taken) => taken.is_same(mark),
             None => false,
         }
     }
 
-    /// The last frame that counts.
-    fn last_of(&self, last: u8) -> u8
-        ensures { result ≡ last_of self.now.waiting last }
+    /// A PPS with the last frame that counts.
+    fn counted(&self, pps: Pps) -> Pps
+        ensures { result ≡ record pps { last = last_counted (option_map asked_by self.now.waiting) pps.mark pps.last } }
     {
-        match self.waiting {
-            Some(waiting) => waiting.last.max(last),
-            None => last,
-        }
+        self.block.counted(pps)
     }
 
     /// Drops the frames since the last PPS.
@@ -287,11 +253,10 @@ impl Capture {
     }
 
     /// A block of which frames are missing is given up.
-    fn spoil(&mut self, waiting: Waiting)
+    fn spoil(&mut self, waiting: Pps)
         ensures { self.new ≡ after_lack waiting.ends waiting.mark (record self.old { waiting = None; kept = no_frames }) }
     {
-        self.waiting = None;
-        self.kept.clear();
+        self.block.clear();
         self.octets.clear();
         match waiting.ends {
             PageEnd::Null => {
@@ -311,10 +276,10 @@ impl Capture {
         ensures taken { OnOk result (Takes (gives_up self.old self.old.waiting) self.new out.old.items out.new.items) }
         ensures fault { IfErr result IsOutside }
     {
-        let Some(waiting) = self.waiting else {
+        let Some(waiting) = self.block.asked else {
             return Ok(());
         };
-        name_lacking(&self.kept, waiting, out)?;
+        name_lacking(&self.block.frames, waiting, out)?;
         self.spoil(waiting);
         Ok(())
     }
@@ -351,7 +316,7 @@ impl Capture {
         ensures gathered { OnOk result (self.new ≡ gathers self.old) }
         ensures fault { IfErr result IsOutside }
     {
-        overlay(&mut self.kept, &self.coming)?;
+        overlay(&mut self.block.frames, &self.coming)?;
         self.drop_coming();
         Ok(())
     }
@@ -367,7 +332,7 @@ impl Capture {
             self.octets.clear();
             return Ok(());
         }
-        self.kept.append_joined(last, &mut self.octets)?;
+        self.block.append_to(last, &mut self.octets)?;
         Ok(())
     }
 
@@ -399,51 +364,38 @@ impl Capture {
     fn take_block(
         &mut self,
         params: Params,
-        waiting: Waiting,
+        pps: Pps,
         out: &mut Vec<Captured>,
     ) -> Result<(), ToolFault>
-        requires whole { all_there self.old.kept waiting.last ≡ true }
-        ensures taken { OnOk result (Takes (takes_block params waiting.ends waiting.mark (joined_frames self.old.kept (waiting.last + 1))
+        requires whole { all_there self.old.kept pps.last ≡ true }
+        ensures taken { OnOk result (Takes (takes_block params pps.ends pps.mark (joined_frames self.old.kept (pps.last + 1))
             self.old) self.new out.old.items out.new.items) }
         ensures fault { IfErr result IsOutside }
     {
-        self.append_block(waiting.last)?;
-        self.waiting = None;
-        self.kept.clear();
-        self.taken = Some(waiting.mark);
-        match waiting.ends {
+        self.append_block(pps.last)?;
+        self.block.clear();
+        self.taken = Some(pps.mark);
+        match pps.ends {
             PageEnd::Null => {
-                self.next = waiting.mark.block.wrapping_add(1);
+                self.next = pps.mark.block.wrapping_add(1);
                 Ok(())
             }
-            _ => self.end_page(params, waiting.mark, out),
+            _ => self.end_page(params, pps.mark, out),
         }
     }
 
     /// The block whose frames are gathered is whole, or waits for the frames that are missing.
     #[tactic(auto, unfolding(crate::specs::Captured::judges))]
-    fn judge(
-        &mut self,
-        params: Params,
-        waiting: Waiting,
-        out: &mut Vec<Captured>,
-    ) -> Result<(), ToolFault>
-        ensures taken { OnOk result (Takes (judges params waiting.ends waiting.mark waiting.last self.old)
+    fn judge(&mut self, params: Params, pps: Pps, out: &mut Vec<Captured>) -> Result<(), ToolFault>
+        ensures taken { OnOk result (Takes (judges params pps.ends pps.mark pps.last self.old)
             self.new out.old.items out.new.items) }
         ensures fault { IfErr result IsOutside }
     {
-        if self.is_whole(waiting.last) {
-            return self.take_block(params, waiting, out);
+        if self.block.is_whole(pps.last) {
+            return self.take_block(params, pps, out);
         }
-        self.waiting = Some(waiting);
+        self.block.asked = Some(pps);
         Ok(())
-    }
-
-    /// Whether the frames 0 to `last` that are kept are all there.
-    fn is_whole(&self, last: u8) -> bool
-        ensures { result ≡ all_there self.now.kept last }
-    {
-        self.kept.whole(last)
     }
 
     /// A PPS of a block that isn't whole yet.
@@ -451,39 +403,34 @@ impl Capture {
     fn hear_block(
         &mut self,
         params: Params,
-        waiting: Waiting,
+        pps: Pps,
         out: &mut Vec<Captured>,
     ) -> Result<(), ToolFault>
-        ensures taken { OnOk result (Takes (hears_block params waiting.ends waiting.mark waiting.last self.old)
+        ensures taken { OnOk result (Takes (hears_block params pps.ends pps.mark pps.last self.old)
             self.new out.old.items out.new.items) }
         ensures fault { IfErr result IsOutside }
     {
-        self.turn_from(waiting.mark, out)?;
-        self.turn_to(waiting.mark, out)?;
-        let last = self.last_of(waiting.last);
+        self.turn_from(pps.mark, out)?;
+        self.turn_to(pps.mark, out)?;
+        let counted = self.counted(pps);
         self.gather()?;
-        let counted = Waiting {
-            mark: waiting.mark,
-            ends: waiting.ends,
-            last,
-        };
         self.judge(params, counted, out)
     }
 
     /// A PPS.
-    fn hear_pps(&mut self, waiting: Waiting, out: &mut Vec<Captured>) -> Result<(), ToolFault>
-        ensures taken { OnOk result (Takes (hears_pps self.old.params waiting.ends waiting.mark waiting.last self.old)
+    fn hear_pps(&mut self, pps: Pps, out: &mut Vec<Captured>) -> Result<(), ToolFault>
+        ensures taken { OnOk result (Takes (hears_pps self.old.params pps.ends pps.mark pps.last self.old)
             self.new out.old.items out.new.items) }
         ensures fault { IfErr result IsOutside }
     {
         let Some(params) = self.params else {
-            return tell(out, Captured::BlockBeforeDcs(waiting.mark));
+            return tell(out, Captured::BlockBeforeDcs(pps.mark));
         };
-        if self.is_taken(waiting.mark) {
+        if self.is_taken(pps.mark) {
             self.drop_coming();
             return Ok(());
         }
-        self.hear_block(params, waiting, out)
+        self.hear_block(params, pps, out)
     }
 
     /// An FCD.
@@ -547,7 +494,7 @@ impl Capture {
                 last,
             } => {
                 let mark = Mark { page, block };
-                self.hear_pps(Waiting { mark, ends, last }, out)
+                self.hear_pps(Pps { ends, mark, last }, out)
             }
             _ => Ok(()),
         }

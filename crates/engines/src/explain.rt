@@ -146,6 +146,7 @@ fn wrong_words(kind: FaultKind, known: Known<'_>) -> &'static str
         | FaultKind::WidthNotCallable
         | FaultKind::SeveralPages
         | FaultKind::FewerPages
+        | FaultKind::Unidentified
         | FaultKind::Unknown(_)
         | FaultKind::NoCodedRows
         | FaultKind::Truncated

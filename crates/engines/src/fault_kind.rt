@@ -38,6 +38,8 @@ pub enum FaultKind {
     SeveralPages,
     /// Fewer pages than the number of the one that is asked for.
     FewerPages,
+    /// Octets that read as no page in any way that is tried, and begin as no known format.
+    Unidentified,
     /// A fault of a whole file with a number that none of the others has.
     Unknown(u8),
     /// A coded page ends before its first row.
@@ -96,6 +98,7 @@ impl FaultKind {
             FaultKind::WidthNotCallable => 26,
             FaultKind::SeveralPages => 27,
             FaultKind::FewerPages => 28,
+            FaultKind::Unidentified => 29,
             FaultKind::BadLine => 30,
             FaultKind::Unknown(no) | FaultKind::UnknownAtBit(no) => no,
         }
@@ -120,6 +123,8 @@ impl FaultKind {
                 "a page's width isn't 1728, 2048 or 2432 pixels, the widths that a call carries",
             FaultKind::SeveralPages => "several images: code takes one",
             FaultKind::FewerPages => "the file has fewer pages than --page says",
+            FaultKind::Unidentified =>
+                "it reads as no page in any way that is tried, and begins as no known format",
             FaultKind::BadAddress
             | FaultKind::BadControl
             | FaultKind::ShortField
@@ -161,6 +166,7 @@ impl FaultKind {
             26 => FaultKind::WidthNotCallable,
             27 => FaultKind::SeveralPages,
             28 => FaultKind::FewerPages,
+            29 => FaultKind::Unidentified,
             _ => FaultKind::Unknown(no),
         }
     }

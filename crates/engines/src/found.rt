@@ -125,7 +125,7 @@ pub fn pages_engine<R: Read, W: Write, S: FoundStore>(
         let count = read_some(reader, &mut piece)?;
         if count == 0 {
             end_capture(&mut capture, store)?;
-            write_counts(deframer.counts(), writer)?;
+            write_counts(alloc, deframer.counts(), how, writer)?;
             return Ok(has_no_frame(octets, number));
         }
         feed_in(&mut deframer, how.order, &piece[..count])?;

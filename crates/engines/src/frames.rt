@@ -1,16 +1,16 @@
 //! What `frames` does: it lists the frames in bits, over any reader and any writer.
 
 ghost use Rattle.engines.specs.Faults.{IsOutside};
-ghost use Rattle.engines.specs.Frames.{IsOtherOrderWorth, counts_line, frame_line, frame_lines, line, listing, plain_list, shown};
-ghost use Rattle.engines.specs.Texts.{content_text};
+ghost use Rattle.engines.specs.Frames.{IsOtherOrderWorth, counts_line, frame_line, frame_lines, last_line, listing, plain_line};
+ghost use Rattle.engines.specs.Frames.{plain_list};
 ghost use Rattle.hdlc.specs.DeframerState.{IsAfter};
 ghost use Rattle.raster.specs.Packed.{bits_of};
 ghost use Rattle.raster.specs.declared.packed.Order.TheVariants.{LsbFirst, MsbFirst};
 ghost use Rattle.std.specs.Io.KnownBytes.{Appends, Consumes, IsAtEnd};
-ghost use Rattle.std.specs.Fmt.{decimal};
 ghost use Rattle.std.specs.Prelude.{◌≡◌, ◌<◌, ◌≤◌, ◌↔◌, ◌+◌, ◌++◌, ◌∷◌, ℕ, Bool, List, [], IfErr, IfOk, IfSome, IsTrue, OnOk, length, take};
 
 use crate::fault::{FAILED, ToolFault};
+use crate::records::{write_counts_record, write_frame_record};
 use crate::signal_words::write_words;
 use crate::texts::ContentText;
 use hdlc::{Counts, Deframer};
@@ -19,6 +19,17 @@ use std::alloc::{AllocError, Global};
 use std::io;
 use std::io::{Read, Write};
 
+/// What is written of each frame.
+#[derive(Clone, Copy, Debug, PartialEq, Eq)]
+pub enum ListForm {
+    /// A line.
+    Plain,
+    /// A line, and after that of a DIS, a DCS, a PPS or a PPR another one that says in words what it says.
+    Explained,
+    /// A record: an object of JSON in a line, for programs.
+    Records,
+}
+
 /// How frames are listed.
 #[derive(Clone, Copy, Debug, PartialEq, Eq)]
 pub struct ListOptions {
@@ -26,8 +37,8 @@ pub struct ListOptions {
     pub most: Option<usize>,
     /// Which bit of an octet comes first on the line.
     pub order: Order,
-    /// Whether a line after that of a DIS, a DCS, a PPS or a PPR says in words what it says.
-    pub words: bool,
+    /// What is written of each frame.
+    pub form: ListForm,
 }
 
 /// How many octets are read at a time.
@@ -43,7 +54,7 @@ fn write_content<W: Write>(
     writer: &mut W,
 ) -> Result<(), ToolFault>
     ensures line { OnOk result (Appends (W.contents writer.old) (W.contents writer.new)
-        (line (decimal number ∷ shown most content.now ∷ content_text content.now ∷ []))) }
+        (plain_line most number content.now)) }
     ensures fault { IfErr result IsOutside }
 {
     let (front, cut) = match most {
@@ -55,8 +66,8 @@ fn write_content<W: Write>(
     Ok(())
 }
 
-/// Writes the line of a good frame: its number, its content in hex, of which at most `most` octets are shown, and what
-/// it says; and after it in words what it says, where they are asked for.
+/// Writes a good frame in the form that is asked for: its number, its content in hex, of which at most `most` octets are shown,
+/// and what it says.
 pub(crate) fn write_frame<W: Write>(
     alloc: Global,
     number: u64,
@@ -67,11 +78,14 @@ pub(crate) fn write_frame<W: Write>(
     ensures line { OnOk result (Appends (W.contents writer.old) (W.contents writer.new) (frame_line how number content.now)) }
     ensures fault { IfErr result IsOutside }
 {
-    write_content(alloc, number, content, how.most, writer)?;
-    if how.words {
-        write_words(content, writer)?;
+    match how.form {
+        ListForm::Plain => write_content(alloc, number, content, how.most, writer),
+        ListForm::Explained => {
+            write_content(alloc, number, content, how.most, writer)?;
+            write_words(content, writer)
+        }
+        ListForm::Records => write_frame_record(alloc, number, content, how.most, writer),
     }
-    Ok(())
 }
 
 /// Writes a line for each content that waits, the first with this number. Answers the number that
@@ -96,8 +110,8 @@ fn write_frames<W: Write>(
     Ok(number)
 }
 
-/// Writes how many gaps there were of each class.
-pub(crate) fn write_counts<W: Write>(counts: Counts, writer: &mut W) -> Result<(), ToolFault>
+/// Writes the line of how many gaps there were of each class.
+fn write_counts_line<W: Write>(counts: Counts, writer: &mut W) -> Result<(), ToolFault>
     ensures line { OnOk result (Appends (W.contents writer.old) (W.contents writer.new) (counts_line counts)) }
     ensures fault { IfErr result IsOutside }
 {
@@ -107,6 +121,22 @@ pub(crate) fn write_counts<W: Write>(counts: Counts, writer: &mut W) -> Result<(
         counts.good, counts.aborted, counts.ragged, counts.short, counts.long, counts.damaged,
     )?;
     Ok(())
+}
+
+/// Writes how many gaps there were of each class, in the form that is asked for.
+pub(crate) fn write_counts<W: Write>(
+    alloc: Global,
+    counts: Counts,
+    how: ListOptions,
+    writer: &mut W,
+) -> Result<(), ToolFault>
+    ensures line { OnOk result (Appends (W.contents writer.old) (W.contents writer.new) (last_line how.form counts)) }
+    ensures fault { IfErr result IsOutside }
+{
+    match how.form {
+        ListForm::Plain | ListForm::Explained => write_counts_line(counts, writer),
+        ListForm::Records => write_counts_record(alloc, counts, writer),
+    }
 }
 
 /// Reads octets into the front of a piece that has room, and answers how many: none at the reader's
@@ -170,7 +200,7 @@ pub(crate) fn has_no_frame(octets: u64, number: u64) -> bool
 
 /// Reads bits, and writes a line for each good frame in them, with its number from 1, its content in hex and what it says, and then
 /// a line with the counts of all gaps. At most `how.most` octets of a content are shown, and a line has `..` after them where it has
-/// more; with `how.words` the line of a DIS, a DCS, a PPS or a PPR is followed by one that says it in words. Each line is written,
+/// more; the line of a DIS, a DCS, a PPS or a PPR is followed by one that says it in words, or each line is a record, as `how.form` says. Each line is written,
 /// and the writer flushed, as soon as its frame was read. Answers whether the other order of bits is worth a try: more than 64 octets
 /// had no good frame. Errs with 8 where the reader or the writer fails, or the reader doesn't end in 2^64 reads, and with 9.
 pub fn list_engine<R: Read, W: Write>(
@@ -191,7 +221,7 @@ pub fn list_engine<R: Read, W: Write>(
     for _read in 0..u64::MAX {
         let count = read_some(reader, &mut piece)?;
         if count == 0 {
-            write_counts(deframer.counts(), writer)?;
+            write_counts(alloc, deframer.counts(), how, writer)?;
             return Ok(has_no_frame(octets, number));
         }
         feed_in(&mut deframer, how.order, &piece[..count])?;
@@ -216,7 +246,7 @@ pub fn frames_engine<R: Read, W: Write>(
     let how = ListOptions {
         most,
         order: Order::LsbFirst,
-        words: false,
+        form: ListForm::Plain,
     };
     match list_engine(alloc, reader, writer, how) {
         Ok(_worth) => Ok(()),

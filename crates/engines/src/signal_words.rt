@@ -244,7 +244,7 @@ fn write_pps<W: Write>(
 }
 
 /// Whether a frame is marked in a map.
-fn is_in_map(map: &[u8; 32], number: u16) -> bool
+pub(crate) fn is_in_map(map: &[u8; 32], number: u16) -> bool
     ensures { result ≡ is_in_map map.now number }
 {
     number < 256 && bit_of(Order::LsbFirst, map, u128::from(number))

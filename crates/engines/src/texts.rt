@@ -12,21 +12,21 @@ use signals::{Modems, PageEnd, Signal, Speed, read};
 use std::fmt;
 
 /// One of two words.
-fn either(first: bool, yes: &'static str, no: &'static str) -> &'static str
+pub(crate) fn either(first: bool, yes: &'static str, no: &'static str) -> &'static str
     ensures { result.now ≡ cond first yes.now no.now }
 {
     if first { yes } else { no }
 }
 
 /// `fine` for 7.7 lines a millimetre, else `standard`.
-fn lines(fine: bool) -> &'static str
+pub(crate) fn lines(fine: bool) -> &'static str
     ensures { result.now ≡ lines_text fine }
 {
     either(fine, "fine", "standard")
 }
 
 /// The modems of a station.
-fn modems(modems: Modems) -> &'static str
+pub(crate) fn modems(modems: Modems) -> &'static str
     ensures { result.now ≡ modems_text modems }
 {
     match modems {
@@ -39,7 +39,7 @@ fn modems(modems: Modems) -> &'static str
 }
 
 /// The modulation and the speed in bits a second.
-fn speed(speed: Speed) -> &'static str
+pub(crate) fn speed(speed: Speed) -> &'static str
     ensures { result.now ≡ speed_text speed }
 {
     match speed {
@@ -55,7 +55,7 @@ fn speed(speed: Speed) -> &'static str
 }
 
 /// The code of pages.
-fn coding(coding: Coding) -> &'static str
+pub(crate) fn coding(coding: Coding) -> &'static str
     ensures { result.now ≡ coding_text coding }
 {
     match coding {
@@ -65,7 +65,7 @@ fn coding(coding: Coding) -> &'static str
 }
 
 /// What ends with a block.
-fn page_end(ends: PageEnd) -> &'static str
+pub(crate) fn page_end(ends: PageEnd) -> &'static str
     ensures { result.now ≡ page_end_text ends }
 {
     match ends {

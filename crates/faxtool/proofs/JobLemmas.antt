@@ -12,7 +12,7 @@ use Rattle.clap.proofs.WalkLemmas.{one_text-rows}
 use Rattle.calls.specs.Losses.{IsRate}
 use Rattle.calls.specs.declared.losses.BadLine.{BadLine}
 use Rattle.std.specs.Prelude.{string_bytes}
-use Rattle.faxtool.specs.declared.words.Job.TheVariants.{Answer, Call, Code, Decode, Dial, Drive, Frames, Show, Version}
+use Rattle.faxtool.specs.declared.words.Job.TheVariants.{Answer, Call, Code, Decode, Dial, Drive, Frames, Identify, Show, Version}
 use Rattle.faxtool.specs.declared.words.Outcome.{Outcome}
 use Rattle.faxtool.specs.declared.words.Outcome.TheVariants.{Done, Fault, Incomplete, Words}
 use Rattle.faxtool.specs.Jobs.{AreOptionsIn, HasNoJob, HasNoOptions, IsFaxtool, IsOutcomeOf, IsRefusalOf, IsWidthIn, ReadsNumber}
@@ -189,6 +189,21 @@ call_is_station e =
     let bad : 99 ≡ 115 = ap (λ (t : Text). slice_index t 0) e in
     absurd (omega (arith, bad))
 
+show_is_identify : codes "show" ≡ codes "identify" → ⊥
+show_is_identify e =
+    let bad : 115 ≡ 105 = ap (λ (t : Text). slice_index t 0) e in
+    absurd (omega (arith, bad))
+
+decode_is_identify : codes "decode" ≡ codes "identify" → ⊥
+decode_is_identify e =
+    let bad : 100 ≡ 105 = ap (λ (t : Text). slice_index t 0) e in
+    absurd (omega (arith, bad))
+
+call_is_identify : codes "call" ≡ codes "identify" → ⊥
+call_is_identify e =
+    let bad : 99 ≡ 105 = ap (λ (t : Text). slice_index t 0) e in
+    absurd (omega (arith, bad))
+
 -- without a width there is no job for `show`
 pub no_width : (rows : List Row) → ((n : ℕ) → IsWidthIn rows n → ⊥) → HasNoJob (Some (codes "show", rows))
 no_width rows none (Code coding order input output) (others, e, is) = show_is_code (some_name (codes "show") (codes "code") rows others e)
@@ -198,6 +213,8 @@ no_width rows none (Decode form options page input output) (others, e, is) =
     show_is_decode (some_name (codes "show") (codes "decode") rows others e)
 no_width rows none (Frames most order words pages input) (others, e, reads, of, said, folder, is) =
     show_is_frames (some_name (codes "show") (codes "frames") rows others e)
+no_width rows none (Identify input) (others, e, is) =
+    show_is_identify (some_name (codes "show") (codes "identify") rows others e)
 no_width rows none (Call script options out bits normal diagram input) (others, e, is) =
     show_is_call (some_name (codes "show") (codes "call") rows others e)
 no_width rows none (Drive line times options out bits normal diagram input) (others, e, is) =
@@ -219,6 +236,8 @@ no_width_to_decode rows none (Decode form options page input output) (others, e,
     is.shown.width_is)
 no_width_to_decode rows none (Frames most order words pages input) (others, e, reads, of, said, folder, is) =
     decode_is_frames (some_name (codes "decode") (codes "frames") rows others e)
+no_width_to_decode rows none (Identify input) (others, e, is) =
+    decode_is_identify (some_name (codes "decode") (codes "identify") rows others e)
 no_width_to_decode rows none (Call script options out bits normal diagram input) (others, e, is) =
     decode_is_call (some_name (codes "decode") (codes "call") rows others e)
 no_width_to_decode rows none (Drive line times options out bits normal diagram input) (others, e, is) =
@@ -240,6 +259,8 @@ no_options rows none (Decode form options page input output) (others, e, is) =
     decode_is_call (sym (some_name (codes "call") (codes "decode") rows others e))
 no_options rows none (Frames most order words pages input) (others, e, reads, of, said, folder, is) =
     call_is_frames (some_name (codes "call") (codes "frames") rows others e)
+no_options rows none (Identify input) (others, e, is) =
+    call_is_identify (some_name (codes "call") (codes "identify") rows others e)
 no_options rows none (Call script options out bits normal diagram input) (others, e, is) =
     none options (subst (λ (xs : List Row). AreOptionsIn xs options) (sym (some_rows (codes "call") (codes "call") rows others e))
     is.options_are)
@@ -290,6 +311,8 @@ no_line rows open_end none (Decode form options page input output) (others, e, i
     decode_is_call (sym (some_name (codes "call") (codes "decode") rows others e))
 no_line rows open_end none (Frames most order words pages input) (others, e, reads, of, said, folder, is) =
     call_is_frames (some_name (codes "call") (codes "frames") rows others e)
+no_line rows open_end none (Identify input) (others, e, is) =
+    call_is_identify (some_name (codes "call") (codes "identify") rows others e)
 no_line rows open_end none (Call script options out bits normal diagram input) (others, e, is) =
     let same : rows ≡ others = some_rows (codes "call") (codes "call") rows others e in
     let no : ◌≡◌ {A = Option Text} None (Some (string_bytes script)) =
@@ -314,6 +337,8 @@ no_times rows open_end none (Decode form options page input output) (others, e, 
     decode_is_call (sym (some_name (codes "call") (codes "decode") rows others e))
 no_times rows open_end none (Frames most order words pages input) (others, e, reads, of, said, folder, is) =
     call_is_frames (some_name (codes "call") (codes "frames") rows others e)
+no_times rows open_end none (Identify input) (others, e, is) =
+    call_is_identify (some_name (codes "call") (codes "identify") rows others e)
 no_times rows open_end none (Call script options out bits normal diagram input) (others, e, is) =
     let same : rows ≡ others = some_rows (codes "call") (codes "call") rows others e in
     let no : ◌≡◌ {A = Option Text} None (Some (string_bytes script)) =

@@ -15,6 +15,8 @@ use Rattle.page_code.specs.declared.Coding.TheVariants.{OneDim, T6}
 use Rattle.raster.specs.Pixels.{IsWidth}
 use Rattle.raster.specs.declared.packed.Order.{Order}
 use Rattle.raster.specs.declared.packed.Order.TheVariants.{LsbFirst, MsbFirst}
+use Rattle.engines.specs.declared.frames.ListForm.{ListForm}
+use Rattle.engines.specs.declared.frames.ListForm.TheVariants.{Explained, Plain, Records}
 use Rattle.engines.specs.declared.fault.ToolFault.TheVariants.{No}
 use Rattle.signals.specs.declared.params.Caps.{Caps}
 use Rattle.signals.specs.declared.params.Modems.{Modems}
@@ -28,7 +30,7 @@ use Rattle.engines.specs.declared.options.DecodeOptions.{DecodeOptions}
 use Rattle.engines.specs.declared.options.PageForm.{PageForm}
 use Rattle.faxtool.specs.declared.station_words.GivenWaits.{GivenWaits}
 use Rattle.faxtool.specs.declared.words.Job.{Job}
-use Rattle.faxtool.specs.declared.words.Job.TheVariants.{Answer, Call, Code, Decode, Dial, Drive, Frames, Show, Version}
+use Rattle.faxtool.specs.declared.words.Job.TheVariants.{Answer, Call, Code, Decode, Dial, Drive, Frames, Identify, Show, Version}
 use Rattle.faxtool.specs.declared.words.Request.{Request}
 use Rattle.faxtool.specs.declared.words.Outcome.{Outcome}
 use Rattle.faxtool.specs.declared.words.Outcome.TheVariants.{Done, Fault, Incomplete, Words}
@@ -118,12 +120,13 @@ decode_app codings orders = with_explain (with_rule (with_rule (with_rule (with_
     codings orders)) (record (option_rule (codes "page")) { parser = Some (vp.Signed (pos 1) (pos 4294967295)) }))
     (file_rule (codes "file"))) (file_rule (codes "out")))
 
--- `frames`: how many octets of a content are shown, 0 to 300, the order, which is `lsb` where it isn't given, the folder of the pages, and
--- the file of the bits
+-- `frames`: how many octets of a content are shown, 0 to 300, the order, which is `lsb` where it isn't given, the folder of the pages,
+-- records or not, and the file of the bits
 abbrev pub frames_app : ValueParser → App
-frames_app orders = with_explain (with_rule (with_rule (with_rule (with_rule (new_app (codes "frames"))
+frames_app orders = with_explain (with_rule (with_rule (with_rule (with_rule (with_rule (new_app (codes "frames"))
     (record (option_rule (codes "data")) { parser = Some (vp.Signed (pos 0) (pos 300)) }))
-    (choice_rule (codes "order") orders (codes "lsb"))) (file_option_rule (codes "pages"))) (file_rule (codes "file")))
+    (choice_rule (codes "order") orders (codes "lsb"))) (file_option_rule (codes "pages"))) (flag_rule (codes "json")))
+    (file_rule (codes "file")))
 
 -- the command with `--code`, `--frame` and `--modems`
 abbrev pub with_choices : App → ValueParser → ValueParser → ValueParser → App
@@ -182,10 +185,11 @@ abbrev pub with_waits : App → App
 with_waits app = with_rule (with_rule (with_rule (with_rule app (millis_rule (codes "t1"))) (millis_rule (codes "t2")))
     (millis_rule (codes "t4"))) (millis_rule (codes "t5"))
 
--- `station`: which station it is, what it is told, its waits, the file of its trace, and the file of the document
+-- `station`: which station it is, what it is told, its waits, the file of its trace, records or not, and the file of the document
 abbrev pub station_app : ValueParser → ValueParser → ValueParser → ValueParser → App
-station_app codings sizes modems widths = with_explain (with_rule (with_rule (with_waits (with_station_choices (with_station
-    (new_app (codes "station")) codings modems) sizes widths)) (file_option_rule (codes "trace"))) (optional_file_rule (codes "in")))
+station_app codings sizes modems widths = with_explain (with_rule (with_rule (with_rule (with_waits (with_station_choices (with_station
+    (new_app (codes "station")) codings modems) sizes widths)) (file_option_rule (codes "trace"))) (flag_rule (codes "json")))
+    (optional_file_rule (codes "in")))
 
 -- the program, which wants one of its commands
 abbrev pub empty_app : App
@@ -198,6 +202,10 @@ abbrev pub page_app : ValueParser → ValueParser → App
 page_app codings orders = with_subcommand (with_subcommand (with_subcommand (with_subcommand empty_app (code_app codings orders).top)
     (show_app codings orders).top) (decode_app codings orders).top) (frames_app orders).top
 
+-- `identify`: the file that is tried
+abbrev pub identify_app : App
+identify_app = with_explain (with_rule (new_app (codes "identify")) (file_rule (codes "file")))
+
 -- `version`, with `--proof`
 abbrev pub version_app : App
 version_app = with_rule (new_app (codes "version")) (flag_rule (codes "proof"))
@@ -206,10 +214,10 @@ version_app = with_rule (new_app (codes "version")) (flag_rule (codes "proof"))
 abbrev pub call_and_page_app : ValueParser → ValueParser → ValueParser → ValueParser → ValueParser → App
 call_and_page_app codings orders sizes modems ends = with_subcommand (page_app codings orders) (call_app codings sizes modems ends).top
 
--- and with the command that is one end of a call, and `version`
+-- and with the command that tries files, the one that is one end of a call, and `version`
 abbrev pub with_later : App → ValueParser → ValueParser → ValueParser → ValueParser → App
 with_later app codings sizes modems widths =
-    with_subcommand (with_subcommand app (station_app codings sizes modems widths).top) version_app.top
+    with_subcommand (with_subcommand (with_subcommand app identify_app.top) (station_app codings sizes modems widths).top) version_app.top
 
 -- the parser takes these names and no other text
 abbrev pub TakesNames : ValueParser → List Text → Type 0
@@ -257,6 +265,10 @@ coding_named (Some name) = if bytes_eq name (codes "mh") then Some OneDim else i
 abbrev pub order_named : Option Text → Order
 order_named None = MsbFirst
 order_named (Some name) = if bytes_eq name (codes "lsb") then LsbFirst else MsbFirst
+
+-- what is written of each frame: records where they are asked for, else lines, with words where those are
+abbrev pub list_form : Bool → Bool → ListForm
+list_form records words = if records then Records else (if words then Explained else Plain)
 
 -- the same of the bits on a line: `lsb` but for `msb`
 abbrev pub line_order_named : Option Text → Order
@@ -509,12 +521,15 @@ IsJobOf met (Show coding order width input) = (rows : List Row)
 IsJobOf met (Decode form options page input output) = (rows : List Row)
     × (met ≡ Some (codes "decode", rows))
     × IsDecodeOf rows form options page (string_bytes input) (string_bytes output)
-IsJobOf met (Frames most order words pages input) = (rows : List Row)
+IsJobOf met (Frames most order form pages input) = (rows : List Row)
     × (met ≡ Some (codes "frames", rows))
     × ReadsNumber (codes "data") rows most
     × (order ≡ line_order_named (first_of (codes "order") rows))
-    × (words ≡ is_named (codes "true") (first_of (codes "explain") rows))
+    × (form ≡ list_form (is_named (codes "true") (first_of (codes "json") rows)) (is_named (codes "true") (first_of (codes "explain") rows)))
     × (first_of (codes "pages") rows ≡ option_map string_bytes pages)
+    × (first_of (codes "file") rows ≡ Some (string_bytes input))
+IsJobOf met (Identify input) = (rows : List Row)
+    × (met ≡ Some (codes "identify", rows))
     × (first_of (codes "file") rows ≡ Some (string_bytes input))
 IsJobOf met (Call script options out bits normal diagram input) = (rows : List Row)
     × (met ≡ Some (codes "call", rows))
@@ -538,15 +553,16 @@ IsJobOf met (Version proof) = (rows : List Row)
 abbrev pub HasNoJob : Option (Text × List Row) → Type 0
 HasNoJob met = (job : Job) → IsJobOf met job → ⊥
 
--- a fault is explained in words too: the values of a command say so
-abbrev pub explains : Option (Text × List Row) → Bool
-explains None = false
-explains (Some met) = is_named (codes "true") (first_of (codes "explain") met.1)
+-- an option without a value, as `--explain` and `--json`, is among the values of a command
+abbrev pub asks : Text → Option (Text × List Row) → Bool
+asks id None = false
+asks id (Some met) = is_named (codes "true") (first_of id met.1)
 
 -- clap takes the words, and the job is of the command and the values that it states
 abbrev pub ReadsAs : List Text → Request → Type 0
 ReadsAs words request = (a : App) × IsFaxtool a × (fault_of a words ≡ []) × IsJobOf (subcommand_of a words) request.job
-    × (request.explain ≡ explains (subcommand_of a words))
+    × (request.explain ≡ asks (codes "explain") (subcommand_of a words))
+    × (request.json ≡ asks (codes "json") (subcommand_of a words))
 
 -- ---- refusals
 
@@ -580,7 +596,8 @@ abbrev pub HasWidth : Job → Type 0
 HasWidth (Code coding order input output) = Unit {0}
 HasWidth (Show coding order width input) = IsWidth width
 HasWidth (Decode form options page input output) = IsWidth form.width
-HasWidth (Frames most order words pages input) = Unit {0}
+HasWidth (Frames most order form pages input) = Unit {0}
+HasWidth (Identify input) = Unit {0}
 HasWidth (Call script options out bits normal diagram input) = Unit {0}
 HasWidth (Drive line times options out bits normal diagram input) = Unit {0}
 HasWidth (Answer caps limit waits out trace) = Unit {0}

@@ -54,5 +54,5 @@ pub fn write_pages(
     }
     let mut octets = Vec::new(rt.alloc());
     write_pbm(pages, &mut octets).map_err(|_fault| NO_MEMORY)?;
-    outputs::write(rt, name, octets.as_slice(), notes)
+    outputs::write(rt, Part::Output, name, octets.as_slice(), notes)
 }

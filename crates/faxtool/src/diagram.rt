@@ -4,7 +4,7 @@ ghost use Rattle.engines.specs.Faults.{IsOutside};
 ghost use Rattle.std.specs.Prelude.{IfErr};
 
 use crate::bits::{self, CallFiles, CallOutput};
-use crate::notes::Notes;
+use crate::notes::{Notes, Part};
 use crate::outputs;
 use calls::{Ladder, WithDiagram, write_picture};
 use engines::ToolFault;
@@ -51,5 +51,5 @@ fn draw(rt: &HostRuntime, name: &str, ladder: Ladder, notes: &mut Notes) -> Resu
 {
     let mut octets = Vec::new(rt.alloc());
     write_picture(ladder, &mut octets)?;
-    outputs::write_diagram(rt, name, octets.as_slice(), notes)
+    outputs::write(rt, Part::Diagram, name, octets.as_slice(), notes)
 }

@@ -2,14 +2,18 @@
 
 ghost use Rattle.faxtool.specs.Jobs.{HasWidth};
 ghost use Rattle.raster.specs.Pixels.{IsWidth};
-ghost use Rattle.std.specs.Prelude.{IfSome};
+ghost use Rattle.engines.specs.Faults.{IsOutside};
+ghost use Rattle.std.specs.Prelude.{IfErr, IfSome};
 
 use crate::names::file_of;
 use crate::notes::{Notes, Part};
 use crate::words::{Job, Outcome};
 use calls::line_fault_at;
 use clap::Error;
-use engines::{Expected, Explained, Known, LineFault, ToolFault, is_shown, refused_at};
+use engines::{
+    Expected, Explained, Known, LineFault, ToolFault, is_shown, refused_at, write_fault,
+    write_notice,
+};
 use page_code::Coding;
 use run_tables::Order;
 use std::env::{self, Env, FillError};
@@ -80,18 +84,45 @@ pub fn is_explained(rt: &HostRuntime) -> bool {
     }
 }
 
-/// Shows the fault of a job: a line, and one of words where that is asked for.
+/// Shows the fault of a job: a line, and one of words where that is asked for; or its record.
 pub fn show_fault(rt: &HostRuntime, job: &Job, fault: ToolFault, notes: &Notes, explains: bool)
     requires { HasWidth job.now }
 {
+    let words = explained(rt, job, fault, notes);
+    if notes.records && show_record(rt, &words).is_ok() {
+        return;
+    }
     let _shown = eprintln!(rt; "{fault}");
     if explains {
-        explain(rt, job, fault, notes);
+        let _explained = eprintln!(rt; "{words}");
     }
 }
 
-/// Explains a fault of a job in words on standard error.
-pub fn explain<'a>(rt: &HostRuntime, job: &'a Job, fault: ToolFault, notes: &'a Notes)
+/// Tells something beside what was asked for on standard error, as a line or as a record. Errs with 8 where that can't be written, and
+/// with 9.
+pub fn notice(rt: &HostRuntime, records: bool, words: &str) -> Result<(), ToolFault>
+    ensures { IfErr result IsOutside }
+{
+    if records {
+        return write_notice(rt.alloc(), words, &mut rt.stderr());
+    }
+    eprintln!(rt; "{words}")?;
+    Ok(())
+}
+
+/// Shows the record of a fault on standard error.
+fn show_record(rt: &HostRuntime, words: &Explained<'_>) -> Result<(), ToolFault> {
+    let text = format!(in rt.alloc(); "{words}")?;
+    write_fault(rt.alloc(), words.fault, text.as_str(), &mut rt.stderr())
+}
+
+/// A fault of a job in words.
+fn explained<'a>(
+    rt: &HostRuntime,
+    job: &'a Job,
+    fault: ToolFault,
+    notes: &'a Notes,
+) -> Explained<'a>
     requires { HasWidth job.now }
 {
     let (row, expected) = refused_place(rt, job, fault, notes);
@@ -104,8 +135,7 @@ pub fn explain<'a>(rt: &HostRuntime, job: &'a Job, fault: ToolFault, notes: &'a 
         read_as: page_of(job).map(|page| (page.0, page.1)),
         line: refused_line(fault, notes),
     };
-    let words = Explained { fault, known };
-    let _explained = eprintln!(rt; "{words}");
+    Explained { fault, known }
 }
 
 /// What is wrong with the line of a script that is refused.

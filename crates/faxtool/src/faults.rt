@@ -26,6 +26,7 @@ pub const FAULTS: &str =
   26  a page's width isn't 1728, 2048 or 2432 pixels, the widths that a call carries
   27  code was given several images
   28  a file has fewer pages than --page says
+  29  a file reads as no page in any way that is tried, and begins as no known format
   30  at a line: not a command of a script, or a wrong count or blank
   31  at a line: none that a station knows, or its time runs back
 Status 2: the words are not a command. With --explain a second line says which file it is, where and why.";

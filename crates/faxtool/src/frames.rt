@@ -4,11 +4,12 @@ ghost use Rattle.engines.specs.Faults.{IsOutside};
 ghost use Rattle.engines.specs.PageNumbers.{after, page_missing};
 ghost use Rattle.std.specs.Prelude.{◌≡◌, IfErr, OnOk, false, max};
 
+use crate::explain::notice;
 use crate::notes::{Notes, Part};
 use crate::{files, outputs};
 use engines::{
-    Captured, FoundStore, ListOptions, Missing, NO_MEMORY, PageNumbers, Stored, ToolFault,
-    list_engine, pages_engine,
+    Captured, FoundStore, ListForm, ListOptions, Missing, NO_MEMORY, PageNumbers, Stored,
+    ToolFault, list_engine, pages_engine, write_missing, write_stored,
 };
 use raster::{Page, write_pbm};
 use run_tables::Order;
@@ -18,11 +19,11 @@ fn say_other_order(rt: &HostRuntime, how: ListOptions, worth: bool) -> Result<()
     ensures { IfErr result IsOutside }
 {
     if worth {
-        let other = match how.order {
-            Order::LsbFirst => "msb",
-            Order::MsbFirst => "lsb",
+        let words = match how.order {
+            Order::LsbFirst => "no good frame: try --order msb",
+            Order::MsbFirst => "no good frame: try --order lsb",
         };
-        eprintln!(rt; "no good frame: try --order {other}")?;
+        notice(rt, how.form == ListForm::Records, words)?;
     }
     Ok(())
 }
@@ -51,6 +52,7 @@ fn list_file(
 struct Folder<'a> {
     rt: &'a HostRuntime,
     name: &'a str,
+    form: ListForm,
     notes: &'a mut Notes,
     numbers: PageNumbers,
     is_empty: bool,
@@ -96,7 +98,28 @@ impl Folder<'_> {
             numbers: self.numbers,
             page: &pages[0],
         };
+        self.tell_stored(&stored)
+    }
+
+    /// Tells on standard output which file a page is in.
+    fn tell_stored(&self, stored: &Stored<'_>) -> Result<(), ToolFault>
+        ensures { IfErr result IsOutside }
+    {
+        if self.form == ListForm::Records {
+            return write_stored(self.rt.alloc(), stored, &mut self.rt.stdout());
+        }
         println!(self.rt; "{stored}")?;
+        Ok(())
+    }
+
+    /// Tells on standard error what is missing of a page.
+    fn tell_missing(&self, found: &Captured) -> Result<(), ToolFault>
+        ensures { IfErr result IsOutside }
+    {
+        if self.form == ListForm::Records {
+            return write_missing(self.rt.alloc(), found, &mut self.rt.stderr());
+        }
+        eprintln!(self.rt; "{}", Missing(found))?;
         Ok(())
     }
 
@@ -108,8 +131,7 @@ impl Folder<'_> {
     {
         self.is_whole = false;
         let _page = self.numbers.missing(found);
-        eprintln!(self.rt; "{}", Missing(found))?;
-        Ok(())
+        self.tell_missing(found)
     }
 }
 
@@ -133,6 +155,7 @@ pub fn frames_file(
     let mut store = Folder {
         rt,
         name: folder,
+        form: how.form,
         notes,
         numbers: PageNumbers::new(),
         is_empty: true,
@@ -147,7 +170,11 @@ pub fn frames_file(
     printed?;
     say_other_order(rt, how, worth)?;
     if is_empty {
-        eprintln!(rt; "no error correction: no pages")?;
+        notice(
+            rt,
+            how.form == ListForm::Records,
+            "no error correction: no pages",
+        )?;
     }
     Ok(is_whole && !is_empty)
 }

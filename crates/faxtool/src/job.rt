@@ -11,6 +11,7 @@ use crate::decode::decode_file;
 use crate::explain::{is_explained, show_fault};
 use crate::files::InAndOut;
 use crate::frames::frames_file;
+use crate::identify::identify_file;
 use crate::names::{bits_of, output_of};
 use crate::notes::{Notes, Part};
 use crate::show::show_file;
@@ -26,7 +27,7 @@ pub fn run_request(rt: &HostRuntime, request: &Request) -> Outcome
 {
     let explains = request.explain || is_explained(rt);
     let image = takes_image(&request.job);
-    let mut notes = Notes::new(rt.alloc(), is_long(&request.job), image);
+    let mut notes = Notes::new(rt.alloc(), is_long(&request.job), image, request.json);
     match run_job(rt, &request.job, &mut notes, explains) {
         Ok(outcome) => outcome,
         Err(fault) => {
@@ -47,7 +48,8 @@ fn takes_image(job: &Job) -> bool {
 /// Whether a job may be long and prints nothing while it reads.
 fn is_long(job: &Job) -> bool {
     match job {
-        Job::Code { .. } | Job::Decode { .. } | Job::Call { .. } | Job::Drive { .. } => true,
+        Job::Code { .. } | Job::Decode { .. } | Job::Identify { .. } => true,
+        Job::Call { .. } | Job::Drive { .. } => true,
         Job::Show { .. } | Job::Frames { .. } | Job::Version { .. } => false,
         Job::Answer { .. } | Job::Dial { .. } => false,
     }
@@ -110,14 +112,14 @@ pub fn run_job(
         Job::Frames {
             most,
             order,
-            words,
+            form,
             pages,
             input,
         } => {
             let how = ListOptions {
                 most: most.map(|most| most as usize),
                 order: *order,
-                words: *words,
+                form: *form,
             };
             frames_file(rt, how, pages.as_deref(), input, notes)?
         }
@@ -150,6 +152,7 @@ pub fn do_whole(rt: &HostRuntime, job: &Job, notes: &mut Notes) -> Result<(), To
             width,
             input,
         } => show_file(rt, *coding, *order, *width, input, notes),
+        Job::Identify { input } => identify_file(rt, input, notes),
         Job::Version { proof } => print_version(rt, *proof, notes),
         Job::Decode { .. } | Job::Frames { .. } | Job::Answer { .. } | Job::Dial { .. } => Ok(()),
         Job::Call { .. } | Job::Drive { .. } => Ok(()),

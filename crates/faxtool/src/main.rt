@@ -13,6 +13,7 @@ mod explain;
 mod faults;
 mod files;
 mod frames;
+mod identify;
 mod job;
 mod names;
 mod notes;

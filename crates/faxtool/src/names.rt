@@ -11,7 +11,8 @@ pub fn output_of<'a>(job: &'a Job) -> Option<&'a str> {
         Job::Call { out, .. } | Job::Drive { out, .. } => out.as_deref(),
         Job::Frames { pages, .. } => pages.as_deref(),
         Job::Answer { out, .. } => Some(out.as_str()),
-        Job::Show { .. } | Job::Dial { .. } | Job::Version { .. } => None,
+        Job::Show { .. } | Job::Identify { .. } => None,
+        Job::Dial { .. } | Job::Version { .. } => None,
     }
 }
 
@@ -54,6 +55,7 @@ fn input_of<'a>(job: &'a Job) -> &'a str {
         | Job::Show { input, .. }
         | Job::Decode { input, .. }
         | Job::Frames { input, .. }
+        | Job::Identify { input }
         | Job::Call { input, .. }
         | Job::Drive { input, .. }
         | Job::Dial { input, .. } => input.as_str(),

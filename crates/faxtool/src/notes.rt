@@ -38,6 +38,8 @@ pub struct Notes {
     pub image: bool,
     /// Whether it is shown how far reading is, where that takes long.
     pub long: bool,
+    /// Whether what is told is records, for programs.
+    pub records: bool,
     /// All octets of the input where they are read before anything is done with them; else the first ones.
     pub octets: Vec<u8>,
     /// All octets of the script.
@@ -45,12 +47,13 @@ pub struct Notes {
 }
 
 impl Notes {
-    /// Nothing is noted yet. The input is an image or none; reading may take long.
-    pub fn new(alloc: Global, long: bool, image: bool) -> Notes
+    /// Nothing is noted yet. The input is an image or none; reading may take long; what is told is records or lines.
+    pub fn new(alloc: Global, long: bool, image: bool, records: bool) -> Notes
         ensures failed { result.failed ≡ None }
         ensures unread { result.unread ≡ None }
         ensures image { result.image ≡ image }
         ensures long { result.long ≡ long }
+        ensures records { result.records ≡ records }
         ensures octets { result.octets.items ≡ [] }
         ensures script { result.script.items ≡ [] }
     {
@@ -59,6 +62,7 @@ impl Notes {
             unread: None,
             image,
             long,
+            records,
             octets: Vec::new(alloc),
             script: Vec::new(alloc),
         }
@@ -70,6 +74,7 @@ impl Notes {
     {
         self.failed = Some((part, kind));
     }
+
     /// The fault of a job that writes into memory: where no file failed, that was refused.
     pub fn in_memory(&self, fault: ToolFault) -> ToolFault
         ensures outside { IsOutside fault → IsOutside result }

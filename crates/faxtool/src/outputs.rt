@@ -40,7 +40,11 @@ pub fn check_terminal(rt: &HostRuntime, name: &str, notes: &mut Notes) -> Result
     ensures { IfErr result IsOutside }
 {
     if name == STANDARD && rt.stdout().is_terminal() {
-        return noted(Err(io::Error::from(ErrorKind::Unsupported)), notes);
+        return noted(
+            Err(io::Error::from(ErrorKind::Unsupported)),
+            Part::Output,
+            notes,
+        );
     }
     Ok(())
 }
@@ -65,34 +69,19 @@ pub fn check_folder(
     Ok(checked?)
 }
 
-/// Writes these octets as the whole content of a file, or on standard output. A regular file is written beside its
+/// Writes these octets as the whole content of the file of a job's part, or on standard output. A regular file is written beside its
 /// place and then renamed, so that what was there stays where that fails; a device, a pipe or a link is written itself.
-/// Errs with 8 where it can't be written, which is noted, and with 9.
+/// Errs with 8 where it can't be written, which is noted of the part, and with 9.
 pub fn write(
     rt: &HostRuntime,
+    part: Part,
     name: &str,
     octets: &[u8],
     notes: &mut Notes,
 ) -> Result<(), ToolFault>
     ensures { IfErr result IsOutside }
 {
-    noted(put(rt, name, octets), notes)
-}
-
-/// Does what `write` does with the file of a call's picture.
-pub fn write_diagram(
-    rt: &HostRuntime,
-    name: &str,
-    octets: &[u8],
-    notes: &mut Notes,
-) -> Result<(), ToolFault>
-    ensures { IfErr result IsOutside }
-{
-    let written = put(rt, name, octets);
-    if let Err(error) = &written {
-        notes.blame(Part::Diagram, error.kind());
-    }
-    Ok(written?)
+    noted(put(rt, name, octets), part, notes)
 }
 
 /// Writes these octets into a new file of a folder, `page-N.pbm` of the first number from this one on that is free,
@@ -128,12 +117,12 @@ pub fn store_page(rt: &HostRuntime, folder: &str, first: u64, octets: &[u8]) -> 
     Ok(made.number)
 }
 
-/// Notes why an output isn't written.
-fn noted(written: io::Result<()>, notes: &mut Notes) -> Result<(), ToolFault>
+/// Notes why the file of a part isn't written.
+fn noted(written: io::Result<()>, part: Part, notes: &mut Notes) -> Result<(), ToolFault>
     ensures { IfErr result IsOutside }
 {
     if let Err(error) = &written {
-        notes.blame(Part::Output, error.kind());
+        notes.blame(part, error.kind());
     }
     Ok(written?)
 }

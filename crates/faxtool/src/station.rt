@@ -3,6 +3,7 @@
 ghost use Rattle.engines.specs.Faults.{IsOutside};
 ghost use Rattle.std.specs.Prelude.{IfErr};
 
+use crate::explain::notice;
 use crate::files::{Printed, read_input};
 use crate::notes::{Notes, Part};
 use crate::station_words::GivenWaits;
@@ -98,6 +99,7 @@ impl Keeper<StoppableCaller> for NoPages {
 struct Folder<'a> {
     rt: &'a HostRuntime,
     name: &'a str,
+    records: bool,
     stored: u64,
     next: u64,
     failed: Option<io::ErrorKind>,
@@ -123,7 +125,7 @@ impl PageStore for Folder<'_> {
                 self.stored = number;
                 self.next = written.saturating_add(1);
                 if written != number {
-                    let _shown = eprintln!(self.rt; "page {number} written as page-{written}.pbm");
+                    self.tell_other(number, written);
                 }
                 Ok(())
             }
@@ -132,6 +134,17 @@ impl PageStore for Folder<'_> {
                 Err(ToolFault::from(error))
             }
         }
+    }
+}
+
+impl Folder<'_> {
+    /// Tells on standard error that a page's file has another number than the page.
+    fn tell_other(&self, number: u64, written: u64) {
+        let Ok(words) = format!(in self.rt.alloc(); "page {number} written as page-{written}.pbm")
+        else {
+            return;
+        };
+        let _told = notice(self.rt, self.records, words.as_str());
     }
 }
 
@@ -257,6 +270,7 @@ impl Answering<'_> {
         let mut folder = Folder {
             rt,
             name: self.out,
+            records: notes.records,
             stored: 0,
             next: 1,
             failed: None,

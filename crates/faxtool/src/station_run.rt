@@ -6,7 +6,7 @@ use crate::explain::show_fault;
 use crate::notes::Notes;
 use crate::station::{self, Answering, Dialling, Halted, Talked};
 use crate::words::{Job, Outcome};
-use engines::ToolFault;
+use engines::{ToolFault, write_ended, write_line_fault};
 use stations::{CallEnd, End};
 
 /// Runs the station of a job; another job isn't done.
@@ -66,29 +66,48 @@ pub fn end_station(
             return Outcome::Fault(fault);
         }
         Some(Halted::Line(number)) => {
-            show_line_fault(rt, number, explains);
+            show_line_fault(rt, number, notes, explains);
             return Outcome::Incomplete;
         }
         None => {}
     }
-    let counted = match job {
-        Job::Dial { .. } => "confirmed",
-        _ => "pages",
-    };
-    let word = station::word_of(talked.end);
-    let _shown = eprintln!(rt; "end {word} {counted} {}", talked.pages);
+    show_end(rt, job, talked, notes);
     match talked.end {
         Some(CallEnd::By(End::Normal)) => Outcome::Done,
         _ => Outcome::Incomplete,
     }
 }
 
+/// Shows how the call of a station ended.
+fn show_end(rt: &HostRuntime, job: &Job, talked: &Talked, notes: &Notes) {
+    let word = station::word_of(talked.end);
+    let calls = matches!(job, Job::Dial { .. });
+    if notes.records
+        && write_ended(rt.alloc(), word, calls, talked.pages, &mut rt.stderr()).is_ok()
+    {
+        return;
+    }
+    let counted = if calls { "confirmed" } else { "pages" };
+    let _shown = eprintln!(rt; "end {word} {counted} {}", talked.pages);
+}
+
 /// Shows that a line says nothing that a station knows.
-fn show_line_fault(rt: &HostRuntime, number: u64, explains: bool) {
+fn show_line_fault(rt: &HostRuntime, number: u64, notes: &Notes, explains: bool) {
+    if notes.records && record_line_fault(rt, number).is_ok() {
+        return;
+    }
     let _shown = eprintln!(rt; "fault 31 at line {number}");
     if explains {
-        let _explained = eprintln!(rt;
-            "standard input: line {number}: it is none of a station's lines, its time runs back, or it has more than 400000 octets"
-        );
+        let _explained = eprintln!(rt; "standard input: line {number}: {NO_LINE}");
     }
 }
+
+/// Shows the record of a line that says nothing that a station knows.
+fn record_line_fault(rt: &HostRuntime, number: u64) -> Result<(), ToolFault> {
+    let words = format!(in rt.alloc(); "standard input: line {number}: {NO_LINE}")?;
+    write_line_fault(rt.alloc(), 31, number, words.as_str(), &mut rt.stderr())
+}
+
+/// Why a line says nothing that a station knows.
+const NO_LINE: &str =
+    "it is none of a station's lines, its time runs back, or it has more than 400000 octets";

@@ -192,6 +192,11 @@ const FRAMES_ARGUMENTS: &[Argument<'static>] = &[
         ..FILE_OPTION
     },
     Argument {
+        id: "json",
+        help: "Writes each line as an object of JSON, for programs",
+        ..FLAG
+    },
+    Argument {
         id: "file",
         help: "The file of the bits; - is standard input",
         ..FILE
@@ -200,6 +205,15 @@ const FRAMES_ARGUMENTS: &[Argument<'static>] = &[
         help: "Says what each DIS, DCS, PPS and PPR says in words, on a line after its own; and explains a fault in words too",
         ..EXPLAIN
     },
+];
+
+const IDENTIFY_ARGUMENTS: &[Argument<'static>] = &[
+    Argument {
+        id: "file",
+        help: "The file that is tried; - is standard input",
+        ..FILE
+    },
+    EXPLAIN,
 ];
 
 const CALL_ARGUMENTS: &[Argument<'static>] = &[
@@ -401,6 +415,11 @@ const STATION_ARGUMENTS: &[Argument<'static>] = &[
         ..FILE_OPTION
     },
     Argument {
+        id: "json",
+        help: "Writes the trace, how the call ended and a fault as objects of JSON, for programs",
+        ..FLAG
+    },
+    Argument {
         id: "in",
         shown: &["IN"],
         required: false,
@@ -446,7 +465,12 @@ static COMMANDS: [Entry<'static>; 5] = [
 ];
 
 /// The commands after these. A list of all of them is more than the check can take in at once.
-static LATER_COMMANDS: [Entry<'static>; 2] = [
+static LATER_COMMANDS: [Entry<'static>; 3] = [
+    Entry {
+        name: "identify",
+        about: "Prints as which format a file begins, and by which code, order and width it reads as a page",
+        arguments: IDENTIFY_ARGUMENTS,
+    },
     Entry {
         name: "station",
         about: "Runs one end of a call by lines of text that say what is on the line",

@@ -5,9 +5,10 @@ ghost use Rattle.std.specs.Prelude.{IfErr};
 
 use crate::notes::{Notes, Part};
 use conversations::{Follower, Heard, Kind, Said, TimedLine, heard_as};
-use engines::{ContentText, ToolFault};
+use engines::{ContentText, ToolFault, write_traced, write_traced_check};
 use hdlc::Deframer;
 use stations::Listening;
+use std::alloc::Global;
 use std::fs::{File, OpenOptions};
 use std::io::{BufWriter, Write};
 use terminals::SentBurst;
@@ -19,6 +20,8 @@ pub(crate) struct Trace(Option<TraceFile>);
 /// The file of a trace, and what was heard and said so far of frames that are not whole.
 #[derive(Drop)]
 struct TraceFile {
+    alloc: Global,
+    records: bool,
     writer: BufWriter<File>,
     heard: Deframer,
     said: Deframer,
@@ -53,6 +56,8 @@ impl Trace {
             notes.blame(Part::Trace, error.kind());
         }
         Ok(Trace(Some(TraceFile {
+            alloc: rt.alloc(),
+            records: notes.records,
             writer: BufWriter::new(rt.alloc(), opened?)?,
             heard: Deframer::new(rt.alloc()),
             said: Deframer::new(rt.alloc()),
@@ -78,9 +83,10 @@ impl Trace {
         match heard_as(listens, *channel, *kind) {
             Heard::Frames => {
                 file.heard.feed(octets)?;
-                write_contents(&mut file.heard, line.at, "heard", &mut file.writer)?;
+                let lines = file.lines_at(line.at, false);
+                write_contents(&mut file.heard, lines, &mut file.writer)?;
             }
-            Heard::Check => writeln!(file.writer, "{} heard TRAINING", line.at)?,
+            Heard::Check => file.lines_at(line.at, false).write_check(&mut file.writer)?,
             Heard::Nothing => {}
         }
         file.writer.flush()?;
@@ -97,26 +103,82 @@ impl Trace {
         match Kind::of(burst.carrier) {
             Kind::Frames => {
                 file.said.feed(&burst.octets)?;
-                write_contents(&mut file.said, at, "said", &mut file.writer)?;
+                let lines = file.lines_at(at, true);
+                write_contents(&mut file.said, lines, &mut file.writer)?;
             }
-            Kind::Check => writeln!(file.writer, "{at} said TRAINING")?,
+            Kind::Check => file.lines_at(at, true).write_check(&mut file.writer)?,
         }
         file.writer.flush()?;
         Ok(())
     }
 }
 
-/// Writes a line for each content that waits: the time, a word, and what the content says. Errs with 8 where the writer fails, and with 9.
+impl TraceFile {
+    /// The lines of what is said or heard at a time.
+    fn lines_at(&self, at: u64, said: bool) -> TraceLines {
+        TraceLines {
+            alloc: self.alloc,
+            records: self.records,
+            at,
+            said,
+        }
+    }
+}
+
+/// The lines of what is said or heard at a time, as text or as records.
+#[derive(Clone, Copy)]
+struct TraceLines {
+    alloc: Global,
+    records: bool,
+    at: u64,
+    said: bool,
+}
+
+impl TraceLines {
+    /// The word of what is said or heard.
+    fn word(self) -> &'static str {
+        if self.said { "said" } else { "heard" }
+    }
+
+    /// Writes the line of a content: the time, a word, and what the content says. Errs with 8 where the writer fails, and with 9.
+    fn write_content<W: Write>(self, content: &[u8], writer: &mut W) -> Result<(), ToolFault>
+        ensures { IfErr result IsOutside }
+    {
+        if self.records {
+            return write_traced(self.alloc, self.at, self.said, content, writer);
+        }
+        writeln!(
+            writer,
+            "{} {} {}",
+            self.at,
+            self.word(),
+            ContentText(content)
+        )?;
+        Ok(())
+    }
+
+    /// Writes the line of a training check. Errs with 8 where the writer fails, and with 9.
+    fn write_check<W: Write>(self, writer: &mut W) -> Result<(), ToolFault>
+        ensures { IfErr result IsOutside }
+    {
+        if self.records {
+            return write_traced_check(self.alloc, self.at, self.said, writer);
+        }
+        writeln!(writer, "{} {} TRAINING", self.at, self.word())?;
+        Ok(())
+    }
+}
+
+/// Writes a line for each content that waits. Errs with 8 where the writer fails, and with 9.
 fn write_contents<W: Write>(
     deframer: &mut Deframer,
-    at: u64,
-    word: &str,
+    lines: TraceLines,
     writer: &mut W,
 ) -> Result<(), ToolFault>
     ensures fault { IfErr result IsOutside }
 {
     while let Some(content) = deframer.next() {
-        writeln!(writer, "{at} {word} {}", ContentText(content))?;
+        lines.write_content(content, writer)?;
     }
     Ok(())
 }

@@ -5,9 +5,9 @@ ghost use Rattle.clap.specs.Words.{first_of, found_of, kind_of, rows_of, subcomm
 ghost use Rattle.clap.specs.declared.error.kind.ErrorKind.TheVariants.{OutOfMemory};
 ghost use Rattle.faxtool.specs.Jobs.{AreDecodeOptionsIn, AreOptionsIn, HasNoJob, HasNoOptions, IsJobOf, IsOutcomeOf, IsRefusalOf};
 ghost use Rattle.faxtool.specs.Jobs.{IsWidthIn, ReadsAs};
-ghost use Rattle.faxtool.specs.Jobs.{ReadsNumber, are_both_standard, coding_named, explains, is_named, modems_named, page_of};
+ghost use Rattle.faxtool.specs.Jobs.{ReadsNumber, are_both_standard, asks, coding_named, is_named, modems_named, page_of};
 ghost use Rattle.faxtool.specs.Jobs.{IsLineIn, IsRateIn, IsSpoilIn, IsBusyIn, IsTimesIn, calls_of, has_line, is_normal_wanted};
-ghost use Rattle.faxtool.specs.Jobs.{line_order_named, order_named, status_of};
+ghost use Rattle.faxtool.specs.Jobs.{line_order_named, list_form, order_named, status_of};
 ghost use Rattle.calls.specs.declared.losses.BadLine.{BadLine as LineValue};
 
 use crate::commands::faxtool_command;
@@ -15,7 +15,7 @@ use crate::station_words::{GivenWaits, station_job, unfit_station};
 use calls::{BadLine, CallOptions, read_rate};
 use clap::error::ErrorKind;
 use clap::{ArgMatches, Command, Error};
-use engines::{DecodeOptions, NO_MEMORY, PageForm, ToolFault};
+use engines::{DecodeOptions, ListForm, NO_MEMORY, PageForm, ToolFault};
 use page_code::Coding;
 use run_tables::Order;
 use signals::{Caps, Modems};
@@ -68,10 +68,15 @@ pub enum Job {
         most: Option<u32>,
         /// Which bit of an octet of the file comes first.
         order: Order,
-        /// Whether what signals say is said in words too.
-        words: bool,
+        /// What is written of each frame.
+        form: ListForm,
         /// The name of the folder that the pages in the frames go to, where one is given.
         pages: Option<String>,
+        /// The name of the file.
+        input: String,
+    },
+    /// Prints as which format a file begins, and in which ways it reads as a page.
+    Identify {
         /// The name of the file.
         input: String,
     },
@@ -149,6 +154,8 @@ pub struct Request {
     pub job: Job,
     /// Whether a fault is explained in words too.
     pub explain: bool,
+    /// Whether what is told for programs is asked for: records.
+    pub json: bool,
 }
 
 /// How the program ends.
@@ -215,10 +222,11 @@ pub fn read_words(alloc: Global, words: &[&str]) -> Result<Request, Outcome>
         Err(error) => return Err(Outcome::from(error)),
     };
     match job_in(alloc, &matches)? {
-        Some(job) => Ok(Request {
-            job,
-            explain: explains(&matches),
-        }),
+        Some(job) => {
+            let explain = asks(&matches, "explain");
+            let json = asks(&matches, "json");
+            Ok(Request { job, explain, json })
+        }
         None => {
             let text = unfit_text(&matches);
             Err(Outcome::from(unfit(&mut command, text)?))
@@ -226,12 +234,12 @@ pub fn read_words(alloc: Global, words: &[&str]) -> Result<Request, Outcome>
     }
 }
 
-// Whether the words ask for a fault in words.
-fn explains(matches: &ArgMatches<'_>) -> bool
-    ensures { result ≡ explains (subcommand_rows_of matches.now) }
+// Whether the words of a command have an option without a value.
+fn asks(matches: &ArgMatches<'_>, id: &str) -> bool
+    ensures { result ≡ asks id.now (subcommand_rows_of matches.now) }
 {
     match matches.subcommand() {
-        Some((_name, inner)) => is_named(text_in(inner, "explain"), "true"),
+        Some((_name, inner)) => is_named(text_in(inner, id), "true"),
         None => false,
     }
 }
@@ -255,6 +263,9 @@ fn job_in(alloc: Global, matches: &ArgMatches<'_>) -> Result<Option<Job>, AllocE
     }
     if let Some(inner) = matches.subcommand_matches("call") {
         return call_job(alloc, inner);
+    }
+    if let Some(inner) = matches.subcommand_matches("identify") {
+        return identify_job(alloc, inner);
     }
     if let Some(inner) = matches.subcommand_matches("station") {
         return station_job(alloc, inner);
@@ -369,6 +380,19 @@ fn decode_options(matches: &ArgMatches<'_>) -> DecodeOptions
     }
 }
 
+// Records where they are asked for, else lines, with words where those are.
+fn list_form(records: bool, words: bool) -> ListForm
+    ensures { result ≡ list_form records words }
+{
+    if records {
+        ListForm::Records
+    } else if words {
+        ListForm::Explained
+    } else {
+        ListForm::Plain
+    }
+}
+
 fn frames_job(alloc: Global, matches: &ArgMatches<'_>) -> Result<Option<Job>, AllocError>
     ensures { let met = Some (codes "frames", rows_of (found_of matches.now)) in
         IfOk result (λ job. MatchOption job (HasNoJob met) (IsJobOf met)) }
@@ -379,8 +403,23 @@ fn frames_job(alloc: Global, matches: &ArgMatches<'_>) -> Result<Option<Job>, Al
     Ok(Some(Job::Frames {
         most: number_in(matches, "data"),
         order: line_order_in(matches),
-        words: is_named(text_in(matches, "explain"), "true"),
+        form: list_form(
+            is_named(text_in(matches, "json"), "true"),
+            is_named(text_in(matches, "explain"), "true"),
+        ),
         pages: copy_of(alloc, text_in(matches, "pages"))?,
+        input: String::from_str(alloc, input)?,
+    }))
+}
+
+fn identify_job(alloc: Global, matches: &ArgMatches<'_>) -> Result<Option<Job>, AllocError>
+    ensures { let met = Some (codes "identify", rows_of (found_of matches.now)) in
+        IfOk result (λ job. MatchOption job (HasNoJob met) (IsJobOf met)) }
+{
+    let Some(input) = text_in(matches, "file") else {
+        return Ok(None);
+    };
+    Ok(Some(Job::Identify {
         input: String::from_str(alloc, input)?,
     }))
 }

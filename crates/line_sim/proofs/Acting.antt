@@ -13,8 +13,8 @@ use Rattle.line_sim.specs.Entries.{Said, says, caller_said, head_kind, item_of, 
 use Rattle.line_sim.specs.Headline.{CanBeWritten}
 use Rattle.line_sim.specs.Hearing.{CallerHears, AnswererHears, HearsFirst}
 use Rattle.line_sim.specs.Line.{World, Outcome, Done, Nothing, InputLost, Cut, sent, caller_sends, answerer_sends, after_first, happens}
-use Rattle.line_sim.specs.Standing.{Shows, IsSent, CallerMayAnswer, AnswererMayAnswer, entry_with, CallerAnswers, AnswererAnswers}
-use Rattle.line_sim.specs.Standing.{CallerTimer, AnswererTimer, EventWrites, Acts}
+use Rattle.line_sim.specs.Represents.{Shows, IsSent, CallerMayAnswer, AnswererMayAnswer, entry_with, CallerAnswers, AnswererAnswers}
+use Rattle.line_sim.specs.Represents.{CallerTimer, AnswererTimer, EventWrites, Acts}
 use Rattle.line_sim.specs.declared.call.Call.{Call}
 use Rattle.line_sim.specs.declared.event.Entry.{Entry}
 use Rattle.line_sim.specs.declared.event.Event.{Event}

@@ -21,7 +21,7 @@ use Rattle.stations.specs.AnswererStep.{confirms, first_dcs, later_dcs, judges_t
 use Rattle.stations.specs.AnswererStep.{takes_block, judges_block, answers_pps, answers_repeated, answers_rr, leaves, answerer_table}
 use Rattle.stations.specs.AnswererStep.{unless_answerer_ended, answerer_step, answerer_items}
 use Rattle.stations.specs.declared.mark.Mark.{Mark}
-use Rattle.stations.specs.declared.mark.Asked.{Asked}
+use Rattle.stations.specs.AnswererStep.{Asked}
 use Rattle.stations.specs.declared.turn.CallerState.{CallerState}
 use Rattle.stations.specs.declared.turn.AnswererState.{AnswererState}
 use Rattle.stations.specs.declared.turn.End.{End}

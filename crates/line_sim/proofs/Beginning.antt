@@ -12,7 +12,7 @@ use Rattle.stations.specs.Layers.{Document, IsFullPage}
 use Rattle.stations.specs.declared.turn.Turn.{Turn}
 use Rattle.stations.specs.declared.turn.Turn.TheVariants.{Dis}
 use Rattle.line_sim.specs.Line.{new_world}
-use Rattle.line_sim.specs.Standing.{Shows, IsReached}
+use Rattle.line_sim.specs.Represents.{Shows, IsReached}
 use Rattle.line_sim.specs.declared.call.Call.{Call}
 
 pub shows_new : (document : Document) (wish : Wish) (caps : Caps) (caller : CallerFields) (answerer : Answerer) (turn : Turn)

@@ -12,7 +12,7 @@ use Rattle.line_sim.specs.Line.{World, Outcome, happens, new_world, run}
 use Rattle.line_sim.specs.Line.Outcome.{Done}
 use Rattle.line_sim.specs.PageMachine.{AtMostTwo, page_state, shown}
 use Rattle.line_sim.specs.Report.{Tells, TellsRun, KeepsSteps, Keeps, KeepsRun}
-use Rattle.line_sim.specs.Standing.{Shows, WorldFields, IsReached, Becomes, BecomesSome, fields_state}
+use Rattle.line_sim.specs.Represents.{Shows, WorldFields, IsReached, Becomes, BecomesSome, fields_state}
 use Rattle.line_sim.specs.declared.call.Call.{Call}
 use Rattle.line_sim.specs.declared.event.Event.{Event}
 use Rattle.line_sim.specs.declared.report.Report.{Report}

@@ -20,7 +20,7 @@ use Rattle.line_sim.specs.Fates.{act_to_caller, act_waiting, before_act, dis_wit
 use Rattle.line_sim.specs.Fates.{rnrs_after}
 use Rattle.line_sim.specs.Line.{World, Outcome, Done, Nothing, InputLost, Cut, happens, run}
 use Rattle.line_sim.specs.Report.{all_done}
-use Rattle.line_sim.specs.Standing.{Acts, Shows}
+use Rattle.line_sim.specs.Represents.{Acts, Shows}
 use Rattle.line_sim.specs.declared.call.Call.{Call}
 use Rattle.line_sim.specs.declared.drive.Act.{Act}
 use Rattle.line_sim.specs.declared.drive.Fate.{Fate as CallFate}

@@ -1,7 +1,8 @@
+-- The lemmas of the line.
 pub mod Undisturbed
 pub mod Clauses
 pub mod Lives
-pub mod Holding
+pub mod Invariant
 pub mod Between
 pub mod Runs
 pub mod Beginning

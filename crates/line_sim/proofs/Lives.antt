@@ -1,5 +1,5 @@
 -- A call that keeps no transcript: one event more, with its entry noted beside it.
-use Rattle.std.proofs.Common.{◌≡◌, ◌≢◌, ℕ, List, [], ◌∷◌, ◌++◌, Option, Some, length, refl, sym, subst}
+use Rattle.std.proofs.Common.{◌≡◌, ◌≢◌, ℕ, List, [], ◌∷◌, ◌++◌, Option, Some, length, refl, subst}
 use Rattle.signals.specs.declared.params.Caps.{Caps}
 use Rattle.signals.specs.declared.params.Wish.{Wish}
 use Rattle.stations.specs.Laws.{Each}
@@ -9,19 +9,19 @@ use Rattle.stations.specs.CallerStep.{confirmed}
 use Rattle.stations.specs.Inputs.{PlainItem, framed, checked}
 use Rattle.stations.specs.declared.turn.AnswererState.{AnswererState}
 use Rattle.stations.specs.declared.turn.End.{End}
-use Rattle.line_sim.specs.Entries.{head_kind, signal_kind}
+use Rattle.line_sim.specs.Entries.{head_kind}
 use Rattle.line_sim.specs.Headline.{Promised, EventsMove, IsSafe, LineHolds, LinesCanBeWritten}
 use Rattle.line_sim.specs.Line.{World, new_world, run}
 use Rattle.line_sim.specs.LineFacts.{MayReachCaller}
 use Rattle.line_sim.specs.Live.{IsLive, HoldsLive}
 use Rattle.line_sim.specs.PageMachine.{AtMostTwo}
-use Rattle.line_sim.specs.Standing.{Acts, EventWrites, Shows, WorldFields, fields_state}
+use Rattle.line_sim.specs.Represents.{Acts, EventWrites, Shows, WorldFields, fields_state}
 use Rattle.line_sim.specs.declared.call.Call.{Call}
 use Rattle.line_sim.specs.declared.event.Entry.{Entry}
 use Rattle.line_sim.specs.declared.event.Event.{Event}
 use Rattle.line_sim.specs.declared.event.Kind.TheVariants.{Training}
 use Rattle.line_sim.proofs.Clauses.{document_kept, two_moves_by}
-use Rattle.line_sim.proofs.Holding.{Laws, document_by, holds}
+use Rattle.line_sim.proofs.Invariant.{Laws, document_by, holds}
 use Rattle.line_sim.proofs.Items.{no_check}
 use Rattle.line_sim.proofs.Beginning.{reached_new}
 use Rattle.line_sim.proofs.Reaching.{acts_become, can_write, reached_more}

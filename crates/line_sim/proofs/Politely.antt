@@ -6,7 +6,7 @@ use Rattle.line_sim.specs.Delivering.{Made, Stopped}
 use Rattle.line_sim.specs.Entries.{entries}
 use Rattle.line_sim.specs.Line.{World, Outcome, Done, run}
 use Rattle.line_sim.specs.Polite.{is_between_groups, next_steps, and_on, polite_steps, is_delivery, count_deliveries}
-use Rattle.line_sim.specs.Standing.{Shows, WorldFields, Becomes, BecomesSome}
+use Rattle.line_sim.specs.Represents.{Shows, WorldFields, Becomes, BecomesSome}
 use Rattle.line_sim.specs.declared.event.Event.{Event}
 use Rattle.line_sim.specs.declared.event.Event.TheVariants.{DeliverToAnswerer, DeliverToCaller, AnswererT2}
 use Rattle.line_sim.proofs.Lists.{append_nil, append_assoc_lem}

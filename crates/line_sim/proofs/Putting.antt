@@ -15,7 +15,7 @@ use Rattle.line_sim.specs.Line.{World, Outcome, happens, caller_sends, answerer_
 use Rattle.line_sim.specs.Line.{after_first}
 use Rattle.line_sim.specs.Line.Outcome.{Done, Nothing, InputLost, Cut}
 use Rattle.line_sim.specs.Putting.{caller_puts, answerer_puts, puts_to, put_to, IsPut, Puts}
-use Rattle.line_sim.specs.Standing.{Acts, Shows}
+use Rattle.line_sim.specs.Represents.{Acts, Shows}
 use Rattle.line_sim.specs.declared.call.Call.{Call}
 use Rattle.line_sim.specs.declared.event.Entry.{Entry}
 use Rattle.line_sim.specs.declared.event.Event.{Event}

@@ -5,7 +5,7 @@ use Rattle.stations.specs.Laws.{Each}
 use Rattle.line_sim.specs.Entries.{entry_of, and_entries, is_refused, marks, one_mark}
 use Rattle.line_sim.specs.Headline.{CanBeWritten, LinesCanBeWritten}
 use Rattle.line_sim.specs.Line.{World, Outcome, Done, Nothing, InputLost, Cut, happens, new_world, run}
-use Rattle.line_sim.specs.Standing.{Shows, Acts, EventWrites, WorldFields, Becomes, BecomesSome, Leaves, IsReached, IsUnheard}
+use Rattle.line_sim.specs.Represents.{Shows, Acts, EventWrites, WorldFields, Becomes, BecomesSome, Leaves, IsReached, IsUnheard}
 use Rattle.line_sim.specs.declared.call.Call.{Call}
 use Rattle.line_sim.specs.declared.event.Entry.{Entry}
 use Rattle.line_sim.specs.declared.event.Event.{Event}

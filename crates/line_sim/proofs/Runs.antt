@@ -8,7 +8,7 @@ use Rattle.stations.specs.Layers.{Document}
 use Rattle.line_sim.specs.Entries.{entries, entry_of, and_entries, marks}
 use Rattle.line_sim.specs.Line.{World, Outcome, Done, Nothing, InputLost, Cut, happens, new_world, run}
 use Rattle.line_sim.specs.Report.{Tells, TellsRun, TellsWhole, all_done}
-use Rattle.line_sim.specs.Standing.{Shows, WorldFields, Becomes, BecomesSome}
+use Rattle.line_sim.specs.Represents.{Shows, WorldFields, Becomes, BecomesSome}
 use Rattle.line_sim.specs.declared.event.Entry.{Entry}
 use Rattle.line_sim.specs.declared.event.Event.{Event}
 use Rattle.line_sim.specs.declared.report.Report.{Report}

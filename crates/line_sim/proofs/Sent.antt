@@ -9,7 +9,7 @@ use Rattle.stations.specs.declared.turn.Turn.{Turn}
 use Rattle.stations.specs.declared.turn.Turn.TheVariants.{Silent, Dis, Training, Cfr, Ftt, Burst, Pps, Mcf, Ppr, Rnr, Rr, Dcn}
 use Rattle.line_sim.specs.Headline.{CanBeWritten}
 use Rattle.line_sim.specs.Line.{World, Done, Cut, caller_sends, answerer_sends}
-use Rattle.line_sim.specs.Standing.{Shows, IsSent, CallerSends, AnswererSends}
+use Rattle.line_sim.specs.Represents.{Shows, IsSent, CallerSends, AnswererSends}
 use Rattle.line_sim.specs.declared.call.Call.{Call}
 
 -- a turn that isn't silent is a transmission

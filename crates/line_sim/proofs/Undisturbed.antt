@@ -6,7 +6,7 @@ use Rattle.line_sim.specs.Delivering.{DeliversAll, GoesThrough}
 use Rattle.line_sim.specs.Headline.{Promised}
 use Rattle.line_sim.specs.Line.{World, new_world, run}
 use Rattle.line_sim.specs.Polite.{polite_steps, PoliteCalls}
-use Rattle.line_sim.specs.Standing.{Shows, WorldFields, IsReached}
+use Rattle.line_sim.specs.Represents.{Shows, WorldFields, IsReached}
 use Rattle.line_sim.proofs.Clauses.{document_kept}
 
 pub goes_through : {E : Type 0} → Promised → PoliteCalls → (old new : WorldFields) (most : ℕ) (result : Result ℕ E) → IsReached old →

@@ -7,7 +7,7 @@ use Rattle.stations.specs.Layers.{Document}
 use Rattle.line_sim.specs.Entries.{entries}
 use Rattle.line_sim.specs.Line.{World, Outcome, Done, run, new_world}
 use Rattle.line_sim.specs.Polite.{next_steps, polite_steps, count_deliveries, AreAgreed, call_length, IsThrough}
-use Rattle.line_sim.specs.Standing.{Shows, WorldFields}
+use Rattle.line_sim.specs.Represents.{Shows, WorldFields}
 use Rattle.line_sim.specs.declared.event.Event.{Event}
 
 -- steps were made from a world that the fields represented: they represent the one after them, and have their entries

@@ -15,7 +15,7 @@ use Rattle.line_sim.specs.BusyCalls.{sets}
 use Rattle.line_sim.specs.Entries.{entries, head_kind}
 use Rattle.line_sim.specs.Line.{World, Outcome, Done, happens, run}
 use Rattle.line_sim.specs.Report.{all_done}
-use Rattle.line_sim.specs.Standing.{Acts, IsUnheard, IsWorldFault, Shows}
+use Rattle.line_sim.specs.Represents.{Acts, IsUnheard, IsWorldFault, Shows}
 use Rattle.line_sim.specs.Tolerance.{CanBear, IsBorne, bad_fates, spoiling_fates}
 use Rattle.line_sim.specs.declared.call.Call.{Call}
 use Rattle.line_sim.specs.declared.drive.Act.{Act}

@@ -8,8 +8,8 @@ pub mod Polite
 pub mod Counted
 pub mod Octets
 pub mod Hearing
-pub mod Standing
-pub mod Holding
+pub mod Represents
+pub mod Invariant
 pub mod Report
 pub mod Delivering
 pub mod Live

@@ -16,7 +16,7 @@ use Rattle.stations.specs.CallerStep.{Caller, blocks_of}
 use Rattle.stations.specs.AnswererStep.{Frames, Answerer, state_after}
 use Rattle.stations.specs.declared.mark.Mark.{Mark}
 use Rattle.stations.specs.declared.mark.Accepted.{Accepted}
-use Rattle.stations.specs.declared.mark.Asked.{Asked}
+use Rattle.stations.specs.AnswererStep.{Asked}
 use Rattle.stations.specs.declared.turn.CallerState.{CallerState}
 use Rattle.stations.specs.declared.turn.AnswererState.{AnswererState}
 use Rattle.stations.specs.declared.turn.CallerState.TheVariants.{WaitDis, WaitCfr, WaitBlock, WaitReady}

@@ -1,8 +1,8 @@
 -- A call that keeps no transcript: what its fields represent, and what holds of them.
 use Rattle.std.specs.Prelude.{List, [], ◌∷◌}
-use Rattle.line_sim.specs.Holding.{Holds}
+use Rattle.line_sim.specs.Invariant.{Holds}
 use Rattle.line_sim.specs.Line.{Outcome, Done}
-use Rattle.line_sim.specs.Standing.{IsReached}
+use Rattle.line_sim.specs.Represents.{IsReached}
 use Rattle.line_sim.specs.declared.call.Call.{Call}
 use Rattle.line_sim.specs.declared.event.Entry.{Entry}
 use Rattle.line_sim.specs.declared.event.Event.{Event}

@@ -8,7 +8,7 @@ use Rattle.stations.specs.Inputs.{PlainItem, CallerInput, AnswererInput}
 use Rattle.line_sim.specs.Entries.{input_to_answerer, input_to_caller}
 use Rattle.line_sim.specs.Line.{World}
 use Rattle.line_sim.specs.Octets.{under_way_to}
-use Rattle.line_sim.specs.Standing.{Shows}
+use Rattle.line_sim.specs.Represents.{Shows}
 use Rattle.line_sim.specs.declared.call.Call.{Call}
 use Rattle.line_sim.specs.declared.event.Event.{Event}
 

@@ -12,7 +12,7 @@ use Rattle.line_sim.specs.InStep.{InStep}
 use Rattle.line_sim.specs.Line.{World, Outcome, Done, new_world, run}
 use Rattle.line_sim.specs.LineFacts.{LineFacts}
 use Rattle.line_sim.specs.PageMachine.{Moves, first_state, page_state}
-use Rattle.line_sim.specs.Standing.{IsWorldFault}
+use Rattle.line_sim.specs.Represents.{IsWorldFault}
 use Rattle.line_sim.specs.declared.event.Entry.{Entry}
 use Rattle.line_sim.specs.declared.event.Event.{Event}
 use Rattle.line_sim.specs.declared.fault.WorldFault.{WorldFault}

@@ -1,9 +1,9 @@
 //! Both stations and what is under way, and what one event does to them.
 
 ghost use Rattle.line_sim.specs.Entries.{caller_said};
-ghost use Rattle.line_sim.specs.Standing.{Acts, IsUnheard, EventWrites, NewCall};
-ghost use Rattle.line_sim.specs.Standing.{AnswererAnswers, AnswererMayAnswer, AnswererSends, AnswererTimer, AnswererWrites};
-ghost use Rattle.line_sim.specs.Standing.{CallerAnswers, CallerMayAnswer, CallerSends, CallerTimer, CallerWrites};
+ghost use Rattle.line_sim.specs.Represents.{Acts, IsUnheard, EventWrites, NewCall};
+ghost use Rattle.line_sim.specs.Represents.{AnswererAnswers, AnswererMayAnswer, AnswererSends, AnswererTimer, AnswererWrites};
+ghost use Rattle.line_sim.specs.Represents.{CallerAnswers, CallerMayAnswer, CallerSends, CallerTimer, CallerWrites};
 ghost use Rattle.stations.specs.CallerStep.{Caller as CallerTuple, caller_items};
 ghost use Rattle.stations.specs.Inputs.{answerer_input, caller_input};
 ghost use Rattle.stations.specs.CallerFields.{Represents};

@@ -11,7 +11,7 @@ ghost use Rattle.stations.specs.Lending.{plain_item};
 ghost use Rattle.std.specs.Prelude.{◌≡◌, ◌+◌, [], ◌∷◌, ◌++◌, cond, ℕ, List, length, take, min, option_map, IsTrue, ◌↔◌, OnOk, OnErr};
 
 use crate::event::{Kind, LineItem};
-use crate::item::UnderWay;
+use crate::item::InTransit;
 use crate::sender::Sender;
 use hdlc::Deframer;
 use signals::Signal;
@@ -51,7 +51,7 @@ pub(crate) fn fcd_count(mut items: Items<'_>) -> u16
 pub(crate) struct Channel<S: Sender> {
     alloc: Global,
     sender: S,
-    items: VecDeque<UnderWay<S>>,
+    items: VecDeque<InTransit<S>>,
     deframer: Deframer,
 }
 
@@ -174,7 +174,7 @@ impl<S: Sender> Channel<S> {
         ensures ok { OnOk result (self.new ≡ self.old ++ plain_item item.entry ∷ []) }
         ensures err { OnErr result (self.new ≡ self.old) }
     {
-        let made = UnderWay::new(self.alloc, self.sender, item)?;
+        let made = InTransit::new(self.alloc, self.sender, item)?;
         self.items.push_back(made)?;
         Ok(())
     }

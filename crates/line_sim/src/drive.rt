@@ -6,7 +6,7 @@ ghost use Rattle.line_sim.specs.Fates.{ActsIf, BearsTwo, ComesNext, DrivesAll, E
 ghost use Rattle.line_sim.specs.Fates.{Steps, act_to_answerer, act_to_caller, act_waiting, asks_ready, dis_with, is_fate_due, is_one_too_many, is_sending};
 ghost use Rattle.line_sim.specs.Fates.{plain_fate, plainly, rnrs_after, rnrs_heard};
 ghost use Rattle.line_sim.specs.Line.{World as WorldValue};
-ghost use Rattle.line_sim.specs.Standing.{Shows};
+ghost use Rattle.line_sim.specs.Represents.{Shows};
 ghost use Rattle.stations.specs.declared.turn.CallerState.TheVariants.{WaitDis};
 ghost use Rattle.std.specs.Prelude.{◌≡◌, ◌+◌, ◌<◌, ◌^◌, Bool, IsTrue, ◌↔◌, IfOk, cond, drop, map, nat_lt, true, false, Some};
 

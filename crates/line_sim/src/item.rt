@@ -112,13 +112,13 @@ fn answerer_hears(deframer: &mut Deframer, answerer: &mut Answerer) -> Result<Tu
 
 /// An item under way, of the station that sends it: the octets of a frame or of a training check.
 #[derive(Debug, Drop)]
-pub(crate) struct UnderWay<S: Sender> {
+pub(crate) struct InTransit<S: Sender> {
     sender: S,
     kind: Kind,
     octets: Vec<u8>,
 }
 
-impl<S: Sender> Model for UnderWay<S> {
+impl<S: Sender> Model for InTransit<S> {
     ghost use Rattle.stations.specs.Inputs.{PlainItem};
     ghost use Rattle.line_sim.specs.Octets.{item_said, IsItem};
 
@@ -129,9 +129,9 @@ impl<S: Sender> Model for UnderWay<S> {
     ghost invariant = { λ i. IsItem S.sends i.kind i.octets.items };
 }
 
-impl<S: Sender> UnderWay<S> {
+impl<S: Sender> InTransit<S> {
     /// An item as a station sends it. Errs where memory is refused.
-    pub(crate) fn new(alloc: Global, sender: S, item: Item<'_>) -> Result<UnderWay<S>, AllocError>
+    pub(crate) fn new(alloc: Global, sender: S, item: Item<'_>) -> Result<InTransit<S>, AllocError>
         requires can { CanBeWritten (plain_item item) }
         requires told { TellsFinal item }
         ensures { IfOk result (λ made. made ≡ plain_item item.entry) }
@@ -142,7 +142,7 @@ impl<S: Sender> UnderWay<S> {
             Item::Frame { signal, last } => {
                 let octets = frame_octets(alloc, &signal, sender.side(), last)?;
                 let kind = kind_of(&signal);
-                Ok(UnderWay {
+                Ok(InTransit {
                     sender,
                     kind,
                     octets,
@@ -151,7 +151,7 @@ impl<S: Sender> UnderWay<S> {
             Item::Training(count) => {
                 let octets = training_octets(alloc, count)?;
                 let kind = Kind::Training;
-                Ok(UnderWay {
+                Ok(InTransit {
                     sender,
                     kind,
                     octets,

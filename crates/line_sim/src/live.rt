@@ -8,7 +8,7 @@ ghost use Rattle.line_sim.specs.Octets.{IsLentAt, sender_to, under_way_to};
 ghost use Rattle.line_sim.specs.PageMachine.{AtMostTwo};
 ghost use Rattle.line_sim.specs.Polite.{next_steps};
 ghost use Rattle.line_sim.specs.Putting.{Puts};
-ghost use Rattle.line_sim.specs.Standing.{Acts, IsUnheard, NewCall, Shows, fields_state};
+ghost use Rattle.line_sim.specs.Represents.{Acts, IsUnheard, NewCall, Shows, fields_state};
 ghost use Rattle.line_sim.specs.declared.event.Kind.TheVariants.{Training};
 ghost use Rattle.stations.specs.CallerStep.{confirmed};
 ghost use Rattle.stations.specs.Laws.{Each};

@@ -1,11 +1,11 @@
 //! A call in which all that is under way comes.
 
 ghost use Rattle.line_sim.specs.Delivering.{DeliversAll, DeliversNext, GoesThrough};
-ghost use Rattle.line_sim.specs.Holding.{Holds};
+ghost use Rattle.line_sim.specs.Invariant.{Holds};
 ghost use Rattle.line_sim.specs.Line.{World as WorldValue};
 ghost use Rattle.line_sim.specs.PageMachine.{Moves};
 ghost use Rattle.line_sim.specs.Polite.{is_between_groups};
-ghost use Rattle.line_sim.specs.Standing.{Shows, fields_state};
+ghost use Rattle.line_sim.specs.Represents.{Shows, fields_state};
 ghost use Rattle.std.specs.Prelude.{◌≡◌, [], IsTrue, ◌↔◌, IfOk, length};
 
 use crate::call::Call;
@@ -107,7 +107,7 @@ impl World {
         headline();
         layers_hold();
         signals_hold();
-        let _ = &self.call;
+        let _ = &self.call; // for the proof: what holds of every world
         self.deliver(most)
     }
 }

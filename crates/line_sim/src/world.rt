@@ -1,10 +1,10 @@
 //! A world: a caller, an answerer and the half-duplex line between them.
 
-ghost use Rattle.line_sim.specs.Holding.{Begins, Holds, TakesWholeBlock};
+ghost use Rattle.line_sim.specs.Invariant.{Begins, Holds, TakesWholeBlock};
 ghost use Rattle.line_sim.specs.Line.{World as WorldValue, Outcome, new_world};
 ghost use Rattle.line_sim.specs.PageMachine.{AtMostTwo};
 ghost use Rattle.line_sim.specs.Report.{Keeps, KeepsRun, RunsTo, Tells, TellsWhole};
-ghost use Rattle.line_sim.specs.Standing.{Becomes, BecomesSome, NewWorld, Shows, fields_state};
+ghost use Rattle.line_sim.specs.Represents.{Becomes, BecomesSome, NewWorld, Shows, fields_state};
 ghost use Rattle.stations.specs.Laws.{Each};
 ghost use Rattle.stations.specs.Layers.{IsFullPage};
 ghost use Rattle.line_sim.specs.Octets.{ComeNext, sender_to, under_way_to};
@@ -31,13 +31,13 @@ pub struct World {
 }
 
 impl Model for World {
-    ghost use Rattle.line_sim.specs.Standing.{WorldFields};
+    ghost use Rattle.line_sim.specs.Represents.{WorldFields};
 
     ghost Value = { WorldFields };
 
     ghost view = { λ w. record { call = w.call; entries = w.transcript.items } };
 
-    ghost use Rattle.line_sim.specs.Standing.{IsReached};
+    ghost use Rattle.line_sim.specs.Represents.{IsReached};
     ghost use Rattle.line_sim.specs.Entries.{marks};
     ghost use Rattle.stations.specs.Laws.{Each};
     ghost use Rattle.stations.specs.Layers.{IsFullPage};
@@ -73,7 +73,7 @@ impl World {
     }
 
     /// What an event does.
-    fn happen(&mut self, event: Event) -> Result<(), AllocError>
+    fn apply(&mut self, event: Event) -> Result<(), AllocError>
         ensures ok { OnOk result (Becomes self.old self.new event Outcome.Done) }
         ensures err { OnErr result (BecomesSome self.old self.new event) }
     {
@@ -106,8 +106,8 @@ impl World {
         headline();
         layers_hold();
         signals_hold();
-        let _ = &self.call;
-        self.happen(event)
+        let _ = &self.call; // for the proof: what holds of every world
+        self.apply(event)
     }
 
     /// The octets that come next to a station over the line, the least significant bit of each first: those of
@@ -123,7 +123,7 @@ impl World {
     }
 
     /// What has become of the call.
-    fn told(self) -> Report
+    fn into_report(self) -> Report
         ensures tells { (w : WorldValue) → Shows self.call w → Tells result w self.entries }
         ensures none { result.left_out ≡ 0 }
     {
@@ -174,8 +174,8 @@ impl World {
         counted();
         layers_hold();
         signals_hold();
-        let _ = &self.call;
-        self.told()
+        let _ = &self.call; // for the proof: what holds of every world
+        self.into_report()
     }
 }
 
@@ -184,7 +184,7 @@ pub(crate) fn has_full_pages(document: &Document)
     ensures { Each IsFullPage document.now }
 {
     for page in document.pages() {
-        let _rows = page.rows();
+        let _rows = page.rows(); // for the proof: what holds of every page
     }
 }
 

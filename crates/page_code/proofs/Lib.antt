@@ -7,6 +7,7 @@ pub mod CodingLaws
 pub mod AppendedOctets
 pub mod CodingPacked
 pub mod PageReaders
+pub mod PageReads
 pub mod HandCoded
 pub mod RowCoders
 pub mod RowReaders

@@ -1,9 +1,16 @@
--- A reader of a page that comes in pieces, as clauses see it.
-use Rattle.std.specs.Prelude.{ℕ, ◌≡◌, List, ◌++◌}
+-- A reader of a page that comes in pieces, as clauses see it, and what octets are read as.
+use Rattle.std.specs.Prelude.{ℕ, ◌≡◌, ◌≢◌, Bool, List, [], length, ◌++◌, Ok, Err}
 use Rattle.raster.specs.declared.packed.Order.{Order}
+use Rattle.raster.specs.declared.row.Color.{Color}
 use Rattle.raster.specs.Packed.{bits_of}
 use Rattle.raster.specs.Pages.{PagePixels}
+use Rattle.run_tables.specs.declared.fault.CodeFaultKind.TheVariants.{NoMemory}
 use Rattle.page_code.specs.declared.coding.Coding.{Coding}
+use Rattle.page_code.specs.declared.page_reader.PageRead.{PageRead}
+use Rattle.page_code.specs.declared.page_reader.PageRead.TheVariants.{Page, Refused}
+use Rattle.page_code.specs.declared.page_reader.RefusedCode.{RefusedCode}
+use Rattle.page_code.specs.Codings.{IsLongestIn, ReadsIn, read_rows}
+use Rattle.page_code.specs.PageCodes.{ReadsPage, RefusesPage}
 use Rattle.page_code.specs.RowsSoFar.{AreRowsSoFar, IsReadTo}
 
 -- the code, the order of bits, the page read so far, the place in the bits after its rows, and how many whole rows were found
@@ -36,3 +43,28 @@ pub record IsLike (old new : PageReading) : Type 0 where
 -- it stands for what it stood for
 abbrev pub StandsAsBefore : PageReading → PageReading → Type 0
 StandsAsBefore old new = IsLike old new × ((octets : List ℕ) → StandsFor old octets → StandsFor new octets)
+
+-- the bits read as this page and as no other, with `used` of them used, and reading gives it
+pub record IsPageRead (coding : Coding) (width : ℕ) (fine : Bool) (bits : List Bool) (page : PagePixels) (used : ℕ) : Type 0 where
+  pub reads : ReadsPage (ReadsIn coding) width fine bits page used
+  pub only : (rows : List (List Color)) (n : ℕ) → ReadsIn coding width bits rows n → (page.rows ≡ rows) × (used ≡ n)
+  pub gives : read_rows coding width bits ≡ Ok (page.rows, used)
+
+-- the bits read as no page, and reading gives this refusal, which isn't one of memory; before it the bits spell this number of whole rows,
+-- which were read up to the bit `row_start`
+pub record IsPageRefused (coding : Coding) (width : ℕ) (bits : List Bool) (refused : RefusedCode) : Type 0 where
+  pub refuses : RefusesPage (ReadsIn coding) (IsLongestIn coding) width bits refused.fault
+  pub gives : read_rows coding width bits ≡ Err (refused.fault.place, refused.fault.kind)
+  pub memory : refused.fault.kind ≢ NoMemory
+  pub counted : AreRowsSoFar coding width bits refused.rows
+  pub row_start : (rows : List (List Color)) × (length rows ≡ refused.rows) × IsReadTo coding width bits rows refused.row_start
+
+-- what bits are read as
+abbrev pub IsRead : Coding → ℕ → Bool → List Bool → PageRead → Type 0
+IsRead coding width fine bits (Page page used) = IsPageRead coding width fine bits page used
+IsRead coding width fine bits (Refused refused) = IsPageRefused coding width bits refused
+
+-- after a page the reader stands for no octets, and after a refusal for what it stood for
+abbrev pub StandsAfter : PageReading → PageReading → PageRead → Type 0
+StandsAfter old new (Page page used) = StandsFor new []
+StandsAfter old new (Refused refused) = StandsAsBefore old new

@@ -1,18 +1,23 @@
 //! The names of the codes, and what each of them does.
 
-ghost use Rattle.page_code.specs.PageCodes.{AppendsCode, GivesRows, IsOnlyAnswer, ReadsItsCode, ReadsPage, RefusesPage};
+ghost use Rattle.page_code.specs.Codings.{code_of, read_rows};
+ghost use Rattle.page_code.specs.PageCodes.{AppendsCode, GivesPage, GivesRows, IsOnlyAnswer, ReadsItsCode, ReadsPage, RefusesPage};
 ghost use Rattle.raster.specs.Packed.{bits_of};
 ghost use Rattle.raster.specs.Pixels.{IsWidth};
 ghost use Rattle.raster.specs.declared.row.Color.{Color};
+ghost use Rattle.run_tables.specs.Written.{Appends, KeepsBits};
 ghost use Rattle.run_tables.specs.declared.fault.CodeFaultKind.{CodeFaultKind as Kind};
 ghost use Rattle.run_tables.specs.declared.fault.CodeFaultKind.TheVariants.{NoMemory};
 ghost use Rattle.std.specs.Prelude.{◌≡◌, ◌≢◌, ◌<◌, ◌++◌, ℕ, List, Bool, Result, length, IfOk, IfErr, OnOk, OnErr};
 
 use crate::one_dim::OneDim;
+use crate::page::{Progress, are_octets};
+use crate::page_reader::read_to_end;
 use crate::t6::T6;
+use crate::{one_dim, t6};
 use raster::Page;
 use raster::packed::Order;
-use run_tables::CodeFault;
+use run_tables::{BitWriter, CodeFault};
 use std::alloc::{AllocError, Global};
 
 /// A code of pages.
@@ -25,7 +30,7 @@ pub enum Coding {
 }
 
 impl Coding {
-    ghost use Rattle.page_code.specs.Codings.{IsLongestIn, ReadsIn, code_of, read_rows};
+    ghost use Rattle.page_code.specs.Codings.{IsLongestIn, ReadsIn};
     ghost use Rattle.raster.specs.Octets.{packed};
 
     /// Appends the page's code, its last octet filled with 0 bits. Errs where memory is refused, which
@@ -74,6 +79,69 @@ impl Coding {
             Coding::OneDim => OneDim::decode(alloc, octets, order, width, fine),
             Coding::T6 => T6::decode(alloc, octets, order, width, fine),
         }
+    }
+}
+
+/// Writes the rows of a page and its end in one code.
+#[inline(always)]
+#[tactic(auto, unfolding(crate::specs::Codings::code_of))]
+fn write_page(
+    coding: Coding,
+    alloc: Global,
+    page: &Page,
+    bits: &mut BitWriter,
+) -> Result<(), AllocError>
+    ensures ok { OnOk result (Appends (code_of coding page.now.width page.now.rows) bits.old bits.new) }
+    ensures err { OnErr result (KeepsBits bits.old bits.new) }
+{
+    match coding {
+        Coding::OneDim => one_dim::write_page(alloc, page.rows(), bits),
+        Coding::T6 => t6::write::write_page(alloc, bits, page),
+    }
+}
+
+/// Appends the page's code, as `PageCode::encode` of each code.
+#[inline(always)]
+pub(crate) fn encode_in(
+    coding: Coding,
+    alloc: Global,
+    page: &Page,
+    order: Order,
+    out: &mut Vec<u8>,
+) -> Result<(), AllocError>
+    ensures ok { OnOk result (AppendsCode order (code_of coding page.now.width page.now.rows) out.old.items out.new.items) }
+    ensures err { OnErr result (out.new.items ≡ out.old.items) }
+{
+    are_octets(out);
+    let mut bits = BitWriter::after(alloc, out, order)?;
+    let start = bits.bits();
+    let done = write_page(coding, alloc, page, &mut bits);
+    if done.is_err() {
+        bits.truncate(start);
+    }
+    *out = bits.into_octets();
+    are_octets(out);
+    done
+}
+
+/// The page that the octets begin with and the bits used, as `PageCode::decode` of each code.
+#[inline(always)]
+pub(crate) fn decode_in(
+    coding: Coding,
+    alloc: Global,
+    octets: &[u8],
+    order: Order,
+    width: u32,
+    fine: bool,
+) -> Result<(Page, u128), CodeFault>
+    requires { IsWidth width }
+    ensures gives { GivesPage (read_rows coding width (bits_of order octets.now)) width fine result }
+    ensures memory { IfErr result (λ fault. fault.kind ≡ NoMemory → fault.place ≡ 0) }
+{
+    let begun = Progress::new(alloc, width, fine);
+    match read_to_end(alloc, coding, octets, order, begun) {
+        Ok(answer) => Ok(answer),
+        Err(fault) => Err(fault.begun_at(0)),
     }
 }
 

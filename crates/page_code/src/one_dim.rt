@@ -1,6 +1,5 @@
 //! Pages in the one-dimensional code (ITU-T T.4, 4.1).
 
-ghost use Rattle.page_code.specs.PageCodes.{GivesPage};
 ghost use Rattle.page_code.specs.OneDimension.Fronts.{read_page as read_bits};
 ghost use Rattle.page_code.specs.OneDimension.Pages.{eol_word, row_words, rows_words, eol_words, page_words, rtc};
 ghost use Rattle.page_code.specs.OneDimension.Reading.{FindsRow, ReadsRowOfPage, SeesStart};
@@ -16,9 +15,9 @@ pub(crate) mod eol;
 pub(crate) mod one_row;
 pub(crate) mod repair;
 
-use crate::coding::{Coding, PageCode};
+use crate::coding::{Coding, PageCode, decode_in, encode_in};
 use crate::one_dim::eol::{Eol, after_five_eols, eol_at, quick_eol};
-use crate::page::{Progress, are_octets, push_row};
+use crate::page::{Progress, push_row};
 use crate::turned::{code_of, turned_code};
 use raster::packed::Order;
 use raster::{MAX_ROWS, Page, Row};
@@ -204,7 +203,11 @@ fn write_rows(alloc: Global, rows: &[Row], bits: &mut BitWriter) -> Result<(), A
 }
 
 /// Writes the rows of a page and the return to control.
-fn write_page(alloc: Global, rows: &[Row], bits: &mut BitWriter) -> Result<(), AllocError>
+pub(crate) fn write_page(
+    alloc: Global,
+    rows: &[Row],
+    bits: &mut BitWriter,
+) -> Result<(), AllocError>
     requires { All (λ row. 0 < length row) rows.now }
     ensures ok { OnOk result (Appends (page_words rows.now) bits.old bits.new) }
     ensures err { OnErr result (KeepsBits bits.old bits.new) }
@@ -225,22 +228,14 @@ impl PageCode for OneDim {
 
     ghost Longest = { IsLongestFront };
 
+    #[tactic(auto, unfolding(crate::specs::Codings::code_of))]
     fn encode(
         alloc: Global,
         page: &Page,
         order: Order,
         out: &mut Vec<u8>,
     ) -> Result<(), AllocError> {
-        are_octets(out);
-        let mut bits = BitWriter::after(alloc, out, order)?;
-        let start = bits.bits();
-        let done = write_page(alloc, page.rows(), &mut bits);
-        if done.is_err() {
-            bits.truncate(start);
-        }
-        *out = bits.into_octets();
-        are_octets(out);
-        done
+        encode_in(Coding::OneDim, alloc, page, order, out)
     }
 
     fn decode(
@@ -250,27 +245,8 @@ impl PageCode for OneDim {
         width: u32,
         fine: bool,
     ) -> Result<(Page, u128), CodeFault> {
-        match read_page(alloc, octets, order, width, fine) {
-            Ok(answer) => Ok(answer),
-            Err(fault) => Err(fault.begun_at(0)),
-        }
+        decode_in(Coding::OneDim, alloc, octets, order, width, fine)
     }
 
     fn reads_its_code() {}
-}
-
-/// The page and the bits used, as the bits read.
-fn read_page(
-    alloc: Global,
-    octets: &[u8],
-    order: Order,
-    width: u32,
-    fine: bool,
-) -> Result<(Page, u128), CodeFault>
-    requires { IsWidth width }
-    ensures { GivesPage (read_bits width (bits_of order octets.now)) width fine result }
-{
-    let mut to = Progress::new(alloc, width, fine);
-    let used = read_on(alloc, octets, order, &mut to)?;
-    Ok((to.page, used))
 }

@@ -1,25 +1,12 @@
-//! Rows and pages where only memory can be refused.
+//! Pages where only memory can be refused.
 
 ghost use Rattle.raster.specs.Octets.{AreOctets};
 ghost use Rattle.raster.specs.Pages.{max_rows};
 ghost use Rattle.raster.specs.Pixels.{IsWidth};
-ghost use Rattle.raster.specs.Runs.{colored};
-ghost use Rattle.std.specs.Prelude.{◌≡◌, ◌<◌, ◌++◌, ◌∷◌, [], IfOk, OnOk, length, sum};
+ghost use Rattle.std.specs.Prelude.{◌≡◌, ◌<◌, ◌++◌, ◌∷◌, [], OnOk, length};
 
-use raster::{Color, Page, RasterFault, Row};
+use raster::{Page, RasterFault, Row};
 use std::alloc::{AllocError, Global};
-
-/// The row of these runs, white first, which add up to a width. Errs where memory is refused.
-pub(crate) fn row_of(alloc: Global, runs: &[u32]) -> Result<Row, AllocError>
-    requires { IsWidth (sum runs.now) }
-    ensures { IfOk result (λ row. row ≡ colored Color.White runs.now) }
-{
-    match Row::from_runs(alloc, runs) {
-        Ok(row) => Ok(row),
-        Err(RasterFault::NoMemory) => Err(AllocError),
-        Err(_) => unreachable!(),
-    }
-}
 
 /// Octets are below 256, which a proof may need. Nothing runs.
 pub(crate) fn are_octets(octets: &[u8])

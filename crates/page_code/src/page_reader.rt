@@ -2,24 +2,25 @@
 
 ghost use Rattle.page_code.specs.Codings.{read_rows};
 ghost use Rattle.page_code.specs.PageCodes.{GivesPage, GivesRows, IsOnlyAnswer, ReadsPage, RefusesPage};
-ghost use Rattle.page_code.specs.PageReaders.{GoesOnTo, IsLike, StandsAsBefore, StandsFor};
+ghost use Rattle.page_code.specs.PageReaders.{GoesOnTo, IsLike, IsRead, StandsAfter, StandsAsBefore, StandsFor};
 ghost use Rattle.page_code.specs.RowsSoFar.{AreRowsSoFar, AreWholeRows, IsFurther, IsReadTo, ReadsOn};
 ghost use Rattle.raster.specs.Packed.{bits_of};
 ghost use Rattle.raster.specs.Pixels.{IsWidth};
 ghost use Rattle.run_tables.specs.declared.fault.CodeFaultKind.TheVariants.{NoMemory};
-ghost use Rattle.std.specs.Prelude.{◌≡◌, ◌≢◌, ◌↔◌, [], List, ℕ, IfErr, IfOk, IsTrue, OnErr, OnOk, length};
+ghost use Rattle.std.specs.Prelude.{◌≡◌, ◌≢◌, [], List, ℕ, IfErr, IfOk, OnErr, OnOk, length};
 
 use crate::coding::Coding;
 use crate::page::Progress;
 use crate::{one_dim, t6};
 use raster::Page;
 use raster::packed::Order;
-use run_tables::{CodeFault, CodeFaultKind};
+use run_tables::CodeFault;
 use std::alloc::{AllocError, Global};
 use std::marker::Model;
 use std::mem;
 
 /// Reads on from the rows read so far to the page's end, and answers how many bits the page uses.
+#[inline(always)]
 fn read_rows_on(
     alloc: Global,
     coding: Coding,
@@ -35,6 +36,26 @@ fn read_rows_on(
         Coding::OneDim => one_dim::read_on(alloc, octets, order, to),
         Coding::T6 => t6::read::read_on(alloc, octets, order, to),
     }
+}
+
+/// Why octets can't be read as a page, and how far they can.
+#[derive(Clone, Copy, Debug, PartialEq, Eq)]
+pub struct RefusedCode {
+    /// The bit that is refused, from 0, and why: never for want of memory.
+    pub fault: CodeFault,
+    /// How many whole rows are before it: 0 to 20,000.
+    pub rows: u32,
+    /// The bit after them, where the next row would begin, with its EOL in the one-dimensional code.
+    pub row_start: u128,
+}
+
+/// What octets are read as.
+#[derive(Debug, Drop)]
+pub enum PageRead {
+    /// A page, and how many bits it uses.
+    Page(Page, u128),
+    /// No page.
+    Refused(RefusedCode),
 }
 
 /// Reads a page whose octets come in pieces: each call is given all octets so far, and reads on after
@@ -65,13 +86,6 @@ impl Model for PageReader {
     ghost invariant = { λ reader. IsWidth reader.progress.page.width };
 }
 
-/// Whether memory was refused.
-pub(crate) fn is_memory(kind: CodeFaultKind) -> bool
-    ensures { IsTrue result ↔ (kind ≡ NoMemory) }
-{
-    kind == CodeFaultKind::NoMemory
-}
-
 /// Reads on, up to the page's end or a refusal. Errs where memory is refused.
 pub(crate) fn read_further(
     alloc: Global,
@@ -88,7 +102,7 @@ pub(crate) fn read_further(
     match read_rows_on(alloc, coding, octets, order, to) {
         Ok(_) => Ok(()),
         Err(fault) => {
-            if is_memory(fault.kind) {
+            if fault.is_memory() {
                 Err(AllocError)
             } else {
                 Ok(())
@@ -98,7 +112,8 @@ pub(crate) fn read_further(
 }
 
 /// Reads on to the page's end: the page, and the bits used.
-fn read_to_end(
+#[inline(always)]
+pub(crate) fn read_to_end(
     alloc: Global,
     coding: Coding,
     octets: &[u8],
@@ -114,7 +129,52 @@ fn read_to_end(
     Ok((to.page, used))
 }
 
+/// Reads on to the page's end or to a refusal. Errs where memory is refused.
+fn read_whole(
+    alloc: Global,
+    coding: Coding,
+    octets: &[u8],
+    order: Order,
+    progress: Progress,
+) -> Result<PageRead, AllocError>
+    requires width { IsWidth progress.page.width }
+    requires read { IsReadTo coding progress.page.width (bits_of order octets.now) progress.page.rows progress.place }
+    ensures { IfOk result (IsRead coding progress.page.width progress.page.fine (bits_of order octets.now)) }
+{
+    let mut to = progress;
+    match read_rows_on(alloc, coding, octets, order, &mut to) {
+        Ok(used) => Ok(PageRead::Page(to.page, used)),
+        Err(fault) => {
+            if fault.is_memory() {
+                return Err(AllocError);
+            }
+            Ok(PageRead::Refused(RefusedCode {
+                fault,
+                rows: to.page.rows().len() as u32,
+                row_start: to.place,
+            }))
+        }
+    }
+}
+
 impl Coding {
+    /// What the octets are read as, by this width in pixels: the page that `decode` answers, or its refusal with the whole rows
+    /// before it. Errs where memory is refused.
+    pub fn page(
+        self,
+        alloc: Global,
+        octets: &[u8],
+        order: Order,
+        width: u32,
+        fine: bool,
+    ) -> Result<PageRead, AllocError>
+        requires { IsWidth width }
+        ensures { IfOk result (IsRead self width fine (bits_of order octets.now)) }
+    {
+        let begun = Progress::new(alloc, width, fine);
+        read_whole(alloc, self, octets, order, begun)
+    }
+
     /// The page of the whole rows at the beginning of the octets' bits, of this width in pixels: of a page that
     /// can't be read, what is there before the refused bit. It has none where the first row isn't whole, and 20,000 at
     /// most. Errs where memory is refused.
@@ -207,6 +267,30 @@ impl PageReader {
                 Ok(answer)
             }
             Err(fault) => Err(fault.begun_at(0)),
+        }
+    }
+
+    /// What octets are read as that begin with those that the reader stands for: the page that `finish` answers, or its refusal
+    /// with the whole rows before it. After a page the reader stands for no octets; after a refusal for what it stood for. Errs
+    /// where memory is refused; the reader stands for what it stood for then.
+    pub fn page(&mut self, all: &[u8]) -> Result<PageRead, AllocError>
+        requires { GoesOnTo self.old all.now }
+        ensures like { IsLike self.old self.new }
+        ensures stands { IfOk result (StandsAfter self.old self.new) }
+        ensures err { OnErr result (StandsAsBefore self.old self.new) }
+        ensures read { IfOk result (IsRead self.old.coding self.old.page.width self.old.page.fine (bits_of self.old.order all.now)) }
+    {
+        let width = self.progress.page.width();
+        let fine = self.progress.page.fine();
+        let begun = Progress::new(self.alloc, width, fine);
+        let progress = mem::replace(&mut self.progress, begun);
+        match read_whole(self.alloc, self.coding, all, self.order, progress) {
+            Ok(PageRead::Page(page, used)) => {
+                self.count = 0;
+                Ok(PageRead::Page(page, used))
+            }
+            Ok(PageRead::Refused(refused)) => Ok(PageRead::Refused(refused)),
+            Err(AllocError) => Err(AllocError),
         }
     }
 

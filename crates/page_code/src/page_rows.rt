@@ -7,8 +7,6 @@ ghost use Rattle.raster.specs.Pixels.{IsWidth};
 ghost use Rattle.std.specs.Prelude.{◌≡◌, ◌≤◌, ◌*◌, IfOk, OnOk, OnErr, length};
 
 use crate::coding::Coding;
-use crate::page::row_of;
-use crate::page_reader::is_memory;
 use crate::t6::lines::Lines;
 use crate::{one_dim, t6};
 use raster::Row;
@@ -43,7 +41,7 @@ pub(crate) struct RowPlace {
 pub(crate) fn refused(fault: CodeFault) -> Result<NextRow, AllocError>
     ensures { IsRefusal fault result }
 {
-    if is_memory(fault.kind) {
+    if fault.is_memory() {
         Err(AllocError)
     } else {
         Ok(NextRow::Refused(fault))
@@ -130,7 +128,7 @@ impl RowReader {
         requires { IsWidth width }
         ensures { IfOk result (λ reader. BeginsReading coding order width reader) }
     {
-        let white = row_of(alloc, &[width])?;
+        let white = Row::from_valid_runs(alloc, &[width])?;
         let lists = Lists {
             runs: Vec::new(alloc),
             lines: Lines::after(alloc, &white)?,

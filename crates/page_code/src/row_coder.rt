@@ -9,7 +9,6 @@ ghost use Rattle.std.specs.Prelude.{◌≡◌, ◌<◌, [], List, IfErr, IfOk, O
 
 use crate::coding::Coding;
 use crate::one_dim;
-use crate::page::row_of;
 use crate::t6::mode::EOFB;
 use crate::t6::write::Lines;
 use raster::packed::Order;
@@ -28,7 +27,7 @@ fn first_lines(alloc: Global, coding: Coding, width: u32) -> Result<Lines, Alloc
     match coding {
         Coding::OneDim => Ok(Lines::none(alloc)),
         Coding::T6 => {
-            let white = row_of(alloc, &[width])?;
+            let white = Row::from_valid_runs(alloc, &[width])?;
             Lines::after(alloc, &white)
         }
     }

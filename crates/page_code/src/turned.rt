@@ -8,6 +8,10 @@ ghost use Rattle.std.specs.Prelude.{ℕ, ◌≡◌, ◌<◌, IfOk, IfSome, lengt
 use raster::packed::Order;
 use std::alloc::{AllocError, Global};
 
+/// How many octets of a code are turned at most. Of more the copy would take more memory than the page, so that the words of a
+/// longer code are turned as they are read.
+const MOST_TURNED: usize = 4_194_304;
+
 /// The octet with its bits in the other order: its least significant bit is the most significant.
 #[inline(always)]
 fn turned(octet: u8) -> u8
@@ -40,8 +44,8 @@ fn turned_copy(alloc: Global, octets: &[u8]) -> Result<Vec<u8>, AllocError>
     Ok(copy)
 }
 
-/// A copy of the octets that is turned, where the least significant bit is first and the page is read from its beginning on. Errs where
-/// memory is refused.
+/// A copy of the octets that is turned, where the least significant bit is first, the page is read from its beginning on, and the octets
+/// are 4 MiB at most. Errs where memory is refused.
 pub(crate) fn turned_code(
     alloc: Global,
     octets: &[u8],
@@ -53,7 +57,7 @@ pub(crate) fn turned_code(
     match order {
         Order::MsbFirst => Ok(None),
         Order::LsbFirst => {
-            if place > 0 {
+            if place > 0 || octets.len() > MOST_TURNED {
                 return Ok(None);
             }
             Ok(Some(turned_copy(alloc, octets)?))

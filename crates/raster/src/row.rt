@@ -101,6 +101,20 @@ impl Row {
         }
     }
 
+    /// The row of alternating runs, white first, which add up to a width; runs of 0 are allowed. Errs where memory
+    /// is refused.
+    #[inline(always)]
+    pub fn from_valid_runs(alloc: Global, runs: &[u32]) -> Result<Row, AllocError>
+        requires { IsWidth (sum runs.now) }
+        ensures { IfOk result (λ row. row ≡ colored Color.White runs.now) }
+    {
+        match Row::from_runs(alloc, runs) {
+            Ok(row) => Ok(row),
+            Err(RasterFault::NoMemory) => Err(AllocError),
+            Err(_) => unreachable!(),
+        }
+    }
+
     /// The row of alternating runs, white first, painted.
     #[inline(never)]
     #[tactic(auto, using(crate::proofs::RowLemmas::lengths))]
@@ -222,7 +236,7 @@ impl Row {
         ensures few { result ≤ length out.new.items }
         ensures changes { AreChanges self.now (take result out.new.items) }
     {
-        let _width = self.width();
+        let _width = self.width(); // tells the proof that it is a width
         self.pixels.put_changes(out)
     }
 
@@ -234,7 +248,7 @@ impl Row {
         ensures ok { OnOk result (AppendsChanges self.now out.old.items out.new.items) }
         ensures err { OnErr result (out.new.items ≡ out.old.items) }
     {
-        let _width = self.width();
+        let _width = self.width(); // tells the proof that it is a width
         self.pixels.changes(out)
     }
 
@@ -245,7 +259,7 @@ impl Row {
         requires { from ≤ length self.now }
         ensures { EndsRun self.now from color result }
     {
-        let _width = self.width();
+        let _width = self.width(); // tells the proof that it is a width
         self.pixels.first_other(from, color.is(Color::Black))
     }
 

@@ -76,7 +76,7 @@ pub struct CodeFault {
 }
 
 impl CodeFault {
-    ghost use Rattle.std.specs.Prelude.{◌≡◌};
+    ghost use Rattle.std.specs.Prelude.{◌≡◌, ◌↔◌, IsTrue};
     ghost use Rattle.run_tables.specs.Faults.{BegunAt};
 
     /// A refusal at this bit, for this reason.
@@ -86,12 +86,19 @@ impl CodeFault {
         CodeFault { place, kind }
     }
 
+    /// Whether memory was refused, and not the bits.
+    pub fn is_memory(self) -> bool
+        ensures { IsTrue result ↔ (self.kind ≡ CodeFaultKind.NoMemory) }
+    {
+        self.kind == CodeFaultKind::NoMemory
+    }
+
     /// The refusal that a call answers which began to read at `start`. It is the same, but where memory was refused its
     /// bit is `start`.
     pub fn begun_at(self, start: u128) -> Self
         ensures { BegunAt start self result }
     {
-        if self.kind == CodeFaultKind::NoMemory {
+        if self.is_memory() {
             CodeFault::new(start, CodeFaultKind::NoMemory)
         } else {
             self

@@ -1,28 +1,15 @@
 //! Reading of rows in one dimension (ITU-T T.4, 4.1.1).
 
 ghost use Rattle.raster.specs.Pixels.{IsWidth};
-ghost use Rattle.raster.specs.Runs.{colored};
 ghost use Rattle.run_tables.specs.RowReading.{IsInRow, IsQuickRow, ReadsRow, RefusesRow, RowRuns, WholeRow};
 ghost use Rattle.run_tables.specs.Reading.{Reading};
-ghost use Rattle.std.specs.Prelude.{ℕ, IfOk, IfErr, OnErr, sum, ◌≡◌, ◌≢◌};
+ghost use Rattle.std.specs.Prelude.{ℕ, IfOk, IfErr, OnErr, ◌≡◌, ◌≢◌};
 
 use crate::fault::{CodeFault, CodeFaultKind};
 use crate::reader::BitReader;
 use crate::window::Window;
-use raster::{Color, Painter, RasterFault, Row};
+use raster::{Color, Painter, Row};
 use std::alloc::{AllocError, Global};
-
-/// The row of these runs, white first, which add up to a width. Errs where memory is refused.
-fn row_of(alloc: Global, runs: &[u32]) -> Result<Row, AllocError>
-    requires { IsWidth (sum runs.now) }
-    ensures { IfOk result (λ row. row ≡ colored Color.White runs.now) }
-{
-    match Row::from_runs(alloc, runs) {
-        Ok(row) => Ok(row),
-        Err(RasterFault::NoMemory) => Err(AllocError),
-        Err(_) => unreachable!(),
-    }
-}
 
 impl<'a> BitReader<'a> {
     /// The first runs of a row, as many as can be read quickly. Answers the color of the next one, and how many pixels
@@ -74,7 +61,7 @@ impl<'a> BitReader<'a> {
             return Ok(None);
         };
         if first == width {
-            let row = row_of(alloc, &[width])?;
+            let row = Row::from_valid_runs(alloc, &[width])?;
             *self = window.into_reader();
             return Ok(Some(row));
         }
@@ -82,7 +69,7 @@ impl<'a> BitReader<'a> {
             return Ok(None);
         };
         if second == width {
-            let row = row_of(alloc, &[first, second])?;
+            let row = Row::from_valid_runs(alloc, &[first, second])?;
             *self = window.into_reader();
             return Ok(Some(row));
         }
@@ -158,7 +145,7 @@ impl<'a> BitReader<'a> {
             return Ok(row);
         }
         self.row_runs(width, list)?;
-        Ok(row_of(alloc, list)?)
+        Ok(Row::from_valid_runs(alloc, list)?)
     }
 
     /// The next row in one dimension, 1 to 2,432 pixels wide: its run codes, white first (ITU-T T.4, 4.1.1). Errs at

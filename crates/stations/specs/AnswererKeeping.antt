@@ -12,7 +12,7 @@ use Rattle.stations.specs.Inputs.{AnswererInput, listens, is_busy}
 use Rattle.stations.specs.AnswererStep.{Answerer, AnswererAnswer, answerer_step, last_counted}
 use Rattle.stations.specs.EndsMean.{IsAccepted, IsBad}
 use Rattle.stations.specs.TurnsMean.{IsTooLong}
-use Rattle.stations.specs.declared.mark.Asked.{Asked}
+use Rattle.stations.specs.AnswererStep.{Asked}
 use Rattle.stations.specs.declared.mark.Mark.{Mark}
 use Rattle.stations.specs.declared.turn.AnswererState.TheVariants.{PhaseB, WaitTraining, Message}
 use Rattle.stations.specs.declared.turn.Turn.{Turn}

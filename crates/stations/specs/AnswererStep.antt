@@ -14,7 +14,6 @@ use Rattle.raster.specs.Octets.{packed}
 use Rattle.stations.specs.Layers.{is_good_training, page_read, within_page_limit, within_frame_size}
 use Rattle.stations.specs.declared.mark.Mark.{Mark}
 use Rattle.stations.specs.declared.mark.Accepted.{Accepted}
-use Rattle.stations.specs.declared.mark.Asked.{Asked}
 use Rattle.stations.specs.Inputs.{AnswererInput, listens, trains, t2, t1, is_busy, PlainItem, framed}
 use Rattle.stations.specs.declared.turn.AnswererState.{AnswererState}
 use Rattle.stations.specs.declared.turn.AnswererState.TheVariants.{PhaseB, WaitTraining, Message}
@@ -44,6 +43,11 @@ is_clear frames = list_all (λ frame. not (is_some frame)) frames
 -- the map of a PPR: the missing frames up to the last one, and all above it
 unfoldable pub ppr_map : Frames → ℕ → List ℕ
 ppr_map frames last = packed (map (λ n. is_marked frames last n) (range_with_len 0 256))
+
+-- a PPS that was answered by PPR: its mark, and the last frame that counts
+pub record Asked : Type 0 where
+  pub mark : Mark
+  pub last : ℕ
 
 -- the answerer's tuple: params count from the first DCS that is allowed; ready says that the memory for the open frames is taken
 pub record Answerer : Type 0 where

@@ -71,9 +71,10 @@ pub record AnswererWaits (s : Answerer) : Type 0 where
   pub t4 : ¬ AnswererRuns s T4
   pub t5 : ¬ AnswererRuns s T5
 
--- each station
+-- each caller waits so
 abbrev pub CallersWait : Type 0
 CallersWait = (c : Caller) → CallerWaits c
 
+-- each answerer waits so
 abbrev pub AnswerersWait : Type 0
 AnswerersWait = (s : Answerer) → AnswererWaits s

@@ -1,13 +1,13 @@
 //! The answering station: ITU-T T.30, phases B to E and Annex A.
 
-ghost use Rattle.partial_page.specs.Store.{no_frames, joined_frames, IsMissingMap};
+ghost use Rattle.partial_page.specs.Store.{no_frames, joined_frames};
 ghost use Rattle.std.specs.Prelude.{◌≡◌, ◌≢◌, ◌+◌, ◌++◌, ℕ, true, Some, None, Ok, IfOk, IsOk, IsSome, IsTrue, ◌↔◌, ◌⊎◌, false};
 ghost use Rattle.std.specs.Prelude.{[], is_some, length};
-ghost use Rattle.stations.specs.AnswererStep.{Answerer as AnswererTuple, new_answerer, same_mark, is_repeated, last_counted, all_there};
-ghost use Rattle.stations.specs.AnswererStep.{ppr_map, confirms, first_dcs, later_dcs, keeps_frame, judges_training, answers_pps};
+ghost use Rattle.stations.specs.AnswererStep.{Answerer as AnswererTuple, new_answerer, is_repeated, last_counted, all_there};
+ghost use Rattle.stations.specs.AnswererStep.{confirms, first_dcs, later_dcs, keeps_frame, judges_training, answers_pps};
 ghost use Rattle.stations.specs.AnswererStep.{takes_block, Steps, StepsOrRefuses, AnswererTakesNoMemory, answers_rr, answers_repeated};
 ghost use Rattle.stations.specs.AnswererStep.{leaves, end_after, answerer_ends, answerer_table, answerer_step, answerer_items, is_clear};
-ghost use Rattle.stations.specs.AnswererStep.{Frames, state_after, stores};
+ghost use Rattle.stations.specs.AnswererStep.{state_after, stores};
 ghost use Rattle.stations.specs.declared.turn.End.TheVariants.{BadPage, NoAnswer};
 ghost use Rattle.stations.specs.Layers.{page_read, is_good_training, within_frame_size};
 ghost use Rattle.stations.specs.declared.turn.AnswererState.TheVariants.{PhaseB, WaitTraining, Message};
@@ -20,12 +20,13 @@ ghost use Rattle.stations.specs.HowFar.{open_count};
 ghost use Rattle.std.specs.Option.{option_map};
 ghost use Rattle.stations.specs.declared.mark.Accepted.{Accepted as AcceptedBlock};
 
+use crate::assembler::BlockAssembler;
 use crate::bad_page::RefusedPage;
 use crate::caller::no_params;
 use crate::input::AnswererIn;
 use crate::laws::{answerers_keep, open_is_limited};
 use crate::lending::Items;
-use crate::mark::{Accepted, Asked, Mark};
+use crate::mark::{Accepted, Mark, Pps};
 use crate::open_page::OpenPage;
 use crate::turn::{AnswererState, End, Turn};
 use partial_page::{BlockFault, BlockStore};
@@ -43,17 +44,17 @@ pub struct Answerer {
     state: AnswererState,
     busy: bool,
     accepted: Option<Accepted>,
-    asked: Option<Asked>,
+    block: BlockAssembler,
     open_page: OpenPage,
-    store: BlockStore,
     pages: Vec<Page>,
     end: Option<End>,
 }
 
 impl Model for Answerer {
-    ghost use Rattle.std.specs.Prelude.{◌≡◌, ◌≢◌};
+    ghost use Rattle.std.specs.Prelude.{◌≡◌, ◌≢◌, None, option_map};
     ghost use Rattle.partial_page.specs.Store.{no_frames};
     ghost use Rattle.stations.specs.AnswererStep.{Answerer as AnswererTuple};
+    ghost use Rattle.stations.specs.Assembling.{asked_by};
     ghost use Rattle.stations.specs.declared.turn.AnswererState.TheVariants.{Message};
 
     ghost Value = { AnswererTuple };
@@ -64,15 +65,16 @@ impl Model for Answerer {
       state = a.state;
       busy = a.busy;
       accepted = a.accepted;
-      asked = a.asked;
+      asked = option_map asked_by a.block.asked;
       octets = a.open_page.octets;
-      frames = a.store.frames;
-      ready = a.store.ready;
+      frames = a.block.frames.frames;
+      ready = a.block.frames.ready;
       pages = a.pages.items;
       ending = a.end;
     } };
 
-    ghost invariant = { λ a. (a.store.small ≡ a.open_page.params.small) × (a.state ≢ Message → a.store.frames ≡ no_frames) };
+    ghost invariant = { λ a. (a.block.frames.small ≡ a.open_page.params.small) ×
+        (a.state ≢ Message → (a.block.frames.frames ≡ no_frames) × (a.block.asked ≡ None)) };
 }
 
 impl Answerer {
@@ -91,9 +93,8 @@ impl Answerer {
             state: AnswererState::PhaseB,
             busy: false,
             accepted: None,
-            asked: None,
+            block: BlockAssembler::new(alloc, false),
             open_page: OpenPage::new(alloc, no_params()),
-            store: BlockStore::new(alloc, false),
             pages: Vec::new(alloc),
             end: None,
         };
@@ -167,7 +168,7 @@ impl Answerer {
         ensures { IfOk result (λ page. IsBadPage self.now page) }
     {
         match self.end {
-            Some(End::BadPage) => Ok(Some(self.open_page.refused(&self.store)?)),
+            Some(End::BadPage) => Ok(Some(self.open_page.refused(&self.block.frames)?)),
             _ => Ok(None),
         }
     }
@@ -214,7 +215,7 @@ impl Answerer {
     pub(crate) fn open_frames(&self) -> u16
         ensures { result ≡ open_count self.now.frames }
     {
-        count_frames(&self.store)
+        count_frames(&self.block.frames)
     }
 
     /// Whether a block was accepted.
@@ -257,7 +258,7 @@ impl Answerer {
         ensures { Steps self.old self.new result (answerer_table PhaseB (answerer_input input.entry) self.old) }
     {
         match input {
-            AnswererIn::Heard(Signal::Dcs(params)) => self.hear_first_dcs(params),
+            AnswererIn::Heard(Signal::Dcs(params)) => self.hear_dcs(params),
             AnswererIn::Heard(Signal::Pps { page, block, .. }) => {
                 self.hear_repeated(Mark { page, block })
             }
@@ -276,7 +277,7 @@ impl Answerer {
         ensures { Steps self.old self.new result (answerer_table WaitTraining (answerer_input input.entry) self.old) }
     {
         match input {
-            AnswererIn::Heard(Signal::Dcs(params)) => self.hear_later_dcs(params),
+            AnswererIn::Heard(Signal::Dcs(params)) => self.hear_dcs(params),
             AnswererIn::Training(octets) => self.hear_training(octets),
             AnswererIn::Heard(Signal::Pps { page, block, .. }) => {
                 self.hear_repeated(Mark { page, block })
@@ -297,7 +298,7 @@ impl Answerer {
         ensures lasts { AnswererTakesNoMemory Message (answerer_input input.entry) self.old → IsOk result }
     {
         match input {
-            AnswererIn::Heard(Signal::Dcs(params)) => Ok(self.hear_later_dcs(params)),
+            AnswererIn::Heard(Signal::Dcs(params)) => Ok(self.hear_dcs(params)),
             AnswererIn::Heard(Signal::Fcd { number, octets }) => self.hear_fcd(number, octets),
             AnswererIn::Heard(
                 Signal::Pps {
@@ -306,7 +307,10 @@ impl Answerer {
                     block,
                     last,
                 },
-            ) => self.hear_pps(ends, Mark { page, block }, last),
+            ) => {
+                let mark = Mark { page, block };
+                self.hear_pps(Pps { ends, mark, last })
+            }
             AnswererIn::Heard(Signal::Rr) => Ok(self.hear_rr()),
             AnswererIn::Heard(Signal::Dcn) => Ok(self.hear_dcn()),
             AnswererIn::T1 => Ok(self.hear_nothing()),
@@ -318,31 +322,17 @@ impl Answerer {
 
 // The rows of the table but that of a PPS while blocks are taken.
 impl Answerer {
-    /// Answers a DCS in `PhaseB`.
-    fn hear_first_dcs(&mut self, params: Params) -> Turn
-        requires state { self.old.state ≡ PhaseB }
-        ensures { Steps self.old self.new result (first_dcs self.old params) }
+    /// Answers a DCS. In `PhaseB` no frame is open and none is asked for, so nothing is forgotten there.
+    fn hear_dcs(&mut self, params: Params) -> Turn
+        ensures first { self.old.state ≡ PhaseB → Steps self.old self.new result (first_dcs self.old params) }
+        ensures later { Steps self.old self.new result (later_dcs self.old params) }
     {
         if !allows(&self.caps, &params) {
             return Turn::Silent;
         }
         self.state = AnswererState::WaitTraining;
         self.open_page.agree(params);
-        self.store = BlockStore::new(self.alloc, params.small);
-        Turn::Silent
-    }
-
-    /// Answers a DCS past phase B.
-    fn hear_later_dcs(&mut self, params: Params) -> Turn
-        ensures { Steps self.old self.new result (later_dcs self.old params) }
-    {
-        if !allows(&self.caps, &params) {
-            return Turn::Silent;
-        }
-        self.state = AnswererState::WaitTraining;
-        self.open_page.agree(params);
-        self.store = BlockStore::new(self.alloc, params.small);
-        self.asked = None;
+        self.block = BlockAssembler::new(self.alloc, params.small);
         Turn::Silent
     }
 
@@ -368,7 +358,7 @@ impl Answerer {
         ensures answers { StepsOrRefuses self.old self.new result (keeps_frame self.old number octets.now) }
         ensures lasts { (within_frame_size self.old.params octets.now ≡ false) ⊎ (self.old.ready ≡ true) → IsOk result }
     {
-        match self.store.put(number, octets) {
+        match self.block.frames.put(number, octets) {
             Ok(()) => Ok(Turn::Silent),
             Err(BlockFault::TooLong) => Ok(Turn::Silent),
             Err(BlockFault::NoMemory) => Err(AllocError),
@@ -444,7 +434,7 @@ impl Answerer {
         ensures { result ≡ is_repeated self.now.accepted mark }
     {
         match self.accepted {
-            Some(accepted) => is_same(accepted.mark, mark),
+            Some(accepted) => accepted.mark.is_same(mark),
             None => false,
         }
     }
@@ -453,7 +443,7 @@ impl Answerer {
     fn is_clear(&self) -> bool
         ensures { result ≡ is_clear self.now.frames }
     {
-        self.store.is_empty()
+        self.block.frames.is_empty()
     }
 
     /// Why the call ends when the caller leaves.
@@ -470,92 +460,61 @@ impl Answerer {
 // A PPS while blocks are taken: the block is accepted, or its missing frames are asked for.
 impl Answerer {
     /// Answers a PPS in `Message`. Errs where memory is refused, which changes nothing.
-    fn hear_pps(&mut self, ends: PageEnd, mark: Mark, last: u8) -> Result<Turn, AllocError>
+    fn hear_pps(&mut self, pps: Pps) -> Result<Turn, AllocError>
         requires state { self.old.state ≡ Message }
-        ensures answers { StepsOrRefuses self.old self.new result (answers_pps self.old ends mark last) }
-        ensures lasts { (is_repeated self.old.accepted mark ≡ true) ⊎
-            (all_there self.old.frames (last_counted self.old.asked mark last) ≡ false) → IsOk result }
+        ensures answers { StepsOrRefuses self.old self.new result (answers_pps self.old pps.ends pps.mark pps.last) }
+        ensures lasts { (is_repeated self.old.accepted pps.mark ≡ true) ⊎
+            (all_there self.old.frames (last_counted self.old.asked pps.mark pps.last) ≡ false) → IsOk result }
     {
-        if self.has_accepted(mark) {
+        if self.has_accepted(pps.mark) {
             return Ok(self.confirm());
         }
-        let last = self.counted(mark, last);
-        if self.is_whole(last) {
-            return self.take_block(ends, mark, last);
+        let counted = self.block.counted(pps);
+        if self.block.is_whole(counted.last) {
+            return self.take_block(counted);
         }
-        let map = self.missing(last);
-        self.asked = Some(Asked { mark, last });
+        let map = self.block.missing(counted.last);
+        self.block.asked = Some(counted);
         Ok(Turn::Ppr(map))
     }
 
-    /// The last frame that counts.
-    fn counted(&self, mark: Mark, last: u8) -> u8
-        ensures { result ≡ last_counted self.now.asked mark last }
-    {
-        match self.asked {
-            Some(asked) => {
-                if is_same(asked.mark, mark) {
-                    asked.last.max(last)
-                } else {
-                    last
-                }
-            }
-            None => last,
-        }
-    }
-
-    /// Whether the frames 0 to `last` are all there.
-    fn is_whole(&self, last: u8) -> bool
-        ensures { result ≡ all_there self.now.frames last }
-    {
-        self.store.whole(last)
-    }
-
-    /// The map of the missing frames.
-    fn missing(&self, last: u8) -> [u8; 32]
-        ensures { result ≡ ppr_map self.now.frames last }
-    {
-        let map = self.store.missing(last);
-        is_missing_map(&map);
-        map
-    }
-
     /// Takes a block whose frames are all there. Errs where memory is refused, which changes nothing.
-    fn take_block(&mut self, ends: PageEnd, mark: Mark, last: u8) -> Result<Turn, AllocError>
-        requires whole { all_there self.old.frames last ≡ true }
+    fn take_block(&mut self, pps: Pps) -> Result<Turn, AllocError>
+        requires whole { all_there self.old.frames pps.last ≡ true }
         ensures { StepsOrRefuses self.old self.new result
-            (takes_block self.old ends mark (self.old.octets ++ joined_frames self.old.frames (last + 1))) }
+            (takes_block self.old pps.ends pps.mark (self.old.octets ++ joined_frames self.old.frames (pps.last + 1))) }
     {
-        match ends {
-            PageEnd::Null => self.take_open(mark, last),
-            _ => self.take_page(ends, mark, last),
+        match pps.ends {
+            PageEnd::Null => self.take_open(pps),
+            _ => self.take_page(pps),
         }
     }
 
     /// Takes a block that isn't its page's last. Errs where memory is refused, which changes nothing.
-    fn take_open(&mut self, mark: Mark, last: u8) -> Result<Turn, AllocError>
-        requires whole { all_there self.old.frames last ≡ true }
+    fn take_open(&mut self, pps: Pps) -> Result<Turn, AllocError>
+        requires whole { all_there self.old.frames pps.last ≡ true }
         ensures { StepsOrRefuses self.old self.new result
-            (takes_block self.old PageEnd.Null mark (self.old.octets ++ joined_frames self.old.frames (last + 1))) }
+            (takes_block self.old PageEnd.Null pps.mark (self.old.octets ++ joined_frames self.old.frames (pps.last + 1))) }
     {
-        if !self.open_page.take(&self.store, last)? {
+        if !self.open_page.take(&self.block, pps.last)? {
             return Ok(self.refuse_page());
         }
-        Ok(self.accept(PageEnd::Null, mark))
+        Ok(self.accept(PageEnd::Null, pps.mark))
     }
 
     /// Takes a block that is its page's last. Errs where memory is refused, which changes nothing.
-    fn take_page(&mut self, ends: PageEnd, mark: Mark, last: u8) -> Result<Turn, AllocError>
-        requires whole { all_there self.old.frames last ≡ true }
+    fn take_page(&mut self, pps: Pps) -> Result<Turn, AllocError>
+        requires whole { all_there self.old.frames pps.last ≡ true }
         ensures { StepsOrRefuses self.old self.new result
-            (stores self.old ends mark (page_read self.old.params (self.old.octets ++ joined_frames self.old.frames (last + 1)))) }
+            (stores self.old pps.ends pps.mark (page_read self.old.params (self.old.octets
+            ++ joined_frames self.old.frames (pps.last + 1)))) }
     {
-        let Some(page) = self.open_page.finish(&self.store, last)? else {
+        let Some(page) = self.open_page.finish(&self.block, pps.last)? else {
             return Ok(self.refuse_page());
         };
         self.pages.push(page)?;
         self.open_page.clear();
-        Ok(self.accept(ends, mark))
+        Ok(self.accept(pps.ends, pps.mark))
     }
 
     /// Ends the call over a page that can't be read.
@@ -578,8 +537,7 @@ impl Answerer {
         ensures turn { result ≡ confirms self.old }
     {
         self.accepted = Some(Accepted { mark, ends });
-        self.asked = None;
-        self.store.clear();
+        self.block.clear();
         self.state = match ends {
             PageEnd::Eom => AnswererState::PhaseB,
             _ => AnswererState::Message,
@@ -602,13 +560,6 @@ fn count_frames(store: &BlockStore) -> u16
     count
 }
 
-/// Whether two marks are the same.
-fn is_same(mark: Mark, other: Mark) -> bool
-    ensures { result ≡ same_mark mark other }
-{
-    mark.page == other.page && mark.block == other.block
-}
-
 /// Why the call ends when the caller leaves after a block with this end.
 fn end_after(ends: PageEnd) -> End
     ensures { result ≡ end_after ends }
@@ -618,8 +569,3 @@ fn end_after(ends: PageEnd) -> End
         _ => End::PeerLeft,
     }
 }
-
-/// The octets of a map of missing frames are the definition's. Nothing runs.
-fn is_missing_map(octets: &[u8])
-    ensures { (frames : Frames) (last : ℕ) → IsMissingMap frames last octets.now → octets.now ≡ ppr_map frames last }
-{}

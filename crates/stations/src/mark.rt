@@ -1,4 +1,7 @@
-//! The marks of blocks.
+//! The marks of blocks, and the PPSs that have them.
+
+ghost use Rattle.std.specs.Prelude.{◌≡◌};
+ghost use Rattle.stations.specs.AnswererStep.{same_mark};
 
 use signals::PageEnd;
 
@@ -11,6 +14,26 @@ pub struct Mark {
     pub block: u8,
 }
 
+impl Mark {
+    /// Whether two marks are the same.
+    pub fn is_same(self, other: Mark) -> bool
+        ensures { result ≡ same_mark self other }
+    {
+        self.page == other.page && self.block == other.block
+    }
+}
+
+/// What a PPS says of its block.
+#[derive(Clone, Copy, Debug, PartialEq, Eq)]
+pub struct Pps {
+    /// What ends with the block.
+    pub ends: PageEnd,
+    /// The block's mark.
+    pub mark: Mark,
+    /// The number of the block's last frame.
+    pub last: u8,
+}
+
 /// A block that was accepted.
 #[derive(Clone, Copy, Debug, PartialEq, Eq)]
 pub struct Accepted {
@@ -18,13 +41,4 @@ pub struct Accepted {
     pub mark: Mark,
     /// What ended with it.
     pub ends: PageEnd,
-}
-
-/// A PPS that was answered by PPR.
-#[derive(Clone, Copy, Debug, PartialEq, Eq)]
-pub struct Asked {
-    /// Its mark.
-    pub mark: Mark,
-    /// The last frame that counts.
-    pub last: u8,
 }

@@ -8,12 +8,12 @@ ghost use Rattle.stations.specs.BadPages.{IsRefused, front_octets, refused_octet
 ghost use Rattle.stations.specs.Layers.{page_read};
 ghost use Rattle.stations.specs.OpenPage.{AreReadAlike, IsReaderOf, TakesOctets};
 
+use crate::assembler::BlockAssembler;
 use crate::bad_page::RefusedPage;
-use page_code::PageReader;
+use page_code::{PageRead, PageReader};
 use partial_page::{BlockStore, MAX_PAGE_OCTETS};
 use raster::Page;
 use raster::packed::Order;
-use run_tables::CodeFaultKind;
 use signals::Params;
 use std::alloc::{AllocError, Global};
 use std::fmt;
@@ -97,12 +97,12 @@ impl OpenPage {
 
     /// Appends the frames 0 to `last` of a block, and reads on; false where the page is too long then.
     /// Errs where memory is refused.
-    pub(crate) fn take(&mut self, store: &BlockStore, last: u8) -> Result<bool, AllocError>
-        requires whole { all_there store.now.frames last ≡ true }
-        ensures { TakesOctets self.old self.new result (self.old.octets ++ joined_frames store.now.frames (last + 1)) }
+    pub(crate) fn take(&mut self, block: &BlockAssembler, last: u8) -> Result<bool, AllocError>
+        requires whole { all_there block.now.frames.frames last ≡ true }
+        ensures { TakesOctets self.old self.new result (self.old.octets ++ joined_frames block.now.frames.frames (last + 1)) }
     {
         let start = self.octets.len();
-        store.append_joined(last, &mut self.octets)?;
+        block.append_to(last, &mut self.octets)?;
         if self.octets.len() > MAX_PAGE_OCTETS {
             self.octets.truncate(start);
             return Ok(false);
@@ -118,16 +118,16 @@ impl OpenPage {
     /// begin with no page, or are too many. Errs where memory is refused.
     pub(crate) fn finish(
         &mut self,
-        store: &BlockStore,
+        block: &BlockAssembler,
         last: u8,
     ) -> Result<Option<Page>, AllocError>
-        requires whole { all_there store.now.frames last ≡ true }
+        requires whole { all_there block.now.frames.frames last ≡ true }
         ensures same { self.new ≡ self.old }
         ensures page { IfOk result (λ page.
-            page ≡ page_read self.old.params (self.old.octets ++ joined_frames store.now.frames (last + 1))) }
+            page ≡ page_read self.old.params (self.old.octets ++ joined_frames block.now.frames.frames (last + 1))) }
     {
         let start = self.octets.len();
-        store.append_joined(last, &mut self.octets)?;
+        block.append_to(last, &mut self.octets)?;
         let read = read_page(&mut self.reader, self.params, &self.octets);
         self.octets.truncate(start);
         read
@@ -190,20 +190,9 @@ fn read_page(
     if octets.len() > MAX_PAGE_OCTETS {
         return Ok(None);
     }
-    match reader.finish(octets) {
-        Ok((page, _)) => Ok(Some(page)),
-        Err(fault) => {
-            if is_memory(fault.kind) {
-                return Err(AllocError);
-            }
-            Ok(None)
-        }
+    match reader.page(octets) {
+        Ok(PageRead::Page(page, _used)) => Ok(Some(page)),
+        Ok(PageRead::Refused(_refused)) => Ok(None),
+        Err(AllocError) => Err(AllocError),
     }
-}
-
-/// Whether memory was refused.
-fn is_memory(kind: CodeFaultKind) -> bool
-    ensures { IsTrue result ↔ (kind ≡ CodeFaultKind.NoMemory) }
-{
-    kind == CodeFaultKind::NoMemory
 }

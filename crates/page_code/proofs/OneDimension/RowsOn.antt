@@ -24,7 +24,6 @@ use Rattle.run_tables.specs.RowLaws.{ReadsAsRow}
 use Rattle.run_tables.specs.RowLaws.{IsLongestFront as IsLongestRow}
 use Rattle.run_tables.proofs.CodeLooks.{step_from_put}
 use Rattle.run_tables.proofs.FrontWalks.{way_on}
-use Rattle.page_code.specs.PageCodes.{GivesPage}
 use Rattle.page_code.specs.Codings.{read_rows}
 use Rattle.page_code.specs.RowsSoFar.{AreRowsSoFar, BeginWith, IsFurther, IsReadTo, LeadsTo, ReadsOn, after_rows}
 use Rattle.page_code.specs.declared.coding.Coding.TheVariants.{OneDim}
@@ -445,26 +444,6 @@ module _ (bits : List Bool) (old to : Progress) (width : to.page.width ≡ old.p
       same_off front is longest =
           let off = row_off to.page.width bits to.page.rows to.place at front fault.kind wide few read found longest in
           (further, off.0 ∙ ap (λ (n : ℕ). Err (n, fault.kind)) (sym is), off.1)
-
--- what a page that is read from its beginning gives
-module _ (bits : List Bool) (width : ℕ) (fine : Bool) (old new : Progress)
-    (begun : old ≡ record { page = record { width = width; fine = fine; rows = [] }; place = 0 }) where
-  pub gives_ok : (used : ℕ) → ReadsOn OneDim bits old new (Ok used) → (new.page.width ≡ width) × (new.page.fine ≡ fine)
-      × (read_page width bits ≡ Ok (new.page.rows, used))
-  unfolding read_rows
-  gives_ok used on =
-      let same : new.page.width ≡ width = on.0.width ∙ ap (λ (p : Progress). p.page.width) begun in (
-        same,
-        on.0.fine ∙ ap (λ (p : Progress). p.page.fine) begun,
-        ap (λ w. read_page w bits) (sym same) ∙ on.1,
-      )
-
-  pub gives_err : (fault : CodeFault) → ReadsOn OneDim bits old new (Err fault) → GivesPage (read_page width bits) width fine (Err fault)
-  unfolding read_rows
-  gives_err fault (inl memory) = inl memory
-  gives_err fault (inr on) =
-      let same : new.page.width ≡ width = on.0.width ∙ ap (λ (p : Progress). p.page.width) begun in
-      inr (ap (λ w. read_page w bits) (sym same) ∙ on.1)
 
 pub found_room : (bits : List Bool) (width : ℕ) (rows : List (List Color)) (place at : ℕ) → FindsRow bits width rows place (Row at)
     → length rows < 20000

@@ -27,7 +27,6 @@ use Rattle.page_code.specs.declared.t6.mode.ModeCode.TheVariants.{Pass, Horizont
 use Rattle.page_code.specs.declared.t6.read.Start.TheVariants.{Row, End, Refused}
 use Rattle.page_code.specs.declared.t6.read.Start.{Start}
 use Rattle.page_code.specs.declared.page.Progress.{Progress}
-use Rattle.page_code.specs.PageCodes.{GivesPage}
 use Rattle.page_code.specs.Codings.{read_rows}
 use Rattle.page_code.specs.RowsSoFar.{AreRowsSoFar, BeginWith, IsFurther, IsReadTo, LeadsTo, ReadsOn, between_rows}
 use Rattle.page_code.specs.TwoDimensions.PageEnds.{HoldsRowsTo}
@@ -503,26 +502,6 @@ module _ (bits : List Bool) (old to : Progress) (width : to.page.width ≡ old.p
         : ℕ). row_reading w (inside here line_begin) to.place (drop to.place bits) ≡ Err (fault.place, fault.kind)) even_here (there here
         refl)) in
         inr (further, off.0, off.1)
-
--- what a page that is read from its beginning gives
-module _ (bits : List Bool) (width : ℕ) (fine : Bool) (old new : Progress)
-    (begun : old ≡ record { page = record { width = width; fine = fine; rows = [] }; place = 0 }) where
-  pub gives_ok : (used : ℕ) → ReadsOn T6 bits old new (Ok used) → (new.page.width ≡ width) × (new.page.fine ≡ fine)
-      × (read_page width bits ≡ Ok (new.page.rows, used))
-  unfolding read_rows
-  gives_ok used on =
-      let same : new.page.width ≡ width = on.0.width ∙ ap (λ (p : Progress). p.page.width) begun in (
-        same,
-        on.0.fine ∙ ap (λ (p : Progress). p.page.fine) begun,
-        ap (λ w. read_page w bits) (sym same) ∙ on.1,
-      )
-
-  pub gives_err : (fault : CodeFault) → ReadsOn T6 bits old new (Err fault) → GivesPage (read_page width bits) width fine (Err fault)
-  unfolding read_rows
-  gives_err fault (inl memory) = inl memory
-  gives_err fault (inr on) =
-      let same : new.page.width ≡ width = on.0.width ∙ ap (λ (p : Progress). p.page.width) begun in
-      inr (ap (λ w. read_page w bits) (sym same) ∙ on.1)
 
 -- no bits spell no rows
 pub rows_none : (width : ℕ) → IsWidth width → AreRowsSoFar T6 width [] 0

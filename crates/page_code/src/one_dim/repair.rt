@@ -13,8 +13,7 @@ ghost use Rattle.std.specs.Prelude.{IfErr, IfOk, IsFalse, IsTrue, MatchResult, O
 use crate::coding::PageCode;
 use crate::one_dim::OneDim;
 use crate::one_dim::eol::{Eol, eol_at, zeros_from};
-use crate::page::{push_row, row_of};
-use crate::page_reader::is_memory;
+use crate::page::push_row;
 use raster::packed::Order;
 use raster::{Color, MAX_ROWS, Page, Row};
 use run_tables::{BitReader, CodeFault, CodeFaultKind};
@@ -169,7 +168,7 @@ fn find_line(
             }
         }
         Err(fault) => {
-            if is_memory(fault.kind) {
+            if fault.is_memory() {
                 Err(AllocError)
             } else {
                 Ok(Found::Broken(fault.place))
@@ -188,7 +187,7 @@ fn copied(alloc: Global, row: &Row) -> Result<Row, AllocError>
     if row.runs(alloc, &mut runs).is_err() {
         return Err(AllocError);
     }
-    row_of(alloc, &runs)
+    Row::from_valid_runs(alloc, &runs)
 }
 
 /// The row before the next one: the last row, or a white one.
@@ -197,7 +196,7 @@ fn row_before(alloc: Global, page: &Page) -> Result<Row, AllocError>
 {
     match page.rows().last() {
         Some(row) => copied(alloc, row),
-        None => row_of(alloc, &[page.width()]),
+        None => Row::from_valid_runs(alloc, &[page.width()]),
     }
 }
 

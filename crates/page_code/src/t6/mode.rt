@@ -15,7 +15,7 @@ pub(crate) const EOFB_NUMBER: u32 = 0x001001;
 /// How far a1 is from b1 in a vertical mode: under it, or one to three pixels to its right or its left (ITU-T T.6,
 /// 2.2.2).
 #[derive(Clone, Copy, Debug, PartialEq, Eq)]
-pub enum Shift {
+pub(crate) enum Shift {
     /// a1 is just under b1.
     V0,
     /// a1 is 1 pixel to the right of b1.
@@ -111,7 +111,7 @@ impl Shift {
 
 /// A mode code; that of horizontal mode is its flag alone (ITU-T T.6, 2.2.2).
 #[derive(Clone, Copy, Debug, PartialEq, Eq)]
-pub enum ModeCode {
+pub(crate) enum ModeCode {
     Pass,
     Horizontal,
     Vertical(Shift),

@@ -20,7 +20,7 @@ ghost use Rattle.std.specs.Prelude.{◌≡◌, ◌≤◌, ◌<◌, ◌+◌, [], 
 pub(crate) mod one_row;
 
 use crate::coding::Coding;
-use crate::page::{Progress, push_row, row_of};
+use crate::page::{Progress, push_row};
 use crate::t6::front::{Front, left_of_b1, right_of_b1, to_a1, under_b1, under_b2};
 use crate::t6::lines::Lines;
 use crate::t6::mode::{EOFB, EOFB_NUMBER, ModeCode, Shift};
@@ -365,7 +365,7 @@ fn lines_after(alloc: Global, page: &Page) -> Result<Lines, AllocError>
 {
     let rows = page.rows();
     if rows.is_empty() {
-        let white = row_of(alloc, &[page.width()])?;
+        let white = Row::from_valid_runs(alloc, &[page.width()])?;
         return Lines::after(alloc, &white);
     }
     Lines::after(alloc, &rows[rows.len() - 1])

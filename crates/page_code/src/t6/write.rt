@@ -11,7 +11,6 @@ ghost use Rattle.run_tables.specs.Codes.{run_words};
 ghost use Rattle.run_tables.specs.Written.{Appends, KeepsBits};
 ghost use Rattle.std.specs.Prelude.{ℕ, List, ◌≡◌, ◌≤◌, ◌<◌, ◌+◌, ◌++◌, All, IfOk, length, slice_index_or, take, OnErr, OnOk};
 
-use crate::page::row_of;
 use crate::t6::changes::put_held;
 use crate::t6::front::{Front, b1_at, index_after};
 use crate::t6::mode::{EOFB, ModeCode, Shift};
@@ -272,7 +271,7 @@ pub(crate) fn write_page(
     ensures err { OnErr result (KeepsBits writer.old writer.new) }
 {
     let rows = page.rows();
-    let white = row_of(alloc, &[page.width()])?;
+    let white = Row::from_valid_runs(alloc, &[page.width()])?;
     write_rows(alloc, writer, &white, rows)?;
     writer.push_digits(EOFB)
 }

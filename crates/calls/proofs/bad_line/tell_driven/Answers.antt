@@ -2,7 +2,7 @@
 use Rattle.std.proofs.Common.{[], subst, sym}
 use Rattle.line_sim.specs.Driving.{new_driven}
 use Rattle.line_sim.specs.Fates.{ShowsDriven}
-use Rattle.line_sim.specs.Standing.{Shows}
+use Rattle.line_sim.specs.Represents.{Shows}
 use Rattle.calls.specs.BadLines.{Going, Stands, bad_call, patience_of}
 use Rattle.calls.specs.Calls.{answerer_caps, caller_wish}
 use Rattle.calls.specs.SentBits.{WritesAfter}

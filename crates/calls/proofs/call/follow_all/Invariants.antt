@@ -1,7 +1,7 @@
 -- What holds in the loop of `follow_all`.
 use Rattle.std.proofs.Common.{take}
 use Rattle.line_sim.specs.Line.{World}
-use Rattle.line_sim.specs.Standing.{Shows}
+use Rattle.line_sim.specs.Represents.{Shows}
 use Rattle.calls.specs.Calls.{TellsCommands}
 use Rattle.calls.proofs.call.follow_all.Given as goal
 

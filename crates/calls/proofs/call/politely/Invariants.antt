@@ -1,7 +1,7 @@
 -- What holds in the loop of `politely`.
 use Rattle.std.proofs.Common.{◌≤◌}
 use Rattle.line_sim.specs.Line.{World}
-use Rattle.line_sim.specs.Standing.{Shows}
+use Rattle.line_sim.specs.Represents.{Shows}
 use Rattle.calls.proofs.CallSteps.{Along}
 use Rattle.calls.proofs.call.politely.Given as goal
 

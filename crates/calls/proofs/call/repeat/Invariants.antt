@@ -1,7 +1,7 @@
 -- What holds in the loop of `repeat`.
 use Rattle.std.proofs.Common.{◌≤◌}
 use Rattle.line_sim.specs.Line.{World}
-use Rattle.line_sim.specs.Standing.{Shows}
+use Rattle.line_sim.specs.Represents.{Shows}
 use Rattle.calls.specs.Calls.{TellsCommand}
 use Rattle.calls.specs.declared.script.Command.TheVariants.{Events}
 use Rattle.calls.proofs.call.repeat.Given as goal

@@ -1,7 +1,7 @@
 -- What the check asks of `tell_call`.
 use Rattle.std.proofs.Common.{subst}
 use Rattle.line_sim.specs.Line.{new_world}
-use Rattle.line_sim.specs.Standing.{Shows}
+use Rattle.line_sim.specs.Represents.{Shows}
 use Rattle.calls.specs.Calls.{caller_wish}
 use Rattle.calls.specs.SentBits.{WritesAfter}
 use Rattle.calls.proofs.CallSteps.{tells_call, told_rows}

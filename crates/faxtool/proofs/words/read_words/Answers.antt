@@ -2,7 +2,8 @@
 use Rattle.std.proofs.Common.{◌≡◌, List, map, rules, subst}
 use Rattle.std.specs.Prelude.{Option}
 use Rattle.clap.specs.Words.{Row, Text, app_of}
-use Rattle.faxtool.specs.Jobs.{HasNoJob, IsFaxtool, IsJobOf, explains}
+use Rattle.std.specs.Prelude.{codes}
+use Rattle.faxtool.specs.Jobs.{HasNoJob, IsFaxtool, IsJobOf, asks}
 use Rattle.faxtool.proofs.JobLemmas.{is_faxtool_free, is_faxtool_simple, refused_by_kind, refused_for_job}
 use Rattle.faxtool.proofs.words.read_words.Goals as goal
 
@@ -23,7 +24,8 @@ returns-in-Some c =
       c.in-Ok.ensures.kinds (is_faxtool_free a is),
       subst (λ (o : Option (Text × List Row)). IsJobOf o c.in-Some.job) met (search
           rules),
-      subst (λ (o : Option (Text × List Row)). c.explains.result ≡ explains o) met c.explains.ensures,
+      subst (λ (o : Option (Text × List Row)). c.asks-explain.result ≡ asks (codes "explain") o) met c.asks-explain.ensures,
+      subst (λ (o : Option (Text × List Row)). c.asks-json.result ≡ asks (codes "json") o) met c.asks-json.ensures,
     )
 
 pub returns : goal.returns

@@ -1,6 +1,7 @@
+-- What holds in the loop of `deliver`.
 use Rattle.std.proofs.Common.{◌-◌}
 use Rattle.line_sim.specs.Line.{World}
-use Rattle.line_sim.specs.Standing.{Shows}
+use Rattle.line_sim.specs.Represents.{Shows}
 use Rattle.line_sim.proofs.Politely.{Along}
 use Rattle.line_sim.proofs.world.World.deliver.Given as goal
 

@@ -1,18 +1,19 @@
+-- An event keeps what holds of a world, makes at most two moves, and takes a whole block exactly.
 use Rattle.std.proofs.Common.{subst}
-use Rattle.line_sim.specs.Standing.{IsReached}
+use Rattle.line_sim.specs.Represents.{IsReached}
 use Rattle.line_sim.proofs.Clauses.{event_moves}
-use Rattle.line_sim.proofs.Holding.{document_on, holds, reached_on, takes_whole}
+use Rattle.line_sim.proofs.Invariant.{document_on, holds, reached_on, takes_whole}
 use Rattle.line_sim.proofs.world.World.event.Goals as goal
 
 pub returns-clause-moves : goal.returns-clause-moves
 returns-clause-moves c =
-    event_moves (c.layers_hold.ensures, c.signals_hold.ensures) c.headline.ensures.moves c.args.self.now c.happen.new.self c.args.event
-    c.happen.result (subst IsReached c.self.view_is c.self.invariant.0) c.happen.ensures.ok c.happen.ensures.err
+    event_moves (c.layers_hold.ensures, c.signals_hold.ensures) c.headline.ensures.moves c.args.self.now c.apply.new.self c.args.event
+    c.apply.result (subst IsReached c.self.view_is c.self.invariant.0) c.apply.ensures.ok c.apply.ensures.err
 
 pub returns-clause-document : goal.returns-clause-document
 returns-clause-document c =
-    document_on (c.layers_hold.ensures, c.signals_hold.ensures) c.args.self.now c.happen.new.self c.args.event c.happen.result
-    (subst IsReached c.self.view_is c.self.invariant.0) c.happen.ensures.ok c.happen.ensures.err
+    document_on (c.layers_hold.ensures, c.signals_hold.ensures) c.args.self.now c.apply.new.self c.args.event c.apply.result
+    (subst IsReached c.self.view_is c.self.invariant.0) c.apply.ensures.ok c.apply.ensures.err
 
 pub returns-clause-before : goal.returns-clause-before
 returns-clause-before c =
@@ -34,11 +35,11 @@ returns-clause-after c =
       c.headline.ensures.runs,
       c.headline.ensures.safe,
     )
-    c.happen.new.self
-    (reached_on c.args.self.now c.happen.new.self c.args.event c.happen.result (subst IsReached c.self.view_is c.self.invariant.0)
-    c.happen.ensures.ok c.happen.ensures.err)
+    c.apply.new.self
+    (reached_on c.args.self.now c.apply.new.self c.args.event c.apply.result (subst IsReached c.self.view_is c.self.invariant.0)
+    c.apply.ensures.ok c.apply.ensures.err)
 
 pub returns-clause-whole : goal.returns-clause-whole
 returns-clause-whole c =
-    takes_whole (c.layers_hold.ensures, c.signals_hold.ensures) c.headline.ensures.whole c.args.self.now c.happen.new.self c.args.event
-    c.happen.result (subst IsReached c.self.view_is c.self.invariant.0) c.happen.ensures.ok
+    takes_whole (c.layers_hold.ensures, c.signals_hold.ensures) c.headline.ensures.whole c.args.self.now c.apply.new.self c.args.event
+    c.apply.result (subst IsReached c.self.view_is c.self.invariant.0) c.apply.ensures.ok

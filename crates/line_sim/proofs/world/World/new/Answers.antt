@@ -1,6 +1,7 @@
+-- A new world begins as the definition says.
 use Rattle.std.proofs.Common.{refl}
 use Rattle.line_sim.proofs.Beginning.{reached_new}
-use Rattle.line_sim.proofs.Holding.{begins}
+use Rattle.line_sim.proofs.Invariant.{begins}
 use Rattle.line_sim.proofs.world.World.new.Goals as goal
 
 pub invariant_of-result : goal.invariant_of-result

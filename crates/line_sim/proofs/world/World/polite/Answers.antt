@@ -1,6 +1,7 @@
+-- A polite run keeps what holds of a world.
 use Rattle.std.proofs.Common.{subst}
-use Rattle.line_sim.specs.Standing.{IsReached}
-use Rattle.line_sim.proofs.Holding.{document_along, holds, moves_along, reached_along}
+use Rattle.line_sim.specs.Represents.{IsReached}
+use Rattle.line_sim.proofs.Invariant.{document_along, holds, moves_along, reached_along}
 use Rattle.line_sim.proofs.Undisturbed.{goes_through}
 use Rattle.line_sim.proofs.world.World.polite.Goals as goal
 

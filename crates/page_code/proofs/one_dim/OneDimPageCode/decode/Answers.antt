@@ -1,45 +1,32 @@
-use Rattle.std.specs.Prelude.{Ok, Err}
+-- What the check asks of `decode`.
 use Rattle.raster.specs.Packed.{bits_of}
+use Rattle.page_code.specs.Codings.{read_rows}
 use Rattle.page_code.specs.OneDimension.Pages.{ReadsAs}
 use Rattle.page_code.specs.OneDimension.Fronts.{read_page}
 use Rattle.page_code.specs.OneDimension.Laws.{IsLongestFront}
-use Rattle.page_code.proofs.GivesPage.{begun_memory, gives_begun, gives_only, gives_reads, gives_refuses, gives_rows}
+use Rattle.page_code.proofs.GivesPage.{gives_only, gives_reads, gives_refuses, gives_rows}
 use Rattle.page_code.proofs.OneDimension.Laws.{reads_pages_exactly, refuses_no_page, refuses_at_longest}
 use Rattle.page_code.proofs.one_dim.OneDimPageCode.decode.Goals as goal
 
-pub returns-in-Ok-clause-reads : goal.returns-in-Ok-clause-reads
-returns-in-Ok-clause-reads c =
+pub returns-clause-reads : goal.returns-clause-reads
+unfolding read_rows
+returns-clause-reads c =
     gives_reads ReadsAs IsLongestFront read_page reads_pages_exactly refuses_no_page refuses_at_longest c.args.width c.args.fine (bits_of
-    c.args.order c.args.octets.now) (Ok _) c.requires c.in-Ok.ensures
+    c.args.order c.args.octets.now) c.decode_in.result c.requires c.decode_in.ensures.gives
 
-pub returns-in-Ok-clause-only : goal.returns-in-Ok-clause-only
-returns-in-Ok-clause-only c =
+pub returns-clause-only : goal.returns-clause-only
+unfolding read_rows
+returns-clause-only c =
     gives_only ReadsAs IsLongestFront read_page reads_pages_exactly refuses_no_page refuses_at_longest c.args.width c.args.fine (bits_of
-    c.args.order c.args.octets.now) (Ok _) c.requires c.in-Ok.ensures
+    c.args.order c.args.octets.now) c.decode_in.result c.requires c.decode_in.ensures.gives
 
-pub returns-in-Ok-clause-gives : goal.returns-in-Ok-clause-gives
-returns-in-Ok-clause-gives c = gives_rows (read_page c.args.width (bits_of c.args.order c.args.octets.now)) c.args.width c.args.fine (Ok _)
-    c.in-Ok.ensures
-
-pub returns-in-Err-clause-only : goal.returns-in-Err-clause-only
-returns-in-Err-clause-only c =
-    let gives = gives_begun (read_page c.args.width (bits_of c.args.order c.args.octets.now)) c.args.width 0 c.args.fine c.in-Err.fault
-    c.begun_at.result c.begun_at.ensures c.in-Err.ensures in
-    gives_only ReadsAs IsLongestFront read_page reads_pages_exactly refuses_no_page refuses_at_longest c.args.width c.args.fine (bits_of
-    c.args.order c.args.octets.now) (Err c.begun_at.result) c.requires gives
-
-pub returns-in-Err-clause-refuses : goal.returns-in-Err-clause-refuses
-returns-in-Err-clause-refuses c =
-    let gives = gives_begun (read_page c.args.width (bits_of c.args.order c.args.octets.now)) c.args.width 0 c.args.fine c.in-Err.fault
-    c.begun_at.result c.begun_at.ensures c.in-Err.ensures in
+pub returns-clause-refuses : goal.returns-clause-refuses
+unfolding read_rows
+returns-clause-refuses c =
     gives_refuses ReadsAs IsLongestFront read_page reads_pages_exactly refuses_no_page refuses_at_longest c.args.width c.args.fine (bits_of
-    c.args.order c.args.octets.now) (Err c.begun_at.result) c.requires gives
+    c.args.order c.args.octets.now) c.decode_in.result c.requires c.decode_in.ensures.gives
 
-pub returns-in-Err-clause-gives : goal.returns-in-Err-clause-gives
-returns-in-Err-clause-gives c =
-    let gives = gives_begun (read_page c.args.width (bits_of c.args.order c.args.octets.now)) c.args.width 0 c.args.fine c.in-Err.fault
-    c.begun_at.result c.begun_at.ensures c.in-Err.ensures in
-    gives_rows (read_page c.args.width (bits_of c.args.order c.args.octets.now)) c.args.width c.args.fine (Err c.begun_at.result) gives
-
-pub returns-in-Err-clause-memory : goal.returns-in-Err-clause-memory
-returns-in-Err-clause-memory c = begun_memory 0 c.in-Err.fault c.begun_at.result c.begun_at.ensures
+pub returns-clause-gives : goal.returns-clause-gives
+unfolding read_rows
+returns-clause-gives c = gives_rows (read_page c.args.width (bits_of c.args.order c.args.octets.now)) c.args.width c.args.fine
+    c.decode_in.result c.decode_in.ensures.gives

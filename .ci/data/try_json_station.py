@@ -1,0 +1,71 @@
+#!/usr/bin/env python3
+"""Tries `faxtool station --json` on the kept conversations:
+
+    try_json_station.py PROGRAM FOLDER
+
+Each conversation of .ci/conversations is made with and without `--json`. The trace's records, put back together, are the lines of the trace
+without it; the record of how the call ended is its line; and a fault's record has its number and its line. FOLDER is empty, for the pages.
+Prints how many runs there were, and ends with status 1 where something differs. It needs Python's standard library alone."""
+
+import json
+import os
+import subprocess
+import sys
+from pathlib import Path
+
+sys.dont_write_bytecode = True
+import try_json_texts as texts
+
+program, folder = sys.argv[1:]
+KEPT = Path(__file__).resolve().parent.parent / "conversations"
+
+
+def made(words, lines, *more):
+    """What is printed, what is told and traced, and the status."""
+    for name in os.listdir(folder):
+        os.remove(os.path.join(folder, name))
+    trace = os.path.join(folder, "trace")
+    with open(lines, "rb") as given:
+        done = subprocess.run([program, "station", *more, "--trace", trace, *words], stdin=given, capture_output=True, timeout=60, check=False)
+    traced = Path(trace).read_bytes() if os.path.exists(trace) else b""
+    return done.stdout, done.stderr, traced, done.returncode
+
+
+def told_text(record):
+    """The line of a record on standard error."""
+    if "end" in record:
+        counted = "confirmed" if "confirmed" in record else "pages"
+        return f"end {record['end']} {counted} {record[counted]}"
+    if "fault" in record:
+        return f"fault {record['fault']}" + (f" at line {record['line']}" if "line" in record else "")
+    return record["notice"]
+
+
+def traced_text(record):
+    word = "said" if "said" in record else "heard"
+    return f"{record['at']} {word} {texts.signal_text(record[word])}"
+
+
+def records(octets):
+    return [json.loads(line) for line in octets.decode("ascii").splitlines()]
+
+
+def compare(name, what, found, wanted):
+    if found != wanted:
+        sys.exit(f"{name}: {what} with --json: {found} and not {wanted}")
+
+
+runs = 0
+for words in sorted(KEPT.glob("*.words")):
+    name = words.stem
+    given = words.read_text().replace("IN", str(KEPT / f"{name}.pbm")).replace("DIR", folder).split()
+    printed, told, traced, status = made(given, KEPT / f"{name}.lines")
+    also, told_records, traced_records, other = made(given, KEPT / f"{name}.lines", "--json")
+    compare(name, "the answers", also, printed)
+    compare(name, "the trace", [traced_text(record) for record in records(traced_records)], traced.decode().splitlines())
+    compare(name, "what is told", [told_text(record) for record in records(told_records)], told.decode().splitlines())
+    compare(name, "the status", other, status)
+    runs += 2
+if runs < 52:
+    sys.exit(f"{runs} runs, and not 52 at least")
+print(runs)

@@ -1,0 +1,89 @@
+# `identify`: as which format a file begins, and in which ways it reads as a page.
+
+# identifies LINES FILE: the file is identified, by these lines, as a file and as standard input.
+identifies() {
+    printf "$1" > "$work/wanted"
+    works identify "$2"
+    is_same "$work/output" "$work/wanted" "identify ${2##*/}"
+    "$program" identify - < "$2" > "$work/output" 2> "$work/error" || fails "identify - of ${2##*/} ended with status $?"
+    is_same "$work/output" "$work/wanted" "identify - of ${2##*/}"
+    [ ! -s "$work/error" ] || fails "identify - of ${2##*/} wrote to standard error"
+    count=$((count + 1))
+}
+
+# in_widths WORDS: the lines of a page that reads in each width.
+in_widths() {
+    for width in 1728 2048 2432 1216 864 1700 1654; do
+        printf "$1\\\\n" "$width"
+    done
+}
+
+# is_far FILE: no page is named of the file; each way in which it begins with a row has a line, and no other one has: the fault and the
+# rows are those of `decode --salvage`.
+is_far() {
+    gives 1 identify "$1"
+    [ "$(cat "$work/error")" = "fault 29" ] || fails "identify ${1##*/} wrote $(cat "$work/error")"
+    cp "$work/output" "$work/far"
+    : > "$work/wanted"
+    for code in mmr mh; do
+        for order in msb lsb; do
+            for width in 1728 2048 2432 1216 864 1700 1654; do
+                rm -f "$work/rows"
+                gives 1 decode --salvage --code $code --order $order --width $width "$1" "$work/rows"
+                [ -e "$work/rows" ] || continue
+                echo "$code $order $width $(cat "$work/error") $(sed -n '2{s/.* //p;q}' "$work/rows")" >> "$work/wanted"
+            done
+        done
+    done
+    sed 's/^T.6/mmr/; s/^T.4/mh/; s/, most significant bit first/ msb/; s/, least significant bit first/ lsb/; s/, width / /; s/: / /
+        s/ after \([0-9]*\) rows$/ \1/' "$work/far" > "$work/output"
+    is_same "$work/output" "$work/wanted" "how far ${1##*/} is read"
+}
+
+# Pages of netpbm, libtiff and ghostscript: in either code and order; with a seventh EOL, and without EOFB.
+try_identified_pages() {
+    msb="most significant bit first" lsb="least significant bit first"
+    identifies "T.4, $msb, width 1728, 28 rows, 1 octets after it\n" "$data/wide.mh.msb"
+    identifies "T.4, $lsb, width 1728, 28 rows, 1 octets after it\n" "$data/wide.mh.lsb"
+    identifies "T.6, $msb, width 1728, 28 rows\n" "$data/wide.mmr.msb"
+    identifies "T.6, $lsb, width 1728, 28 rows\n" "$data/wide.mmr.lsb"
+    identifies "T.4, $msb, width 1728, 40 rows\n" "$data/wide.faxg3"
+    identifies "T.6, $msb, width 1728, 40 rows, without EOFB\n" "$data/wide.faxg4"
+    (cat "$data/wide.mmr.msb" && printf abc) > "$work/longer"
+    identifies "T.6, $msb, width 1728, 28 rows, 3 octets after it\n" "$work/longer"
+    (cat "$data/wide.faxg4" && printf '\0\0\0') > "$work/longer"
+    identifies "T.6, $msb, width 1728, 40 rows, without EOFB\n" "$work/longer"
+    identifies "$(in_widths "T.6, $msb, width %s, 10 rows")" "$(bits "1111111111 000000000001 000000000001")"
+    is_far "$data/page.mh.msb"
+    head -c 200 "$data/wide.mmr.lsb" > "$work/shorter"
+    is_far "$work/shorter"
+}
+
+# Formats by their first octets, a page that begins as one, and files that are none.
+try_identify() {
+    while read -r hex name; do
+        identifies "$name, by its first octets\n" "$(octets "$hex")"
+    done <<FORMATS
+49_49_2A_00 TIFF
+4D_4D_00_2A TIFF
+49_49_2B_00_08_00 BigTIFF
+25_50_44_46_2D_31_2E_37_0A PDF
+89_50_4E_47_0D_0A_1A_0A_00 PNG
+50_34_0A PBM
+50_31_0A plain PBM
+FORMATS
+    identifies "PBM, by its first octets\n" "$data/page.pbm"
+    # rows that end in 2, 3 and 3 black pixels by VL2 V0, VL1 H(3, 0) and V0 V0, then EOFB: the first two octets are P1
+    code=$(octets "50 31 D6 01 10 00 01")
+    identifies "plain PBM, by its first octets\n$(in_widths "T.6, least significant bit first, width %s, 3 rows")" "$code"
+    try_identified_pages
+    : > "$work/empty"
+    explains "fault 7" "$work/empty: there is no image: it has no octet" identify "$work/empty"
+    printf '\0\0\0\0' > "$work/zeros"
+    explains "fault 29" "$work/zeros: it reads as no page in any way that is tried, and begins as no known format" identify "$work/zeros"
+    head -c 4 "$data/page.txt" > "$work/dots"
+    is_far "$work/dots"
+    explains "fault 8" "$work/no_such_file: no such file or folder" identify "$work/no_such_file"
+    refuses identify
+    refuses identify --code mh "$data/page.mh.msb"
+}

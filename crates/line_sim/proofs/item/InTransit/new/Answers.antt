@@ -1,0 +1,11 @@
+-- An item that is made is the one that the station sends.
+use Rattle.signals.specs.Signals.{plain}
+use Rattle.line_sim.proofs.Items.{says_carried}
+use Rattle.line_sim.proofs.item.InTransit.new.Goals as goal
+
+pub returns-in_ok-octets-in-Frame : goal.returns-in_ok-octets-in-Frame
+returns-in_ok-octets-in-Frame g c =
+    rw c.in-Frame.is
+    (says_carried c.side.result c.kind_of-kind.result c.in_ok-octets-in-Frame.octets.items
+    (plain c.in-Frame.signal) c.frame_octets_grow.ensures c.reads_what_is_written.ensures c.in_ok-octets-in-Frame.ensures
+    c.kind_of-kind.ensures)

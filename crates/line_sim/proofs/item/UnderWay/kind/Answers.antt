@@ -1,8 +1,0 @@
-use Rattle.line_sim.proofs.Items.{kind_said}
-use Rattle.line_sim.proofs.item.UnderWay.kind.Goals as goal
-
-pub returns : goal.returns
-returns g c =
-    rw (← c.self.view_is)
-    (kind_said g.S.Sender.sends c.self.inside.kind c.self.inside.octets.items c.frame_octets_grow.ensures
-    c.reads_what_is_written.ensures c.self.invariant)
