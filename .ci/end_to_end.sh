@@ -18,7 +18,7 @@ trap 'rm -rf "$work"' EXIT
 white="50 34 0A 31 37 32 38 20 31 0A$(seq 216 | sed 's/.*/ 00/' | tr -d '\n')"
 count=0
 # How many runs of the program there are at least, so that cases that go missing are seen.
-least=2350
+least=2700
 for part in common code decode frames identify call drive bits diagram words man files reference station readme; do
     . "$top/.ci/end_to_end/$part.sh"
 done
@@ -48,6 +48,7 @@ for program in "$@"; do
     try_data
     try_standard
     try_told
+    try_told_records
     try_codes
     try_large_pages
     try_little_memory

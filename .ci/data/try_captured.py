@@ -2,8 +2,10 @@
 
 FOLDER has large.pbm, 2,432 pixels wide. The frames are those of ITU-T T.30 Annex A, with the check sequence of T.30, 5.3.7. Each
 call is tried whole, with blocks sent again, twice on one line, with a frame, the DCS or the last PPS lost, and with a page's code
-cut short. Ends with status 1 at the first that differs."""
+cut short; and with `--salvage` the rows before each gap are those that `decode --salvage` gives of the code before it. Ends with status 1
+at the first that differs."""
 
+import json
 import os
 import re
 import resource
@@ -115,6 +117,81 @@ def call(pages, mmr, small, lost=None):
     return sent
 
 
+def front(code, mmr):
+    """The whole rows at the beginning of a code, as `decode --salvage` writes them; nothing where there is none."""
+    with open(f"{folder}/captured.code", "wb") as file:
+        file.write(code)
+    out = f"{folder}/captured.front"
+    if os.path.exists(out):
+        os.remove(out)
+    words = ["--salvage", "--code", "mmr" if mmr else "mh", "--order", "lsb", "--width", "2432", f"{folder}/captured.code", out]
+    subprocess.run([program, "decode", *words], capture_output=True)
+    return open(out, "rb").read() if os.path.exists(out) else b""
+
+
+def salvaged(name, contents, fronts, wanted, said, first=1):
+    """The pages that `--salvage` writes of contents, numbered from the first one, of which those of the numbers in `fronts` are rows
+    before a gap, and what is said."""
+    bits, pages = f"{folder}/captured.bits", f"{folder}/captured"
+    with open(bits, "wb") as file:
+        file.write(line(contents))
+    for words in [], ["--json"]:
+        shutil.rmtree(pages, ignore_errors=True)
+        os.mkdir(pages)
+        done = subprocess.run([program, "frames", *words, "--pages", pages, "--salvage", bits], capture_output=True)
+        told = [text for text in done.stdout.decode().splitlines() if text.startswith(("page ", '{"file"'))]
+        sizes = [octets.split(b"\n", 2)[1].decode().split() for octets in wanted]
+        lines = [
+            f"page {number}: page-{number}.pbm, {width} x {height} pixels, standard lines" + ", rows before a gap" * (number in fronts)
+            for number, (width, height) in enumerate(sizes, first)
+        ]
+        if words:
+            told = [json.loads(text) for text in told]
+            lines = [
+                {"file": f"page-{number}.pbm", "height": int(height), "lines": "standard", "page": number, "width": int(width)}
+                | ({"salvaged": True} if number in fronts else {})
+                for number, (width, height) in enumerate(sizes, first)
+            ]
+        if told != lines:
+            sys.exit(f"{name}, --salvage {words}: it said {told} and not {lines}")
+        if not words and done.stderr.decode().splitlines() != said:
+            sys.exit(f"{name}, --salvage: it said {done.stderr.decode()[:200]}")
+        got = [open(f"{pages}/page-{number}.pbm", "rb").read() for number in range(first, len(wanted) + first)]
+        if got != wanted or len(os.listdir(pages)) != len(wanted) or done.returncode != (1 if said else 0):
+            sys.exit(f"{name}, --salvage: {len(os.listdir(pages))} pages, status {done.returncode}")
+
+
+def try_salvage(name, codes, mmr, small):
+    """A page with a gap in its first block, in its second one, a block that never comes, and no end; before another page, a DCS and the end."""
+    size = 64 if small else 256
+    blocks = blocks_of(codes[0], small)
+    both = call(codes, mmr, small)
+    salvaged(name, both, [], [large, few], [])
+    salvaged(f"{name}, sent again", call(codes, mmr, small, 7), [], [large, few], [])
+    salvaged(f"{name}, frame 0 lost", both[:1] + both[2:], [], [few], ["page 1 block 0: frame 0 is missing"], 2)
+    lost = min(9, len(blocks[0]) - 2)
+    rows = front(codes[0][: lost * size], mmr)
+    gap = both[: 1 + lost] + both[2 + lost :]
+    missing = f"page 1 block 0: frame {lost} is missing"
+    salvaged(f"{name}, a frame lost", gap, [1], [rows, few], [missing])
+    salvaged(f"{name}, a frame lost before a DCS", gap + both, [1], [rows, few, large, few], [missing])
+    alone = [dcs(2432, mmr, small)] + burst(blocks[0], [n for n in range(len(blocks[0])) if n != lost], NULL, 0, 0)
+    salvaged(f"{name}, a frame lost at the end", alone, [1], [rows], [missing])
+    # no PPS comes after the last frames, of which one is missing
+    salvaged(f"{name}, no PPS", alone[:-4], [1], [rows], ["a page has no end"])
+    salvaged(f"{name}, no last PPS", both[:-4], [2], [large, few], ["a page has no end"])
+    if len(blocks) < 3:
+        return
+    whole = len(blocks[0])
+    second = both[: 1 + whole + 4 + lost] + both[2 + whole + 4 + lost :]
+    rows = front(codes[0][: (whole + lost) * size], mmr)
+    salvaged(f"{name}, a frame of the second block lost", second, [1], [rows, few], [f"page 1 block 1: frame {lost} is missing"])
+    at = 1 + whole + 4
+    rows = front(codes[0][: whole * size], mmr)
+    never = both[:at] + both[at + len(blocks[1]) + 4 :]
+    salvaged(f"{name}, a block lost", never, [1], [rows, few], ["page 1 block 2: the blocks before it are missing"])
+
+
 large = open(f"{folder}/large.pbm", "rb").read()
 white = f"{folder}/white.pbm"
 with open(white, "wb") as file:
@@ -132,6 +209,7 @@ for mmr in False, True:
         tried(f"{name}, frame 0 lost", first, [few], ["page 1 block 0: frame 0 is missing"], 1)
         if not os.path.exists(f"{folder}/captured/page-2.pbm"):
             sys.exit(f"{name}: the second page isn't page-2.pbm where the first one lacks")
+        try_salvage(name, codes, mmr, small)
         tried(f"{name}, no DCS", call([codes[1]], mmr, small)[1:], [], ["page 1 block 0: no DCS before it"], 1)
         tried(f"{name}, no end", call([codes[1]], mmr, small)[:-1], [], ["a page has no end"], 1)
         if mmr:

@@ -89,6 +89,76 @@ try_calls() {
     refuses call "$input"
     refuses call --script "$work/script" --frame 128 "$input"
     try_expected
+    try_said
+    try_call_records
+}
+
+# says_so WORDS: --explain adds lines that say what signals say, and no others; each is what `frames --explain` says of what is
+# sent, without the bits that aren't read.
+says_so() {
+    works call "$@"
+    mv "$work/output" "$work/plain"
+    rm -rf "$work/sent" && mkdir "$work/sent"
+    works call "$@" --bits "$work/sent" --explain
+    mv "$work/output" "$work/explained"
+    grep -v '^    ' "$work/explained" > "$work/without"
+    is_same "$work/without" "$work/plain" "the lines of call $* without their words"
+    for way in to-answerer to-caller; do
+        works frames --explain "$work/sent/$way.bits"
+        sed -n '/^    /s/; other bits .*//; /^    /p' "$work/output" > "$work/wanted"
+        [ -s "$work/wanted" ] || fails "frames --explain of call $* says nothing"
+        awk -v way="$way" '!/^    / { its = $2 ~ way "$" } /^    / && its' "$work/explained" > "$work/said"
+        is_same "$work/said" "$work/wanted" "the words of call $*, $way"
+    done
+}
+
+# What signals say in words: of each DIS, DCS, PPS and PPR, the lost ones too.
+try_said() {
+    says_so --script "$work/script" "$input"
+    says_so --script "$work/script" --code mh --frame 64 --modems v27 --fine "$input"
+    printf 'polite 4\nlose-to-answerer\npolite 40\n' > "$work/again"
+    says_so --script "$work/again" "$input"
+    [ "$(grep '^    again: ' "$work/explained")" = '    again: frames 0 to 255' ] || fails "call --explain doesn't say what a PPR asks for"
+    says_so --lose 0% --seed 1 "$input"
+}
+
+# records_say_so WORDS: of the objects of --json the lines can be put together again; and what they say of signals is what `frames --json`
+# says of what is sent.
+records_say_so() {
+    works call "$@"
+    mv "$work/output" "$work/plain"
+    rm -rf "$work/sent" && mkdir "$work/sent"
+    works call "$@" --bits "$work/sent" --json --explain
+    mv "$work/output" "$work/call_records"
+    jq -r 'if .station then "\(.station) \(.end) " + (if .confirmed then "confirmed \(.confirmed)" else "pages \(.pages)" end)
+        else "\(.number) \(.event) \(.item // "-") \(.sends // "-")" + (if .refused then " !" else "" end) end' \
+        "$work/call_records" > "$work/without"
+    is_same "$work/without" "$work/plain" "the lines of call $* --json"
+    for way in to-answerer to-caller; do
+        works frames --json "$work/sent/$way.bits"
+        jq -c '.says | select(.) | select(.signal | IN("DIS", "DCS", "PPS", "PPR"))' "$work/output" > "$work/wanted"
+        [ -s "$work/wanted" ] || fails "frames --json of call $* says nothing"
+        jq -c --arg way "$way" 'select(.event) | select(.event | endswith($way)) | .says | select(.)' "$work/call_records" > "$work/said"
+        is_same "$work/said" "$work/wanted" "what the records of call $* say, $way"
+    done
+}
+
+# Records of calls: with frames asked for again, with an event of no item and one that nothing is sent at, and of an answerer that is busy.
+try_call_records() {
+    records_say_so --script "$work/script" "$input"
+    records_say_so --script "$work/again" --code mh --frame 64 --modems v27 --fine "$input"
+    printf 'polite 10\nbusy\npolite 2\ncaller-t5\nready\nto-caller 9\npolite 100\n' > "$work/waits"
+    records_say_so --script "$work/waits" "$input"
+    records_say_so --lose 20% --seed 7 "$input"
+    # a call that is not over: each station goes on
+    works call --json --script "$work/nothing" "$input"
+    printf '%s\n' '{"confirmed":0,"end":"running","station":"caller"}' '{"end":"running","pages":0,"station":"answerer"}' > "$work/wanted"
+    is_same "$work/output" "$work/wanted" "the records of no event"
+    refuses call --lose 0% --seed 7 --times 2 --json "$input"
+    [ "$(head -1 "$work/error")" = "error: --times prints a table, and can't be used with --json" ] \
+        || fails "call --times --json: other words: $(head -1 "$work/error")"
+    gives 1 call --json --script "$work/wrong" "$input"
+    [ "$(jq -c 'del(.words)' "$work/error")" = '{"fault":30,"line":1}' ] || fails "call --json has another fault: $(cat "$work/error")"
 }
 
 # --expect normal: the same lines and files, and status 1 unless both stations say normal.

@@ -11,6 +11,50 @@ try_told() {
     [ ! -c /dev/full ] || faults "fault 8" decode --code mh --width 8 "$code" /dev/full
 }
 
+# lines_of_records: the records on standard input, as the lines that are written without --json.
+lines_of_records() {
+    jq -r 'if has("notice") then .notice
+        elif has("fault") then "fault \(.fault)" + (if has("bit") then " at bit \(.bit)" else "" end)
+        elif has("octets_after") then "octets after the page \(.octets_after)"
+        elif has("page") then "page \(.page) begins at octet \(.begins_at_octet)"
+        elif has("bits") then "rows \(.rows) bits \(.bits)"
+        else "rows \(.rows)" end'
+}
+
+# same_told STATUS WORDS: with --json the same is told, as objects.
+same_told() {
+    end=$1
+    shift
+    gives "$end" decode "$@"
+    cp "$work/error" "$work/wanted"
+    gives "$end" decode --json "$@"
+    [ ! -s "$work/wanted" ] || [ "$(grep -vc '^{.*}$' "$work/error")" = 0 ] || fails "decode --json $* told something that is no object"
+    lines_of_records < "$work/error" > "$work/read_back" || fails "decode --json $* told something that jq doesn't read"
+    is_same "$work/read_back" "$work/wanted" "what decode --json $* tells"
+}
+
+# What decode tells as objects: with and without --verbose, of whole, repaired, open and later pages, and of faults.
+try_told_records() {
+    eol=000000000001 row="0111 11 1011" bad=10100
+    rtc="$eol $eol $eol $eol $eol $eol"
+    for flag in "" --verbose; do
+        same_told 0 $flag --code mh --width 8 "$(bits "$eol $row $rtc")" "$work/decoded"
+        same_told 0 $flag --code mh --width 8 "$(bits "$eol $row $rtc $eol $row $eol $row $rtc")" "$work/decoded"
+        same_told 0 $flag --code mh --width 8 --page 2 "$(bits "$eol $row $rtc $eol $row $eol $row $rtc 00000000")" "$work/decoded"
+        same_told 1 $flag --code mh --width 8 --page 3 "$(bits "$eol $row $rtc $eol $row $eol $row $rtc")" "$work/decoded"
+        same_told 1 $flag --code mh --width 8 --page 2 "$(bits "$eol $bad $rtc $eol $row $rtc")" "$work/decoded"
+        same_told 0 $flag --code mh --width 8 "$(bits "$eol $row $eol $row")" "$work/decoded"
+        same_told 1 $flag --whole --code mh --width 8 "$(bits "$eol $row $eol $row")" "$work/decoded"
+        same_told 0 $flag --repair --code mh --width 8 "$(bits "$eol $row $eol $bad $eol $row $eol $bad $rtc")" "$work/decoded"
+        same_told 0 $flag --repair --code mmr --width 8 "$(bits "001 0111 11 1 1 1 1")" "$work/decoded"
+        same_told 1 $flag --salvage --code mh --width 8 "$(bits "$eol $row $eol $bad $rtc")" "$work/decoded"
+        same_told 1 $flag --code mh --width 8 "$work/missing" "$work/decoded"
+    done
+    gives 0 decode --json --verbose --code mh --width 8 "$(bits "$eol $row $rtc 00000000")" "$work/decoded"
+    printf '{"bits":94,"rows":1}\n{"octets_after":1}\n' > "$work/wanted"
+    is_same "$work/error" "$work/wanted" "the objects of decode --json --verbose"
+}
+
 # Refused pages: the fault and the bit, and OUT is left as it was.
 try_codes() {
     echo "as it was" > "$work/kept"

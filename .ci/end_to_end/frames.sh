@@ -82,6 +82,8 @@ try_large_frames() {
 # The pages in the frames of calls, whole ones and incomplete ones; and of a folder that is missing.
 try_captured() {
     python3 -B "$data/try_captured.py" "$program" "$work" || fails "frames --pages"
+    refuses frames --salvage "$top/docs/examples/line.bits"
+    grep -qF -e "--salvage needs --pages" "$work/error" || fails "frames --salvage with no folder doesn't say what is wrong"
     mkdir -p "$work/captured"
     gives 1 frames --pages "$work/captured" "$top/docs/examples/line.bits"
     is_same "$work/captured/page-1.pbm" "$top/docs/examples/row.pbm" "the page in docs/examples/line.bits"

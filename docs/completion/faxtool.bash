@@ -6,9 +6,9 @@ _faxtool_options() {
     case $1 in
         code) echo --code --order --explain --help ;;
         show) echo --code --width --order --explain --help ;;
-        decode) echo --code --width --order --fine --salvage --repair --whole --verbose --page --explain --help ;;
-        frames) echo --data --order --pages --json --explain --help ;;
-        call) echo --script --lose --spoil --busy --seed --calls --times --code --frame --modems --fine --out --expect --bits --diagram --explain --help ;;
+        decode) echo --code --width --order --fine --salvage --repair --whole --verbose --json --page --explain --help ;;
+        frames) echo --data --order --pages --salvage --json --diagram --caller --answerer --explain --help ;;
+        call) echo --script --lose --spoil --busy --seed --calls --times --code --frame --modems --fine --out --expect --bits --diagram --json --explain --help ;;
         identify) echo --explain --help ;;
         station) echo --answer --call --out --code --modems --standard --widest --limit --frame --fine --t1 --t2 --t4 --t5 --trace --json --explain --help ;;
         version) echo --proof --help ;;

@@ -3,6 +3,7 @@ use Rattle.std.proofs.Common.{◌≡◌, ℕ, ◌+◌, List, [], ◌∷◌, ◌+
 use Rattle.std.proofs.lemmas.List.{append-nil}
 use Rattle.line_sim.specs.declared.event.Entry.{Entry}
 use Rattle.calls.specs.Ladders.{Drawn, drawn_text, feet_text}
+use Rattle.calls.specs.DrawnFields.{drawn_entry}
 use Rattle.calls.specs.Transcripts.{entry_line, entry_lines}
 use Rattle.calls.proofs.EntryLines.{lines_both}
 
@@ -16,8 +17,10 @@ text_with entries entry number is =
     ∙ ap (λ l. entry_lines 1 entries ++ l) (append-nil (entry_line number entry))
     ∙ ap (λ l. l ++ entry_line number entry) (sym (append-nil (entry_lines 1 entries)))
 
-pub drawn_with : (old new : Drawn) (entry : Entry) (number : ℕ) → new ≡ record old { entries = old.entries ++ entry ∷ [] } →
+pub drawn_with : (old new : Drawn) (entry : Entry) (number : ℕ) →
+    new ≡ record old { entries = old.entries ++ drawn_entry entry ∷ [] } →
     number ≡ length old.entries + 1 → old.feet ≡ None → drawn_text new ≡ drawn_text old ++ entry_line number entry
 drawn_with old new entry number is next going =
-    ap drawn_text is ∙ ap (λ f. entry_lines 1 (old.entries ++ entry ∷ []) ++ feet_text f) going ∙ text_with old.entries entry number next
+    ap drawn_text is ∙ ap (λ f. entry_lines 1 (old.entries ++ drawn_entry entry ∷ []) ++ feet_text f) going
+    ∙ text_with old.entries (drawn_entry entry) number next
     ∙ ap (λ f. (entry_lines 1 old.entries ++ feet_text f) ++ entry_line number entry) (sym going)

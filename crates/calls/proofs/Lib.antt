@@ -23,3 +23,5 @@ mod FewBorne
 mod Ladders
 mod Pictures
 mod Diagrams
+mod CapturedCalls
+mod CallRecords

@@ -2,6 +2,9 @@
 pub mod Scripts
 pub mod Transcripts
 pub mod SentBits
+pub mod Explained
+pub mod CallRecords
+pub mod DrawnFields
 pub mod Calls
 pub mod ScriptsMean
 pub mod OptionsMean
@@ -17,3 +20,4 @@ pub mod Ends
 pub mod Ladders
 pub mod Pictures
 pub mod Diagrams
+pub mod CapturedCalls

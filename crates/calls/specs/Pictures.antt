@@ -9,8 +9,10 @@ use Rattle.stations.specs.declared.turn.Turn.TheVariants as turn
 use Rattle.line_sim.specs.declared.event.Entry.{Entry}
 use Rattle.line_sim.specs.declared.event.Event.{Event}
 use Rattle.line_sim.specs.declared.event.Event.TheVariants as event
+use Rattle.line_sim.specs.declared.event.Fields.{Fields}
 use Rattle.line_sim.specs.declared.event.Kind.{Kind}
 use Rattle.line_sim.specs.declared.event.Kind.TheVariants as kind
+use Rattle.calls.specs.DrawnFields.{fields_text}
 use Rattle.calls.specs.Ladders.{Drawn, entries_of_rounds}
 use Rattle.calls.specs.Transcripts.{end_text, entry_line, item_text, turn_text}
 use Rattle.calls.specs.declared.ladder.Feet.{Feet}
@@ -105,14 +107,14 @@ many_text _ = codes " times "
 abbrev pub times_text : Option Kind → ℕ → List ℕ
 times_text item times = cond (nat_eq times 1) [] (decimal times ++ many_text item)
 
--- the items, and what becomes of them
-abbrev pub items_text : Option Kind → Event → List ℕ
-items_text None event = gap_text event
-items_text (Some kind) event = item_text (Some kind) ++ fate_text event
+-- the items, what a DCS sets and what a PPS ends, and what becomes of them
+abbrev pub items_text : Option Kind → Fields → Event → List ℕ
+items_text None fields event = gap_text event
+items_text (Some kind) fields event = item_text (Some kind) ++ (fields_text fields ++ fate_text event)
 
 -- what is written over an arrow
 abbrev pub label_text : Row → List ℕ
-label_text row = times_text row.entry.item row.times ++ items_text row.entry.item row.entry.event
+label_text row = times_text row.entry.item row.times ++ items_text row.entry.item row.entry.fields row.entry.event
 
 -- what a station sends, after a joint
 abbrev pub sends_text : List ℕ → Turn → ℕ → List ℕ

@@ -7,6 +7,7 @@ use Rattle.stations.specs.declared.turn.Turn.{Turn}
 use Rattle.stations.specs.declared.turn.Turn.TheVariants as turn
 use Rattle.line_sim.specs.declared.event.Entry.{Entry}
 use Rattle.line_sim.specs.declared.event.Event.TheVariants.{DeliverToAnswerer, DeliverToCaller, CallerT5}
+use Rattle.line_sim.specs.declared.event.Fields.TheVariants as field
 use Rattle.line_sim.specs.declared.event.Kind.{Kind}
 use Rattle.line_sim.specs.declared.event.Kind.TheVariants as kind
 use Rattle.line_sim.specs.declared.live.Ending.{Ending}
@@ -94,13 +95,13 @@ call_text noted ending = entry_lines 1 noted ++ ending_text ending
 -- of the ends that no call of a script has
 pub record ArePrintedLines : Type 0 where
   pub burst : (map : List ℕ)
-      → entry_line 0 (record { event = DeliverToCaller; item = Some kind.Cfr; turn = turn.Burst map; fcds = 256; refused = false })
+      → entry_line 0 (record { event = DeliverToCaller; item = Some kind.Cfr; fields = field.Nothing; turn = turn.Burst map; fcds = 256; refused = false })
       ≡ codes "0 to-caller CFR BURST:256\n"
   pub refused_frame :
-      entry_line 1 (record { event = DeliverToAnswerer; item = Some (kind.Fcd 255); turn = turn.Silent; fcds = 0; refused = true })
+      entry_line 1 (record { event = DeliverToAnswerer; item = Some (kind.Fcd 255); fields = field.Nothing; turn = turn.Silent; fcds = 0; refused = true })
       ≡ codes "1 to-answerer FCD:255 - !\n"
   pub refused_input : (map : List ℕ)
-      → entry_line 2 (record { event = CallerT5; item = None; turn = turn.Ppr map; fcds = 0; refused = true })
+      → entry_line 2 (record { event = CallerT5; item = None; fields = field.Nothing; turn = turn.Ppr map; fcds = 0; refused = true })
       ≡ codes "2 caller-t5 - PPR !\n"
   pub not_compatible : end_text (Some end.NotCompatible) ≡ codes "not-compatible"
   pub bad_page : end_text (Some end.BadPage) ≡ codes "bad-page"

@@ -2,7 +2,9 @@
 
 ghost use Rattle.std.specs.Prelude.{◌≡◌, IsTrue};
 
-use line_sim::{Entry, Event, Kind};
+use line_sim::{Entry, Event, Fields, Kind};
+use page_code::Coding;
+use signals::{PageEnd, PageWidth, Params, Speed};
 use stations::Turn;
 
 fn same_event(event: Event, other: Event) -> bool
@@ -54,6 +56,95 @@ fn same_item(item: Option<Kind>, other: Option<Kind>) -> bool
     }
 }
 
+fn same_speed(speed: Speed, other: Speed) -> bool
+    ensures { IsTrue result → speed ≡ other }
+{
+    match (speed, other) {
+        (Speed::V27At2400, Speed::V27At2400) => true,
+        (Speed::V27At4800, Speed::V27At4800) => true,
+        (Speed::V29At7200, Speed::V29At7200) => true,
+        (Speed::V29At9600, Speed::V29At9600) => true,
+        (Speed::V17At7200, Speed::V17At7200) => true,
+        (Speed::V17At9600, Speed::V17At9600) => true,
+        (Speed::V17At12000, Speed::V17At12000) => true,
+        (Speed::V17At14400, Speed::V17At14400) => true,
+        _ => false,
+    }
+}
+
+fn same_width(width: PageWidth, other: PageWidth) -> bool
+    ensures { IsTrue result → width ≡ other }
+{
+    match (width, other) {
+        (PageWidth::W1728, PageWidth::W1728) => true,
+        (PageWidth::W2048, PageWidth::W2048) => true,
+        (PageWidth::W2432, PageWidth::W2432) => true,
+        _ => false,
+    }
+}
+
+fn same_coding(coding: Coding, other: Coding) -> bool
+    ensures { IsTrue result → coding ≡ other }
+{
+    match (coding, other) {
+        (Coding::OneDim, Coding::OneDim) => true,
+        (Coding::T6, Coding::T6) => true,
+        _ => false,
+    }
+}
+
+fn same_params(params: Params, other: Params) -> bool
+    ensures { IsTrue result → params ≡ other }
+{
+    if !same_speed(params.speed, other.speed) {
+        return false;
+    }
+    if !same_width(params.width, other.width) {
+        return false;
+    }
+    if !same_coding(params.coding, other.coding) {
+        return false;
+    }
+    params.fine == other.fine && params.small == other.small
+}
+
+fn same_end(ends: PageEnd, other: PageEnd) -> bool
+    ensures { IsTrue result → ends ≡ other }
+{
+    match (ends, other) {
+        (PageEnd::Null, PageEnd::Null) => true,
+        (PageEnd::Mps, PageEnd::Mps) => true,
+        (PageEnd::Eom, PageEnd::Eom) => true,
+        (PageEnd::Eop, PageEnd::Eop) => true,
+        _ => false,
+    }
+}
+
+/// Whether fields are the same, as they are drawn: those of others than a DCS and a PPS aren't.
+fn same_fields(fields: Fields, other: Fields) -> bool
+    ensures { IsTrue result → fields ≡ other }
+{
+    match (fields, other) {
+        (Fields::Nothing, Fields::Nothing) => true,
+        (Fields::Dcs(params), Fields::Dcs(others)) => same_params(params, others),
+        (
+            Fields::Pps {
+                ends,
+                page: 0,
+                block: 0,
+                last: 0,
+            },
+            Fields::Pps {
+                ends: other_ends,
+                page: 0,
+                block: 0,
+                last: 0,
+            },
+        ) => same_end(ends, other_ends),
+        _ => false,
+    }
+}
+
 fn same_map(map: [u8; 32], other: [u8; 32]) -> bool
     ensures { IsTrue result → map ≡ other }
 {
@@ -88,6 +179,9 @@ pub(crate) fn same_entry(entry: &Entry, other: &Entry) -> bool
         return false;
     }
     if !same_item(entry.item, other.item) {
+        return false;
+    }
+    if !same_fields(entry.fields, other.fields) {
         return false;
     }
     if !same_turn(entry.turn, other.turn) {

@@ -2,13 +2,15 @@
 
 ghost use Rattle.calls.specs.Ladders.{entries_in, entries_of_round, entries_of_rounds, entries_of_row, entries_of_rows, feet_of};
 ghost use Rattle.calls.specs.Ladders.{item_after, repeated};
+ghost use Rattle.calls.specs.DrawnFields.{drawn_entry};
 ghost use Rattle.engines.specs.Faults.{IsOutside};
 ghost use Rattle.std.specs.Prelude.{◌≡◌, ◌+◌, ◌++◌, ◌∷◌, [], length, IfErr, IfOk, IfSome, IsTrue, OnOk, None, Some};
 
 use crate::alike::same_entry;
 use crate::call::after;
+use crate::drawn_fields::drawn;
 use engines::{FAILED, ToolFault};
-use line_sim::{Ending, Entry, Kind};
+use line_sim::{Ending, Entry, Event, Kind};
 use stations::{End, Turn};
 use std::alloc::{AllocError, Global};
 use std::marker::Model;
@@ -172,12 +174,25 @@ fn add_round(rounds: &mut Vec<Round>, rows: Vec<Row>) -> Result<(), AllocError>
     Ok(())
 }
 
-/// Whether a round ends with an event: a station has begun an exchange in it.
-fn ends_round(turn: Turn) -> bool {
+/// Whether a station begins an exchange.
+fn begins_exchange(turn: Turn) -> bool {
     match turn {
         Turn::Dis | Turn::Training | Turn::Burst(_) | Turn::Pps | Turn::Rr | Turn::Dcn => true,
         Turn::Silent | Turn::Cfr | Turn::Ftt | Turn::Mcf | Turn::Ppr(_) | Turn::Rnr => false,
     }
+}
+
+/// Whether an event is an answer that comes to a caller of which nothing more is known, as in a capture.
+fn is_captured_answer(entry: &Entry) -> bool {
+    match (entry.event, entry.turn, entry.item) {
+        (Event::DeliverToCaller, Turn::Silent, Some(kind)) => !matches!(kind, Kind::Dcn),
+        _ => false,
+    }
+}
+
+/// Whether a round ends with an event: a station has begun an exchange in it, or what comes is the answer of one.
+fn ends_round(entry: &Entry) -> bool {
+    begins_exchange(entry.turn) || is_captured_answer(entry)
 }
 
 /// Adds an event to the rows after rounds, and these to the rounds where it ends one.
@@ -192,7 +207,7 @@ fn add_event(
     let mut rounds = rounds;
     let mut rows = rows;
     add_row(&mut rows, entry)?;
-    if !ends_round(entry.turn) {
+    if !ends_round(entry) {
         return Ok((rounds, rows));
     }
     add_round(&mut rounds, rows)?;
@@ -238,9 +253,9 @@ impl Ladder {
         }
     }
 
-    /// Adds the event of a number. Errs with 8 where that isn't the next number or the call is over, and with 9.
+    /// Adds the event of a number, as it is drawn. Errs with 8 where that isn't the next number or the call is over, and with 9.
     pub(crate) fn add(&mut self, number: u64, entry: &Entry) -> Result<(), ToolFault>
-        ensures added { OnOk result (self.new ≡ record self.old { entries = self.old.entries ++ entry.now ∷ [] }) }
+        ensures added { OnOk result (self.new ≡ record self.old { entries = self.old.entries ++ drawn_entry entry.now ∷ [] }) }
         ensures number { OnOk result (number ≡ length self.old.entries + 1) }
         ensures going { OnOk result (self.old.feet ≡ None) }
         ensures fault { IfErr result IsOutside }
@@ -252,7 +267,7 @@ impl Ladder {
         let going = mem::replace(&mut self.going, Vec::new(self.alloc));
         let rounds = mem::replace(&mut self.rounds, Vec::new(self.alloc));
         self.count = 0;
-        let (rounds, going) = add_event(self.alloc, rounds, going, entry)?;
+        let (rounds, going) = add_event(self.alloc, rounds, going, &drawn(entry))?;
         self.rounds = rounds;
         self.going = going;
         self.count = count;

@@ -11,6 +11,7 @@ ghost use Rattle.engines.specs.Faults.{IsOutside};
 ghost use Rattle.std.specs.Io.KnownBytes.{Appends};
 ghost use Rattle.std.specs.Prelude.{◌≡◌, ◌+◌, ◌*◌, length, IfErr, IfOk, OnOk};
 
+use crate::drawn_fields::FieldsText;
 use crate::ladder::{Feet, Ladder, Round, Row};
 use crate::transcript::{ItemText, TurnText, end_word, write_entry};
 use engines::{FAILED, ToolFault};
@@ -171,7 +172,7 @@ impl fmt::Display for TimesText {
     }
 }
 
-/// What is written over an arrow: the items, and what becomes of them.
+/// What is written over an arrow: the items, what they set or end, and what becomes of them.
 #[derive(Drop)]
 struct LabelText(Row);
 
@@ -186,7 +187,13 @@ impl fmt::Display for LabelText {
         let many = TimesText(entry.item, self.0.times);
         match entry.item {
             None => write!(f, "{many}{}", gap_word(entry.event)),
-            item => write!(f, "{many}{}{}", ItemText(item), fate_word(entry.event)),
+            item => write!(
+                f,
+                "{many}{}{}{}",
+                ItemText(item),
+                FieldsText(entry.fields),
+                fate_word(entry.event)
+            ),
         }
     }
 }

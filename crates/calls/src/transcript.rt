@@ -13,7 +13,7 @@ use std::fmt;
 use std::io::Write;
 
 /// The word of an event, as scripts have it.
-fn event_word(event: Event) -> &'static str
+pub(crate) fn event_word(event: Event) -> &'static str
     ensures { result.now ≡ word_of event }
 {
     match event {

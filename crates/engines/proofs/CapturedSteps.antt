@@ -3,9 +3,9 @@ use Rattle.std.proofs.Common.{◌≡◌, ◌≢◌, ◌<◌, ◌+◌, ℕ, zero,
 use Rattle.std.proofs.Common.{refl, ap, sym, ◌∙◌, arith, append_assoc, eqb, inl, inr}
 use Rattle.std.proofs.lemmas.Bool.{cases_eq}
 use Rattle.std.proofs.lemmas.Bool.Decides.{nat_tests}
-use Rattle.std.specs.Prelude.{Option, None, Ok, Err}
+use Rattle.std.specs.Prelude.{Option, None, Some, Ok, Err, ◌≤◌, unwrap_or}
 use Rattle.std.specs.List.{filter, range_with_len}
-use Rattle.std.proofs.lemmas.List.{ext_get_or, map-append}
+use Rattle.std.proofs.lemmas.List.{append-nil, ext_get_or, map-append}
 use Rattle.std.proofs.lemmas.List.Elements.{filter-append}
 use Rattle.std.proofs.lemmas.List.FromFn.{get_or-map-range_with_len, length-map-range_with_len}
 use Rattle.raster.specs.Packed.{bits_of}
@@ -13,12 +13,14 @@ use Rattle.raster.specs.Pages.{PagePixels}
 use Rattle.raster.specs.declared.packed.Order.TheVariants.{LsbFirst}
 use Rattle.run_tables.specs.declared.fault.CodeFault.{CodeFault}
 use Rattle.page_code.specs.Codings.{read_rows}
-use Rattle.partial_page.specs.Store.{frame_of, is_missing}
+use Rattle.partial_page.proofs.StoreLemmas.{joined_frames-none, joined_frames-more}
+use Rattle.partial_page.specs.Store.{frame_of, is_missing, joined_frames}
 use Rattle.signals.specs.Agreement.{pixels_of}
 use Rattle.signals.specs.declared.params.Params.{Params}
 use Rattle.stations.specs.AnswererStep.{Frames}
 use Rattle.stations.specs.declared.mark.Mark.{Mark}
 use Rattle.engines.specs.Captured.{found_of, later_one, overlaid, page_in}
+use Rattle.engines.specs.Fronts.{AppendsFront}
 use Rattle.engines.specs.declared.captured.Captured.{Captured}
 use Rattle.engines.specs.declared.captured.Captured.TheVariants.{Page, Unread, MissingFrame}
 
@@ -142,3 +144,47 @@ none_laid old later k = ap (λ (b : Bool). cond b (laid_over old later k) (frame
   where
     nothing : (k : ℕ) → ltb k 0 ≡ false
     nothing k = grind (arith, nat_tests)
+
+-- ---- frames before the first one that is missing
+
+-- all frames below a number are there
+abbrev pub AllBelow : Frames → ℕ → Type 0
+AllBelow frames n = (k : ℕ) → k < n → is_missing frames k ≡ false
+
+pub front_to : (frames : Frames) (n : ℕ) (before after : List ℕ) → n ≤ 256 → AllBelow frames n → frame_of frames n ≡ None
+    → after ≡ before ++ joined_frames frames n → AppendsFront frames before after
+front_to frames n before after few there none is = (
+  joined_frames frames n,
+  record { count = n; most = few; there = there; gap = λ less. rw none refl; joined = refl },
+  is,
+)
+
+pub front_all : (frames : Frames) (n : ℕ) (before after : List ℕ) → n ≡ 256 → AllBelow frames n
+    → after ≡ before ++ joined_frames frames n → AppendsFront frames before after
+front_all frames n before after all there is =
+    let few : n ≤ 256 = omega (arith, all) in (
+      joined_frames frames n,
+      record { count = n; most = few; there = there; gap = λ less. absurd (omega (arith, all, less)); joined = refl },
+      is,
+    )
+
+pub front_none : (frames : Frames) (before : List ℕ) → before ≡ before ++ joined_frames frames 0
+front_none frames before = rw joined_frames-none (sym (append-nil before))
+
+pub none_below : (frames : Frames) → AllBelow frames 0
+none_below frames k less = absurd (omega (arith, less))
+
+pub front_more : (frames : Frames) (n : ℕ) (before old new octets : List ℕ) → old ≡ before ++ joined_frames frames n
+    → frame_of frames n ≡ Some octets → new ≡ old ++ octets → new ≡ before ++ joined_frames frames (n + 1)
+front_more frames n before old new octets was there is =
+    let one : unwrap_or (frame_of frames n) [] ≡ octets = rw there refl in
+    is ∙ (ap (λ (xs : List ℕ). xs ++ octets) was ∙ (append_assoc before (joined_frames frames n) octets
+    ∙ ap (λ (xs : List ℕ). before ++ xs) (sym (joined_frames-more frames n ∙ ap (λ (xs : List ℕ). joined_frames frames n ++ xs) one))))
+
+pub there_more : (frames : Frames) (n : ℕ) (octets : List ℕ) → AllBelow frames n → frame_of frames n ≡ Some octets
+    → AllBelow frames (n + 1)
+there_more frames n octets below there k less =
+    elim (cases_eq k n) [
+      | inl e ↦ rw (e, there) refl
+      | inr ne ↦ let fewer : k < n = omega (arith, less, ne) in below k fewer
+    ]

@@ -40,7 +40,7 @@ takes_first step f now new before out all a b = record {
       ∙ ap (λ (s : Capture). before ++ (step.found ++ (f s).found)) a.is));
 }
 
-all_of : (queue : List (List ℕ)) (content : List ℕ) (rest : List (List ℕ)) (now : Capture) → queue ≡ content ∷ rest
+pub all_of : (queue : List (List ℕ)) (content : List ℕ) (rest : List (List ℕ)) (now : Capture) → queue ≡ content ∷ rest
     → hears_all queue now ≡ (hears_read (read_content content) now >>> hears_all rest)
 unfolding hears_all
 all_of queue content rest now e = rw e refl
@@ -84,7 +84,7 @@ all_found start framing old now before out was none =
 
 -- ---- bits in pieces
 
-hears_more : (xs ys : List (List ℕ)) (s : Capture) → hears_all (xs ++ ys) s ≡ (hears_all xs s >>> hears_all ys)
+pub hears_more : (xs ys : List (List ℕ)) (s : Capture) → hears_all (xs ++ ys) s ≡ (hears_all xs s >>> hears_all ys)
 unfolding hears_all
 hears_more [] ys s = refl
 hears_more (x ∷ xs) ys s =

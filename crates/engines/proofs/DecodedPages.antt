@@ -1,5 +1,5 @@
 -- What is given of a page whose image is written into no octets.
-use Rattle.std.proofs.Common.{ℕ, ◌≡◌, List, [], Some, length, refl, ◌∙◌}
+use Rattle.std.proofs.Common.{ℕ, ◌≡◌, List, [], Some, inr, length, refl, ◌∙◌}
 use Rattle.std.specs.Prelude.{◌≢◌}
 use Rattle.raster.specs.Packed.{bits_of}
 use Rattle.raster.specs.Pages.{PagePixels}
@@ -9,8 +9,11 @@ use Rattle.page_code.specs.declared.Coding.{Coding}
 use Rattle.page_code.specs.declared.Coding.TheVariants.{OneDim, T6}
 use Rattle.page_code.specs.Codings.{IsLongestIn, ReadsIn}
 use Rattle.page_code.specs.PageCodes.{ReadsPage, RefusesPage}
+use Rattle.page_code.specs.PageReaders.{IsPageRefused}
 use Rattle.page_code.specs.RowsSoFar.{AreWholeRows}
-use Rattle.engines.specs.CodedPages.{DecodesPage, SalvagesRows, WritesPage}
+use Rattle.page_code.specs.declared.page_reader.RefusedCode.{RefusedCode}
+use Rattle.raster.specs.declared.packed.Order.{Order}
+use Rattle.engines.specs.CodedPages.{DecodesPage, RefusesShow, SalvagesRows, WritesPage}
 use Rattle.engines.specs.Decodings.{GivesPage, GivesRepaired}
 use Rattle.engines.specs.Faults.{fault_of_code}
 use Rattle.engines.specs.declared.decoding.Broken.{Broken}
@@ -48,6 +51,18 @@ module _ (form : PageForm) (octets image : List ℕ) (page : PagePixels) (writes
     written = writes.0;
     not_written = writes.1;
   }
+
+-- ---- why nothing is given
+
+pub refused_code : (coding : Coding) (order : Order) (width : ℕ) (octets : List ℕ) (code : RefusedCode)
+    → IsPageRefused coding width (bits_of order octets) code → (answer : ToolFault) → answer ≡ fault_of_code code.fault
+    → RefusesShow coding order width octets answer
+refused_code coding order width octets code is answer e = inr (record {
+  code_fault = code.fault;
+  refuses = is.refuses;
+  other = is.memory;
+  is = e ∙ at_its_bit code.fault.place code.fault.kind is.memory;
+})
 
 -- ---- no lines of repaired rows are told of a page that is read to its end, nor of one whose rest is refused
 

@@ -1,6 +1,6 @@
 -- The lemmas of the engines.
 mod SignalWords
-mod RecordData
+pub mod RecordData
 mod TurnedBits
 mod Listing
 mod MarkedFrames
@@ -17,8 +17,11 @@ mod CapturedSteps
 mod LastFrames
 mod Capturing
 mod Following
+mod Salvaging
 mod RepairedLines
 mod MissingEol
+mod NoticeLines
+mod RefusedRows
 mod CapturesMean
 mod RepairsMean
 mod RepairsT6

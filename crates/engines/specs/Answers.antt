@@ -2,8 +2,10 @@
 use Rattle.std.specs.Prelude.{ℕ, ◌≡◌, ◌-◌, ◌↔◌, Bool, true, not, ◌||◌, List, [], ◌++◌, length, Result, Ok, Err, IsTrue, codes, cond, nat_eq}
 use Rattle.std.specs.Fmt.{decimal}
 use Rattle.std.specs.Int.{div_ceil}
+use Rattle.engines.specs.DecodeRecords.{after_record, as_told, page_record, rows_record}
 use Rattle.engines.specs.Decodings.{GivesPage, broken_asked}
 use Rattle.engines.specs.PageEnds.{HasItsEnd}
+use Rattle.engines.specs.Records.{record_line}
 use Rattle.engines.specs.declared.decoding.ReadTo.{ReadTo}
 use Rattle.engines.specs.declared.decoding.ReadTo.TheVariants.{End, Fault, Lines, NoEnd}
 use Rattle.engines.specs.declared.fault.ToolFault.{ToolFault}
@@ -14,13 +16,24 @@ use Rattle.engines.specs.declared.options.PageForm.{PageForm}
 abbrev pub page_line : ℕ → ℕ → List ℕ
 page_line rows bits = codes "rows " ++ (decimal rows ++ (codes " bits " ++ (decimal bits ++ codes "\n")))
 
--- the line of the octets after a page, where there are any
+-- the line of the octets after a page
 abbrev pub after_line : ℕ → List ℕ
-after_line count = cond (nat_eq count 0) [] (codes "octets after the page " ++ (decimal count ++ codes "\n"))
+after_line count = codes "octets after the page " ++ (decimal count ++ codes "\n")
 
 -- the line of a page's rows alone
 abbrev pub rows_line : ℕ → List ℕ
 rows_line rows = codes "rows " ++ (decimal rows ++ codes "\n")
+
+-- a page's rows and the bits of its code, and the octets after it where there are any, as lines or as records
+abbrev pub page_text : Bool → ℕ → ℕ → List ℕ
+page_text records rows bits = cond records (record_line (page_record rows bits)) (page_line rows bits)
+
+abbrev pub after_text : Bool → ℕ → List ℕ
+after_text records count = cond (nat_eq count 0) [] (cond records (record_line (after_record count)) (after_line count))
+
+-- a page's rows alone as a line, or as a record
+abbrev pub rows_text : Bool → ℕ → List ℕ
+rows_text records rows = cond records (record_line (rows_record rows)) (rows_line rows)
 
 -- the line of a page of T.4 without its RTC
 abbrev pub no_rtc_line : ℕ → List ℕ
@@ -31,22 +44,22 @@ abbrev pub octets_after : List ℕ → ℕ → ℕ
 octets_after octets bits = length octets - div_ceil bits 8
 
 -- what is told of a page that was read to the end of its code: its counts, where they are asked for, and that RTC is missing
-abbrev pub end_text : Bool → ℕ → ℕ → ℕ → Bool → List ℕ
-end_text verbose rows bits after has_end =
-    cond verbose (page_line rows bits ++ after_line after) [] ++ cond has_end [] (no_rtc_line rows)
+abbrev pub end_text : Bool → Bool → ℕ → ℕ → ℕ → Bool → List ℕ
+end_text verbose records rows bits after has_end =
+    cond verbose (page_text records rows bits ++ after_text records after) [] ++ as_told records (cond has_end [] (no_rtc_line rows))
 
 -- What is told of a page, and whether all is there. Of one that was read to the end of its code, all is there, but for RTC where it is
 -- asked for. Of one that was read line by line, the lines of its repaired rows, and its rows where they are asked for. Of one that ends
 -- without its EOFB, the line that says so, and its rows where they are asked for; and all is there, but where the end is asked for. Where
--- the rest is refused, nothing is told, and that is the fault.
+-- the rest is refused, nothing is told, and that is the fault. Lines are told as they are, or each as a notice.
 abbrev pub TellsPage : PageForm → DecodeOptions → List ℕ → ReadTo → ℕ → List ℕ → List ℕ → Result Bool ToolFault → Type 0
 TellsPage form options octets (End bits) rows lines told end =
     (has_end : Bool) × (IsTrue has_end ↔ HasItsEnd form.coding form.order octets bits)
-    × (told ≡ end_text options.verbose rows bits (octets_after octets bits) has_end) × (end ≡ Ok (has_end || not options.whole))
+    × (told ≡ end_text options.verbose options.records rows bits (octets_after octets bits) has_end) × (end ≡ Ok (has_end || not options.whole))
 TellsPage form options octets (Lines count) rows lines told end =
-    (told ≡ lines ++ cond options.verbose (rows_line rows) []) × (end ≡ Ok true)
+    (told ≡ as_told options.records lines ++ cond options.verbose (rows_text options.records rows) []) × (end ≡ Ok true)
 TellsPage form options octets (NoEnd bit) rows lines told end =
-    (told ≡ lines ++ cond options.verbose (rows_line rows) []) × (end ≡ Ok (not options.whole))
+    (told ≡ as_told options.records lines ++ cond options.verbose (rows_text options.records rows) []) × (end ≡ Ok (not options.whole))
 TellsPage form options octets (Fault fault) rows lines told end = (told ≡ []) × (end ≡ Err fault)
 
 -- a page is decoded in the way that the options ask for, with these lines for standard error

@@ -1,9 +1,9 @@
 -- The pages in a capture, and what is missing of others, as JSON for programs.
-use Rattle.std.specs.Prelude.{ℕ, ◌-◌, ◌^◌, ◌++◌, List, codes, length, min}
+use Rattle.std.specs.Prelude.{ℕ, true, ◌-◌, ◌^◌, ◌++◌, List, codes, length, min}
 use Rattle.std.specs.Fmt.{decimal}
 use Rattle.raster.specs.Pages.{PagePixels}
 use Rattle.run_tables.specs.Faults.{number_of}
-use Rattle.serde_json.specs.Data.{Data, member, no_members, null, object}
+use Rattle.serde_json.specs.Data.{Data, boolean, member, no_members, null, object}
 use Rattle.stations.specs.declared.mark.Mark.{Mark}
 use Rattle.engines.specs.Missing.{lines_word}
 use Rattle.engines.specs.PageNumbers.{page_missing}
@@ -19,6 +19,15 @@ stored_record numbers page = object (member (codes "file") (words (codes "page-"
     (member (codes "lines") (words (lines_word page.fine))
     (member (codes "page") (count numbers.page)
     (member (codes "width") (count page.width) no_members)))))
+
+-- the rows of a page before a gap that are in a file: the same, and that it is those rows
+abbrev pub stored_front_record : PageNumbers → PagePixels → Data
+stored_front_record numbers page = object (member (codes "file") (words (codes "page-" ++ (decimal numbers.file ++ codes ".pbm")))
+    (member (codes "height") (count (length page.rows))
+    (member (codes "lines") (words (lines_word page.fine))
+    (member (codes "page") (count numbers.page)
+    (member (codes "salvaged") (boolean true)
+    (member (codes "width") (count page.width) no_members))))))
 
 -- what is missing of a block, by its own number from 0 and its page's from 1
 abbrev pub block_record : List ℕ → ℕ → Mark → Data

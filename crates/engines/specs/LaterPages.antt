@@ -14,6 +14,8 @@ use Rattle.page_code.specs.Codings.{ReadsIn}
 use Rattle.page_code.specs.OneDimension.Fronts.{CodeBegins}
 use Rattle.page_code.specs.OneDimension.Pages.{AreZeros, eol_word, eol_words}
 use Rattle.engines.specs.Answers.{AnswersDecode}
+use Rattle.engines.specs.DecodeRecords.{as_told, begins_record}
+use Rattle.engines.specs.Records.{record_line}
 use Rattle.engines.specs.CodedPages.{RefusesCode, WritesPage}
 use Rattle.engines.specs.declared.fault.ToolFault.{ToolFault}
 use Rattle.engines.specs.declared.fault.ToolFault.TheVariants.{No}
@@ -89,10 +91,14 @@ Reaches form pages octets later (End count) = (1 ≤ count) × (count ≤ pages)
 Reaches form pages octets later (Broken number fault) = (1 ≤ number) × (number ≤ pages) × AreAfter form octets (number - 1) later
     × RefusesCode form.coding form.order form.width later fault
 
--- the line of the octet at which a page begins, where it is asked for and the page isn't the first
-abbrev pub begins_text : Bool → ℕ → ℕ → List ℕ
-begins_text verbose page octet = cond (verbose && nat_lt 1 page)
-    (codes "page " ++ (decimal page ++ (codes " begins at octet " ++ (decimal octet ++ codes "\n")))) []
+-- the line of the octet at which a page begins
+abbrev pub begins_line : ℕ → ℕ → List ℕ
+begins_line page octet = codes "page " ++ (decimal page ++ (codes " begins at octet " ++ (decimal octet ++ codes "\n")))
+
+-- the same as a line, or as a record, where it is asked for and the page isn't the first
+abbrev pub begins_text : Bool → Bool → ℕ → ℕ → List ℕ
+begins_text verbose records page octet = cond (verbose && nat_lt 1 page)
+    (cond records (record_line (begins_record page octet)) (begins_line page octet)) []
 
 -- the line of how many pages a file has
 abbrev pub pages_line : ℕ → List ℕ
@@ -108,7 +114,7 @@ pub record AnswersReached (form : PageForm) (options : DecodeOptions) (page octe
     (told : List ℕ) (end : Result Bool ToolFault) : Type 0 where
   pub lines : List ℕ
   pub answers : (image : List ℕ) → WritesPage decoded (Some []) (Some image) → AnswersDecode form options octets image lines end
-  pub told_is : told ≡ begins_text options.verbose page octet ++ lines
+  pub told_is : told ≡ begins_text options.verbose options.records page octet ++ lines
 
 -- What is given of a page of octets, whose own ones are `later`: what `decode` gives of those, with the line of where they begin. Where
 -- the file has no such page, how many it has, and fault 28; where one before it can't be read to its end, which one, and its fault.
@@ -116,9 +122,9 @@ abbrev pub GivesReached : PageForm → DecodeOptions → ℕ → List ℕ → Li
 GivesReached form options page octets later decoded told end Page =
     AnswersReached form options page (length octets - length later) later decoded told end
 GivesReached form options page octets later decoded told end (End count) =
-    (decoded.rows ≡ []) × (told ≡ pages_line count) × (end ≡ Err (No 28))
+    (decoded.rows ≡ []) × (told ≡ as_told options.records (pages_line count)) × (end ≡ Err (No 28))
 GivesReached form options page octets later decoded told end (Broken number fault) =
-    (decoded.rows ≡ []) × (told ≡ broken_line number (length octets - length later)) × (end ≡ Err fault)
+    (decoded.rows ≡ []) × (told ≡ as_told options.records (broken_line number (length octets - length later))) × (end ≡ Err fault)
 
 -- what `decode` gives of the page of this number, counted from 1
 pub record AnswersPage (form : PageForm) (options : DecodeOptions) (page : ℕ) (octets later : List ℕ) (decoded : PagePixels)

@@ -14,8 +14,10 @@ pub mod Texts
 pub mod SignalWords
 pub mod Records
 pub mod FaultRecords
+pub mod DecodeRecords
 pub mod TraceRecords
 pub mod Frames
+pub mod Fronts
 pub mod Captured
 pub mod Found
 pub mod PageNumbers

@@ -36,3 +36,7 @@ lines_word false = codes "standard"
 abbrev pub stored_text : PageNumbers → PagePixels → List ℕ
 stored_text numbers page = page_words numbers.page ++ (codes ": page-" ++ (decimal numbers.file ++ (codes ".pbm, " ++ (decimal page.width
     ++ (codes " x " ++ (decimal (length page.rows) ++ (codes " pixels, " ++ (lines_word page.fine ++ codes " lines"))))))))
+
+-- the rows of a page before a gap that are in a file: the same, and that it is those rows
+abbrev pub stored_front_text : PageNumbers → PagePixels → List ℕ
+stored_front_text numbers page = stored_text numbers page ++ codes ", rows before a gap"

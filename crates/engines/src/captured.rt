@@ -4,6 +4,8 @@ ghost use Rattle.engines.specs.Captured.{Takes, after_lack, at_end, captured, em
 ghost use Rattle.engines.specs.Captured.{hears_block, hears_fcd, hears_pps, hears_read, is_taken, is_waiting, judges, lacking};
 ghost use Rattle.engines.specs.Captured.{later_one, left_open, overlaid, page_in, takes_block, turns_from, turns_to, with_block};
 ghost use Rattle.engines.specs.Faults.{IsOutside};
+ghost use Rattle.engines.specs.Fronts.{AppendsFront, IsFrontAt, IsFrontBefore, IsFrontOfSignal, IsLostFront, IsOpenFront, goes_on};
+ghost use Rattle.engines.specs.Fronts.{open_frames};
 ghost use Rattle.hdlc.specs.Gaps.{good};
 ghost use Rattle.partial_page.specs.Store.{frame_of, is_missing, joined_frames, no_frames};
 ghost use Rattle.raster.specs.Packed.{bits_of};
@@ -181,6 +183,20 @@ fn name_lacking(frames: &BlockStore, waiting: Pps, out: &mut Vec<Captured>) -> R
 {
     for number in 0..waiting.last as u16 + 1 {
         name_one(frames, waiting.mark, number as u8, out)?;
+    }
+    Ok(())
+}
+
+/// Appends the frames of a block before the first one that is missing.
+fn append_front(frames: &BlockStore, octets: &mut Vec<u8>) -> Result<(), ToolFault>
+    ensures front { OnOk result (AppendsFront frames.now.frames octets.old.items octets.new.items) }
+    ensures fault { IfErr result IsOutside }
+{
+    for number in 0u16..256 {
+        let Some(data) = frames.frame(number as u8) else {
+            return Ok(());
+        };
+        octets.extend_from_slice(data)?;
     }
     Ok(())
 }
@@ -472,6 +488,112 @@ impl Capture {
     {
         self.give_up(out)?;
         self.name_open(out)
+    }
+
+    /// How pages are sent, by the last DCS.
+    pub(crate) fn params(&self) -> Option<Params>
+        ensures { result ≡ self.now.params }
+    {
+        self.params
+    }
+
+    /// Appends the frames of the open block before the first one that is missing.
+    fn append_open(&self, octets: &mut Vec<u8>) -> Result<(), ToolFault>
+        ensures front { OnOk result (AppendsFront (open_frames self.now.waiting self.now) octets.old.items octets.new.items) }
+        ensures fault { IfErr result IsOutside }
+    {
+        match self.block.asked {
+            Some(_) => append_front(&self.block.frames, octets),
+            None => append_front(&self.coming, octets),
+        }
+    }
+
+    /// The octets of the open page before its first gap, where nothing of it comes any more.
+    pub(crate) fn open_front(&self) -> Result<Vec<u8>, ToolFault>
+        ensures front { IfOk result (λ octets. IsOpenFront self.now octets.items) }
+        ensures fault { IfErr result IsOutside }
+    {
+        let mut octets = Vec::new(self.alloc);
+        if self.spoiled {
+            return Ok(octets);
+        }
+        octets.extend_from_slice(&self.octets)?;
+        self.append_open(&mut octets)?;
+        Ok(octets)
+    }
+
+    /// The octets of the open page's whole blocks.
+    fn whole_front(&self) -> Result<Vec<u8>, ToolFault>
+        ensures front { IfOk result (λ octets. octets.items ≡ cond self.now.spoiled [] self.now.octets) }
+        ensures fault { IfErr result IsOutside }
+    {
+        let mut octets = Vec::new(self.alloc);
+        if self.spoiled {
+            return Ok(octets);
+        }
+        octets.extend_from_slice(&self.octets)?;
+        Ok(octets)
+    }
+
+    /// The octets before the gap of the open page, which a PPS gives up.
+    fn lost_front(&self) -> Result<Vec<u8>, ToolFault>
+        ensures front { IfOk result (λ octets. IsLostFront self.now.waiting self.now octets.items) }
+        ensures fault { IfErr result IsOutside }
+    {
+        match self.block.asked {
+            Some(_) => self.open_front(),
+            None => self.whole_front(),
+        }
+    }
+
+    /// Whether the open page goes on with the block of this mark, or that was whole already.
+    fn goes_on(&self, mark: Mark) -> bool
+        ensures { result ≡ goes_on mark self.now }
+    {
+        if self.is_taken(mark) {
+            return true;
+        }
+        match self.block.asked {
+            Some(waiting) => waiting.mark.is_same(mark),
+            None => mark.block == self.next,
+        }
+    }
+
+    /// The octets before the gap of the open page that a PPS with this mark leaves: none where the page goes on.
+    fn front_at(&self, mark: Mark) -> Result<Vec<u8>, ToolFault>
+        ensures front { IfOk result (λ octets. IsFrontAt (goes_on mark self.now) self.now octets.items) }
+        ensures fault { IfErr result IsOutside }
+    {
+        if self.goes_on(mark) {
+            return Ok(Vec::new(self.alloc));
+        }
+        self.lost_front()
+    }
+
+    /// The octets before the gap of the open page that a signal leaves: a DCS, or a PPS that gives the page up.
+    fn front_of(&self, signal: &Signal<'_>) -> Result<Vec<u8>, ToolFault>
+        ensures front { IfOk result (λ octets. IsFrontOfSignal (plain signal.now) self.now octets.items) }
+        ensures fault { IfErr result IsOutside }
+    {
+        match signal {
+            Signal::Dcs(_) => self.open_front(),
+            Signal::Pps { page, block, .. } => self.front_at(Mark {
+                page: *page,
+                block: *block,
+            }),
+            _ => Ok(Vec::new(self.alloc)),
+        }
+    }
+
+    /// The octets before the gap of the open page that a content leaves.
+    pub(crate) fn front_before(&self, content: &[u8]) -> Result<Vec<u8>, ToolFault>
+        ensures front { IfOk result (λ octets. IsFrontBefore (read_content content.now) self.now octets.items) }
+        ensures fault { IfErr result IsOutside }
+    {
+        match signals::read(content) {
+            Ok(signal) => self.front_of(&signal),
+            Err(_) => Ok(Vec::new(self.alloc)),
+        }
     }
 
     /// A signal.

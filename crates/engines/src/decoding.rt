@@ -2,17 +2,18 @@
 ghost use Rattle.engines.specs.CodedPages.{RefusesShow, WritesPage};
 ghost use Rattle.engines.specs.Decodings.{GivesPage, RefusesDecoding, broken_asked};
 ghost use Rattle.engines.specs.Faults.{IsOutside};
+ghost use Rattle.page_code.specs.PageReaders.{IsPageRefused};
+ghost use Rattle.raster.specs.Packed.{bits_of};
 ghost use Rattle.raster.specs.Pixels.{IsWidth};
-ghost use Rattle.std.specs.Prelude.{◌≡◌, [], ℕ, List, Some, IfErr, IfOk, length};
+ghost use Rattle.std.specs.Prelude.{◌≡◌, [], ℕ, List, Some, IfErr, IfOk, IfSome, length};
 
 use crate::fault::{NO_MEMORY, ToolFault};
 use crate::options::PageForm;
 use crate::repair::repair_lines;
 use crate::repair_t6::repair_t6;
-use page_code::Coding;
+use page_code::{Coding, PageRead, RefusedCode};
 use raster::Page;
-use run_tables::CodeFaultKind;
-use std::alloc::Global;
+use std::alloc::{AllocError, Global};
 
 /// What is given of a page that can't be read.
 #[derive(Clone, Copy, Debug, PartialEq, Eq)]
@@ -65,9 +66,15 @@ pub struct Decoded {
     pub read_to: ReadTo,
 }
 
-/// The page of octets that begin with its code.
-fn decode_whole(alloc: Global, octets: &[u8], form: PageForm) -> Result<Decoded, ToolFault>
+/// The page of octets that begin with its code. Where they are refused, how far they were read is kept.
+fn decode_whole(
+    alloc: Global,
+    octets: &[u8],
+    form: PageForm,
+    kept: &mut Option<RefusedCode>,
+) -> Result<Decoded, ToolFault>
     requires { IsWidth form.width }
+    ensures known { IfSome kept.new (IsPageRefused form.coding form.width (bits_of form.order octets.now)) }
     ensures given { IfOk result (λ given. (image : List ℕ) → WritesPage given.page (Some []) (Some image)
         → GivesPage Broken.Nothing form octets.now given.read_to (length given.page.rows) image given.lines.items) }
     ensures refused { IfErr result (RefusesShow form.coding form.order form.width octets.now) }
@@ -78,19 +85,34 @@ fn decode_whole(alloc: Global, octets: &[u8], form: PageForm) -> Result<Decoded,
         width,
         fine,
     } = form;
-    let (page, bits) = coding.decode(alloc, octets, order, width, fine)?;
+    *kept = None;
     let lines = Vec::new(alloc);
-    let read_to = ReadTo::End(bits);
-    Ok(Decoded {
-        page,
-        lines,
-        read_to,
-    })
+    match coding.page(alloc, octets, order, width, fine) {
+        Ok(PageRead::Page(page, bits)) => {
+            let read_to = ReadTo::End(bits);
+            Ok(Decoded {
+                page,
+                lines,
+                read_to,
+            })
+        }
+        Ok(PageRead::Refused(code)) => {
+            *kept = Some(code);
+            Err(ToolFault::from(code.fault))
+        }
+        Err(AllocError) => Err(NO_MEMORY),
+    }
 }
 
-/// The page of octets that begin with its code, or its whole rows before the bit where they are refused.
-fn salvage_rows(alloc: Global, octets: &[u8], form: PageForm) -> Result<Decoded, ToolFault>
-    requires { IsWidth form.width }
+/// The whole rows of octets that are refused so.
+fn salvage_refused(
+    alloc: Global,
+    octets: &[u8],
+    form: PageForm,
+    code: RefusedCode,
+) -> Result<Decoded, ToolFault>
+    requires width { IsWidth form.width }
+    requires rest { IsPageRefused form.coding form.width (bits_of form.order octets.now) code }
     ensures given { IfOk result (λ given. (image : List ℕ) → WritesPage given.page (Some []) (Some image)
         → GivesPage Broken.WholeRows form octets.now given.read_to (length given.page.rows) image given.lines.items) }
     ensures refused { IfErr result IsOutside }
@@ -101,20 +123,9 @@ fn salvage_rows(alloc: Global, octets: &[u8], form: PageForm) -> Result<Decoded,
         width,
         fine,
     } = form;
-    let lines = Vec::new(alloc);
-    let fault = match coding.decode(alloc, octets, order, width, fine) {
-        Ok((page, bits)) => {
-            let read_to = ReadTo::End(bits);
-            return Ok(Decoded {
-                page,
-                lines,
-                read_to,
-            });
-        }
-        Err(fault) if fault.kind == CodeFaultKind::NoMemory => return Err(NO_MEMORY),
-        Err(fault) => ToolFault::from(fault),
-    };
     let page = coding.salvage(alloc, octets, order, width, fine)?;
+    let lines = Vec::new(alloc);
+    let fault = ToolFault::from(code.fault);
     let read_to = ReadTo::Fault(fault);
     Ok(Decoded {
         page,
@@ -123,23 +134,66 @@ fn salvage_rows(alloc: Global, octets: &[u8], form: PageForm) -> Result<Decoded,
     })
 }
 
+/// The page of octets that begin with its code, or its whole rows before the bit where they are refused; how far they were read is kept
+/// then.
+fn salvage_rows(
+    alloc: Global,
+    octets: &[u8],
+    form: PageForm,
+    kept: &mut Option<RefusedCode>,
+) -> Result<Decoded, ToolFault>
+    requires { IsWidth form.width }
+    ensures known { IfSome kept.new (IsPageRefused form.coding form.width (bits_of form.order octets.now)) }
+    ensures given { IfOk result (λ given. (image : List ℕ) → WritesPage given.page (Some []) (Some image)
+        → GivesPage Broken.WholeRows form octets.now given.read_to (length given.page.rows) image given.lines.items) }
+    ensures refused { IfErr result IsOutside }
+{
+    let PageForm {
+        coding,
+        order,
+        width,
+        fine,
+    } = form;
+    *kept = None;
+    let lines = Vec::new(alloc);
+    match coding.page(alloc, octets, order, width, fine) {
+        Ok(PageRead::Page(page, bits)) => {
+            let read_to = ReadTo::End(bits);
+            Ok(Decoded {
+                page,
+                lines,
+                read_to,
+            })
+        }
+        Ok(PageRead::Refused(code)) => {
+            *kept = Some(code);
+            salvage_refused(alloc, octets, form, code)
+        }
+        Err(AllocError) => Err(NO_MEMORY),
+    }
+}
+
 /// Decodes octets that begin with the code of a page of this form, with a width of 1 to 2,432 pixels, in the way that is
 /// asked for: to the page whose image `decode_engine`, `salvage_engine` or `repair_engine` writes, or what `repair_t6` gives. Errs where
-/// no page is given: at the bit where they are refused, and with 9 where memory is.
+/// no page is given: at the bit where they are refused, and with 9 where memory is. How far they were read is kept in `kept`, where
+/// they are refused and not repaired, and none else.
 pub fn decode_page(
     alloc: Global,
     octets: &[u8],
     form: PageForm,
     broken: Broken,
+    kept: &mut Option<RefusedCode>,
 ) -> Result<Decoded, ToolFault>
     requires { IsWidth form.width }
+    ensures known { IfSome kept.new (IsPageRefused form.coding form.width (bits_of form.order octets.now)) }
     ensures given { IfOk result (λ given. (image : List ℕ) → WritesPage given.page (Some []) (Some image)
         → GivesPage broken form octets.now given.read_to (length given.page.rows) image given.lines.items) }
     ensures refused { IfErr result (RefusesDecoding broken form octets.now) }
 {
+    *kept = None;
     match broken {
-        Broken::Nothing => decode_whole(alloc, octets, form),
-        Broken::WholeRows => salvage_rows(alloc, octets, form),
+        Broken::Nothing => decode_whole(alloc, octets, form, kept),
+        Broken::WholeRows => salvage_rows(alloc, octets, form, kept),
         Broken::AllRows => match form.coding {
             Coding::OneDim => repair_lines(alloc, octets, form),
             Coding::T6 => repair_t6(alloc, octets, form),

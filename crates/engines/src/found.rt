@@ -32,7 +32,7 @@ pub trait FoundStore {
 }
 
 /// Gives on all that was found, in order.
-fn give_all<S: FoundStore>(found: Vec<Captured>, store: &mut S) -> Result<(), ToolFault>
+pub(crate) fn give_all<S: FoundStore>(found: Vec<Captured>, store: &mut S) -> Result<(), ToolFault>
     ensures given { OnOk result (TakesEach S.takes store.old found.items store.new) }
     ensures fault { IfErr result IsOutside }
 {

@@ -1,7 +1,8 @@
 //! The pages in a capture, and what is missing of others, as JSON for programs.
 
 ghost use Rattle.engines.specs.Faults.{IsOutside};
-ghost use Rattle.engines.specs.FoundRecords.{block_record, missing_record, stored_record};
+ghost use Rattle.engines.specs.FoundRecords.{block_record, missing_record, stored_front_record, stored_record};
+ghost use Rattle.engines.specs.Missing.{lines_word};
 ghost use Rattle.engines.specs.Records.{record_line};
 ghost use Rattle.serde_json.specs.View.{view};
 ghost use Rattle.std.specs.Io.KnownBytes.{Appends};
@@ -18,22 +19,40 @@ use stations::Mark;
 use std::alloc::{AllocError, Global};
 use std::io::Write;
 
+/// The lines of a page.
+fn lines_word(fine: bool) -> &'static str
+    ensures { result.now ≡ lines_word fine }
+{
+    if fine { "fine" } else { "standard" }
+}
+
 /// A page that is in a file: the file's name, its rows and its width in pixels, its lines and its number from 1.
 fn stored_record(alloc: Global, stored: &Stored<'_>) -> Result<Value, AllocError>
     ensures { IfOk result (λ value. view value ≡ stored_record stored.now.numbers stored.now.page.now) }
 {
     let file = format!(in alloc; "page-{}.pbm", stored.numbers.file)?;
-    let lines = if stored.page.fine() {
-        "fine"
-    } else {
-        "standard"
-    };
     json!(in alloc; {
         "page": stored.numbers.page,
         "file": file,
         "width": stored.page.width(),
         "height": stored.page.rows().len(),
-        "lines": lines,
+        "lines": lines_word(stored.page.fine()),
+    })
+}
+
+/// The rows of a page before a gap that are in a file: the same, and that it is those rows.
+fn stored_front_record(alloc: Global, stored: &Stored<'_>) -> Result<Value, AllocError>
+    ensures { IfOk result (λ value. view value ≡ stored_front_record stored.now.numbers stored.now.page.now) }
+{
+    let file = format!(in alloc; "page-{}.pbm", stored.numbers.file)?;
+    let height = stored.page.rows().len();
+    json!(in alloc; {
+        "page": stored.numbers.page,
+        "file": file,
+        "width": stored.page.width(),
+        "height": height,
+        "lines": lines_word(stored.page.fine()),
+        "salvaged": true,
     })
 }
 
@@ -81,6 +100,21 @@ pub fn write_stored<W: Write>(
     ensures fault { IfErr result IsOutside }
 {
     let record = stored_record(alloc, stored)?;
+    write_record(alloc, &record, writer)
+}
+
+/// Writes the record of the rows of a page before a gap that are in a file as a line: what `write_stored` writes of a page, and that it
+/// is those rows. Errs with 8 where the writer fails, and with 9.
+pub fn write_stored_front<W: Write>(
+    alloc: Global,
+    stored: &Stored<'_>,
+    writer: &mut W,
+) -> Result<(), ToolFault>
+    ensures line { OnOk result (Appends (W.contents writer.old) (W.contents writer.new)
+        (record_line (stored_front_record stored.now.numbers stored.now.page.now))) }
+    ensures fault { IfErr result IsOutside }
+{
+    let record = stored_front_record(alloc, stored)?;
     write_record(alloc, &record, writer)
 }
 

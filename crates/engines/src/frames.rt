@@ -141,7 +141,7 @@ pub(crate) fn write_counts<W: Write>(
 
 /// Reads octets into the front of a piece that has room, and answers how many: none at the reader's
 /// end alone. Reads again where it is interrupted.
-pub(crate) fn read_some<R: Read>(reader: &mut R, piece: &mut [u8]) -> Result<usize, ToolFault>
+pub fn read_some<R: Read>(reader: &mut R, piece: &mut [u8]) -> Result<usize, ToolFault>
     requires { 0 < length piece.old }
     ensures room { IfOk result (λ count. count ≤ length piece.new) }
     ensures came { IfOk result (λ count. Consumes (R.remaining reader.old) (R.remaining reader.new) (take count piece.new)) }
@@ -181,7 +181,7 @@ fn feed_turned(deframer: &mut Deframer, piece: &[u8]) -> Result<(), AllocError>
 }
 
 /// A deframer takes the bits of octets, in their order. Errs where memory is refused for a content.
-pub(crate) fn feed_in(deframer: &mut Deframer, order: Order, piece: &[u8]) -> Result<(), AllocError>
+pub fn feed_in(deframer: &mut Deframer, order: Order, piece: &[u8]) -> Result<(), AllocError>
     ensures ok { OnOk result ((bits : List Bool) (handed : ℕ) → IsAfter deframer.old bits handed
         → IsAfter deframer.new (bits ++ bits_of order piece.now) handed) }
 {

@@ -7,6 +7,7 @@ ghost use Rattle.engines.specs.LaterPages.{begins_text, broken_line, pages_line}
 ghost use Rattle.page_code.specs.Codings.{IsLongestIn, ReadsIn};
 ghost use Rattle.page_code.specs.OneDimension.Fronts.{zeros_before};
 ghost use Rattle.page_code.specs.PageCodes.{RefusesPage as PageFault};
+ghost use Rattle.page_code.specs.PageReaders.{IsPageRefused};
 ghost use Rattle.raster.specs.Packed.{bits_of, place_in};
 ghost use Rattle.raster.specs.Pixels.{IsWidth};
 ghost use Rattle.std.specs.Int.{bit_at};
@@ -15,9 +16,10 @@ ghost use Rattle.std.specs.Prelude.{◌≡◌, ◌≢◌, ◌≤◌, ◌<◌, �
 ghost use Rattle.std.specs.Prelude.{IfErr, IfOk, IfSome, OnErr, OnOk, drop, length};
 
 use crate::answer::{DecodeAnswer, answer_decode};
+use crate::decode_records::{told_as, write_begins};
 use crate::fault::{NO_MEMORY, ToolFault};
 use crate::options::{DecodeOptions, PageForm};
-use page_code::Coding;
+use page_code::{Coding, RefusedCode};
 use raster::Page;
 use raster::packed::{Order, bit_of};
 use run_tables::{CodeFault, CodeFaultKind};
@@ -179,18 +181,23 @@ pub fn skip_pages(
     Ok(Reached::Page)
 }
 
-/// Writes the line of the octet at which a page begins, where it is asked for and the page isn't the first.
+/// Writes the line, or the record, of the octet at which a page begins, where it is asked for and the page isn't the first.
 fn tell_begins<W: Write>(
-    verbose: bool,
+    alloc: Global,
+    options: DecodeOptions,
     page: u32,
     octet: usize,
     writer: &mut W,
 ) -> Result<(), ToolFault>
-    ensures told { OnOk result (Appends (W.contents writer.old) (W.contents writer.new) (begins_text verbose page octet)) }
+    ensures told { OnOk result (Appends (W.contents writer.old) (W.contents writer.new)
+        (begins_text options.verbose options.records page octet)) }
     ensures fault { IfErr result IsOutside }
 {
-    if !verbose || page <= 1 {
+    if !options.verbose || page <= 1 {
         return Ok(());
+    }
+    if options.records {
+        return write_begins(alloc, page, octet, writer);
     }
     writeln!(writer, "page {page} begins at octet {octet}")?;
     Ok(())
@@ -224,22 +231,25 @@ fn answer_reached(
     octets: &[u8],
     form: PageForm,
     options: DecodeOptions,
-    page: u32,
-    octet: usize,
+    at: (u32, usize),
+    kept: &mut Option<RefusedCode>,
 ) -> Result<DecodeAnswer, ToolFault>
     requires { IsWidth form.width }
+    ensures known { IfSome kept.new (IsPageRefused form.coding form.width (bits_of form.order octets.now)) }
     ensures answered { IfOk result (λ answer.
-        AnswersReached form options page octet octets.now answer.page answer.told.items answer.end) }
+        AnswersReached form options at.0 at.1 octets.now answer.page answer.told.items answer.end) }
     ensures refused { IfErr result (λ fault. IsOutside fault
         ⊎ RefusesDecoding (broken_asked options.salvage options.repair) form octets.now fault) }
 {
     let mut begun = Vec::new(alloc);
-    tell_begins(options.verbose, page, octet, &mut begun)?;
+    let (page, octet) = at;
+    *kept = None;
+    tell_begins(alloc, options, page, octet, &mut begun)?;
     let DecodeAnswer {
         page: decoded,
         told,
         end,
-    } = answer_decode(alloc, octets, form, options)?;
+    } = answer_decode(alloc, octets, form, options, kept)?;
     begun.write_all(&told)?;
     Ok(DecodeAnswer {
         page: decoded,
@@ -250,29 +260,34 @@ fn answer_reached(
 
 /// Decodes the page of this number, counted from 1, of octets with pages of this form one after another, as `answer_decode` does the
 /// first one. The octets are those from that page on then, so that bits are counted from its octet on; where the file has no such page,
-/// or one before it can't be read to its end, from the last one's or from that one's. Errs as `answer_decode` does.
+/// or one before it can't be read to its end, from the last one's or from that one's. Errs as `answer_decode` does, and keeps as there
+/// how far they were read.
 pub fn answer_page(
     alloc: Global,
     octets: &mut Vec<u8>,
     form: PageForm,
     options: DecodeOptions,
     page: u32,
+    kept: &mut Option<RefusedCode>,
 ) -> Result<DecodeAnswer, ToolFault>
     requires { IsWidth form.width }
+    ensures known { IfSome kept.new (IsPageRefused form.coding form.width (bits_of form.order octets.new.items)) }
     ensures answered { IfOk result (λ answer.
         AnswersPage form options page octets.old.items octets.new.items answer.page answer.told.items answer.end) }
     ensures refused { IfErr result (λ fault. IsOutside fault ⊎ (AreAfter form octets.old.items (page - 1) octets.new.items
         × RefusesDecoding (broken_asked options.salvage options.repair) form octets.new.items fault)) }
 {
+    *kept = None;
     let size = octets.len();
     let reached = skip_pages(alloc, octets, form, page.saturating_sub(1))?;
     let octet = size.saturating_sub(octets.len());
     let none = Page::new(alloc, form.width, form.fine)?;
-    let mut told = Vec::new(alloc);
+    let mut lines = Vec::new(alloc);
     match reached {
-        Reached::Page => answer_reached(alloc, octets, form, options, page, octet),
+        Reached::Page => answer_reached(alloc, octets, form, options, (page, octet), kept),
         Reached::End(count) => {
-            tell_count(count, &mut told)?;
+            tell_count(count, &mut lines)?;
+            let told = told_as(alloc, options.records, lines)?;
             let end = Err(FEWER_PAGES);
             Ok(DecodeAnswer {
                 page: none,
@@ -281,7 +296,8 @@ pub fn answer_page(
             })
         }
         Reached::Broken(number, fault) => {
-            tell_broken(number, octet, &mut told)?;
+            tell_broken(number, octet, &mut lines)?;
+            let told = told_as(alloc, options.records, lines)?;
             let end = Err(fault);
             Ok(DecodeAnswer {
                 page: none,

@@ -103,3 +103,18 @@ impl fmt::Display for Stored<'_> {
         )
     }
 }
+
+/// The rows of a page before a gap that are in a file, in a line with no LF: what `Stored` says of a page, and that it is those rows.
+#[derive(Clone, Copy, Drop)]
+pub struct StoredFront<'a>(pub Stored<'a>);
+
+impl fmt::Display for StoredFront<'_> {
+    ghost use Rattle.std.specs.Prelude.{Some};
+    ghost use Rattle.engines.specs.Missing.{stored_front_text};
+
+    ghost output = { λ text. Some (stored_front_text text.0.numbers text.0.page.now) };
+
+    fn fmt<W: fmt::Write>(&self, f: &mut fmt::Formatter<W>) -> fmt::Result {
+        write!(f, "{}, rows before a gap", self.0)
+    }
+}

@@ -26,4 +26,6 @@ pub struct DecodeOptions {
     pub whole: bool,
     /// Lines with its rows, the bits of its code and the octets after it.
     pub verbose: bool,
+    /// What is told is records of JSON in place of lines.
+    pub records: bool,
 }

@@ -125,8 +125,8 @@ pub(crate) fn named(alloc: Global, name: &str) -> Result<Value, AllocError>
     json!(in alloc; {"signal": name})
 }
 
-/// What a signal says.
-fn signal_record(alloc: Global, signal: &Signal<'_>) -> Result<Value, AllocError>
+/// What a signal says, as the object that `frames --json` has for it.
+pub fn signal_record(alloc: Global, signal: &Signal<'_>) -> Result<Value, AllocError>
     ensures { IfOk result (λ value. view value ≡ signal_record (plain signal.now)) }
 {
     match signal {
@@ -205,16 +205,12 @@ fn counts_record(alloc: Global, gaps: Counts) -> Result<Value, AllocError>
 }
 
 /// Writes a record as a line. Errs with 8 where the writer fails, and with 9.
-pub(crate) fn write_record<W: Write>(
-    alloc: Global,
-    record: &Value,
-    writer: &mut W,
-) -> Result<(), ToolFault>
-    requires integers { has_float (view record.now) ≡ false }
-    ensures line { OnOk result (Appends (W.contents writer.old) (W.contents writer.new) (record_line (view record.now))) }
+pub fn write_record<W: Write>(alloc: Global, value: &Value, writer: &mut W) -> Result<(), ToolFault>
+    requires integers { has_float (view value.now) ≡ false }
+    ensures line { OnOk result (Appends (W.contents writer.old) (W.contents writer.new) (record_line (view value.now))) }
     ensures fault { IfErr result IsOutside }
 {
-    let text = record.to_string(alloc)?;
+    let text = value.to_string(alloc)?;
     writeln!(writer, "{text}")?;
     Ok(())
 }

@@ -3,11 +3,13 @@
 ghost use Rattle.engines.specs.Explanations.{HasNoEol, IsExpected, IsRefusedRow, IsRefusedRun};
 ghost use Rattle.raster.specs.Packed.{bits_of};
 ghost use Rattle.raster.specs.Pixels.{IsWidth};
+ghost use Rattle.page_code.specs.PageReaders.{IsPageRefused};
 ghost use Rattle.page_code.specs.declared.coding.Coding.TheVariants.{T6};
 ghost use Rattle.std.specs.Bool.{OnTrue};
 ghost use Rattle.std.specs.Prelude.{◌≡◌, ◌≤◌, ◌*◌, IfSome, None, length};
 
-use page_code::Coding;
+use crate::options::PageForm;
+use page_code::{Coding, RefusedCode};
 use raster::Color;
 use run_tables::{BitReader, Order};
 use std::alloc::Global;
@@ -39,7 +41,43 @@ pub fn refused_at(
 {
     let row = refused_row(alloc, octets, coding, order, width);
     match coding {
-        Coding::OneDim => (row, expected_at(alloc, octets, order, width, place)),
+        Coding::OneDim => (row, expected_at(alloc, octets, order, width, 0, place)),
+        Coding::T6 => (row, None),
+    }
+}
+
+/// Where a page of this form is refused that was read up to this refusal: what `refused_at` says. Only the row in which it is refused is
+/// looked at again.
+#[tactic(auto, using(crate::proofs::RefusedRows::refused_row))]
+pub fn refused_in(
+    alloc: Global,
+    octets: &[u8],
+    form: PageForm,
+    refused: RefusedCode,
+) -> (usize, Option<Expected>)
+    requires { IsWidth form.width }
+    ensures row { IsPageRefused form.coding form.width (bits_of form.order octets.now) refused
+        → IsRefusedRow form.coding form.width (bits_of form.order octets.now) result.0 }
+    ensures expected { IfSome result.1 (IsExpected form.width (bits_of form.order octets.now) refused.fault.place) }
+    ensures of_rows { form.coding ≡ T6 → result.1 ≡ None }
+{
+    let row = refused.rows as usize + 1;
+    let PageForm {
+        coding,
+        order,
+        width,
+        fine: _,
+    } = form;
+    let RefusedCode {
+        fault,
+        row_start,
+        ..
+    } = refused;
+    match coding {
+        Coding::OneDim => (
+            row,
+            expected_at(alloc, octets, order, width, row_start, fault.place),
+        ),
         Coding::T6 => (row, None),
     }
 }
@@ -63,12 +101,13 @@ fn refused_row(
 }
 
 /// What is expected at a bit where a page in the one-dimensional code is refused, as its row is read from the last EOL
-/// on. None where that is not known.
+/// on, which is looked for from another bit on. None where that is not known.
 fn expected_at(
     alloc: Global,
     octets: &[u8],
     order: Order,
     width: u32,
+    from: u128,
     place: u128,
 ) -> Option<Expected>
     requires { IsWidth width }
@@ -77,7 +116,8 @@ fn expected_at(
     if place > 8 * octets.len() as u128 {
         return None;
     }
-    let reader = BitReader::at(octets, order, row_start(octets, order, place));
+    let start = last_start(octets, order, from, place);
+    let reader = BitReader::at(octets, order, start);
     if has_no_eol(alloc, reader.look_ahead(), width, place) {
         return Some(Expected::Eol);
     }
@@ -129,15 +169,16 @@ fn refused_color(reader: BitReader<'_>, width: u32, place: u128) -> Option<Color
 /// More runs than a row has.
 const MOST_RUNS: u32 = 5000;
 
-/// The bit after the last EOL that ends before a bit, or 0.
-fn row_start(octets: &[u8], order: Order, place: u128) -> u128
-    requires { place ≤ 8 * length octets.now }
+/// The bit after the last EOL that ends before a bit, and begins at another one or after it; where there is none, that one.
+fn row_start(octets: &[u8], order: Order, from: u128, place: u128) -> u128
+    requires within { place ≤ 8 * length octets.now }
+    requires before { from ≤ place }
     ensures { result ≤ 8 * length octets.now }
 {
     let mut zeros = 0u32;
-    let mut start = 0;
-    let mut reader = BitReader::at(octets, order, 0);
-    for at in 0..place {
+    let mut start = from;
+    let mut reader = BitReader::at(octets, order, from);
+    for at in from..place {
         match reader.bit() {
             Some(false) => zeros = zeros.saturating_add(1),
             _ => {
@@ -149,4 +190,18 @@ fn row_start(octets: &[u8], order: Order, place: u128) -> u128
         }
     }
     start
+}
+
+/// The bit after the last EOL that ends before a bit, which is looked for from another one on, and then in all octets; 0 where there is
+/// none.
+fn last_start(octets: &[u8], order: Order, from: u128, place: u128) -> u128
+    requires { place ≤ 8 * length octets.now }
+    ensures { result ≤ 8 * length octets.now }
+{
+    let from = from.min(place);
+    let start = row_start(octets, order, from, place);
+    if start > from {
+        return start;
+    }
+    row_start(octets, order, 0, place)
 }

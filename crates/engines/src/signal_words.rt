@@ -4,7 +4,8 @@ ghost use Rattle.engines.specs.Faults.{IsOutside};
 ghost use Rattle.engines.specs.SignalWords.{code_words, coding_words, content_words, correction_words, dcs_words, dis_words, frame_after};
 ghost use Rattle.engines.specs.SignalWords.{frame_text, is_in_map, is_other, is_read_of_dcs, is_read_of_dis, lines_words, modems_words};
 ghost use Rattle.engines.specs.SignalWords.{other_after, others_text, page_end_words, ppr_words, pps_words, receiver_words, speed_words};
-ghost use Rattle.engines.specs.SignalWords.{texts_below};
+ghost use Rattle.engines.specs.SignalWords.{texts_below, words_of};
+ghost use Rattle.signals.specs.Signals.{plain};
 ghost use Rattle.std.specs.Io.KnownBytes.{Appends};
 ghost use Rattle.std.specs.Fmt.{decimal};
 ghost use Rattle.std.specs.Prelude.{◌≡◌, ◌<◌, ◌+◌, ◌*◌, ◌++◌, ◌∷◌, ◌||◌, [], IfErr, IfOk, OnOk, codes, cond, drop, length};
@@ -316,30 +317,43 @@ fn fields_of(content: &[u8]) -> &[u8]
     content.get(3..).unwrap_or(&[])
 }
 
-/// Writes the line of words of a content, of a DIS, a DCS, a PPS or a PPR, and none of others. A DIS and a DCS with the bits of
-/// their information field that are 1 and not read, by their numbers (T.30, table 2).
+/// Writes the line of words of a signal, of a DIS, a DCS, a PPS or a PPR, and none of others. A DIS and a DCS with the bits of
+/// such an information field that are 1 and not read, by their numbers (T.30, table 2). Errs with 8 where the writer fails, and with 9.
+pub fn write_signal<W: Write>(
+    signal: &Signal<'_>,
+    fields: &[u8],
+    writer: &mut W,
+) -> Result<(), ToolFault>
+    ensures text { OnOk result (Appends (W.contents writer.old) (W.contents writer.new) (words_of fields.now (plain signal.now))) }
+    ensures fault { IfErr result IsOutside }
+{
+    match signal {
+        Signal::Dis(caps) => {
+            write_dis(*caps, writer)?;
+            end_fields(false, fields, writer)
+        }
+        Signal::Dcs(params) => {
+            write_dcs(*params, writer)?;
+            end_fields(true, fields, writer)
+        }
+        Signal::Pps {
+            ends,
+            page,
+            block,
+            last,
+        } => write_pps(*ends, *page, *block, *last, writer),
+        Signal::Ppr(map) => write_ppr(map, writer),
+        _ => Ok(()),
+    }
+}
+
+/// Writes the line of words of a content, of a DIS, a DCS, a PPS or a PPR, and none of others.
 pub(crate) fn write_words<W: Write>(content: &[u8], writer: &mut W) -> Result<(), ToolFault>
     ensures text { OnOk result (Appends (W.contents writer.old) (W.contents writer.new) (content_words content.now)) }
     ensures fault { IfErr result IsOutside }
 {
     match read(content) {
-        Ok(Signal::Dis(caps)) => {
-            write_dis(caps, writer)?;
-            end_fields(false, fields_of(content), writer)
-        }
-        Ok(Signal::Dcs(params)) => {
-            write_dcs(params, writer)?;
-            end_fields(true, fields_of(content), writer)
-        }
-        Ok(
-            Signal::Pps {
-                ends,
-                page,
-                block,
-                last,
-            },
-        ) => write_pps(ends, page, block, last, writer),
-        Ok(Signal::Ppr(map)) => write_ppr(&map, writer),
-        _ => Ok(()),
+        Ok(signal) => write_signal(&signal, fields_of(content), writer),
+        Err(_) => Ok(()),
     }
 }

@@ -11,11 +11,12 @@ use Rattle.clap.proofs.OnLiterals.{clap_on_literals}
 use Rattle.clap.proofs.WalkLemmas.{one_text-rows}
 use Rattle.calls.specs.Losses.{IsRate}
 use Rattle.calls.specs.declared.losses.BadLine.{BadLine}
-use Rattle.std.specs.Prelude.{string_bytes}
-use Rattle.faxtool.specs.declared.words.Job.TheVariants.{Answer, Call, Code, Decode, Dial, Drive, Frames, Identify, Show, Version}
+use Rattle.std.specs.Prelude.{Bool, false, is_some, not, option_map, string_bytes, ◌&&◌}
+use Rattle.faxtool.specs.declared.words.Job.TheVariants.{Answer, Call, Captures, Code, Decode, Dial, Drive, Frames, Identify, Show, Version}
 use Rattle.faxtool.specs.declared.words.Outcome.{Outcome}
 use Rattle.faxtool.specs.declared.words.Outcome.TheVariants.{Done, Fault, Incomplete, Words}
 use Rattle.faxtool.specs.Jobs.{AreOptionsIn, HasNoJob, HasNoOptions, IsFaxtool, IsOutcomeOf, IsRefusalOf, IsWidthIn, ReadsNumber}
+use Rattle.faxtool.specs.Jobs.{has_captures, is_named}
 use Rattle.faxtool.specs.Jobs.{IsBusyIn, IsLineIn, IsTimesIn, IsRateIn, IsSpoilIn, call_and_page_app, with_later}
 
 -- ---- the width
@@ -211,7 +212,9 @@ no_width rows none (Show coding order width input) (others, e, is) =
     none width (subst (λ (xs : List Row). IsWidthIn xs width) (sym (some_rows (codes "show") (codes "show") rows others e)) is.width_is)
 no_width rows none (Decode form options page input output) (others, e, is) =
     show_is_decode (some_name (codes "show") (codes "decode") rows others e)
-no_width rows none (Frames most order words pages input) (others, e, reads, of, said, folder, is) =
+no_width rows none (Frames most order words pages salvage input) (others, e, is) =
+    show_is_frames (some_name (codes "show") (codes "frames") rows others e)
+no_width rows none (Captures order records diagram caller answerer) (others, e, is) =
     show_is_frames (some_name (codes "show") (codes "frames") rows others e)
 no_width rows none (Identify input) (others, e, is) =
     show_is_identify (some_name (codes "show") (codes "identify") rows others e)
@@ -234,7 +237,9 @@ no_width_to_decode rows none (Show coding order width input) (others, e, is) =
 no_width_to_decode rows none (Decode form options page input output) (others, e, is) =
     none form.width (subst (λ (xs : List Row). IsWidthIn xs form.width) (sym (some_rows (codes "decode") (codes "decode") rows others e))
     is.shown.width_is)
-no_width_to_decode rows none (Frames most order words pages input) (others, e, reads, of, said, folder, is) =
+no_width_to_decode rows none (Frames most order words pages salvage input) (others, e, is) =
+    decode_is_frames (some_name (codes "decode") (codes "frames") rows others e)
+no_width_to_decode rows none (Captures order records diagram caller answerer) (others, e, is) =
     decode_is_frames (some_name (codes "decode") (codes "frames") rows others e)
 no_width_to_decode rows none (Identify input) (others, e, is) =
     decode_is_identify (some_name (codes "decode") (codes "identify") rows others e)
@@ -257,7 +262,9 @@ no_options rows none (Show coding order width input) (others, e, is) =
     show_is_call (sym (some_name (codes "call") (codes "show") rows others e))
 no_options rows none (Decode form options page input output) (others, e, is) =
     decode_is_call (sym (some_name (codes "call") (codes "decode") rows others e))
-no_options rows none (Frames most order words pages input) (others, e, reads, of, said, folder, is) =
+no_options rows none (Frames most order words pages salvage input) (others, e, is) =
+    call_is_frames (some_name (codes "call") (codes "frames") rows others e)
+no_options rows none (Captures order records diagram caller answerer) (others, e, is) =
     call_is_frames (some_name (codes "call") (codes "frames") rows others e)
 no_options rows none (Identify input) (others, e, is) =
     call_is_identify (some_name (codes "call") (codes "identify") rows others e)
@@ -309,7 +316,9 @@ no_line rows open_end none (Show coding order width input) (others, e, is) =
     show_is_call (sym (some_name (codes "call") (codes "show") rows others e))
 no_line rows open_end none (Decode form options page input output) (others, e, is) =
     decode_is_call (sym (some_name (codes "call") (codes "decode") rows others e))
-no_line rows open_end none (Frames most order words pages input) (others, e, reads, of, said, folder, is) =
+no_line rows open_end none (Frames most order words pages salvage input) (others, e, is) =
+    call_is_frames (some_name (codes "call") (codes "frames") rows others e)
+no_line rows open_end none (Captures order records diagram caller answerer) (others, e, is) =
     call_is_frames (some_name (codes "call") (codes "frames") rows others e)
 no_line rows open_end none (Identify input) (others, e, is) =
     call_is_identify (some_name (codes "call") (codes "identify") rows others e)
@@ -335,7 +344,9 @@ no_times rows open_end none (Show coding order width input) (others, e, is) =
     show_is_call (sym (some_name (codes "call") (codes "show") rows others e))
 no_times rows open_end none (Decode form options page input output) (others, e, is) =
     decode_is_call (sym (some_name (codes "call") (codes "decode") rows others e))
-no_times rows open_end none (Frames most order words pages input) (others, e, reads, of, said, folder, is) =
+no_times rows open_end none (Frames most order words pages salvage input) (others, e, is) =
+    call_is_frames (some_name (codes "call") (codes "frames") rows others e)
+no_times rows open_end none (Captures order records diagram caller answerer) (others, e, is) =
     call_is_frames (some_name (codes "call") (codes "frames") rows others e)
 no_times rows open_end none (Identify input) (others, e, is) =
     call_is_identify (some_name (codes "call") (codes "identify") rows others e)
@@ -351,3 +362,62 @@ no_times rows open_end none (Answer caps limit waits out trace) (others, e, is) 
 no_times rows open_end none (Dial options waits trace input) (others, e, is) =
     call_is_station (some_name (codes "call") (codes "station") rows others e)
 no_times rows open_end none (Version proof) (others, e, is) = call_is_version (some_name (codes "call") (codes "version") rows others e)
+
+-- ---- a folder
+
+code_is_frames : codes "code" ≡ codes "frames" → ⊥
+code_is_frames e =
+    let bad : 99 ≡ 102 = ap (λ (t : Text). slice_index t 0) e in
+    absurd (omega (arith, bad))
+
+frames_is_identify : codes "frames" ≡ codes "identify" → ⊥
+frames_is_identify e =
+    let bad : 102 ≡ 105 = ap (λ (t : Text). slice_index t 0) e in
+    absurd (omega (arith, bad))
+
+frames_is_station : codes "frames" ≡ codes "station" → ⊥
+frames_is_station e =
+    let bad : 102 ≡ 115 = ap (λ (t : Text). slice_index t 0) e in
+    absurd (omega (arith, bad))
+
+frames_is_version : codes "frames" ≡ codes "version" → ⊥
+frames_is_version e =
+    let bad : 102 ≡ 118 = ap (λ (t : Text). slice_index t 0) e in
+    absurd (omega (arith, bad))
+
+-- where the rows before gaps are wanted and no folder is given, there is no job for `frames`
+pub no_folder : (rows : List Row) → has_captures rows ≡ false → is_named (codes "true") (first_of (codes "salvage") rows) ≡ true
+    → is_some (first_of (codes "pages") rows) ≡ false → HasNoJob (Some (codes "frames", rows))
+no_folder rows alone wanted none (Code coding order input output) (others, e, is) =
+    code_is_frames (sym (some_name (codes "frames") (codes "code") rows others e))
+no_folder rows alone wanted none (Show coding order width input) (others, e, is) =
+    show_is_frames (sym (some_name (codes "frames") (codes "show") rows others e))
+no_folder rows alone wanted none (Decode form options page input output) (others, e, is) =
+    decode_is_frames (sym (some_name (codes "frames") (codes "decode") rows others e))
+no_folder rows alone wanted none (Frames most order words pages salvage input) (others, e, is) =
+    let same : rows ≡ others = some_rows (codes "frames") (codes "frames") rows others e in
+    let asked : salvage ≡ true = is.pages_are.salvage_is
+    ∙ (ap (λ (xs : List Row). is_named (codes "true") (first_of (codes "salvage") xs)) (sym same) ∙ wanted) in
+    let nowhere : is_some (option_map string_bytes pages) ≡ false = ap is_some (sym is.pages_are.pages_are)
+    ∙ (ap (λ (xs : List Row). is_some (first_of (codes "pages") xs)) (sym same) ∙ none) in
+    let both : (salvage && not (is_some (option_map string_bytes pages))) ≡ true =
+    ap (λ b. b && not (is_some (option_map string_bytes pages))) asked ∙ ap not nowhere in
+    let no : ◌≡◌ {A = Bool} true false = sym both ∙ is.pages_are.in_folder in
+    cc
+no_folder rows alone wanted none (Captures order records diagram caller answerer) (others, e, is) =
+    let same : rows ≡ others = some_rows (codes "frames") (codes "frames") rows others e in
+    let there : has_captures others ≡ true = rw is.diagram_is refl in
+    let no : ◌≡◌ {A = Bool} true false = sym there ∙ (ap has_captures (sym same) ∙ alone) in
+    cc
+no_folder rows alone wanted none (Identify input) (others, e, is) =
+    frames_is_identify (some_name (codes "frames") (codes "identify") rows others e)
+no_folder rows alone wanted none (Call script options out bits normal diagram input) (others, e, is) =
+    call_is_frames (sym (some_name (codes "frames") (codes "call") rows others e))
+no_folder rows alone wanted none (Drive line times options out bits normal diagram input) (others, e, is) =
+    call_is_frames (sym (some_name (codes "frames") (codes "call") rows others e))
+no_folder rows alone wanted none (Answer caps limit waits out trace) (others, e, is) =
+    frames_is_station (some_name (codes "frames") (codes "station") rows others e)
+no_folder rows alone wanted none (Dial options waits trace input) (others, e, is) =
+    frames_is_station (some_name (codes "frames") (codes "station") rows others e)
+no_folder rows alone wanted none (Version proof) (others, e, is) =
+    frames_is_version (some_name (codes "frames") (codes "version") rows others e)

@@ -10,3 +10,7 @@ use Rattle.engines.specs.declared.numbers.PageNumbers.{PageNumbers}
 abbrev pub NotesFound : PageNumbers → Bool → Captured → PageNumbers → Bool → Type 0
 NotesFound old whole (Page page) new still = (new.page ≡ after old.page) × (still ≡ whole)
 NotesFound old whole found new still = (new.page ≡ max old.page (page_missing found)) × (still ≡ false)
+
+-- The same of the rows of a page before a gap: the page has the next number, and something of it is missing.
+abbrev pub NotesFront : PageNumbers → PageNumbers → Bool → Type 0
+NotesFront old new still = (new.page ≡ after old.page) × (still ≡ false)

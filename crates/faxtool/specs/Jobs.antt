@@ -30,7 +30,7 @@ use Rattle.engines.specs.declared.options.DecodeOptions.{DecodeOptions}
 use Rattle.engines.specs.declared.options.PageForm.{PageForm}
 use Rattle.faxtool.specs.declared.station_words.GivenWaits.{GivenWaits}
 use Rattle.faxtool.specs.declared.words.Job.{Job}
-use Rattle.faxtool.specs.declared.words.Job.TheVariants.{Answer, Call, Code, Decode, Dial, Drive, Frames, Identify, Show, Version}
+use Rattle.faxtool.specs.declared.words.Job.TheVariants.{Answer, Call, Captures, Code, Decode, Dial, Drive, Frames, Identify, Show, Version}
 use Rattle.faxtool.specs.declared.words.Request.{Request}
 use Rattle.faxtool.specs.declared.words.Outcome.{Outcome}
 use Rattle.faxtool.specs.declared.words.Outcome.TheVariants.{Done, Fault, Incomplete, Words}
@@ -108,25 +108,35 @@ abbrev pub show_app : ValueParser → ValueParser → App
 show_app codings orders =
     with_explain (with_rule (with_page_options (new_app (codes "show")) codings orders) (file_rule (codes "file")))
 
--- the command with `--fine`, `--salvage`, `--repair`, `--whole` and `--verbose`
+-- the command with `--fine`, `--salvage`, `--repair`, `--whole`, `--verbose` and `--json`
 abbrev pub with_flags : App → App
-with_flags app = with_rule (with_rule (with_rule (with_rule (with_rule app (flag_rule (codes "fine"))) (flag_rule (codes "salvage")))
-    (flag_rule (codes "repair"))) (flag_rule (codes "whole"))) (flag_rule (codes "verbose"))
+with_flags app = with_rule (with_rule (with_rule (with_rule (with_rule (with_rule app (flag_rule (codes "fine")))
+    (flag_rule (codes "salvage"))) (flag_rule (codes "repair"))) (flag_rule (codes "whole"))) (flag_rule (codes "verbose")))
+    (flag_rule (codes "json"))
 
 -- `decode`: the code, the width, the order, fine or not, what is done with a page that can't be
--- read or has no end, verbose or not, the page's number, and the files of the page and of its image
+-- read or has no end, verbose or not, records or not, the page's number, and the files of the page and of its image
 abbrev pub decode_app : ValueParser → ValueParser → App
 decode_app codings orders = with_explain (with_rule (with_rule (with_rule (with_flags (with_page_options (new_app (codes "decode"))
     codings orders)) (record (option_rule (codes "page")) { parser = Some (vp.Signed (pos 1) (pos 4294967295)) }))
     (file_rule (codes "file"))) (file_rule (codes "out")))
 
+-- the name of a file that need not be there
+abbrev pub optional_file_rule : Text → Rule
+optional_file_rule id = record (file_rule id) { required = false }
+
+-- the command with the file of a picture, and those of what both stations sent
+abbrev pub with_captures : App → App
+with_captures app = with_rule (with_rule (with_rule app (file_option_rule (codes "diagram"))) (file_option_rule (codes "caller")))
+    (file_option_rule (codes "answerer"))
+
 -- `frames`: how many octets of a content are shown, 0 to 300, the order, which is `lsb` where it isn't given, the folder of the pages,
--- records or not, and the file of the bits
+-- the rows before gaps or not, records or not, and the file of the bits; or the files of a picture
 abbrev pub frames_app : ValueParser → App
-frames_app orders = with_explain (with_rule (with_rule (with_rule (with_rule (with_rule (new_app (codes "frames"))
-    (record (option_rule (codes "data")) { parser = Some (vp.Signed (pos 0) (pos 300)) }))
-    (choice_rule (codes "order") orders (codes "lsb"))) (file_option_rule (codes "pages"))) (flag_rule (codes "json")))
-    (file_rule (codes "file")))
+frames_app orders = with_explain (with_rule (with_captures (with_rule (with_rule (with_rule (with_rule (with_rule
+    (new_app (codes "frames")) (record (option_rule (codes "data")) { parser = Some (vp.Signed (pos 0) (pos 300)) }))
+    (choice_rule (codes "order") orders (codes "lsb"))) (file_option_rule (codes "pages"))) (flag_rule (codes "salvage")))
+    (flag_rule (codes "json")))) (optional_file_rule (codes "file")))
 
 -- the command with `--code`, `--frame` and `--modems`
 abbrev pub with_choices : App → ValueParser → ValueParser → ValueParser → App
@@ -154,19 +164,15 @@ with_outcome app ends = with_rule (with_rule (with_rule app (file_option_rule (c
     (file_option_rule (codes "bits"))
 
 -- `call`: the file of the script, or the options of a bad line, the code, the size of frames, the modems, fine or not, the file of the
--- stored pages, the end that is wanted, the folder of what is sent, the file of the picture, and the file of the document
+-- stored pages, the end that is wanted, the folder of what is sent, the file of the picture, records or not, and the file of the document
 abbrev pub call_app : ValueParser → ValueParser → ValueParser → ValueParser → App
-call_app codings sizes modems ends = with_explain (with_rule (with_rule (with_outcome (with_rule (with_choices (with_line (with_rule
-    (new_app (codes "call")) (file_option_rule (codes "script")))) codings sizes modems) (flag_rule (codes "fine"))) ends)
-    (file_option_rule (codes "diagram"))) (file_rule (codes "in")))
+call_app codings sizes modems ends = with_explain (with_rule (with_rule (with_rule (with_outcome (with_rule (with_choices (with_line
+    (with_rule (new_app (codes "call")) (file_option_rule (codes "script")))) codings sizes modems) (flag_rule (codes "fine"))) ends)
+    (file_option_rule (codes "diagram"))) (flag_rule (codes "json"))) (file_rule (codes "in")))
 
 -- how long a wait runs, in milliseconds
 abbrev pub millis_rule : Text → Rule
 millis_rule id = number_rule id 1 3600000
-
--- the name of a file that need not be there
-abbrev pub optional_file_rule : Text → Rule
-optional_file_rule id = record (file_rule id) { required = false }
 
 -- the command with which station it is, the folder of its pages, the code and the modems
 abbrev pub with_station : App → ValueParser → ValueParser → App
@@ -328,6 +334,7 @@ pub record AreDecodeOptionsIn (rows : List Row) (options : DecodeOptions) : Type
   pub repair_is : options.repair ≡ is_named (codes "true") (first_of (codes "repair") rows)
   pub whole_is : options.whole ≡ is_named (codes "true") (first_of (codes "whole") rows)
   pub verbose_is : options.verbose ≡ is_named (codes "true") (first_of (codes "verbose") rows)
+  pub records_is : options.records ≡ is_named (codes "true") (first_of (codes "json") rows)
 
 -- the number of the page that is decoded: the first one, where no number is given
 abbrev pub page_of : Option ℕ → ℕ
@@ -344,6 +351,22 @@ pub record IsDecodeOf (rows : List Row) (form : PageForm) (options : DecodeOptio
   pub number_given : ReadsNumber (codes "page") rows number
   pub page_is : page ≡ page_of number
   pub output_is : first_of (codes "out") rows ≡ Some output
+
+-- a value is of a picture of two captures
+abbrev pub has_captures : List Row → Bool
+has_captures rows = is_some (first_of (codes "diagram") rows) || (is_some (first_of (codes "caller") rows) ||
+    is_some (first_of (codes "answerer") rows))
+
+-- a value is of one capture that is listed
+abbrev pub has_listing : List Row → Bool
+has_listing rows = is_some (first_of (codes "file") rows) || (is_some (first_of (codes "data") rows) ||
+    (is_some (first_of (codes "pages") rows) || is_named (codes "true") (first_of (codes "salvage") rows)))
+
+-- the folder of the pages is the one that the values give, and rows before gaps are wanted as they say: with a folder alone
+pub record ArePagesIn (rows : List Row) (pages : Option Text) (salvage : Bool) : Type 0 where
+  pub pages_are : first_of (codes "pages") rows ≡ pages
+  pub salvage_is : salvage ≡ is_named (codes "true") (first_of (codes "salvage") rows)
+  pub in_folder : (salvage && not (is_some pages)) ≡ false
 
 -- the options are those that the values give
 pub record AreOptionsIn (rows : List Row) (options : CallOptions) : Type 0 where
@@ -400,7 +423,7 @@ abbrev pub is_normal_wanted : List Row → Bool
 is_normal_wanted rows = is_named (codes "normal") (first_of (codes "expect") rows)
 
 -- the number is that of the calls that are asked for, whose pages and octets are not kept, of which no end is wanted, and which are
--- not drawn
+-- not drawn and no records
 pub record AreManyIn (rows : List Row) (times : ℕ) : Type 0 where
   pub given : ReadsNumber (codes "times") rows (Some times)
   pub least : 1 ≤ times
@@ -409,6 +432,7 @@ pub record AreManyIn (rows : List Row) (times : ℕ) : Type 0 where
   pub unsent : first_of (codes "bits") rows ≡ None
   pub unwanted : first_of (codes "expect") rows ≡ None
   pub undrawn : first_of (codes "diagram") rows ≡ None
+  pub unrecorded : is_named (codes "true") (first_of (codes "json") rows) ≡ false
 
 -- how many calls are asked for, where that is said
 abbrev pub IsTimesIn : List Row → Option ℕ → Type 0
@@ -440,6 +464,27 @@ pub record IsCallOf (rows : List Row) (script : Text) (options : CallOptions) (o
   pub input_is : first_of (codes "in") rows ≡ Some input
   pub apart : are_both_standard script input ≡ false
   pub alone : has_line rows ≡ false
+
+-- the values of the command `frames` are those of a capture that is listed
+pub record IsFramesOf (rows : List Row) (most : Option ℕ) (order : Order) (form : ListForm) (pages : Option Text) (salvage : Bool)
+    (input : Text) : Type 0 where
+  pub alone : has_captures rows ≡ false
+  pub most_is : ReadsNumber (codes "data") rows most
+  pub order_is : order ≡ line_order_named (first_of (codes "order") rows)
+  pub form_is : form ≡ list_form (is_named (codes "true") (first_of (codes "json") rows))
+      (is_named (codes "true") (first_of (codes "explain") rows))
+  pub pages_are : ArePagesIn rows pages salvage
+  pub input_is : first_of (codes "file") rows ≡ Some input
+
+-- the values of the command `frames` are those of a picture of two captures, which reads standard input once at most
+pub record AreCapturesOf (rows : List Row) (order : Order) (records : Bool) (diagram caller answerer : Text) : Type 0 where
+  pub order_is : order ≡ line_order_named (first_of (codes "order") rows)
+  pub records_is : records ≡ is_named (codes "true") (first_of (codes "json") rows)
+  pub diagram_is : first_of (codes "diagram") rows ≡ Some diagram
+  pub caller_is : first_of (codes "caller") rows ≡ Some caller
+  pub answerer_is : first_of (codes "answerer") rows ≡ Some answerer
+  pub apart : are_both_standard caller answerer ≡ false
+  pub alone : has_listing rows ≡ false
 
 -- the widest page that a value of `--widest` names: 2432 pixels but for the others
 abbrev pub widest_named : Option Text → PageWidth
@@ -521,13 +566,12 @@ IsJobOf met (Show coding order width input) = (rows : List Row)
 IsJobOf met (Decode form options page input output) = (rows : List Row)
     × (met ≡ Some (codes "decode", rows))
     × IsDecodeOf rows form options page (string_bytes input) (string_bytes output)
-IsJobOf met (Frames most order form pages input) = (rows : List Row)
+IsJobOf met (Frames most order form pages salvage input) = (rows : List Row)
     × (met ≡ Some (codes "frames", rows))
-    × ReadsNumber (codes "data") rows most
-    × (order ≡ line_order_named (first_of (codes "order") rows))
-    × (form ≡ list_form (is_named (codes "true") (first_of (codes "json") rows)) (is_named (codes "true") (first_of (codes "explain") rows)))
-    × (first_of (codes "pages") rows ≡ option_map string_bytes pages)
-    × (first_of (codes "file") rows ≡ Some (string_bytes input))
+    × IsFramesOf rows most order form (option_map string_bytes pages) salvage (string_bytes input)
+IsJobOf met (Captures order records diagram caller answerer) = (rows : List Row)
+    × (met ≡ Some (codes "frames", rows))
+    × AreCapturesOf rows order records (string_bytes diagram) (string_bytes caller) (string_bytes answerer)
 IsJobOf met (Identify input) = (rows : List Row)
     × (met ≡ Some (codes "identify", rows))
     × (first_of (codes "file") rows ≡ Some (string_bytes input))
@@ -596,7 +640,8 @@ abbrev pub HasWidth : Job → Type 0
 HasWidth (Code coding order input output) = Unit {0}
 HasWidth (Show coding order width input) = IsWidth width
 HasWidth (Decode form options page input output) = IsWidth form.width
-HasWidth (Frames most order form pages input) = Unit {0}
+HasWidth (Frames most order form pages salvage input) = Unit {0}
+HasWidth (Captures order records diagram caller answerer) = Unit {0}
 HasWidth (Identify input) = Unit {0}
 HasWidth (Call script options out bits normal diagram input) = Unit {0}
 HasWidth (Drive line times options out bits normal diagram input) = Unit {0}

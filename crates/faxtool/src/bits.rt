@@ -6,8 +6,8 @@ ghost use Rattle.std.specs.Prelude.{IfErr};
 use crate::files::{self, Printed};
 use crate::notes::{Notes, Part};
 use crate::outputs::{self, Growing};
-use calls::WithBits;
-use engines::ToolFault;
+use calls::{InForm, WithBits};
+use engines::{ListForm, ToolFault};
 use std::fs::File;
 use std::io;
 use std::io::{BufWriter, ErrorKind, Write};
@@ -92,7 +92,7 @@ impl Write for Direction {
 }
 
 /// What a call is written to: standard output, and the files of both directions where they are asked for.
-pub(crate) type CallOutput<'a> = WithBits<BufWriter<Printed<'a>>, Direction>;
+pub(crate) type CallOutput<'a> = InForm<BufWriter<Printed<'a>>, Direction>;
 
 /// Opens the file of one direction. Errs with 8 where it can't be made, which is noted, and with 9.
 fn open_file(
@@ -145,10 +145,22 @@ pub(crate) fn open<'a>(
             return Err(fault);
         }
     };
-    Ok(WithBits {
+    let form = if notes.records {
+        ListForm::Records
+    } else if notes.explained {
+        ListForm::Explained
+    } else {
+        ListForm::Plain
+    };
+    let writer = WithBits {
         lines,
         to_answerer,
         to_caller,
+    };
+    Ok(InForm {
+        alloc: rt.alloc(),
+        form,
+        writer,
     })
 }
 
@@ -190,7 +202,7 @@ pub(crate) fn close(
         lines,
         to_answerer,
         to_caller,
-    } = output;
+    } = output.writer;
     let printed = files::end_print(lines, done, notes);
     let one = to_answerer.end(rt, done && printed.is_ok(), notes);
     let other = to_caller.end(rt, done && printed.is_ok() && one.is_ok(), notes);

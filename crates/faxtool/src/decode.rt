@@ -28,7 +28,8 @@ pub fn decode_file(
     requires { IsWidth form.width }
 {
     read_input(rt, files.input, notes)?;
-    let answer = answer_page(rt.alloc(), &mut notes.octets, form, options, number);
+    let kept = &mut notes.refused;
+    let answer = answer_page(rt.alloc(), &mut notes.octets, form, options, number, kept);
     let DecodeAnswer { page, told, end } = answer.map_err(|fault| notes.in_memory(fault))?;
     if !page.rows().is_empty() {
         write_decoded(rt, files.output, page, notes)?;

@@ -46,7 +46,12 @@ pub(crate) fn close(
 }
 
 /// Writes the picture of a call into a file. Errs with 8 where it can't be written, which is noted, and with 9.
-fn draw(rt: &HostRuntime, name: &str, ladder: Ladder, notes: &mut Notes) -> Result<(), ToolFault>
+pub(crate) fn draw(
+    rt: &HostRuntime,
+    name: &str,
+    ladder: Ladder,
+    notes: &mut Notes,
+) -> Result<(), ToolFault>
     ensures { IfErr result IsOutside }
 {
     let mut octets = Vec::new(rt.alloc());

@@ -11,8 +11,8 @@ use crate::words::{Job, Outcome};
 use calls::line_fault_at;
 use clap::Error;
 use engines::{
-    Expected, Explained, Known, LineFault, ToolFault, is_shown, refused_at, write_fault,
-    write_notice,
+    Expected, Explained, Known, LineFault, PageForm, ToolFault, is_shown, refused_at, refused_in,
+    write_fault, write_notice,
 };
 use page_code::Coding;
 use run_tables::Order;
@@ -163,6 +163,16 @@ pub fn refused_place(
         return (None, None);
     };
     let octets = notes.octets.as_slice();
+    if let Some(refused) = notes.refused {
+        let form = PageForm {
+            coding,
+            order,
+            width,
+            fine: false,
+        };
+        let (row, expected) = refused_in(rt.alloc(), octets, form, refused);
+        return (Some(row), expected);
+    }
     refused_at(rt.alloc(), octets, coding, order, width, place)
 }
 

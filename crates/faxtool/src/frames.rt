@@ -8,8 +8,9 @@ use crate::explain::notice;
 use crate::notes::{Notes, Part};
 use crate::{files, outputs};
 use engines::{
-    Captured, FoundStore, ListForm, ListOptions, Missing, NO_MEMORY, PageNumbers, Stored,
-    ToolFault, list_engine, pages_engine, write_missing, write_stored,
+    Captured, FoundStore, FrontStore, ListForm, ListOptions, Missing, NO_MEMORY, PageNumbers,
+    Stored, StoredFront, ToolFault, list_engine, pages_engine, salvage_pages_engine, write_missing,
+    write_stored, write_stored_front,
 };
 use raster::{Page, write_pbm};
 use run_tables::Order;
@@ -67,7 +68,7 @@ impl FoundStore for Folder<'_> {
     fn take(&mut self, found: Captured) -> Result<(), ToolFault> {
         self.is_empty = false;
         match found {
-            Captured::Page(page) => self.store(page),
+            Captured::Page(page) => self.store(page, false),
             Captured::Unread { .. }
             | Captured::MissingFrame { .. }
             | Captured::MissingBlocks(_)
@@ -77,10 +78,22 @@ impl FoundStore for Folder<'_> {
     }
 }
 
+impl FrontStore for Folder<'_> {
+    ghost use Rattle.faxtool.specs.Folders.{NotesFront};
+
+    ghost fronts = { λ old page new. NotesFront old.numbers new.numbers new.is_whole };
+
+    fn take_front(&mut self, page: Page) -> Result<(), ToolFault> {
+        self.is_empty = false;
+        self.is_whole = false;
+        self.store(page, true)
+    }
+}
+
 impl Folder<'_> {
-    /// Writes a page into a file of its own, under the first number that is free, and says so. A page of no rows has no file: no code
-    /// is that of such a page.
-    fn store(&mut self, page: Page) -> Result<(), ToolFault>
+    /// Writes a page, or the rows of one before a gap, into a file of its own, under the first number that is free, and says so. A page
+    /// of no rows has no file: no code is that of such a page.
+    fn store(&mut self, page: Page, is_front: bool) -> Result<(), ToolFault>
         ensures number { OnOk result (self.new.numbers.page ≡ after self.old.numbers.page) }
         ensures whole { OnOk result (self.new.is_whole ≡ self.old.is_whole) }
         ensures fault { IfErr result IsOutside }
@@ -98,7 +111,21 @@ impl Folder<'_> {
             numbers: self.numbers,
             page: &pages[0],
         };
+        if is_front {
+            return self.tell_front(stored);
+        }
         self.tell_stored(&stored)
+    }
+
+    /// Tells on standard output which file the rows of a page before a gap are in.
+    fn tell_front(&self, stored: Stored<'_>) -> Result<(), ToolFault>
+        ensures { IfErr result IsOutside }
+    {
+        if self.form == ListForm::Records {
+            return write_stored_front(self.rt.alloc(), &stored, &mut self.rt.stdout());
+        }
+        println!(self.rt; "{}", StoredFront(stored))?;
+        Ok(())
     }
 
     /// Tells on standard output which file a page is in.
@@ -135,33 +162,42 @@ impl Folder<'_> {
     }
 }
 
-/// Lists the frames in a file. Where a folder is given, writes the pages that they carry into its files page-1.pbm and so on, each as it
-/// ends, and names what is missing of others on standard error. Answers whether nothing is.
-pub fn frames_file(
+/// Where the pages in frames go.
+#[derive(Clone, Copy)]
+pub struct FoundPages<'a> {
+    /// The name of the folder.
+    pub folder: &'a str,
+    /// Whether the rows before the gap of a page that isn't whole go there too.
+    pub salvage: bool,
+}
+
+/// Lists the frames in a file, and writes the pages that they carry into a folder; names what is missing of others on standard error.
+/// Answers whether nothing is.
+fn store_pages(
     rt: &HostRuntime,
     how: ListOptions,
-    folder: Option<&str>,
+    pages: FoundPages<'_>,
     input: &str,
     notes: &mut Notes,
 ) -> Result<bool, ToolFault>
     ensures { IfErr result IsOutside }
 {
-    let Some(folder) = folder else {
-        list_file(rt, how, input, notes)?;
-        return Ok(true);
-    };
     let mut reader = files::open(rt, input, Part::Input, notes)?;
     let mut writer = files::print(rt)?;
     let mut store = Folder {
         rt,
-        name: folder,
+        name: pages.folder,
         form: how.form,
         notes,
         numbers: PageNumbers::new(),
         is_empty: true,
         is_whole: true,
     };
-    let listed = pages_engine(rt.alloc(), &mut reader, &mut writer, how, &mut store);
+    let listed = if pages.salvage {
+        salvage_pages_engine(rt.alloc(), &mut reader, &mut writer, how, &mut store)
+    } else {
+        pages_engine(rt.alloc(), &mut reader, &mut writer, how, &mut store)
+    };
     let is_empty = store.is_empty;
     let is_whole = store.is_whole;
     reader.close(notes);
@@ -170,11 +206,29 @@ pub fn frames_file(
     printed?;
     say_other_order(rt, how, worth)?;
     if is_empty {
-        notice(
-            rt,
-            how.form == ListForm::Records,
-            "no error correction: no pages",
-        )?;
+        let records = how.form == ListForm::Records;
+        notice(rt, records, "no error correction: no pages")?;
     }
     Ok(is_whole && !is_empty)
+}
+
+/// Lists the frames in a file. Where a folder is given, writes the pages that they carry into its files page-1.pbm and so on, each as it
+/// ends, where that is asked for with the rows before the gaps of others, and names what is missing of those on standard error. Answers
+/// whether nothing is.
+pub fn frames_file(
+    rt: &HostRuntime,
+    how: ListOptions,
+    pages: Option<FoundPages<'_>>,
+    input: &str,
+    notes: &mut Notes,
+) -> Result<bool, ToolFault>
+    ensures { IfErr result IsOutside }
+{
+    match pages {
+        Some(pages) => store_pages(rt, how, pages, input, notes),
+        None => {
+            list_file(rt, how, input, notes)?;
+            Ok(true)
+        }
+    }
 }

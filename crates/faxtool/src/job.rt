@@ -6,11 +6,12 @@ ghost use Rattle.std.specs.Prelude.{IfErr};
 
 use crate::bits::CallFiles;
 use crate::call::call_file;
+use crate::captures::{CaptureFiles, draw_captures};
 use crate::code::code_file;
 use crate::decode::decode_file;
 use crate::explain::{is_explained, show_fault};
 use crate::files::InAndOut;
-use crate::frames::frames_file;
+use crate::frames::{FoundPages, frames_file};
 use crate::identify::identify_file;
 use crate::names::{bits_of, output_of};
 use crate::notes::{Notes, Part};
@@ -27,7 +28,13 @@ pub fn run_request(rt: &HostRuntime, request: &Request) -> Outcome
 {
     let explains = request.explain || is_explained(rt);
     let image = takes_image(&request.job);
-    let mut notes = Notes::new(rt.alloc(), is_long(&request.job), image, request.json);
+    let mut notes = Notes::new(
+        rt.alloc(),
+        is_long(&request.job),
+        image,
+        request.json,
+        request.explain,
+    );
     match run_job(rt, &request.job, &mut notes, explains) {
         Ok(outcome) => outcome,
         Err(fault) => {
@@ -51,6 +58,7 @@ fn is_long(job: &Job) -> bool {
         Job::Code { .. } | Job::Decode { .. } | Job::Identify { .. } => true,
         Job::Call { .. } | Job::Drive { .. } => true,
         Job::Show { .. } | Job::Frames { .. } | Job::Version { .. } => false,
+        Job::Captures { .. } => true,
         Job::Answer { .. } | Job::Dial { .. } => false,
     }
 }
@@ -109,20 +117,7 @@ pub fn run_job(
             let files = InAndOut { input, output };
             decode_file(rt, *form, *options, *page, files, notes)?
         }
-        Job::Frames {
-            most,
-            order,
-            form,
-            pages,
-            input,
-        } => {
-            let how = ListOptions {
-                most: most.map(|most| most as usize),
-                order: *order,
-                form: *form,
-            };
-            frames_file(rt, how, pages.as_deref(), input, notes)?
-        }
+        Job::Frames { .. } | Job::Captures { .. } => run_frames(rt, job, notes)?,
         _ => {
             do_whole(rt, job, notes)?;
             true
@@ -155,7 +150,48 @@ pub fn do_whole(rt: &HostRuntime, job: &Job, notes: &mut Notes) -> Result<(), To
         Job::Identify { input } => identify_file(rt, input, notes),
         Job::Version { proof } => print_version(rt, *proof, notes),
         Job::Decode { .. } | Job::Frames { .. } | Job::Answer { .. } | Job::Dial { .. } => Ok(()),
+        Job::Captures { .. } => Ok(()),
         Job::Call { .. } | Job::Drive { .. } => Ok(()),
+    }
+}
+
+/// Lists the frames of a job's capture, or draws those of two. Answers whether nothing is missing.
+fn run_frames(rt: &HostRuntime, job: &Job, notes: &mut Notes) -> Result<bool, ToolFault> {
+    match job {
+        Job::Frames {
+            most,
+            order,
+            form,
+            pages,
+            salvage,
+            input,
+        } => {
+            let how = ListOptions {
+                most: most.map(|most| most as usize),
+                order: *order,
+                form: *form,
+            };
+            let found = pages.as_deref().map(|folder| FoundPages {
+                folder,
+                salvage: *salvage,
+            });
+            frames_file(rt, how, found, input, notes)
+        }
+        Job::Captures {
+            order,
+            records,
+            diagram,
+            caller,
+            answerer,
+        } => {
+            let names = CaptureFiles {
+                caller,
+                answerer,
+                diagram,
+            };
+            draw_captures(rt, *order, *records, names, notes)
+        }
+        _ => Ok(true),
     }
 }
 

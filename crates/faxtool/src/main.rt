@@ -4,6 +4,8 @@
 
 mod bits;
 mod call;
+mod captures;
+mod captures_words;
 mod code;
 mod commands;
 mod decode;

@@ -11,7 +11,7 @@ pub fn output_of<'a>(job: &'a Job) -> Option<&'a str> {
         Job::Call { out, .. } | Job::Drive { out, .. } => out.as_deref(),
         Job::Frames { pages, .. } => pages.as_deref(),
         Job::Answer { out, .. } => Some(out.as_str()),
-        Job::Show { .. } | Job::Identify { .. } => None,
+        Job::Show { .. } | Job::Identify { .. } | Job::Captures { .. } => None,
         Job::Dial { .. } | Job::Version { .. } => None,
     }
 }
@@ -28,6 +28,15 @@ pub fn bits_of<'a>(job: &'a Job) -> Option<&'a str> {
 fn diagram_of<'a>(job: &'a Job) -> Option<&'a str> {
     match job {
         Job::Call { diagram, .. } | Job::Drive { diagram, .. } => diagram.as_deref(),
+        Job::Captures { diagram, .. } => Some(diagram.as_str()),
+        _ => None,
+    }
+}
+
+/// The name of the file of what an answerer sent, where one is read.
+fn answerer_of<'a>(job: &'a Job) -> Option<&'a str> {
+    match job {
+        Job::Captures { answerer, .. } => Some(answerer.as_str()),
         _ => None,
     }
 }
@@ -59,6 +68,7 @@ fn input_of<'a>(job: &'a Job) -> &'a str {
         | Job::Call { input, .. }
         | Job::Drive { input, .. }
         | Job::Dial { input, .. } => input.as_str(),
+        Job::Captures { caller, .. } => caller.as_str(),
         Job::Answer { .. } | Job::Version { .. } => STANDARD,
     }
 }
@@ -72,6 +82,7 @@ pub fn file_of<'a>(job: &'a Job, part: Part) -> &'a str {
         Part::Bits => bits_of(job),
         Part::Diagram => diagram_of(job),
         Part::Trace => trace_of(job),
+        Part::Answerer => answerer_of(job),
         Part::Input => None,
     };
     shown_name(named.unwrap_or(input_of(job)), part)

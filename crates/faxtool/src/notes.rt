@@ -5,14 +5,17 @@ ghost use Rattle.engines.specs.declared.fault.ToolFault.TheVariants.{No};
 ghost use Rattle.std.specs.Prelude.{◌≡◌, ◌≢◌, [], None, Some};
 
 use engines::{NO_MEMORY, ToolFault};
+use page_code::RefusedCode;
 use std::alloc::Global;
 use std::io::ErrorKind;
 
 /// A file of a job.
 #[derive(Clone, Copy, Debug, PartialEq, Eq)]
 pub enum Part {
-    /// What is coded, shown, decoded, listed or sent.
+    /// What is coded, shown, decoded, listed or sent, or a capture of what a caller sent.
     Input,
+    /// The capture of what an answerer sent.
+    Answerer,
     /// The script of a call.
     Script,
     /// What the file OUT or that of `--out` gets.
@@ -40,20 +43,25 @@ pub struct Notes {
     pub long: bool,
     /// Whether what is told is records, for programs.
     pub records: bool,
+    /// Whether what the signals of a call say is told in words.
+    pub explained: bool,
     /// All octets of the input where they are read before anything is done with them; else the first ones.
     pub octets: Vec<u8>,
     /// All octets of the script.
     pub script: Vec<u8>,
+    /// Of a coded page that was refused, how far it was read, where that is known.
+    pub refused: Option<RefusedCode>,
 }
 
 impl Notes {
-    /// Nothing is noted yet. The input is an image or none; reading may take long; what is told is records or lines.
-    pub fn new(alloc: Global, long: bool, image: bool, records: bool) -> Notes
+    /// Nothing is noted yet. The input is an image or none; reading may take long; what is told is records or lines, with words or none.
+    pub fn new(alloc: Global, long: bool, image: bool, records: bool, explained: bool) -> Notes
         ensures failed { result.failed ≡ None }
         ensures unread { result.unread ≡ None }
         ensures image { result.image ≡ image }
         ensures long { result.long ≡ long }
         ensures records { result.records ≡ records }
+        ensures explained { result.explained ≡ explained }
         ensures octets { result.octets.items ≡ [] }
         ensures script { result.script.items ≡ [] }
     {
@@ -63,8 +71,10 @@ impl Notes {
             image,
             long,
             records,
+            explained,
             octets: Vec::new(alloc),
             script: Vec::new(alloc),
+            refused: None,
         }
     }
 

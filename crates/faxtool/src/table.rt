@@ -161,6 +161,11 @@ const DECODE_ARGUMENTS: &[Argument<'static>] = &[
         ..FLAG
     },
     Argument {
+        id: "json",
+        help: "Writes each line on standard error as an object of JSON, for programs",
+        ..FLAG
+    },
+    Argument {
         id: "page",
         shown: &["N"],
         parser: Some(ValueParser::Signed(1, 4_294_967_295)),
@@ -192,12 +197,34 @@ const FRAMES_ARGUMENTS: &[Argument<'static>] = &[
         ..FILE_OPTION
     },
     Argument {
+        id: "salvage",
+        help: "Writes the whole rows before the first gap of a page that isn't whole too, if there is one (with --pages)",
+        ..FLAG
+    },
+    Argument {
         id: "json",
         help: "Writes each line as an object of JSON, for programs",
         ..FLAG
     },
     Argument {
+        id: "diagram",
+        shown: &["OUT"],
+        help: "The file that the frames of both stations are drawn in, as an SVG (with --caller and --answerer)",
+        ..FILE_OPTION
+    },
+    Argument {
+        id: "caller",
+        help: "The file of the bits that the caller sent; - is standard input (with --diagram)",
+        ..FILE_OPTION
+    },
+    Argument {
+        id: "answerer",
+        help: "The file of the bits that the answerer sent; - is standard input (with --diagram)",
+        ..FILE_OPTION
+    },
+    Argument {
         id: "file",
+        required: false,
         help: "The file of the bits; - is standard input",
         ..FILE
     },
@@ -312,12 +339,20 @@ const CALL_ARGUMENTS: &[Argument<'static>] = &[
         ..FILE_OPTION
     },
     Argument {
+        id: "json",
+        help: "Writes each line as an object of JSON, for programs (not with --times)",
+        ..FLAG
+    },
+    Argument {
         id: "in",
         shown: &["IN"],
         help: "The file of the document, a PBM; - is standard input",
         ..FILE
     },
-    EXPLAIN,
+    Argument {
+        help: "Says what each DIS, DCS, PPS and PPR says in words, on a line after its own; and explains a fault in words too",
+        ..EXPLAIN
+    },
 ];
 
 /// How long a wait runs, in milliseconds.

@@ -10,6 +10,7 @@ ghost use Rattle.faxtool.specs.Jobs.{IsLineIn, IsRateIn, IsSpoilIn, IsBusyIn, Is
 ghost use Rattle.faxtool.specs.Jobs.{line_order_named, list_form, order_named, status_of};
 ghost use Rattle.calls.specs.declared.losses.BadLine.{BadLine as LineValue};
 
+use crate::captures_words::{captures_job, has_captures, unfit_frames};
 use crate::commands::faxtool_command;
 use crate::station_words::{GivenWaits, station_job, unfit_station};
 use calls::{BadLine, CallOptions, read_rate};
@@ -72,8 +73,23 @@ pub enum Job {
         form: ListForm,
         /// The name of the folder that the pages in the frames go to, where one is given.
         pages: Option<String>,
+        /// Whether the rows before the gap of a page that isn't whole go there too.
+        salvage: bool,
         /// The name of the file.
         input: String,
+    },
+    /// Draws the frames in two files of bits, one of each station of a call.
+    Captures {
+        /// Which bit of an octet of the files comes first.
+        order: Order,
+        /// Whether what is told is records, for programs.
+        records: bool,
+        /// The name of the file that the frames are drawn in.
+        diagram: String,
+        /// The name of the file of what the caller sent.
+        caller: String,
+        /// The name of the file of what the answerer sent.
+        answerer: String,
     },
     /// Prints as which format a file begins, and in which ways it reads as a page.
     Identify {
@@ -377,6 +393,7 @@ fn decode_options(matches: &ArgMatches<'_>) -> DecodeOptions
         repair: is_named(text_in(matches, "repair"), "true"),
         whole: is_named(text_in(matches, "whole"), "true"),
         verbose: is_named(text_in(matches, "verbose"), "true"),
+        records: is_named(text_in(matches, "json"), "true"),
     }
 }
 
@@ -397,9 +414,16 @@ fn frames_job(alloc: Global, matches: &ArgMatches<'_>) -> Result<Option<Job>, Al
     ensures { let met = Some (codes "frames", rows_of (found_of matches.now)) in
         IfOk result (λ job. MatchOption job (HasNoJob met) (IsJobOf met)) }
 {
+    if has_captures(matches) {
+        return captures_job(alloc, matches);
+    }
     let Some(input) = text_in(matches, "file") else {
         return Ok(None);
     };
+    let salvage = is_named(text_in(matches, "salvage"), "true");
+    if salvage && text_in(matches, "pages").is_none() {
+        return Ok(None);
+    }
     Ok(Some(Job::Frames {
         most: number_in(matches, "data"),
         order: line_order_in(matches),
@@ -408,6 +432,7 @@ fn frames_job(alloc: Global, matches: &ArgMatches<'_>) -> Result<Option<Job>, Al
             is_named(text_in(matches, "explain"), "true"),
         ),
         pages: copy_of(alloc, text_in(matches, "pages"))?,
+        salvage,
         input: String::from_str(alloc, input)?,
     }))
 }
@@ -514,7 +539,7 @@ fn line_in(matches: &ArgMatches<'_>) -> Option<BadLine>
     })
 }
 
-// How many calls are asked for, where that is said; their pages and octets are not kept, and no end is wanted of them.
+// How many calls are asked for, where that is said; their pages and octets are not kept, no end is wanted of them, and no records.
 fn times_in(matches: &ArgMatches<'_>) -> Option<Option<u32>>
     ensures { let rows = rows_of (found_of matches.now) in
         MatchOption result ((times : Option ℕ) → IsTimesIn rows times → ⊥) (IsTimesIn rows) }
@@ -532,6 +557,9 @@ fn times_in(matches: &ArgMatches<'_>) -> Option<Option<u32>>
         return None;
     }
     if text_in(matches, "diagram").is_some() {
+        return None;
+    }
+    if is_named(text_in(matches, "json"), "true") {
         return None;
     }
     match number_in(matches, "times") {
@@ -584,7 +612,7 @@ fn busy_in(matches: &ArgMatches<'_>) -> Option<u64>
 }
 
 // Whether a script and an image are both standard input.
-fn are_both_standard(script: &str, input: &str) -> bool
+pub(crate) fn are_both_standard(script: &str, input: &str) -> bool
     ensures { result ≡ are_both_standard script.now input.now }
 {
     script == "-" && input == "-"
@@ -661,7 +689,7 @@ fn order_in(matches: &ArgMatches<'_>) -> Order
 }
 
 // The order of the bits on a line, which is `lsb` but for `msb`.
-fn line_order_in(matches: &ArgMatches<'_>) -> Order
+pub(crate) fn line_order_in(matches: &ArgMatches<'_>) -> Order
     ensures { result ≡ line_order_named (first_of (codes "order") (rows_of (found_of matches.now))) }
 {
     line_order_named(text_in(matches, "order"))
@@ -715,6 +743,7 @@ fn unfit_text(matches: &ArgMatches<'_>) -> &'static str {
     match matches.subcommand() {
         Some((name, inner)) if name == "call" => unfit_call(inner),
         Some((name, inner)) if name == "station" => unfit_station(inner),
+        Some((name, inner)) if name == "frames" => unfit_frames(inner),
         _ => "--repair and --salvage can't be used together",
     }
 }
@@ -753,6 +782,9 @@ fn unfit_call(matches: &ArgMatches<'_>) -> &'static str {
     }
     if text_in(matches, "times").is_some() && text_in(matches, "diagram").is_some() {
         return "--times draws no call, and can't be used with --diagram";
+    }
+    if text_in(matches, "times").is_some() && is_named(text_in(matches, "json"), "true") {
+        return "--times prints a table, and can't be used with --json";
     }
     "--lose and --spoil are more than 100% together"
 }

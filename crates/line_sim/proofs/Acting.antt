@@ -1,5 +1,5 @@
 -- What an event makes of the fields is what it makes of the worlds that they represent.
-use Rattle.std.proofs.Common.{◌≡◌, ℕ, Bool, true, false, List, [], ◌∷◌, take, Option, Some, None, Result, Ok, Err, refl, ap, sym, subst}
+use Rattle.std.proofs.Common.{◌≡◌, ℕ, Bool, true, false, List, [], ◌∷◌, take, Some, Result, Ok, Err, refl, ap, sym, subst}
 use Rattle.std.proofs.Common.{◌∙◌}
 use Rattle.stations.specs.AnswererStep.{Answerer, AnswererAnswer, answerer_silent, answerer_step, answerer_items, StepsOrRefuses}
 use Rattle.stations.specs.CallerStep.{Caller, CallerAnswer, caller_silent, caller_step, caller_items}
@@ -9,18 +9,18 @@ use Rattle.stations.specs.Laws.{Each}
 use Rattle.stations.specs.CallerFields.{CallerFields, Represents, AnswersOrRefuses}
 use Rattle.stations.specs.declared.turn.Turn.{Turn}
 use Rattle.stations.specs.declared.turn.Turn.TheVariants.{Silent}
-use Rattle.line_sim.specs.Entries.{Said, says, caller_said, head_kind, item_of, event_says, entry_of, is_refused}
+use Rattle.line_sim.specs.Entries.{Said, says, caller_said, event_says, entry_of, is_refused}
 use Rattle.line_sim.specs.Headline.{CanBeWritten}
 use Rattle.line_sim.specs.Hearing.{CallerHears, AnswererHears, HearsFirst}
 use Rattle.line_sim.specs.Line.{World, Outcome, Done, Nothing, InputLost, Cut, sent, caller_sends, answerer_sends, after_first, happens}
 use Rattle.line_sim.specs.Represents.{Shows, IsSent, CallerMayAnswer, AnswererMayAnswer, entry_with, CallerAnswers, AnswererAnswers}
-use Rattle.line_sim.specs.Represents.{CallerTimer, AnswererTimer, EventWrites, Acts}
+use Rattle.line_sim.specs.Represents.{CallerTimer, AnswererTimer, EventWrites, Acts, head_shown, none_shown, shown_of}
 use Rattle.line_sim.specs.declared.call.Call.{Call}
 use Rattle.line_sim.specs.declared.event.Entry.{Entry}
 use Rattle.line_sim.specs.declared.event.Event.{Event}
 use Rattle.line_sim.specs.declared.event.Event.TheVariants.{DeliverToAnswerer, DeliverToCaller, LoseToAnswerer, LoseToCaller, Spoil}
 use Rattle.line_sim.specs.declared.event.Event.TheVariants.{CallerTimeout, CallerT5, AnswererT1, AnswererT2, Busy}
-use Rattle.line_sim.specs.declared.event.Kind.{Kind}
+use Rattle.line_sim.specs.declared.event.Shown.{Shown}
 use Rattle.line_sim.proofs.Sent.{caller_replaced, answerer_replaced, caller_wrote, answerer_wrote}
 
 -- how the caller answers an event that isn't lost: from this tuple by this answer, with these lists
@@ -146,106 +146,106 @@ answerer_deaf (framed signal ∷ items) old new refusal h = h
 answerer_deaf (checked octets ∷ items) old new refusal h = h
 
 -- the entry of an event with an outcome
-entry_is : (w : World) (event : Event) (said : Said) (item : Option Kind) (entry : Entry) (outcome : Outcome) →
-    entry_of w event outcome ≡ Some (entry_with event (item_of w event) (event_says w event outcome) (is_refused outcome)) →
-    item ≡ item_of w event → event_says w event outcome ≡ said →
-    entry ≡ entry_with event item said (is_refused outcome) → entry_of w event outcome ≡ Some entry
-entry_is w event said item entry outcome by is says_so e =
-    by ∙ (ap (λ x. Some (entry_with event (item_of w event) x (is_refused outcome))) says_so ∙
+entry_is : (w : World) (event : Event) (said : Said) (shown : Shown) (entry : Entry) (outcome : Outcome) →
+    entry_of w event outcome ≡ Some (entry_with event (shown_of w event) (event_says w event outcome) (is_refused outcome)) →
+    shown ≡ shown_of w event → event_says w event outcome ≡ said →
+    entry ≡ entry_with event shown said (is_refused outcome) → entry_of w event outcome ≡ Some entry
+entry_is w event said shown entry outcome by is says_so e =
+    by ∙ (ap (λ x. Some (entry_with event (shown_of w event) x (is_refused outcome))) says_so ∙
     (ap (λ k. Some (entry_with event k said (is_refused outcome))) (sym is) ∙ ap (λ x. Some x) (sym e)))
 
 -- the caller has answered with a turn
-caller_did : (mid new : Call) (event : Event) (item : Option Kind) (turn : Turn) (entry : Entry) (refused : Bool) (w : World)
+caller_did : (mid new : Call) (event : Event) (shown : Shown) (turn : Turn) (entry : Entry) (refused : Bool) (w : World)
     (answer : CallerAnswer) → entry.refused ≡ refused →
     Represents mid.caller answer.next → turn ≡ answer.turn → w.answerer ≡ mid.answerer → w.to_answerer ≡ mid.to_answerer →
-    CallerTurns w event answer mid.to_caller → item ≡ item_of w event →
+    CallerTurns w event answer mid.to_caller → shown ≡ shown_of w event →
     (outcome : Outcome) → IsSent refused outcome →
     ((v : World) → Shows mid v → Shows new (caller_sends turn v v.caller (sent outcome (caller_items v.caller turn)))) →
-    entry ≡ entry_with event item (caller_said turn (caller_items answer.next turn)) entry.refused →
+    entry ≡ entry_with event shown (caller_said turn (caller_items answer.next turn)) entry.refused →
     Shows new (happens w event outcome) × (entry_of w event outcome ≡ Some entry)
-caller_did mid new event item turn entry false w answer marked fits is s o turns named Done sent_so sends noted =
+caller_did mid new event shown turn entry false w answer marked fits is s o turns named Done sent_so sends noted =
     let v : World = record { caller = answer.next; answerer = w.answerer; to_answerer = w.to_answerer; to_caller = mid.to_caller } in
-    let shown : Shows new (caller_sends turn v answer.next (caller_items answer.next turn)) =
+    let meets : Shows new (caller_sends turn v answer.next (caller_items answer.next turn)) =
     sends v (record { caller = fits; answerer = s; to_answerer = o; to_caller = refl }) in (
-      subst (Shows new) (ap (λ x. caller_sends x v answer.next (caller_items answer.next x)) is ∙ sym turns.done) shown,
-      entry_is w event (caller_said answer.turn (caller_items answer.next answer.turn)) item entry Done refl named turns.said_done
-          (noted ∙ (ap (λ x. entry_with event item (caller_said x (caller_items answer.next x)) entry.refused) is ∙
-          ap (entry_with event item (caller_said answer.turn (caller_items answer.next answer.turn))) marked)),
+      subst (Shows new) (ap (λ x. caller_sends x v answer.next (caller_items answer.next x)) is ∙ sym turns.done) meets,
+      entry_is w event (caller_said answer.turn (caller_items answer.next answer.turn)) shown entry Done refl named turns.said_done
+          (noted ∙ (ap (λ x. entry_with event shown (caller_said x (caller_items answer.next x)) entry.refused) is ∙
+          ap (entry_with event shown (caller_said answer.turn (caller_items answer.next answer.turn))) marked)),
     )
-caller_did mid new event item turn entry true w answer marked fits is s o turns named (Cut made) sent_so sends noted =
+caller_did mid new event shown turn entry true w answer marked fits is s o turns named (Cut made) sent_so sends noted =
     let v : World = record { caller = answer.next; answerer = w.answerer; to_answerer = w.to_answerer; to_caller = mid.to_caller } in
-    let shown : Shows new (caller_sends turn v answer.next (take made (caller_items answer.next turn))) =
+    let meets : Shows new (caller_sends turn v answer.next (take made (caller_items answer.next turn))) =
     sends v (record { caller = fits; answerer = s; to_answerer = o; to_caller = refl }) in (
-      subst (Shows new) (ap (λ x. caller_sends x v answer.next (take made (caller_items answer.next x))) is ∙ sym (turns.cut made)) shown,
-      entry_is w event (caller_said answer.turn (caller_items answer.next answer.turn)) item entry (Cut made) refl named
+      subst (Shows new) (ap (λ x. caller_sends x v answer.next (take made (caller_items answer.next x))) is ∙ sym (turns.cut made)) meets,
+      entry_is w event (caller_said answer.turn (caller_items answer.next answer.turn)) shown entry (Cut made) refl named
           (turns.said_cut made)
-          (noted ∙ (ap (λ x. entry_with event item (caller_said x (caller_items answer.next x)) entry.refused) is ∙
-          ap (entry_with event item (caller_said answer.turn (caller_items answer.next answer.turn))) marked)),
+          (noted ∙ (ap (λ x. entry_with event shown (caller_said x (caller_items answer.next x)) entry.refused) is ∙
+          ap (entry_with event shown (caller_said answer.turn (caller_items answer.next answer.turn))) marked)),
     )
-caller_did mid new event item turn entry false w answer marked fits is s o turns named Nothing sent_so sends noted = absurd sent_so
-caller_did mid new event item turn entry false w answer marked fits is s o turns named InputLost sent_so sends noted = absurd sent_so
-caller_did mid new event item turn entry false w answer marked fits is s o turns named (Cut made) sent_so sends noted = absurd sent_so
-caller_did mid new event item turn entry true w answer marked fits is s o turns named Done sent_so sends noted = absurd sent_so
-caller_did mid new event item turn entry true w answer marked fits is s o turns named Nothing sent_so sends noted = absurd sent_so
-caller_did mid new event item turn entry true w answer marked fits is s o turns named InputLost sent_so sends noted = absurd sent_so
+caller_did mid new event shown turn entry false w answer marked fits is s o turns named Nothing sent_so sends noted = absurd sent_so
+caller_did mid new event shown turn entry false w answer marked fits is s o turns named InputLost sent_so sends noted = absurd sent_so
+caller_did mid new event shown turn entry false w answer marked fits is s o turns named (Cut made) sent_so sends noted = absurd sent_so
+caller_did mid new event shown turn entry true w answer marked fits is s o turns named Done sent_so sends noted = absurd sent_so
+caller_did mid new event shown turn entry true w answer marked fits is s o turns named Nothing sent_so sends noted = absurd sent_so
+caller_did mid new event shown turn entry true w answer marked fits is s o turns named InputLost sent_so sends noted = absurd sent_so
 
-answerer_did : (mid new : Call) (event : Event) (item : Option Kind) (turn : Turn) (entry : Entry) (refused : Bool) (w : World)
+answerer_did : (mid new : Call) (event : Event) (shown : Shown) (turn : Turn) (entry : Entry) (refused : Bool) (w : World)
     (answer : AnswererAnswer) → entry.refused ≡ refused →
     Represents mid.caller w.caller → mid.answerer ≡ answer.next → turn ≡ answer.turn → w.to_caller ≡ mid.to_caller →
-    AnswererTurns w event answer mid.to_answerer → item ≡ item_of w event →
+    AnswererTurns w event answer mid.to_answerer → shown ≡ shown_of w event →
     (outcome : Outcome) → IsSent refused outcome →
     ((v : World) → Shows mid v → Shows new (answerer_sends turn v v.answerer (sent outcome (answerer_items v.answerer turn)))) →
-    entry ≡ entry_with event item (says turn) entry.refused →
+    entry ≡ entry_with event shown (says turn) entry.refused →
     Shows new (happens w event outcome) × (entry_of w event outcome ≡ Some entry)
-answerer_did mid new event item turn entry false w answer marked fits s is o turns named Done sent_so sends noted =
+answerer_did mid new event shown turn entry false w answer marked fits s is o turns named Done sent_so sends noted =
     let v : World = record { caller = w.caller; answerer = answer.next; to_answerer = mid.to_answerer; to_caller = w.to_caller } in
-    let shown : Shows new (answerer_sends turn v answer.next (answerer_items answer.next turn)) =
+    let meets : Shows new (answerer_sends turn v answer.next (answerer_items answer.next turn)) =
     sends v (record { caller = fits; answerer = sym s; to_answerer = refl; to_caller = o }) in (
-      subst (Shows new) (ap (λ x. answerer_sends x v answer.next (answerer_items answer.next x)) is ∙ sym turns.done) shown,
-      entry_is w event (says answer.turn) item entry Done refl named turns.said_done
-          (noted ∙ (ap (λ x. entry_with event item (says x) entry.refused) is ∙ ap (entry_with event item (says answer.turn)) marked)),
+      subst (Shows new) (ap (λ x. answerer_sends x v answer.next (answerer_items answer.next x)) is ∙ sym turns.done) meets,
+      entry_is w event (says answer.turn) shown entry Done refl named turns.said_done
+          (noted ∙ (ap (λ x. entry_with event shown (says x) entry.refused) is ∙ ap (entry_with event shown (says answer.turn)) marked)),
     )
-answerer_did mid new event item turn entry true w answer marked fits s is o turns named (Cut made) sent_so sends noted =
+answerer_did mid new event shown turn entry true w answer marked fits s is o turns named (Cut made) sent_so sends noted =
     let v : World = record { caller = w.caller; answerer = answer.next; to_answerer = mid.to_answerer; to_caller = w.to_caller } in
-    let shown : Shows new (answerer_sends turn v answer.next (take made (answerer_items answer.next turn))) =
+    let meets : Shows new (answerer_sends turn v answer.next (take made (answerer_items answer.next turn))) =
     sends v (record { caller = fits; answerer = sym s; to_answerer = refl; to_caller = o }) in (
       subst (Shows new) (ap (λ x. answerer_sends x v answer.next (take made (answerer_items answer.next x))) is ∙
-          sym (turns.cut made)) shown,
-      entry_is w event (says answer.turn) item entry (Cut made) refl named (turns.said_cut made)
-          (noted ∙ (ap (λ x. entry_with event item (says x) entry.refused) is ∙ ap (entry_with event item (says answer.turn)) marked)),
+          sym (turns.cut made)) meets,
+      entry_is w event (says answer.turn) shown entry (Cut made) refl named (turns.said_cut made)
+          (noted ∙ (ap (λ x. entry_with event shown (says x) entry.refused) is ∙ ap (entry_with event shown (says answer.turn)) marked)),
     )
-answerer_did mid new event item turn entry false w answer marked fits s is o turns named Nothing sent_so sends noted = absurd sent_so
-answerer_did mid new event item turn entry false w answer marked fits s is o turns named InputLost sent_so sends noted = absurd sent_so
-answerer_did mid new event item turn entry false w answer marked fits s is o turns named (Cut made) sent_so sends noted = absurd sent_so
-answerer_did mid new event item turn entry true w answer marked fits s is o turns named Done sent_so sends noted = absurd sent_so
-answerer_did mid new event item turn entry true w answer marked fits s is o turns named Nothing sent_so sends noted = absurd sent_so
-answerer_did mid new event item turn entry true w answer marked fits s is o turns named InputLost sent_so sends noted = absurd sent_so
+answerer_did mid new event shown turn entry false w answer marked fits s is o turns named Nothing sent_so sends noted = absurd sent_so
+answerer_did mid new event shown turn entry false w answer marked fits s is o turns named InputLost sent_so sends noted = absurd sent_so
+answerer_did mid new event shown turn entry false w answer marked fits s is o turns named (Cut made) sent_so sends noted = absurd sent_so
+answerer_did mid new event shown turn entry true w answer marked fits s is o turns named Done sent_so sends noted = absurd sent_so
+answerer_did mid new event shown turn entry true w answer marked fits s is o turns named Nothing sent_so sends noted = absurd sent_so
+answerer_did mid new event shown turn entry true w answer marked fits s is o turns named InputLost sent_so sends noted = absurd sent_so
 
 -- what the caller takes an event for, and the fields after it before it transmits
-pub record CallerTakes {E : Type 0} (old mid : Call) (event : Event) (item : Option Kind) (result : Result Turn E) : Type 0 where
+pub record CallerTakes {E : Type 0} (old mid : Call) (event : Event) (shown : Shown) (result : Result Turn E) : Type 0 where
   pub answer : World → CallerAnswer
   pub answerer : mid.answerer ≡ old.answerer
   pub to_answerer : mid.to_answerer ≡ old.to_answerer
   pub turns : (w : World) → Shows old w → CallerTurns w event (answer w) mid.to_caller
-  pub named : (w : World) → Shows old w → item ≡ item_of w event
+  pub named : (w : World) → Shows old w → shown ≡ shown_of w event
   pub heard : (turn : Turn) → result ≡ Ok turn → (w : World) → Shows old w → Represents mid.caller (answer w).next ×
       (turn ≡ (answer w).turn)
   pub deaf : (refusal : E) → result ≡ Err refusal → mid.caller ≡ old.caller
 
-pub record AnswererTakes {E : Type 0} (old mid : Call) (event : Event) (item : Option Kind) (result : Result Turn E) : Type 0 where
+pub record AnswererTakes {E : Type 0} (old mid : Call) (event : Event) (shown : Shown) (result : Result Turn E) : Type 0 where
   pub answer : World → AnswererAnswer
   pub caller : mid.caller ≡ old.caller
   pub to_caller : mid.to_caller ≡ old.to_caller
   pub turns : (w : World) → Shows old w → AnswererTurns w event (answer w) mid.to_answerer
-  pub named : (w : World) → Shows old w → item ≡ item_of w event
+  pub named : (w : World) → Shows old w → shown ≡ shown_of w event
   pub heard : (turn : Turn) → result ≡ Ok turn → (w : World) → Shows old w → (mid.answerer ≡ (answer w).next) × (turn ≡ (answer w).turn)
   pub deaf : (refusal : E) → result ≡ Err refusal → mid.answerer ≡ old.answerer
 
 -- the items of its turn can be written
-pub caller_may : {E : Type 0} (old mid : Call) (event : Event) (item : Option Kind) (result : Result Turn E) →
-    CallerTakes old mid event item result → EventWrites old event → CallerMayAnswer mid result
-caller_may old mid event item (Err refusal) takes writes = tt
-caller_may old mid event item (Ok turn) takes writes =
+pub caller_may : {E : Type 0} (old mid : Call) (event : Event) (shown : Shown) (result : Result Turn E) →
+    CallerTakes old mid event shown result → EventWrites old event → CallerMayAnswer mid result
+caller_may old mid event shown (Err refusal) takes writes = tt
+caller_may old mid event shown (Ok turn) takes writes =
     let w : World = writes.0 in
     let heard = takes.heard turn refl w writes.1 in
     let answer : CallerAnswer = takes.answer w in
@@ -257,10 +257,10 @@ caller_may old mid event item (Ok turn) takes writes =
           (caller_wrote answer.turn v answer.next (subst (λ x. Each CanBeWritten x.to_answerer) turns.done writes.2)),
     )
 
-pub answerer_may : {E : Type 0} (old mid : Call) (event : Event) (item : Option Kind) (result : Result Turn E) →
-    AnswererTakes old mid event item result → EventWrites old event → AnswererMayAnswer mid result
-answerer_may old mid event item (Err refusal) takes writes = tt
-answerer_may old mid event item (Ok turn) takes writes =
+pub answerer_may : {E : Type 0} (old mid : Call) (event : Event) (shown : Shown) (result : Result Turn E) →
+    AnswererTakes old mid event shown result → EventWrites old event → AnswererMayAnswer mid result
+answerer_may old mid event shown (Err refusal) takes writes = tt
+answerer_may old mid event shown (Ok turn) takes writes =
     let w : World = writes.0 in
     let heard = takes.heard turn refl w writes.1 in
     let answer : AnswererAnswer = takes.answer w in
@@ -271,18 +271,18 @@ answerer_may old mid event item (Ok turn) takes writes =
     (answerer_wrote answer.turn v answer.next (subst (λ x. Each CanBeWritten x.to_caller) turns.done writes.3)))
 
 -- it has answered
-pub caller_event : {E : Type 0} (old mid new : Call) (event : Event) (item : Option Kind) (result : Result Turn E) (entry : Entry) →
-    CallerTakes old mid event item result → CallerAnswers mid new event item result entry → Acts old new event entry
-caller_event old mid new event item (Ok turn) entry takes h = (
+pub caller_event : {E : Type 0} (old mid new : Call) (event : Event) (shown : Shown) (result : Result Turn E) (entry : Entry) →
+    CallerTakes old mid event shown result → CallerAnswers mid new event shown result entry → Acts old new event entry
+caller_event old mid new event shown (Ok turn) entry takes h = (
   h.0.0,
   λ w shows.
       let heard = takes.heard turn refl w shows in
-      caller_did mid new event item turn entry entry.refused w (takes.answer w) refl heard.0 heard.1
+      caller_did mid new event shown turn entry entry.refused w (takes.answer w) refl heard.0 heard.1
       (shows.answerer ∙ sym takes.answerer) (shows.to_answerer ∙ sym takes.to_answerer) (takes.turns w shows)
       (takes.named w shows) h.0.0 h.0.1 h.0.2
       (h.1 (takes.answer w).next heard.0),
 )
-caller_event old mid new event item (Err refusal) entry takes h = (
+caller_event old mid new event shown (Err refusal) entry takes h = (
   InputLost,
   λ w shows.
       let turns : CallerTurns w event (takes.answer w) mid.to_caller = takes.turns w shows in (
@@ -294,21 +294,21 @@ caller_event old mid new event item (Err refusal) entry takes h = (
               to_answerer = shows.to_answerer ∙ sym takes.to_answerer;
               to_caller = refl;
             })),
-        entry_is w event (says Silent) item entry InputLost refl (takes.named w shows) turns.said_lost h.1,
+        entry_is w event (says Silent) shown entry InputLost refl (takes.named w shows) turns.said_lost h.1,
       ),
 )
 
-pub answerer_event : {E : Type 0} (old mid new : Call) (event : Event) (item : Option Kind) (result : Result Turn E) (entry : Entry) →
-    AnswererTakes old mid event item result → AnswererAnswers mid new event item result entry → Acts old new event entry
-answerer_event old mid new event item (Ok turn) entry takes h = (
+pub answerer_event : {E : Type 0} (old mid new : Call) (event : Event) (shown : Shown) (result : Result Turn E) (entry : Entry) →
+    AnswererTakes old mid event shown result → AnswererAnswers mid new event shown result entry → Acts old new event entry
+answerer_event old mid new event shown (Ok turn) entry takes h = (
   h.0.0,
   λ w shows.
       let heard = takes.heard turn refl w shows in
-      answerer_did mid new event item turn entry entry.refused w (takes.answer w) refl
+      answerer_did mid new event shown turn entry entry.refused w (takes.answer w) refl
       (subst (λ v. Represents v w.caller) (sym takes.caller) shows.caller) heard.0 heard.1 (shows.to_caller ∙ sym takes.to_caller)
       (takes.turns w shows) (takes.named w shows) h.0.0 h.0.1 h.0.2 h.1,
 )
-answerer_event old mid new event item (Err refusal) entry takes h = (
+answerer_event old mid new event shown (Err refusal) entry takes h = (
   InputLost,
   λ w shows.
       let turns : AnswererTurns w event (takes.answer w) mid.to_answerer = takes.turns w shows in (
@@ -320,28 +320,28 @@ answerer_event old mid new event item (Err refusal) entry takes h = (
               to_answerer = refl;
               to_caller = shows.to_caller ∙ sym takes.to_caller;
             })),
-        entry_is w event (says Silent) item entry InputLost refl (takes.named w shows) turns.said_lost h.1,
+        entry_is w event (says Silent) shown entry InputLost refl (takes.named w shows) turns.said_lost h.1,
       ),
 )
 
 -- a delivery
-pub caller_delivered : {E : Type 0} (old : Call) (caller : CallerFields) (left : List PlainItem) (item : Option Kind)
-    (result : Result Turn E) → left ≡ after_first old.to_caller → item ≡ head_kind old.to_caller →
+pub caller_delivered : {E : Type 0} (old : Call) (caller : CallerFields) (left : List PlainItem) (shown : Shown)
+    (result : Result Turn E) → left ≡ after_first old.to_caller → shown ≡ head_shown old.to_caller →
     HearsFirst CallerHears old.to_caller old.caller caller result →
     CallerTakes old (record {
       caller = caller;
       answerer = old.answerer;
       to_answerer = old.to_answerer;
       to_caller = left;
-    }) DeliverToCaller item result
-caller_delivered {E} old caller left item result is named h = record {
+    }) DeliverToCaller shown result
+caller_delivered {E} old caller left shown result is named h = record {
   answer = λ w. caller_to_first w.to_caller w.caller;
   answerer = refl;
   to_answerer = refl;
   turns = λ w shows.
       subst (CallerTurns w DeliverToCaller (caller_to_first w.to_caller w.caller)) (ap after_first shows.to_caller ∙ sym is)
       (first_to_caller w.caller w.answerer w.to_answerer w.to_caller);
-  named = λ w shows. named ∙ ap head_kind (sym shows.to_caller);
+  named = λ w shows. named ∙ ap head_shown (sym shows.to_caller);
   heard = λ turn e w shows.
       caller_heard E w.to_caller old.caller caller turn
       (subst (λ l. HearsFirst {E = E} CallerHears l old.caller caller (Ok turn)) (sym shows.to_caller)
@@ -350,23 +350,23 @@ caller_delivered {E} old caller left item result is named h = record {
       (subst (HearsFirst CallerHears old.to_caller old.caller caller) e h);
 }
 
-pub answerer_delivered : {E : Type 0} (old : Call) (answerer : Answerer) (left : List PlainItem) (item : Option Kind)
-    (result : Result Turn E) → left ≡ after_first old.to_answerer → item ≡ head_kind old.to_answerer →
+pub answerer_delivered : {E : Type 0} (old : Call) (answerer : Answerer) (left : List PlainItem) (shown : Shown)
+    (result : Result Turn E) → left ≡ after_first old.to_answerer → shown ≡ head_shown old.to_answerer →
     HearsFirst AnswererHears old.to_answerer old.answerer answerer result →
     AnswererTakes old (record {
       caller = old.caller;
       answerer = answerer;
       to_answerer = left;
       to_caller = old.to_caller;
-    }) DeliverToAnswerer item result
-answerer_delivered {E} old answerer left item result is named h = record {
+    }) DeliverToAnswerer shown result
+answerer_delivered {E} old answerer left shown result is named h = record {
   answer = λ w. answerer_to_first w.to_answerer w.answerer;
   caller = refl;
   to_caller = refl;
   turns = λ w shows.
       subst (AnswererTurns w DeliverToAnswerer (answerer_to_first w.to_answerer w.answerer)) (ap after_first shows.to_answerer ∙ sym is)
       (first_to_answerer w.caller w.answerer w.to_answerer w.to_caller);
-  named = λ w shows. named ∙ ap head_kind (sym shows.to_answerer);
+  named = λ w shows. named ∙ ap head_shown (sym shows.to_answerer);
   heard = λ turn e w shows.
       let now : HearsFirst {E = E} AnswererHears old.to_answerer old.answerer answerer (Ok turn) =
       subst (HearsFirst AnswererHears old.to_answerer old.answerer answerer) e h in
@@ -405,9 +405,9 @@ answerer_partly w answer made = answerer_replaced answer.turn w answer.next answ
 
 -- a timer
 caller_timed : (event : Event) (input : CallerInput) (w : World) → CallerTimer event input →
-    CallerTurns w event (caller_step w.caller input) w.to_caller × (item_of w event ≡ None)
+    CallerTurns w event (caller_step w.caller input) w.to_caller × (shown_of w event ≡ none_shown)
 caller_timed CallerTimeout input w is =
-    subst (λ i. CallerTurns w CallerTimeout (caller_step w.caller i) w.to_caller × (item_of w CallerTimeout ≡ None)) (sym is) (
+    subst (λ i. CallerTurns w CallerTimeout (caller_step w.caller i) w.to_caller × (shown_of w CallerTimeout ≡ none_shown)) (sym is) (
       record {
         done = caller_whole w (caller_step w.caller timeout);
         cut = caller_partly w (caller_step w.caller timeout);
@@ -419,7 +419,7 @@ caller_timed CallerTimeout input w is =
       refl,
     )
 caller_timed CallerT5 input w is =
-    subst (λ i. CallerTurns w CallerT5 (caller_step w.caller i) w.to_caller × (item_of w CallerT5 ≡ None)) (sym is) (
+    subst (λ i. CallerTurns w CallerT5 (caller_step w.caller i) w.to_caller × (shown_of w CallerT5 ≡ none_shown)) (sym is) (
       record {
         done = caller_whole w (caller_step w.caller t5);
         cut = caller_partly w (caller_step w.caller t5);
@@ -440,9 +440,9 @@ caller_timed AnswererT2 input w is = absurd is
 caller_timed (Busy busy) input w is = absurd is
 
 answerer_timed : (event : Event) (input : AnswererInput) (w : World) → AnswererTimer event input →
-    AnswererTurns w event (answerer_step w.answerer input) w.to_answerer × (item_of w event ≡ None)
+    AnswererTurns w event (answerer_step w.answerer input) w.to_answerer × (shown_of w event ≡ none_shown)
 answerer_timed AnswererT1 input w is =
-    subst (λ i. AnswererTurns w AnswererT1 (answerer_step w.answerer i) w.to_answerer × (item_of w AnswererT1 ≡ None)) (sym is) (
+    subst (λ i. AnswererTurns w AnswererT1 (answerer_step w.answerer i) w.to_answerer × (shown_of w AnswererT1 ≡ none_shown)) (sym is) (
       record {
         done = answerer_whole w (answerer_step w.answerer t1);
         cut = answerer_partly w (answerer_step w.answerer t1);
@@ -454,7 +454,7 @@ answerer_timed AnswererT1 input w is =
       refl,
     )
 answerer_timed AnswererT2 input w is =
-    subst (λ i. AnswererTurns w AnswererT2 (answerer_step w.answerer i) w.to_answerer × (item_of w AnswererT2 ≡ None)) (sym is) (
+    subst (λ i. AnswererTurns w AnswererT2 (answerer_step w.answerer i) w.to_answerer × (shown_of w AnswererT2 ≡ none_shown)) (sym is) (
       record {
         done = answerer_whole w (answerer_step w.answerer t2);
         cut = answerer_partly w (answerer_step w.answerer t2);
@@ -466,7 +466,7 @@ answerer_timed AnswererT2 input w is =
       refl,
     )
 answerer_timed (Busy busy) input w is =
-    subst (λ i. AnswererTurns w (Busy busy) (answerer_step w.answerer i) w.to_answerer × (item_of w (Busy busy) ≡ None)) (sym is) (
+    subst (λ i. AnswererTurns w (Busy busy) (answerer_step w.answerer i) w.to_answerer × (shown_of w (Busy busy) ≡ none_shown)) (sym is) (
       record {
         done = answerer_whole w (answerer_step w.answerer (is_busy busy));
         cut = answerer_partly w (answerer_step w.answerer (is_busy busy));
@@ -499,7 +499,7 @@ pub caller_timer : {E : Type 0} (old : Call) (caller : CallerFields) (event : Ev
       answerer = old.answerer;
       to_answerer = old.to_answerer;
       to_caller = old.to_caller;
-    }) event None result
+    }) event none_shown result
 caller_timer old caller event input result timer h = record {
   answer = λ w. caller_step w.caller input;
   answerer = refl;
@@ -517,7 +517,7 @@ pub answerer_timer : {E : Type 0} (old : Call) (answerer : Answerer) (event : Ev
       answerer = answerer;
       to_answerer = old.to_answerer;
       to_caller = old.to_caller;
-    }) event None result
+    }) event none_shown result
 answerer_timer {E} old answerer event input result timer h = record {
   answer = λ w. answerer_step w.answerer input;
   caller = refl;

@@ -18,6 +18,7 @@ use Rattle.line_sim.specs.declared.event.Entry.{Entry}
 use Rattle.line_sim.specs.declared.event.Event.{Event}
 use Rattle.line_sim.specs.declared.event.Event.TheVariants.{DeliverToAnswerer, DeliverToCaller, LoseToAnswerer, LoseToCaller, Spoil}
 use Rattle.line_sim.specs.declared.event.Event.TheVariants.{CallerTimeout, CallerT5, AnswererT1, AnswererT2, Busy}
+use Rattle.line_sim.specs.declared.event.Fields.TheVariants as field
 use Rattle.line_sim.specs.declared.event.Kind.{Kind}
 use Rattle.line_sim.specs.declared.event.Kind.TheVariants.{Training as TrainingCheck}
 use Rattle.line_sim.specs.Line.{World, Outcome, sent, caller_sends, answerer_sends, caller_acts, answerer_acts, comes_to_answerer}
@@ -87,6 +88,7 @@ Pays t r left credit more c next entry =
     (count (λ (e : Entry). is_callers e.event && t e.turn) (and_entries entry []) + (left next + credit c) ≤ (left c + credit next) + more
     (count (λ (e : Entry). is_delivery_to_caller e.event && r e.item e.turn) (and_entries entry [])))
 
+-- what an information field says counts for nothing here
 module _ (t : Turn → Bool) (r : Option Kind → Turn → Bool) (left credit : Caller → ℕ) (more : ℕ → ℕ) (quiet : t Silent ≡ false)
     (adds : (m n : ℕ) → more (m + n) ≡ more m + more n)
     (fee : (c : Caller) (input : CallerInput) → IsBegunIn c.state c.present → Fee t r left credit more c input) where
@@ -94,10 +96,10 @@ module _ (t : Turn → Bool) (r : Option Kind → Turn → Bool) (left credit : 
   rests :
       (c next : Caller) (event : Event) (item : Option Kind) (turn : Turn) (fcds : ℕ) (refused : Bool) → next ≡ c →
       IsBegunIn c.state c.present → (is_callers event && t turn) ≡ false →
-      Pays t r left credit more c next (Some (record { event = event; item = item; turn = turn; fcds = fcds; refused = refused }))
+      Pays t r left credit more c next (Some (record { event = event; item = item; fields = field.Nothing; turn = turn; fcds = fcds; refused = refused }))
   rests c next event item turn fcds refused e b none =
       subst (λ (x : Caller). Pays t r left credit more c x
-      (Some (record { event = event; item = item; turn = turn; fcds = fcds; refused = refused }))) (sym e)
+      (Some (record { event = event; item = item; fields = field.Nothing; turn = turn; fcds = fcds; refused = refused }))) (sym e)
       (b, rw none (omega arith))
 
   -- the caller takes a step
@@ -109,6 +111,7 @@ module _ (t : Turn → Bool) (r : Option Kind → Turn → Bool) (left credit : 
       Pays t r left credit more c next (Some (record {
         event = event;
         item = item;
+        fields = field.Nothing;
         turn = (caller_step c input).turn;
         fcds = fcds;
         refused = refused;
@@ -117,7 +120,7 @@ module _ (t : Turn → Bool) (r : Option Kind → Turn → Bool) (left credit : 
       let turn = (caller_step c input).turn in
       let test : (is_callers event && t turn) ≡ t turn = ap (λ x. x && t turn) own in
       subst (λ (x : Caller). Pays t r left credit more c x
-      (Some (record { event = event; item = item; turn = turn; fcds = fcds; refused = refused }))) (sym e)
+      (Some (record { event = event; item = item; fields = field.Nothing; turn = turn; fcds = fcds; refused = refused }))) (sym e)
       ((step_adds c input b).begun, rw (test, refill) (fee c input b))
 
   nothing_pays : (c : Caller) → IsBegunIn c.state c.present → Pays t r left credit more c c None
@@ -129,6 +132,7 @@ module _ (t : Turn → Bool) (r : Option Kind → Turn → Bool) (left credit : 
       (Some (record {
         event = DeliverToCaller;
         item = head_kind items;
+        fields = field.Nothing;
         turn = (station_says w (unless_lost outcome (heard items)) (unless_lost outcome None)).turn;
         fcds = fcds;
         refused =

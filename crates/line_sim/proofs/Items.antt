@@ -9,9 +9,10 @@ use Rattle.signals.specs.Signals.{PlainSignal, dis, dcs, cfr, ftt, fcd, rcp, pps
 use Rattle.signals.specs.Writing.{content_of, ReadsWhatIsWritten}
 use Rattle.signals.specs.declared.signal.Side.{Side}
 use Rattle.stations.specs.Inputs.{framed, checked}
-use Rattle.line_sim.specs.Entries.{kind_of, signal_kind}
+use Rattle.line_sim.specs.Entries.{fields_of, kind_of, signal_fields, signal_kind}
 use Rattle.line_sim.specs.Line.{spoiled}
-use Rattle.line_sim.specs.Octets.{AreOctetsOf, Carries, is_final, signal_said, item_said, IsItem}
+use Rattle.line_sim.specs.Octets.{AreOctetsOf, Carries, is_final, signal_said, item_said, IsItem, IsKept}
+use Rattle.line_sim.specs.declared.event.Fields.{Fields}
 use Rattle.line_sim.specs.declared.event.Kind.{Kind}
 use Rattle.line_sim.specs.declared.event.Kind.TheVariants.{Dis, Dcs, Training, Cfr, Ftt, Fcd, Rcp, Pps, Mcf, Ppr, Rnr, Rr, Dcn}
 use Rattle.line_sim.proofs.Frames.{said}
@@ -71,6 +72,30 @@ pub says_carried :
     Carries side octets signal → signal_kind signal ≡ Some kind → item_said kind octets ≡ framed signal
 says_carried side kind octets signal grows reads carries e = said_frame kind octets (no_check signal kind e) ∙
     ap framed (said side octets signal grows reads carries)
+
+carries_item : (side : Side) (kind : Kind) (octets : List ℕ) → CarriesKind side kind octets → IsItem side kind octets
+carries_item side Training octets h = tt
+carries_item side Dis octets h = h
+carries_item side Dcs octets h = h
+carries_item side Cfr octets h = h
+carries_item side Ftt octets h = h
+carries_item side (Fcd number) octets h = h
+carries_item side Rcp octets h = h
+carries_item side Pps octets h = h
+carries_item side Mcf octets h = h
+carries_item side Ppr octets h = h
+carries_item side Rnr octets h = h
+carries_item side Rr octets h = h
+carries_item side Dcn octets h = h
+
+-- an item is kept with what its information field says
+pub kept :
+    (side : Side) (kind : Kind) (fields : Fields) (octets : List ℕ) (signal : PlainSignal) → FrameOctetsGrow → ReadsWhatIsWritten →
+    Carries side octets signal → signal_kind signal ≡ Some kind → fields ≡ signal_fields signal → IsKept side kind fields octets
+kept side kind fields octets signal grows reads carries e is = (
+  carries_item side kind octets (signal, carries, e),
+  is ∙ ap fields_of (sym (says_carried side kind octets signal grows reads carries e)),
+)
 
 kind_by :
     (side : Side) (kind : Kind) (octets : List ℕ) → FrameOctetsGrow → ReadsWhatIsWritten → kind ≢ Training →

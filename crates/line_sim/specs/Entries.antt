@@ -11,6 +11,8 @@ use Rattle.line_sim.specs.declared.event.Entry.{Entry}
 use Rattle.line_sim.specs.declared.event.Event.{Event}
 use Rattle.line_sim.specs.declared.event.Event.TheVariants.{DeliverToAnswerer, DeliverToCaller, LoseToAnswerer, LoseToCaller, CallerTimeout}
 use Rattle.line_sim.specs.declared.event.Event.TheVariants.{CallerT5, AnswererT1, AnswererT2, Busy}
+use Rattle.line_sim.specs.declared.event.Fields.{Fields}
+use Rattle.line_sim.specs.declared.event.Fields.TheVariants as field
 use Rattle.line_sim.specs.declared.event.Kind.{Kind}
 use Rattle.line_sim.specs.declared.event.Kind.TheVariants.{Dis, Dcs, Training, Cfr, Ftt, Fcd, Rcp, Pps, Mcf, Ppr, Rnr, Rr, Dcn}
 use Rattle.line_sim.specs.Line.{World, Outcome, happens}
@@ -49,6 +51,32 @@ item_of w LoseToAnswerer = head_kind w.to_answerer
 item_of w DeliverToCaller = head_kind w.to_caller
 item_of w LoseToCaller = head_kind w.to_caller
 item_of w _ = None
+
+-- what the information field of a signal says: of a DIS, a DCS, a PPS or a PPR
+abbrev pub signal_fields : PlainSignal → Fields
+signal_fields (dis caps) = field.Dis caps
+signal_fields (dcs params) = field.Dcs params
+signal_fields (pps ends page block last) = field.Pps ends page block last
+signal_fields (ppr map) = field.Ppr map
+signal_fields _ = field.Nothing
+
+-- what that of an item says; a training check has none
+abbrev pub fields_of : PlainItem → Fields
+fields_of (framed signal) = signal_fields signal
+fields_of (checked octets) = field.Nothing
+
+-- what that of the first item under way says
+abbrev pub head_fields : List PlainItem → Fields
+head_fields [] = field.Nothing
+head_fields (item ∷ items) = fields_of item
+
+-- what that of the item says that an event delivers or loses
+abbrev pub event_fields : World → Event → Fields
+event_fields w DeliverToAnswerer = head_fields w.to_answerer
+event_fields w LoseToAnswerer = head_fields w.to_answerer
+event_fields w DeliverToCaller = head_fields w.to_caller
+event_fields w LoseToCaller = head_fields w.to_caller
+event_fields w _ = field.Nothing
 
 -- the input that a first item is to the answerer
 abbrev pub listened : List PlainItem → Option AnswererInput
@@ -135,7 +163,14 @@ abbrev pub entry_of : World → Event → Outcome → Option Entry
 entry_of w event Nothing = None
 entry_of w event outcome =
     let said = event_says w event outcome in
-    Some (record { event = event; item = item_of w event; turn = said.turn; fcds = said.fcds; refused = is_refused outcome })
+    Some (record {
+      event = event;
+      item = item_of w event;
+      fields = event_fields w event;
+      turn = said.turn;
+      fcds = said.fcds;
+      refused = is_refused outcome;
+    })
 
 -- an entry, if there is one, and the entries after it
 abbrev pub and_entries : Option Entry → List Entry → List Entry

@@ -14,9 +14,10 @@ use Rattle.stations.specs.Inputs.{PlainItem, framed, checked}
 use Rattle.stations.specs.Lending.{has_no_frame}
 use Rattle.stations.specs.declared.lending.Item.{Item}
 use Rattle.stations.specs.declared.lending.Item.TheVariants.{Frame, Training as CheckOf}
-use Rattle.line_sim.specs.Entries.{kind_of, signal_kind}
+use Rattle.line_sim.specs.Entries.{fields_of, kind_of, signal_kind}
 use Rattle.line_sim.specs.declared.call.Call.{Call}
 use Rattle.line_sim.specs.declared.event.Kind.{Kind}
+use Rattle.line_sim.specs.declared.event.Fields.{Fields}
 use Rattle.line_sim.specs.declared.event.Form.{Form}
 use Rattle.line_sim.specs.declared.event.Form.TheVariants.{Control, Page, Check}
 use Rattle.line_sim.specs.declared.event.Kind.TheVariants.{Training, Fcd, Rcp}
@@ -68,6 +69,10 @@ item_said _ octets = framed (signal_said octets)
 abbrev pub IsItem : Side → Kind → List ℕ → Type 0
 IsItem side Training octets = Unit {0}
 IsItem side kind octets = (signal : PlainSignal) × Carries side octets signal × (signal_kind signal ≡ Some kind)
+
+-- such octets are kept with what the information field of their frame says
+abbrev pub IsKept : Side → Kind → Fields → List ℕ → Type 0
+IsKept side kind fields octets = IsItem side kind octets × (fields ≡ fields_of (item_said kind octets))
 
 -- octets as they are on the line: the frame of what the station that sends writes of the signal, or those of the training check
 abbrev pub AreOctetsOf : Side → List ℕ → PlainItem → Type 0

@@ -1,16 +1,16 @@
 -- What the fields of a world represent, and what an event makes of them.
-use Rattle.std.specs.Prelude.{◌≡◌, ◌≢◌, Bool, true, false, List, [], ◌∷◌, ◌++◌, Option, Some, Result, Ok, Err}
+use Rattle.std.specs.Prelude.{◌≡◌, ◌≢◌, Bool, true, false, List, [], ◌∷◌, ◌++◌, Some, None, Result, Ok, Err}
 use Rattle.signals.specs.declared.params.Caps.{Caps}
 use Rattle.signals.specs.declared.params.Wish.{Wish}
 use Rattle.stations.specs.AnswererStep.{answerer_items}
 use Rattle.stations.specs.CallerStep.{Caller, caller_items}
-use Rattle.stations.specs.Inputs.{CallerInput, timeout, t5, AnswererInput, t1, t2, is_busy}
+use Rattle.stations.specs.Inputs.{PlainItem, CallerInput, timeout, t5, AnswererInput, t1, t2, is_busy}
 use Rattle.stations.specs.Laws.{Each}
 use Rattle.stations.specs.Layers.{Document, IsFullPage}
 use Rattle.stations.specs.CallerFields.{Represents, AreCallable}
 use Rattle.stations.specs.declared.turn.Turn.{Turn}
 use Rattle.stations.specs.declared.turn.Turn.TheVariants.{Silent}
-use Rattle.line_sim.specs.Entries.{Said, says, entry_of, entries, and_entries, caller_said}
+use Rattle.line_sim.specs.Entries.{Said, says, entry_of, entries, and_entries, caller_said, head_kind, head_fields, item_of, event_fields}
 use Rattle.line_sim.specs.Headline.{CanBeWritten}
 use Rattle.line_sim.specs.Line.{World, Outcome, Done, Nothing, Cut, sent, caller_sends, answerer_sends, happens, new_world, run}
 use Rattle.line_sim.specs.PageMachine.{PageState, page_state}
@@ -19,7 +19,8 @@ use Rattle.line_sim.specs.declared.event.Entry.{Entry}
 use Rattle.line_sim.specs.declared.event.Event.{Event}
 use Rattle.line_sim.specs.declared.event.Event.TheVariants.{LoseToAnswerer, LoseToCaller, Spoil, CallerTimeout, CallerT5, AnswererT1}
 use Rattle.line_sim.specs.declared.event.Event.TheVariants.{AnswererT2, Busy}
-use Rattle.line_sim.specs.declared.event.Kind.{Kind}
+use Rattle.line_sim.specs.declared.event.Fields.TheVariants as field
+use Rattle.line_sim.specs.declared.event.Shown.{Shown}
 use Rattle.line_sim.specs.declared.fault.WorldFault.{WorldFault}
 use Rattle.line_sim.specs.declared.fault.WorldFault.TheVariants.{NoMemory, WidthNotCallable}
 
@@ -66,22 +67,41 @@ abbrev pub AnswererMayAnswer : {E : Type 0} → Call → Result Turn E → Type 
 AnswererMayAnswer v (Ok turn) = AnswererWrites v turn
 AnswererMayAnswer v (Err refused) = Unit {0}
 
+-- no item
+abbrev pub none_shown : Shown
+none_shown = record { item = None; fields = field.Nothing }
+
+-- what is shown of the first item under way
+abbrev pub head_shown : List PlainItem → Shown
+head_shown items = record { item = head_kind items; fields = head_fields items }
+
+-- what is shown of the item that an event delivers or loses
+abbrev pub shown_of : World → Event → Shown
+shown_of w event = record { item = item_of w event; fields = event_fields w event }
+
 -- an entry of a turn
-abbrev pub entry_with : Event → Option Kind → Said → Bool → Entry
-entry_with event item said refused = record { event = event; item = item; turn = said.turn; fcds = said.fcds; refused = refused }
+abbrev pub entry_with : Event → Shown → Said → Bool → Entry
+entry_with event shown said refused = record {
+  event = event;
+  item = shown.item;
+  fields = shown.fields;
+  turn = said.turn;
+  fcds = said.fcds;
+  refused = refused;
+}
 
 -- the caller has answered an event and sends its turn; or memory was refused before
-abbrev pub CallerAnswers : {E : Type 0} → Call → Call → Event → Option Kind → Result Turn E → Entry → Type 0
-CallerAnswers old new event item (Ok turn) entry =
+abbrev pub CallerAnswers : {E : Type 0} → Call → Call → Event → Shown → Result Turn E → Entry → Type 0
+CallerAnswers old new event shown (Ok turn) entry =
     CallerSends old new turn entry.refused ×
-    ((t : Caller) → Represents old.caller t → entry ≡ entry_with event item (caller_said turn (caller_items t turn)) entry.refused)
-CallerAnswers old new event item (Err refused) entry = (new ≡ old) × (entry ≡ entry_with event item (says Silent) true)
+    ((t : Caller) → Represents old.caller t → entry ≡ entry_with event shown (caller_said turn (caller_items t turn)) entry.refused)
+CallerAnswers old new event shown (Err refused) entry = (new ≡ old) × (entry ≡ entry_with event shown (says Silent) true)
 
 -- the same of the answerer
-abbrev pub AnswererAnswers : {E : Type 0} → Call → Call → Event → Option Kind → Result Turn E → Entry → Type 0
-AnswererAnswers old new event item (Ok turn) entry = AnswererSends old new turn entry.refused ×
-    (entry ≡ entry_with event item (says turn) entry.refused)
-AnswererAnswers old new event item (Err refused) entry = (new ≡ old) × (entry ≡ entry_with event item (says Silent) true)
+abbrev pub AnswererAnswers : {E : Type 0} → Call → Call → Event → Shown → Result Turn E → Entry → Type 0
+AnswererAnswers old new event shown (Ok turn) entry = AnswererSends old new turn entry.refused ×
+    (entry ≡ entry_with event shown (says turn) entry.refused)
+AnswererAnswers old new event shown (Err refused) entry = (new ≡ old) × (entry ≡ entry_with event shown (says Silent) true)
 
 -- the input that an event is to the caller that is no delivery
 abbrev pub CallerTimer : Event → CallerInput → Type 0

@@ -1,7 +1,7 @@
 //! Both stations and what is under way, and what one event does to them.
 
-ghost use Rattle.line_sim.specs.Entries.{caller_said};
-ghost use Rattle.line_sim.specs.Represents.{Acts, IsUnheard, EventWrites, NewCall};
+ghost use Rattle.line_sim.specs.Entries.{caller_said, says};
+ghost use Rattle.line_sim.specs.Represents.{Acts, IsUnheard, EventWrites, NewCall, entry_with};
 ghost use Rattle.line_sim.specs.Represents.{AnswererAnswers, AnswererMayAnswer, AnswererSends, AnswererTimer, AnswererWrites};
 ghost use Rattle.line_sim.specs.Represents.{CallerAnswers, CallerMayAnswer, CallerSends, CallerTimer, CallerWrites};
 ghost use Rattle.stations.specs.CallerStep.{Caller as CallerTuple, caller_items};
@@ -10,7 +10,7 @@ ghost use Rattle.stations.specs.CallerFields.{Represents};
 ghost use Rattle.std.specs.Prelude.{◌≡◌, false, true, IsTrue, ◌↔◌, length};
 
 use crate::channel::{Channel, fcd_count};
-use crate::event::{Entry, Event, Kind};
+use crate::event::{Entry, Event, NONE_SHOWN, Shown};
 use crate::fault::WorldFault;
 use crate::sender::{FromAnswerer, FromCaller};
 use raster::Document;
@@ -19,12 +19,13 @@ use stations::{Answerer, AnswererIn, Caller, CallerIn, Turn};
 use std::alloc::{AllocError, Global};
 
 /// The entry of an event that no station answers.
-fn unanswered(event: Event, item: Option<Kind>, refused: bool) -> Entry
-    ensures { result ≡ record { event = event; item = item; turn = Turn.Silent; fcds = 0; refused = refused } }
+fn unanswered(event: Event, shown: Shown, refused: bool) -> Entry
+    ensures { result ≡ entry_with event shown (says Turn.Silent) refused }
 {
     Entry {
         event,
-        item,
+        item: shown.item,
+        fields: shown.fields,
         turn: Turn::Silent,
         fcds: 0,
         refused,
@@ -121,11 +122,11 @@ impl Call {
     fn caller_answers(
         &mut self,
         event: Event,
-        item: Option<Kind>,
+        shown: Shown,
         answered: Result<Turn, AllocError>,
     ) -> Entry
         requires { CallerMayAnswer self.old answered }
-        ensures { CallerAnswers self.old self.new event item answered result }
+        ensures { CallerAnswers self.old self.new event shown answered result }
     {
         match answered {
             Ok(turn) => {
@@ -133,13 +134,14 @@ impl Call {
                 let refused = self.caller_sends(&turn);
                 Entry {
                     event,
-                    item,
+                    item: shown.item,
+                    fields: shown.fields,
                     turn,
                     fcds,
                     refused,
                 }
             }
-            Err(_) => unanswered(event, item, true),
+            Err(_) => unanswered(event, shown, true),
         }
     }
 
@@ -147,24 +149,25 @@ impl Call {
     fn answerer_answers(
         &mut self,
         event: Event,
-        item: Option<Kind>,
+        shown: Shown,
         answered: Result<Turn, AllocError>,
     ) -> Entry
         requires { AnswererMayAnswer self.old answered }
-        ensures { AnswererAnswers self.old self.new event item answered result }
+        ensures { AnswererAnswers self.old self.new event shown answered result }
     {
         match answered {
             Ok(turn) => {
                 let refused = self.answerer_sends(&turn);
                 Entry {
                     event,
-                    item,
+                    item: shown.item,
+                    fields: shown.fields,
                     turn,
                     fcds: 0,
                     refused,
                 }
             }
-            Err(_) => unanswered(event, item, true),
+            Err(_) => unanswered(event, shown, true),
         }
     }
 
@@ -173,9 +176,9 @@ impl Call {
         requires { EventWrites self.old Event.DeliverToCaller }
         ensures { Acts self.old self.new Event.DeliverToCaller result }
     {
-        let item = self.to_caller.head();
+        let shown = self.to_caller.shown();
         let answered = self.to_caller.deliver_to_caller(&mut self.caller);
-        self.caller_answers(Event::DeliverToCaller, item, answered)
+        self.caller_answers(Event::DeliverToCaller, shown, answered)
     }
 
     /// The first item under way to the answerer comes.
@@ -183,9 +186,9 @@ impl Call {
         requires { EventWrites self.old Event.DeliverToAnswerer }
         ensures { Acts self.old self.new Event.DeliverToAnswerer result }
     {
-        let item = self.to_answerer.head();
+        let shown = self.to_answerer.shown();
         let answered = self.to_answerer.deliver_to_answerer(&mut self.answerer);
-        self.answerer_answers(Event::DeliverToAnswerer, item, answered)
+        self.answerer_answers(Event::DeliverToAnswerer, shown, answered)
     }
 
     /// One of the caller's timers runs out.
@@ -195,7 +198,7 @@ impl Call {
         ensures { Acts self.old self.new event result }
     {
         let answered = self.caller.step(input);
-        self.caller_answers(event, None, answered)
+        self.caller_answers(event, NONE_SHOWN, answered)
     }
 
     /// One of the answerer's timers runs out, or it is said whether it can take pages.
@@ -205,7 +208,7 @@ impl Call {
         ensures { Acts self.old self.new event result }
     {
         let answered = self.answerer.step(input);
-        self.answerer_answers(event, None, answered)
+        self.answerer_answers(event, NONE_SHOWN, answered)
     }
 
     /// The first item under way to the answerer is lost.
@@ -213,9 +216,9 @@ impl Call {
         ensures acts { Acts self.old self.new Event.LoseToAnswerer result }
         ensures whole { result.refused ≡ false }
     {
-        let item = self.to_answerer.head();
+        let shown = self.to_answerer.shown();
         self.to_answerer.lose();
-        unanswered(Event::LoseToAnswerer, item, false)
+        unanswered(Event::LoseToAnswerer, shown, false)
     }
 
     /// The first item under way to the caller is lost.
@@ -223,9 +226,9 @@ impl Call {
         ensures acts { Acts self.old self.new Event.LoseToCaller result }
         ensures whole { result.refused ≡ false }
     {
-        let item = self.to_caller.head();
+        let shown = self.to_caller.shown();
         self.to_caller.lose();
-        unanswered(Event::LoseToCaller, item, false)
+        unanswered(Event::LoseToCaller, shown, false)
     }
 
     /// A training check that is first under way to the answerer is spoiled.
@@ -234,7 +237,7 @@ impl Call {
         ensures whole { result.refused ≡ false }
     {
         self.to_answerer.spoil();
-        unanswered(Event::Spoil, None, false)
+        unanswered(Event::Spoil, NONE_SHOWN, false)
     }
 
     /// What an event does, and its entry.

@@ -2,6 +2,7 @@
 
 ghost use Rattle.line_sim.specs.Entries.{count_fcds, head_kind};
 ghost use Rattle.line_sim.specs.Headline.{CanBeWritten};
+ghost use Rattle.line_sim.specs.Represents.{head_shown};
 ghost use Rattle.line_sim.specs.Hearing.{AnswererHears, CallerHears, HearsFirst};
 ghost use Rattle.line_sim.specs.Line.{after_first, spoiled};
 ghost use Rattle.line_sim.specs.Octets.{AreFinal, ComeNext, IsLentAt, TellsFinal};
@@ -10,7 +11,7 @@ ghost use Rattle.stations.specs.Laws.{Each};
 ghost use Rattle.stations.specs.Lending.{plain_item};
 ghost use Rattle.std.specs.Prelude.{◌≡◌, ◌+◌, [], ◌∷◌, ◌++◌, cond, ℕ, List, length, take, min, option_map, IsTrue, ◌↔◌, OnOk, OnErr};
 
-use crate::event::{Kind, LineItem};
+use crate::event::{Kind, LineItem, NONE_SHOWN, Shown};
 use crate::item::InTransit;
 use crate::sender::Sender;
 use hdlc::Deframer;
@@ -94,6 +95,19 @@ impl<S: Sender> Channel<S> {
     {
         let first = self.items.front()?;
         Some(first.kind())
+    }
+
+    /// What is shown of the first item.
+    pub(crate) fn shown(&self) -> Shown
+        ensures { result ≡ head_shown self.now }
+    {
+        let Some(first) = self.items.front() else {
+            return NONE_SHOWN;
+        };
+        Shown {
+            item: Some(first.kind()),
+            fields: first.fields(),
+        }
     }
 
     /// How many items are under way.

@@ -1,7 +1,7 @@
 //! What is under way: frames as octets, and training checks.
 
 ghost use Rattle.hdlc.specs.DeframerState.{IsIdle};
-ghost use Rattle.line_sim.specs.Entries.{kind_of, signal_kind};
+ghost use Rattle.line_sim.specs.Entries.{fields_of, kind_of, signal_kind};
 ghost use Rattle.line_sim.specs.Headline.{CanBeWritten};
 ghost use Rattle.line_sim.specs.Hearing.{AnswererHears, CallerHears};
 ghost use Rattle.line_sim.specs.Line.{spoiled};
@@ -16,7 +16,7 @@ ghost use Rattle.stations.specs.Lending.{plain_item};
 ghost use Rattle.stations.specs.CallerFields.{AnswersOrRefuses};
 ghost use Rattle.std.specs.Prelude.{◌≡◌, [], ◌∷◌, List, ℕ, drop, replicate, IfOk, IsTrue, ◌↔◌};
 
-use crate::event::{Kind, LineItem};
+use crate::event::{Fields, Kind, LineItem};
 use crate::sender::Sender;
 use hdlc::{Deframer, write_frame};
 use raster::packed::Order;
@@ -31,20 +31,7 @@ fn kind_of(signal: &Signal) -> Kind
     requires { IsWritable (plain signal.now) }
     ensures { signal_kind (plain signal.now) ≡ Some result }
 {
-    match signal {
-        Signal::Dis(_) => Kind::Dis,
-        Signal::Dcs(_) => Kind::Dcs,
-        Signal::Cfr => Kind::Cfr,
-        Signal::Ftt => Kind::Ftt,
-        Signal::Fcd { number, .. } => Kind::Fcd(*number),
-        Signal::Rcp => Kind::Rcp,
-        Signal::Pps { .. } => Kind::Pps,
-        Signal::Ppr(_) => Kind::Ppr,
-        Signal::Mcf => Kind::Mcf,
-        Signal::Rnr => Kind::Rnr,
-        Signal::Rr => Kind::Rr,
-        Signal::Dcn | Signal::Other(_) => Kind::Dcn,
-    }
+    Kind::of(signal).unwrap_or(Kind::Dcn)
 }
 
 /// Whether an item is a training check.
@@ -115,18 +102,19 @@ fn answerer_hears(deframer: &mut Deframer, answerer: &mut Answerer) -> Result<Tu
 pub(crate) struct InTransit<S: Sender> {
     sender: S,
     kind: Kind,
+    fields: Fields,
     octets: Vec<u8>,
 }
 
 impl<S: Sender> Model for InTransit<S> {
     ghost use Rattle.stations.specs.Inputs.{PlainItem};
-    ghost use Rattle.line_sim.specs.Octets.{item_said, IsItem};
+    ghost use Rattle.line_sim.specs.Octets.{item_said, IsKept};
 
     ghost Value = { PlainItem };
 
     ghost view = { λ i. item_said i.kind i.octets.items };
 
-    ghost invariant = { λ i. IsItem S.sends i.kind i.octets.items };
+    ghost invariant = { λ i. IsKept S.sends i.kind i.fields i.octets.items };
 }
 
 impl<S: Sender> InTransit<S> {
@@ -142,9 +130,11 @@ impl<S: Sender> InTransit<S> {
             Item::Frame { signal, last } => {
                 let octets = frame_octets(alloc, &signal, sender.side(), last)?;
                 let kind = kind_of(&signal);
+                let fields = Fields::of(&signal);
                 Ok(InTransit {
                     sender,
                     kind,
+                    fields,
                     octets,
                 })
             }
@@ -154,6 +144,7 @@ impl<S: Sender> InTransit<S> {
                 Ok(InTransit {
                     sender,
                     kind,
+                    fields: Fields::Nothing,
                     octets,
                 })
             }
@@ -167,6 +158,13 @@ impl<S: Sender> InTransit<S> {
         hdlc::laws::frame_octets_grow();
         signals::laws::reads_what_is_written();
         self.kind
+    }
+
+    /// What its information field says.
+    pub(crate) fn fields(&self) -> Fields
+        ensures { result ≡ fields_of self.now }
+    {
+        self.fields
     }
 
     /// Its octets, as they are on the line.

@@ -16,7 +16,7 @@ mod stream;
 mod world;
 
 pub use crate::drive::{DrivenCall, Fate, Patience, Step};
-pub use crate::event::{Entry, Event, Form, Kind, LineItem};
+pub use crate::event::{Entry, Event, Fields, Form, Kind, LineItem};
 pub use crate::fault::WorldFault;
 pub use crate::live::{Ending, LiveCall, Next};
 pub use crate::report::Report;

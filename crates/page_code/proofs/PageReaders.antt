@@ -24,6 +24,8 @@ use Rattle.page_code.specs.TwoDimensions.Fronts.{page_item_word, PageStep, page_
 use Rattle.page_code.proofs.CodingLaws.{reads_exactly, refuses_no_page, refuses_at_longest}
 use Rattle.page_code.proofs.FrontEnds.{leads_more}
 use Rattle.page_code.proofs.GivesPage.{gives_only, gives_reads, gives_refuses, gives_rows}
+use Rattle.page_code.specs.TurnedCodes.{AreTurned, IsTurnedCode}
+use Rattle.page_code.proofs.TurnedOctets.{are_turned, turned_of_more}
 use Rattle.page_code.proofs.OneDimension.RowsOn as one_dim
 use Rattle.page_code.proofs.TwoDimensions.RowsOn as t6
 
@@ -83,79 +85,93 @@ goes_on_to reader all on =
     subst (λ b. IsReadTo reader.coding reader.page.width b reader.page.rows reader.place) (sym joined) (read_more reader.coding
     reader.page.width bits more reader.page.rows reader.place on.stands.kept)
 
+-- what is kept turned of the octets so far is kept of all
+pub keeps_of_all : (reader : PageReading) (all : List ℕ) → GoesOnTo reader all → AreTurned reader.turned all
+keeps_of_all reader all on = rw on.begins (turned_of_more reader.turned on.octets on.more on.stands.turned)
+
 -- a reader of no rows stands for no octets
 pub stands_for_none : (reader : PageReading) → IsWidth reader.page.width → reader.page.rows ≡ [] → reader.place ≡ 0 → reader.count ≡ 0
-    → StandsFor reader []
-stands_for_none reader wide rows place count =
+    → reader.turned ≡ [] → StandsFor reader []
+stands_for_none reader wide rows place count turned =
     let none : bits_of reader.order [] ≡ [] = bits_in-none reader.order [] in
     record {
       kept = rw (rows, place) (read_none reader.coding reader.page.width (bits_of reader.order []));
       counted = rw (count, none) (rows_none reader.coding reader.page.width wide);
+      turned = rw turned refl;
     }
 
 -- a reader that forgot its rows, and not how many there are, stands for what it stood for
 pub stands_again : (old new : PageReading) → IsLike old new → new.page.rows ≡ [] → new.place ≡ 0 → new.count ≡ old.count
-    → StandsAsBefore old new
-stands_again old new like rows place count = (
+    → new.turned ≡ [] → StandsAsBefore old new
+stands_again old new like rows place count turned = (
   like,
   λ octets stands. record {
     kept = rw (rows, place) (read_none new.coding new.page.width (bits_of new.order octets));
     counted = rw (like.coding, like.order, like.width, count) stands.counted;
+    turned = rw turned refl;
   },
 )
 
 -- The reader's calls
 
 -- a reader as clauses see it
-abbrev pub reading_of : Coding → Order → Progress → ℕ → PageReading
-reading_of coding order progress count = record {
+abbrev pub reading_of : Coding → Order → Progress → ℕ → List ℕ → PageReading
+reading_of coding order progress count turned = record {
   coding = coding;
   order = order;
   page = progress.page;
   place = progress.place;
   count = count;
+  turned = turned;
 }
 
 -- a new reader
-pub begins : (coding : Coding) (order : Order) (width : ℕ) (fine : Bool) (progress : Progress) → IsWidth width
-    → progress ≡ record { page = record { width = width; fine = fine; rows = [] }; place = 0 }
-    → StandsFor (reading_of coding order progress 0) []
-begins coding order width fine progress wide is = subst (λ (p : Progress). StandsFor (reading_of coding order p 0) []) (sym is)
-    (stands_for_none (reading_of coding order (record { page = record { width = width; fine = fine; rows = [] }; place = 0 }) 0) wide refl
-    refl refl)
+pub begins : (coding : Coding) (order : Order) (width : ℕ) (fine : Bool) (progress : Progress) (turned : List ℕ) → IsWidth width
+    → progress ≡ record { page = record { width = width; fine = fine; rows = [] }; place = 0 } → turned ≡ []
+    → StandsFor (reading_of coding order progress 0 turned) []
+begins coding order width fine progress turned wide is none = rw none (subst (λ (p : Progress). StandsFor
+    (reading_of coding order p 0 []) []) (sym is) (stands_for_none (reading_of coding order (record { page = record { width = width; fine = fine; rows = [] }; place = 0 }) 0 [])
+    wide refl refl refl refl))
 
-module _ (coding : Coding) (order : Order) (old : Progress) (count : ℕ) (now : PageReading)
-    (view : reading_of coding order old count ≡ now) where
+module _ (coding : Coding) (order : Order) (old : Progress) (count : ℕ) (kept : List ℕ) (now : PageReading)
+    (view : reading_of coding order old count kept ≡ now) where
   pub reads_from : (all : List ℕ) → GoesOnTo now all → IsReadTo coding old.page.width (bits_of order all) old.page.rows old.place
-  reads_from all on = goes_on_to (reading_of coding order old count) all (subst (λ (r : PageReading). GoesOnTo r all) (sym view) on)
+  reads_from all on = goes_on_to (reading_of coding order old count kept) all (subst (λ (r : PageReading). GoesOnTo r all) (sym view) on)
 
-  pub is_like : (new : Progress) (n : ℕ) → new.page.width ≡ old.page.width → new.page.fine ≡ old.page.fine
-      → IsLike now (reading_of coding order new n)
-  is_like new n width fine = record {
+  pub keeps_from : (all : List ℕ) → GoesOnTo now all → AreTurned kept all
+  keeps_from all on = keeps_of_all (reading_of coding order old count kept) all (subst (λ (r : PageReading). GoesOnTo r all) (sym view) on)
+
+  pub is_like : (new : Progress) (n : ℕ) (turned : List ℕ) → new.page.width ≡ old.page.width → new.page.fine ≡ old.page.fine
+      → IsLike now (reading_of coding order new n turned)
+  is_like new n turned width fine = record {
     coding = ap (λ (r : PageReading). r.coding) view;
     order = ap (λ (r : PageReading). r.order) view;
     width = width ∙ ap (λ (r : PageReading). r.page.width) view;
     fine = fine ∙ ap (λ (r : PageReading). r.page.fine) view;
   }
 
-  pub read_further : (all : List ℕ) (new : Progress) (n : ℕ) → IsFurther coding (bits_of order all) old new
+  pub read_further : (all : List ℕ) (new : Progress) (n : ℕ) (turned : List ℕ) → IsFurther coding (bits_of order all) old new
       → AreRowsSoFar coding new.page.width (bits_of order all) (length new.page.rows) → n ≡ length new.page.rows
-      → StandsFor (reading_of coding order new n) all
-  read_further all new n further counted is = record { kept = further.read; counted = rw is counted }
+      → IsTurnedCode order all turned → StandsFor (reading_of coding order new n turned) all
+  read_further all new n turned further counted is code = record {
+    kept = further.read;
+    counted = rw is counted;
+    turned = are_turned order all turned code;
+  }
 
   -- a reader that has no rows again
-  module _ (fresh : Progress) (width : ℕ) (fine : Bool)
+  module _ (fresh : Progress) (width : ℕ) (fine : Bool) (turned : List ℕ) (none : turned ≡ [])
       (is : fresh ≡ record { page = record { width = width; fine = fine; rows = [] }; place = 0 })
       (width_is : width ≡ old.page.width) (fine_is : fine ≡ old.page.fine) where
-    pub fresh_like : (n : ℕ) → IsLike now (reading_of coding order fresh n)
-    fresh_like n = is_like fresh n (ap (λ (p : Progress). p.page.width) is ∙ width_is) (ap (λ (p : Progress). p.page.fine) is ∙ fine_is)
+    pub fresh_like : (n : ℕ) → IsLike now (reading_of coding order fresh n turned)
+    fresh_like n = is_like fresh n turned (ap (λ (p : Progress). p.page.width) is ∙ width_is) (ap (λ (p : Progress). p.page.fine) is ∙ fine_is)
 
-    pub stands_still : StandsAsBefore now (reading_of coding order fresh count)
-    stands_still = stands_again now (reading_of coding order fresh count) (fresh_like count) (ap (λ (p : Progress). p.page.rows) is) (ap (λ
-        (p : Progress). p.place) is) (ap (λ (r : PageReading). r.count) view)
+    pub stands_still : StandsAsBefore now (reading_of coding order fresh count turned)
+    stands_still = stands_again now (reading_of coding order fresh count turned) (fresh_like count) (ap (λ (p : Progress). p.page.rows) is) (ap (λ
+        (p : Progress). p.place) is) (ap (λ (r : PageReading). r.count) view) none
 
-    pub stands_empty : IsWidth old.page.width → StandsFor (reading_of coding order fresh 0) []
-    stands_empty wide = begins coding order width fine fresh (rw width_is wide) is
+    pub stands_empty : IsWidth old.page.width → StandsFor (reading_of coding order fresh 0 turned) []
+    stands_empty wide = begins coding order width fine fresh turned (rw width_is wide) is none
 
   -- what is answered at the end
   pub gives_now : (all : List ℕ) (result : Result (PagePixels × ℕ) CodeFault)

@@ -41,8 +41,8 @@ page_refused coding bits old new fault wide differs (inr on) =
     }
 
 -- what a reader reads octets as
-pub read_now : (coding : Coding) (order : Order) (old : Progress) (count : ℕ) (now : PageReading) → reading_of coding order old count ≡ now
-    → (all : List ℕ) (read : PageRead) → IsRead coding old.page.width old.page.fine (bits_of order all) read
+pub read_now : (coding : Coding) (order : Order) (old : Progress) (count : ℕ) (kept : List ℕ) (now : PageReading)
+    → reading_of coding order old count kept ≡ now → (all : List ℕ) (read : PageRead) → IsRead coding old.page.width old.page.fine (bits_of order all) read
     → IsRead now.coding now.page.width now.page.fine (bits_of now.order all) read
-read_now coding order old count now view all read is =
+read_now coding order old count kept now view all read is =
     subst (λ (r : PageReading). IsRead r.coding r.page.width r.page.fine (bits_of r.order all) read) view is

@@ -2,6 +2,7 @@
 pub mod PageCodes
 pub mod Codings
 pub mod RowsSoFar
+pub mod TurnedCodes
 pub mod PageReaders
 pub mod RowCoders
 pub mod RowReaders

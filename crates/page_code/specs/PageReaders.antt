@@ -12,19 +12,24 @@ use Rattle.page_code.specs.declared.page_reader.RefusedCode.{RefusedCode}
 use Rattle.page_code.specs.Codings.{IsLongestIn, ReadsIn, read_rows}
 use Rattle.page_code.specs.PageCodes.{ReadsPage, RefusesPage}
 use Rattle.page_code.specs.RowsSoFar.{AreRowsSoFar, IsReadTo}
+use Rattle.page_code.specs.TurnedCodes.{AreTurned}
 
--- the code, the order of bits, the page read so far, the place in the bits after its rows, and how many whole rows were found
+-- the code, the order of bits, the page read so far, the place in the bits after its rows, how many whole rows were found, and the octets
+-- that are kept turned
 pub record PageReading : Type 0 where
   pub coding : Coding
   pub order : Order
   pub page : PagePixels
   pub place : ℕ
   pub count : ℕ
+  pub turned : List ℕ
 
--- the reader stands for these octets: their bits begin with the rows that it keeps, and spell the number of whole rows that it found
+-- the reader stands for these octets: their bits begin with the rows that it keeps, and spell the number of whole rows that it found; the
+-- octets that it keeps turned are the first of them
 pub record StandsFor (reader : PageReading) (octets : List ℕ) : Type 0 where
   pub kept : IsReadTo reader.coding reader.page.width (bits_of reader.order octets) reader.page.rows reader.place
   pub counted : AreRowsSoFar reader.coding reader.page.width (bits_of reader.order octets) reader.count
+  pub turned : AreTurned reader.turned octets
 
 -- the octets begin with those that the reader stands for
 pub record GoesOnTo (reader : PageReading) (all : List ℕ) : Type 0 where

@@ -4,6 +4,7 @@ ghost use Rattle.page_code.specs.Codings.{read_rows};
 ghost use Rattle.page_code.specs.PageCodes.{GivesPage, GivesRows, IsOnlyAnswer, ReadsPage, RefusesPage};
 ghost use Rattle.page_code.specs.PageReaders.{GoesOnTo, IsLike, IsRead, StandsAfter, StandsAsBefore, StandsFor};
 ghost use Rattle.page_code.specs.RowsSoFar.{AreRowsSoFar, AreWholeRows, IsFurther, IsReadTo, ReadsOn};
+ghost use Rattle.page_code.specs.TurnedCodes.{AreTurned, IsTurnedCode};
 ghost use Rattle.raster.specs.Packed.{bits_of};
 ghost use Rattle.raster.specs.Pixels.{IsWidth};
 ghost use Rattle.run_tables.specs.declared.fault.CodeFaultKind.TheVariants.{NoMemory};
@@ -11,6 +12,7 @@ ghost use Rattle.std.specs.Prelude.{◌≡◌, ◌≢◌, [], List, ℕ, IfErr, 
 
 use crate::coding::Coding;
 use crate::page::Progress;
+use crate::turned::{code_of, turned_code};
 use crate::{one_dim, t6};
 use raster::Page;
 use raster::packed::Order;
@@ -59,7 +61,8 @@ pub enum PageRead {
 }
 
 /// Reads a page whose octets come in pieces: each call is given all octets so far, and reads on after
-/// the whole rows that were read before. It keeps the rows, and not the octets.
+/// the whole rows that were read before. It keeps the rows. Of octets whose least significant bit is first, 4 MiB at most, it keeps
+/// a copy with the most significant first, from which it reads.
 #[derive(Debug, Drop)]
 pub struct PageReader {
     alloc: Global,
@@ -67,6 +70,7 @@ pub struct PageReader {
     order: Order,
     progress: Progress,
     count: u32,
+    turned: Vec<u8>,
 }
 
 impl Model for PageReader {
@@ -81,6 +85,7 @@ impl Model for PageReader {
       page = reader.progress.page;
       place = reader.progress.place;
       count = reader.count;
+      turned = reader.turned.items;
     } };
 
     ghost invariant = { λ reader. IsWidth reader.progress.page.width };
@@ -157,6 +162,67 @@ fn read_whole(
     }
 }
 
+/// Reads on as `read_further`, from octets of which the first are kept turned; and answers those that are turned then.
+fn read_further_turned(
+    alloc: Global,
+    coding: Coding,
+    octets: &[u8],
+    order: Order,
+    kept: Vec<u8>,
+    to: &mut Progress,
+) -> Result<Vec<u8>, AllocError>
+    requires width { IsWidth to.old.page.width }
+    requires read { IsReadTo coding to.old.page.width (bits_of order octets.now) to.old.page.rows to.old.place }
+    requires kept { AreTurned kept.items octets.now }
+    ensures read { OnOk result (IsFurther coding (bits_of order octets.now) to.old to.new
+        × AreRowsSoFar coding to.new.page.width (bits_of order octets.now) (length to.new.page.rows)) }
+    ensures turned { IfOk result (λ turned. IsTurnedCode order octets.now turned.items) }
+{
+    let turned = turned_code(alloc, octets, order, kept)?;
+    let (code, first) = code_of(octets, order, &turned);
+    read_further(alloc, coding, code, first, to)?;
+    Ok(turned)
+}
+
+/// Reads on as `read_to_end`, from octets of which the first are kept turned.
+#[inline(always)]
+fn read_to_end_turned(
+    alloc: Global,
+    coding: Coding,
+    octets: &[u8],
+    order: Order,
+    kept: Vec<u8>,
+    progress: Progress,
+) -> Result<(Page, u128), CodeFault>
+    requires width { IsWidth progress.page.width }
+    requires read { IsReadTo coding progress.page.width (bits_of order octets.now) progress.page.rows progress.place }
+    requires kept { AreTurned kept.items octets.now }
+    ensures { GivesPage (read_rows coding progress.page.width (bits_of order octets.now)) progress.page.width progress.page.fine result }
+{
+    let turned = turned_code(alloc, octets, order, kept)?;
+    let (code, first) = code_of(octets, order, &turned);
+    read_to_end(alloc, coding, code, first, progress)
+}
+
+/// Reads on as `read_whole`, from octets of which the first are kept turned.
+fn read_whole_turned(
+    alloc: Global,
+    coding: Coding,
+    octets: &[u8],
+    order: Order,
+    kept: Vec<u8>,
+    progress: Progress,
+) -> Result<PageRead, AllocError>
+    requires width { IsWidth progress.page.width }
+    requires read { IsReadTo coding progress.page.width (bits_of order octets.now) progress.page.rows progress.place }
+    requires kept { AreTurned kept.items octets.now }
+    ensures { IfOk result (IsRead coding progress.page.width progress.page.fine (bits_of order octets.now)) }
+{
+    let turned = turned_code(alloc, octets, order, kept)?;
+    let (code, first) = code_of(octets, order, &turned);
+    read_whole(alloc, coding, code, first, progress)
+}
+
 impl Coding {
     /// What the octets are read as, by this width in pixels: the page that `decode` answers, or its refusal with the whole rows
     /// before it. Errs where memory is refused.
@@ -216,6 +282,7 @@ impl PageReader {
             order,
             progress: Progress::new(alloc, width, fine),
             count: 0,
+            turned: Vec::new(alloc),
         }
     }
 
@@ -231,12 +298,21 @@ impl PageReader {
     {
         let width = self.progress.page.width();
         let fine = self.progress.page.fine();
-        let read = read_further(self.alloc, self.coding, all, self.order, &mut self.progress);
-        if read.is_err() {
+        let kept = mem::replace(&mut self.turned, Vec::new(self.alloc));
+        let read = read_further_turned(
+            self.alloc,
+            self.coding,
+            all,
+            self.order,
+            kept,
+            &mut self.progress,
+        );
+        let Ok(turned) = read else {
             self.progress = Progress::new(self.alloc, width, fine);
             return Err(AllocError);
-        }
+        };
         self.count = self.progress.page.rows().len() as u32;
+        self.turned = turned;
         Ok(())
     }
 
@@ -261,7 +337,8 @@ impl PageReader {
         let fine = self.progress.page.fine();
         let begun = Progress::new(self.alloc, width, fine);
         let progress = mem::replace(&mut self.progress, begun);
-        match read_to_end(self.alloc, self.coding, all, self.order, progress) {
+        let kept = mem::replace(&mut self.turned, Vec::new(self.alloc));
+        match read_to_end_turned(self.alloc, self.coding, all, self.order, kept, progress) {
             Ok(answer) => {
                 self.count = 0;
                 Ok(answer)
@@ -284,7 +361,8 @@ impl PageReader {
         let fine = self.progress.page.fine();
         let begun = Progress::new(self.alloc, width, fine);
         let progress = mem::replace(&mut self.progress, begun);
-        match read_whole(self.alloc, self.coding, all, self.order, progress) {
+        let kept = mem::replace(&mut self.turned, Vec::new(self.alloc));
+        match read_whole_turned(self.alloc, self.coding, all, self.order, kept, progress) {
             Ok(PageRead::Page(page, used)) => {
                 self.count = 0;
                 Ok(PageRead::Page(page, used))

@@ -1,9 +1,9 @@
 //! Octets with their bits in the other order.
 
+ghost use Rattle.page_code.specs.TurnedCodes.{AreTurned, IsTurnedCode};
 ghost use Rattle.raster.specs.Packed.{bits_of};
 ghost use Rattle.raster.specs.Words.{turned_octet};
-ghost use Rattle.raster.specs.declared.packed.Order.TheVariants.{MsbFirst};
-ghost use Rattle.std.specs.Prelude.{ℕ, ◌≡◌, ◌<◌, IfOk, IfSome, length, slice_index};
+ghost use Rattle.std.specs.Prelude.{◌≡◌, ◌≤◌, ◌++◌, IfOk, drop, length, map, take};
 
 use raster::packed::Order;
 use std::alloc::{AllocError, Global};
@@ -24,8 +24,7 @@ fn turned(octet: u8) -> u8
 
 /// Turns the bits of each octet.
 fn turn(octets: &mut [u8])
-    ensures length { length octets.new ≡ length octets.old }
-    ensures turned { (j : ℕ) → j < length octets.old → slice_index octets.new j ≡ turned_octet (slice_index octets.old j) }
+    ensures { octets.new ≡ map turned_octet octets.old }
 {
     let mut at = 0;
     while at < octets.len() {
@@ -34,49 +33,61 @@ fn turn(octets: &mut [u8])
     }
 }
 
-/// The octets that have these bits with the most significant of each octet first, where the octets at hand have the least significant
-/// first. Errs where memory is refused.
-fn turned_copy(alloc: Global, octets: &[u8]) -> Result<Vec<u8>, AllocError>
-    ensures { IfOk result (λ copy. bits_of Order.MsbFirst copy.items ≡ bits_of Order.LsbFirst octets.now) }
+/// Turns the bits of each octet from a place on.
+fn turn_from(octets: &mut [u8], from: usize)
+    requires { from ≤ length octets.old }
+    ensures { octets.new ≡ take from octets.old ++ map turned_octet (drop from octets.old) }
 {
-    let mut copy = Vec::from_slice(alloc, octets)?;
-    turn(&mut copy);
-    Ok(copy)
+    turn(&mut octets[from..]);
 }
 
-/// A copy of the octets that is turned, where the least significant bit is first, the page is read from its beginning on, and the octets
-/// are 4 MiB at most. Errs where memory is refused.
+/// All octets turned, where some from the first on are already: only those after them are turned. Errs where memory is refused.
+fn turned_on(octets: &[u8], kept: Vec<u8>) -> Result<Vec<u8>, AllocError>
+    requires { AreTurned kept.items octets.now }
+    ensures { IfOk result (λ all. all.items ≡ map turned_octet octets.now) }
+{
+    let mut all = kept;
+    let from = all.len();
+    all.extend_from_slice(&octets[from..])?;
+    turn_from(&mut all, from);
+    Ok(all)
+}
+
+/// The code of a page turned, where the least significant bit is first and the octets are 4 MiB at most; else no octets. Of octets whose
+/// first are kept turned only those after them are turned. Errs where memory is refused.
 pub(crate) fn turned_code(
     alloc: Global,
     octets: &[u8],
     order: Order,
-    place: u128,
-) -> Result<Option<Vec<u8>>, AllocError>
-    ensures { IfOk result (λ turned. IfSome turned (λ copy. bits_of MsbFirst copy.items ≡ bits_of order octets.now)) }
+    kept: Vec<u8>,
+) -> Result<Vec<u8>, AllocError>
+    requires { AreTurned kept.items octets.now }
+    ensures { IfOk result (λ code. IsTurnedCode order octets.now code.items) }
 {
     match order {
-        Order::MsbFirst => Ok(None),
+        Order::MsbFirst => Ok(Vec::new(alloc)),
         Order::LsbFirst => {
-            if place > 0 || octets.len() > MOST_TURNED {
-                return Ok(None);
+            if octets.len() > MOST_TURNED {
+                return Ok(Vec::new(alloc));
             }
-            Ok(Some(turned_copy(alloc, octets)?))
+            turned_on(octets, kept)
         }
     }
 }
 
-/// The octets from which a page is read, and their order of bits: those of a turned copy, where there is one.
+/// The octets from which a page is read, and their order of bits: those that are turned, where they are.
 #[inline(always)]
-pub(crate) fn code_of<'a>(
-    octets: &'a [u8],
-    order: Order,
-    turned: &'a Option<Vec<u8>>,
-) -> (&'a [u8], Order)
-    requires { IfSome turned.now (λ copy. bits_of MsbFirst copy.items ≡ bits_of order octets.now) }
+pub(crate) fn code_of<'a>(octets: &'a [u8], order: Order, turned: &'a [u8]) -> (&'a [u8], Order)
+    requires { IsTurnedCode order octets.now turned.now }
     ensures { bits_of result.1 result.0.now ≡ bits_of order octets.now }
 {
-    match turned {
-        Some(copy) => (copy.as_slice(), Order::MsbFirst),
-        None => (octets, order),
+    match order {
+        Order::MsbFirst => (octets, order),
+        Order::LsbFirst => {
+            if octets.len() > MOST_TURNED {
+                return (octets, order);
+            }
+            (turned, Order::MsbFirst)
+        }
     }
 }

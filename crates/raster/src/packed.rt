@@ -130,23 +130,24 @@ fn clear_after(order: Order, octets: &mut Vec<u8>, count: u32)
     octets[last] = first_of_octet(order, octets[last], count % 8);
 }
 
-/// A list of bits, kept eight an octet; where they all are alike, as one bit and with no octets.
+/// A list of bits, kept eight an octet in the order of a row; where they all are alike, as one bit and with no octets.
 #[derive(Debug, Drop)]
 pub(crate) struct PackedBits {
     octets: Vec<u8>,
     alike: Option<bool>,
-    order: Order,
     count: u32,
 }
 
 impl Model for PackedBits {
-    ghost use Rattle.raster.specs.Packed.{kept_bits, AreKept, Bits};
+    ghost use Rattle.raster.specs.Packed.{kept_bits, AreKept};
+    ghost use Rattle.raster.specs.declared.packed.Order.TheVariants.{MsbFirst};
+    ghost use Rattle.std.specs.Prelude.{Bool, List};
 
-    ghost Value = { Bits };
+    ghost Value = { List Bool };
 
-    ghost view = { λ p. record { order = p.order; bits = kept_bits p.alike p.order p.octets.items p.count } };
+    ghost view = { λ p. kept_bits p.alike MsbFirst p.octets.items p.count };
 
-    ghost invariant = { λ p. AreKept p.alike p.order p.octets.items p.count };
+    ghost invariant = { λ p. AreKept p.alike MsbFirst p.octets.items p.count };
 }
 
 impl PackedBits {
@@ -154,12 +155,11 @@ impl PackedBits {
     #[inline(always)]
     fn of_one(alloc: Global, bit: bool, count: u32) -> Self
         requires { AreAlike bit count }
-        ensures { result ≡ record { order = Order.MsbFirst; bits = replicate count bit } }
+        ensures { result ≡ replicate count bit }
     {
         PackedBits {
             octets: Vec::new(alloc),
             alike: Some(bit),
-            order: Order::MsbFirst,
             count,
         }
     }
@@ -169,10 +169,9 @@ impl PackedBits {
     #[inline(always)]
     #[tactic(auto, using(crate::proofs::PackedLemmas::views))]
     pub(crate) fn of_one_run(alloc: Global, runs: &[u32]) -> Option<Self>
-        ensures sum { IfSome result (λ p. length p.bits ≡ sum runs.now) }
-        ensures width { IfSome result (λ p. IsWidth (length p.bits)) }
-        ensures colors { IfSome result (λ p. colors p.bits ≡ colored Color.White runs.now) }
-        ensures order { IfSome result (λ p. p.order ≡ Order.MsbFirst) }
+        ensures sum { IfSome result (λ p. length p ≡ sum runs.now) }
+        ensures width { IfSome result (λ p. IsWidth (length p)) }
+        ensures colors { IfSome result (λ p. colors p ≡ colored Color.White runs.now) }
     {
         if runs.len() == 1 && runs[0] > 0 && runs[0] <= MAX_WIDTH {
             return Some(PackedBits::of_one(alloc, false, runs[0]));
@@ -193,15 +192,13 @@ impl PackedBits {
     pub(crate) fn of_runs(alloc: Global, runs: &[u32], width: u32) -> Result<Self, AllocError>
         requires sum { sum runs.now ≡ width }
         requires small { width ≤ 2432 }
-        ensures colors { IfOk result (λ p. colors p.bits ≡ colored Color.White runs.now) }
-        ensures order { IfOk result (λ p. p.order ≡ Order.MsbFirst) }
+        ensures colors { IfOk result (λ p. colors p ≡ colored Color.White runs.now) }
     {
         let mut octets = zeros(alloc, width as usize / 8 + 9)?;
         paint(&mut octets, runs, width);
         Ok(PackedBits {
             octets,
             alike: None,
-            order: Order::MsbFirst,
             count: width,
         })
     }
@@ -212,15 +209,13 @@ impl PackedBits {
     pub(crate) fn of_painter(painter: Painter) -> Self
         requires fits { FitsPainter painter }
         requires whole { painter.place ≡ painter.width }
-        ensures order { result.order ≡ Order.MsbFirst }
-        ensures length { length result.bits ≡ painter.width }
-        ensures colors { (runs : List ℕ) → Paints runs painter → colors result.bits ≡ colored Color.White runs }
+        ensures length { length result ≡ painter.width }
+        ensures colors { (runs : List ℕ) → Paints runs painter → colors result ≡ colored Color.White runs }
     {
         let count = painter.width();
         PackedBits {
             octets: painter.into_octets(),
             alike: None,
-            order: Order::MsbFirst,
             count,
         }
     }
@@ -231,9 +226,8 @@ impl PackedBits {
     #[tactic(auto, using(crate::proofs::PackedLemmas::views))]
     pub(crate) fn of_no_turn(alloc: Global, places: &[u32], width: u32) -> Option<Self>
         requires small { width ≤ 2432 }
-        ensures colors { IfSome result (λ p. colors p.bits ≡ turning Color.White 0 places.now width) }
-        ensures order { IfSome result (λ p. p.order ≡ Order.MsbFirst) }
-        ensures length { IfSome result (λ p. length p.bits ≡ width) }
+        ensures colors { IfSome result (λ p. colors p ≡ turning Color.White 0 places.now width) }
+        ensures length { IfSome result (λ p. length p ≡ width) }
     {
         if places.is_empty() {
             return Some(PackedBits::of_one(alloc, false, width));
@@ -250,16 +244,14 @@ impl PackedBits {
         requires rising { IsRising places.now }
         requires below { All (λ place. place < width) places.now }
         requires small { width ≤ 2432 }
-        ensures colors { IfOk result (λ p. colors p.bits ≡ turning Color.White 0 places.now width) }
-        ensures order { IfOk result (λ p. p.order ≡ Order.MsbFirst) }
-        ensures length { IfOk result (λ p. length p.bits ≡ width) }
+        ensures colors { IfOk result (λ p. colors p ≡ turning Color.White 0 places.now width) }
+        ensures length { IfOk result (λ p. length p ≡ width) }
     {
         let mut octets = zeros(alloc, width as usize / 8 + 9)?;
         paint_turns(&mut octets, places, width);
         Ok(PackedBits {
             octets,
             alike: None,
-            order: Order::MsbFirst,
             count: width,
         })
     }
@@ -270,7 +262,7 @@ impl PackedBits {
         requires some { 0 < count }
         requires within { count ≤ 8 * length octets.now }
         requires small { count ≤ 2432 }
-        ensures { IfOk result (λ p. p ≡ record { order = Order.MsbFirst; bits = bits_in Order.MsbFirst octets.now count }) }
+        ensures { IfOk result (λ p. p ≡ bits_in Order.MsbFirst octets.now count) }
     {
         if let Some(bit) = bit_of_all(octets, count) {
             return Ok(PackedBits::of_one(alloc, bit, count));
@@ -282,7 +274,6 @@ impl PackedBits {
         Ok(PackedBits {
             octets: kept,
             alike: None,
-            order: Order::MsbFirst,
             count,
         })
     }
@@ -290,7 +281,7 @@ impl PackedBits {
     /// The number of bits.
     #[tactic(auto, using(crate::proofs::PackedLemmas::views))]
     pub(crate) fn len(&self) -> u32
-        ensures { result ≡ length self.now.bits }
+        ensures { result ≡ length self.now }
     {
         self.count
     }
@@ -298,22 +289,21 @@ impl PackedBits {
     /// The bit at a place, from 0.
     #[tactic(auto, using(crate::proofs::PackedLemmas::views))]
     pub(crate) fn bit(&self, place: u128) -> bool
-        requires { place < length self.now.bits }
-        ensures { slice_get self.now.bits place ≡ Some result }
+        requires { place < length self.now }
+        ensures { slice_get self.now place ≡ Some result }
     {
         match self.alike {
             Some(bit) => bit,
-            None => bit_of(self.order, &self.octets, place),
+            None => bit_of(Order::MsbFirst, &self.octets, place),
         }
     }
 
     /// The first place from a place on whose bit is another, or the number of bits.
     #[tactic(auto, using(crate::proofs::PackedLemmas::views))]
     pub(crate) fn first_other(&self, from: u32, bit: bool) -> u32
-        requires order { self.now.order ≡ Order.MsbFirst }
-        requires from { from ≤ length self.now.bits }
-        requires small { length self.now.bits ≤ 2432 }
-        ensures { IsFirstOtherBit self.now.bits from bit result }
+        requires from { from ≤ length self.now }
+        requires small { length self.now ≤ 2432 }
+        ensures { IsFirstOtherBit self.now from bit result }
     {
         match self.alike {
             Some(same) if same == bit => self.count,
@@ -326,10 +316,9 @@ impl PackedBits {
     #[inline(always)]
     #[tactic(auto, using(crate::proofs::PackedLemmas::views))]
     pub(crate) fn changes(&self, out: &mut Vec<u32>) -> Result<(), AllocError>
-        requires order { self.now.order ≡ Order.MsbFirst }
-        requires some { 0 < length self.now.bits }
-        requires small { length self.now.bits ≤ 2432 }
-        ensures ok { OnOk result (AppendsChanges (colors self.now.bits) out.old.items out.new.items) }
+        requires some { 0 < length self.now }
+        requires small { length self.now ≤ 2432 }
+        ensures ok { OnOk result (AppendsChanges (colors self.now) out.old.items out.new.items) }
         ensures err { OnErr result (out.new.items ≡ out.old.items) }
     {
         let Some(bit) = self.alike else {
@@ -346,13 +335,12 @@ impl PackedBits {
     #[inline(always)]
     #[tactic(auto, using(crate::proofs::PackedLemmas::views))]
     pub(crate) fn put_changes(&self, out: &mut Vec<u32>) -> usize
-        requires order { self.now.order ≡ Order.MsbFirst }
-        requires some { 0 < length self.now.bits }
-        requires small { length self.now.bits ≤ 2432 }
-        requires room { length self.now.bits + 64 ≤ length out.old.items }
+        requires some { 0 < length self.now }
+        requires small { length self.now ≤ 2432 }
+        requires room { length self.now + 64 ≤ length out.old.items }
         ensures length { length out.new.items ≡ length out.old.items }
         ensures few { result ≤ length out.new.items }
-        ensures changes { AreChanges (colors self.now.bits) (take result out.new.items) }
+        ensures changes { AreChanges (colors self.now) (take result out.new.items) }
     {
         let Some(bit) = self.alike else {
             return put_changes(&self.octets, self.count, out);
@@ -366,7 +354,7 @@ impl PackedBits {
 
     /// The octets that hold the bits, lent, the last one filled with 0 bits.
     pub(crate) fn octets(&self) -> &[u8]
-        ensures { FillsOctets self.now.order self.now.bits result.now }
+        ensures { FillsOctets Order.MsbFirst self.now result.now }
     {
         match self.alike {
             Some(bit) => &octets_alike(bit)[..octets_for(self.count)],

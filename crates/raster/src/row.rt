@@ -77,14 +77,13 @@ pub struct Row {
 impl Model for Row {
     ghost use Rattle.std.specs.Prelude.{◌≡◌, List, length};
     ghost use Rattle.raster.specs.declared.row.Color.{Color};
-    ghost use Rattle.raster.specs.declared.packed.Order.TheVariants.{MsbFirst};
     ghost use Rattle.raster.specs.Pixels.{colors, IsWidth};
 
     ghost Value = { List Color };
 
-    ghost view = { λ row. colors row.pixels.bits };
+    ghost view = { λ row. colors row.pixels };
 
-    ghost invariant = { λ row. IsWidth (length row.pixels.bits) × (row.pixels.order ≡ MsbFirst) };
+    ghost invariant = { λ row. IsWidth (length row.pixels) };
 }
 
 impl Row {

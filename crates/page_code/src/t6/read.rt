@@ -397,8 +397,8 @@ fn read_in_order(
 }
 
 /// Reads on from the rows read so far to the page's end, and answers how many bits the page uses. After
-/// an error the rows before it were read. Where the page begins with the octets and the least significant
-/// bit is first, they are turned once, so that no word of them is.
+/// an error the rows before it were read. Where the least significant bit is first, the octets are turned once,
+/// so that no word of them is.
 pub(crate) fn read_on(
     alloc: Global,
     octets: &[u8],
@@ -409,7 +409,7 @@ pub(crate) fn read_on(
     requires read { IsReadTo Coding.T6 to.old.page.width (bits_of order octets.now) to.old.page.rows to.old.place }
     ensures { ReadsOn Coding.T6 (bits_of order octets.now) to.old to.new result }
 {
-    let turned = turned_code(alloc, octets, order, to.place)?;
+    let turned = turned_code(alloc, octets, order, Vec::new(alloc))?;
     let (code, first) = code_of(octets, order, &turned);
     read_in_order(alloc, code, first, to)
 }

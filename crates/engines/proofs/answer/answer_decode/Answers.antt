@@ -7,6 +7,7 @@ use Rattle.engines.specs.declared.decoding.Broken.{Broken}
 use Rattle.engines.specs.declared.decoding.ReadTo.{ReadTo}
 use Rattle.engines.specs.declared.decoding.ReadTo.TheVariants.{End, Fault}
 use Rattle.engines.proofs.DecodedPages.{no_lines_end, no_lines_fault}
+use Rattle.engines.proofs.NoticeLines.{nothing_told}
 use Rattle.engines.proofs.answer.answer_decode.Goals as goal
 use Rattle.engines.proofs.answer.answer_decode.Goals.{then-has_end, else-has_end}
 
@@ -25,7 +26,7 @@ returns-after-has_end-clause-answered c = λ image writes.
     (subst (λ (r : ReadTo). GivesPage c.asked-broken.result form octets r rows image lines) read_to
     (c.in_ok-page.ensures.given image writes)) in
     let same : length c.rows-rows.result.now ≡ rows = ap (λ (l : List (List Color)). length l) c.rows-rows.ensures.rows in
-    let told = λ (n : ℕ). end_text c.args.options.verbose n bits (octets_after octets bits) has_end in
+    let told = λ (n : ℕ). end_text c.args.options.verbose c.args.options.records n bits (octets_after octets bits) has_end in
     record {
       read_to = End bits;
       rows = rows;
@@ -35,7 +36,8 @@ returns-after-has_end-clause-answered c = λ image writes.
         has_end,
         c.in_ok-has_end-in-End.ensures.end,
         c.in_ok-has_end-in-End.ensures.told ∙ (ap (λ (l : List ℕ). l ++ told (length c.rows-rows.result.now))
-            (no_lines_end asked form octets bits rows image lines given) ∙ ap told same),
+            (c.in_ok-told.ensures.told ∙ nothing_told c.args.options.records lines
+            (no_lines_end asked form octets bits rows image lines given)) ∙ ap told same),
         elim c.if-has_end.branch [
           | then-has_end w ↦ rw (w.end-is, w.if-has_end.true) refl
           | else-has_end w ↦ rw (w.end-is, w.if-has_end.false) refl
@@ -61,5 +63,9 @@ returns-in-Fault-clause-answered c = λ image writes.
       rows = rows;
       lines = lines;
       gives = given;
-      tells = (no_lines_fault asked form octets fault rows image lines given, refl);
+      tells = (
+        c.in_ok-told.ensures.told ∙ nothing_told c.args.options.records lines
+            (no_lines_fault asked form octets fault rows image lines given),
+        refl,
+      );
     }

@@ -1,6 +1,5 @@
 -- What the check asks of `read_whole`.
 use Rattle.raster.specs.Packed.{bits_of}
-use Rattle.run_tables.specs.declared.fault.CodeFaultKind.TheVariants.{NoMemory}
 use Rattle.page_code.proofs.OneDimension.Repairs.{not_memory}
 use Rattle.page_code.proofs.PageReads.{page_read, page_refused}
 use Rattle.page_code.proofs.page_reader.read_whole.Goals as goal

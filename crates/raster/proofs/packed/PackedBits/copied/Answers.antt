@@ -1,23 +1,14 @@
-use Rattle.std.proofs.Common.{arith, ap, sym, ◌∙◌, Bool, List}
-use Rattle.raster.specs.Packed.{Bits}
+use Rattle.std.proofs.Common.{arith, sym, ◌∙◌}
 use Rattle.raster.specs.declared.packed.Order.TheVariants.{MsbFirst}
 use Rattle.raster.proofs.AlikeLemmas.{bits_alike}
 use Rattle.raster.proofs.PackedLemmas.{bits_in-same, bit_in-take}
 use Rattle.raster.proofs.packed.PackedBits.copied.Goals as goal
 
--- these bits in the order of a row
-abbrev with_bits : List Bool → Bits
-with_bits bits = record {
-  order = MsbFirst;
-  bits = bits;
-}
-
 pub returns-in-Some : goal.returns-in-Some
-returns-in-Some c = c.of_one.ensures ∙ ap with_bits (sym (bits_alike MsbFirst c.args.octets.now c.args.count c.in-Some.bit
-    c.in-Some.ensures.all))
+returns-in-Some c = c.of_one.ensures ∙ sym (bits_alike MsbFirst c.args.octets.now c.args.count c.in-Some.bit c.in-Some.ensures.all)
 
 pub returns : goal.returns
 returns c =
-    ap with_bits (bits_in-same MsbFirst _ c.args.octets.now c.args.count
+    bits_in-same MsbFirst _ c.args.octets.now c.args.count
     (λ k h. c.clear_after.ensures.same k h ∙ rw (c.in_ok-extend_from_slice.ensures.items, c.in_ok-kept.ensures.items) (bit_in-take
-    MsbFirst c.args.octets.now c.octets_for-needed.result k (omega arith))))
+    MsbFirst c.args.octets.now c.octets_for-needed.result k (omega arith)))

@@ -7,16 +7,16 @@ use Rattle.raster.proofs.row.Row.next_change.Goals.{then-from-gt0, else-from-gt0
 
 pub returns : goal.returns
 returns c =
-    let begins : color_before (colors c.self.inside.pixels.bits) c.args.from ≡ color_of c.if-from-gt0.before =
+    let begins : color_before (colors c.self.inside.pixels) c.args.from ≡ color_of c.if-from-gt0.before =
     elim c.if-from-gt0.branch [
       | then-from-gt0 w ↦
           let back : c.args.from - 1 + 1 ≡ c.args.from = omega arith in
-          rw w.before-is (sym (before_next (colors c.self.inside.pixels.bits) (c.args.from - 1) (color_of w.bit-before.result)
-          (slice_get-colors c.self.inside.pixels.bits (c.args.from - 1) w.bit-before.result w.bit-before.ensures)
-          ∙ ap (color_before (colors c.self.inside.pixels.bits)) back))
+          rw w.before-is (sym (before_next (colors c.self.inside.pixels) (c.args.from - 1) (color_of w.bit-before.result)
+          (slice_get-colors c.self.inside.pixels (c.args.from - 1) w.bit-before.result w.bit-before.ensures)
+          ∙ ap (color_before (colors c.self.inside.pixels)) back))
       | else-from-gt0 w ↦
           let none : c.args.from ≡ 0 = omega arith in
           rw (w.before-is, none) refl
     ] in
-    rw (← c.self.view_is) (next_from c.self.inside.pixels.bits c.args.from c.first_other.result c.if-from-gt0.before begins
+    rw (← c.self.view_is) (next_from c.self.inside.pixels c.args.from c.first_other.result c.if-from-gt0.before begins
     c.first_other.ensures)
