@@ -7,6 +7,8 @@ Each document's lines run in a copy of docs/examples of their own, where `faxtoo
 a line that begins with `$ ` is a command, one that begins with `> ` goes on with it, and the lines up to the next command are all that it
 prints, on standard output and standard error; a line `...` stands for any lines. In a table each cell that is a `faxtool` command is run:
 it must end with status 0 and say nothing on standard error, but how a station's call ended. Blocks of another name are not run.
+A pipe whose second command ends before `faxtool` has written all, as `head` does, is refused: whether `faxtool` then says that its output
+was closed is another thing in each run.
 A command with `jq` is named and left out where there is none. Prints how many commands there are, or the first difference, and ends with
 status 1 then. It needs Python's standard library alone."""
 
@@ -21,6 +23,7 @@ from pathlib import Path
 TOP = Path(__file__).resolve().parent.parent
 BLOCK = re.compile(r"^```console\n(.*?)^```$", re.M | re.S)
 CELL = re.compile(r"^\|.*?`(faxtool [^`]*)`", re.M)
+ENDS_EARLY = re.compile(r"faxtool [^|;\n]*\| *(head|grep -\w*q|sed [^|]*q)\b")
 # A station tells how its call ended, which is no error.
 ENDED = re.compile(r"end normal (pages|confirmed) \d+\n")
 
@@ -74,6 +77,8 @@ def try_document(program, document):
             if "| jq " in command and shutil.which("jq") is None:
                 print(f"{document.name}: there is no jq, so this was not run: {command}", file=sys.stderr)
                 continue
+            if ENDS_EARLY.search(command):
+                sys.exit(f"{document.name}: `{command}` doesn't read all that `faxtool` writes")
             printed, errors, status = run(command, folder, status, subprocess.PIPE if shown is None else subprocess.STDOUT)
             if shown is None and (status != 0 or errors and not ENDED.fullmatch(errors)):
                 sys.exit(f"{document.name}: `{command}` ended with status {status}:\n{errors}")
