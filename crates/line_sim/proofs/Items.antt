@@ -1,13 +1,15 @@
 -- The items under way as their octets say them.
-use Rattle.std.proofs.Common.{◌≡◌, ◌≢◌, ℕ, Bool, List, [], ◌∷◌, ◌++◌, length, map, replicate, drop, Some, Ok, refl, ap, sym, subst, ◌∙◌}
+use Rattle.std.proofs.Common.{◌≡◌, ◌≢◌, ℕ, Bool, List, [], ◌∷◌, ◌++◌, length, map, replicate, drop, slice_get, Some, None, Ok, IfSome, IfNone, Bor, refl, ap, sym, subst, ◌∙◌}
+use Rattle.std.specs.Prelude.{Option, option_map}
 use Rattle.hdlc.specs.DeframerState.{DeframerState, IsAfter, IsIdle}
 use Rattle.hdlc.specs.Laws.{FrameOctetsGrow, FrameIsHeard}
 use Rattle.raster.specs.Packed.{bits_of}
 use Rattle.raster.specs.declared.packed.Order.TheVariants.{LsbFirst}
 use Rattle.signals.specs.Reading.{read_content}
-use Rattle.signals.specs.Signals.{PlainSignal, dis, dcs, cfr, ftt, fcd, rcp, pps, ppr, mcf, rnr, rr, dcn, other}
+use Rattle.signals.specs.Signals.{PlainSignal, plain, dis, dcs, cfr, ftt, fcd, rcp, pps, ppr, mcf, rnr, rr, dcn, other}
 use Rattle.signals.specs.Writing.{content_of, ReadsWhatIsWritten}
 use Rattle.signals.specs.declared.signal.Side.{Side}
+use Rattle.signals.specs.declared.signal.Signal.{Signal}
 use Rattle.stations.specs.Inputs.{framed, checked}
 use Rattle.line_sim.specs.Entries.{fields_of, kind_of, signal_fields, signal_kind}
 use Rattle.line_sim.specs.Line.{spoiled}
@@ -165,6 +167,39 @@ hears_it side kind octets old fed grows hears reads differs item idle feeds =
       reads = reads signal side (is_final signal) carries.writable ∙ ap (λ s. Ok s) (sym (said side octets signal grows reads carries));
       is = said_frame kind octets differs;
     }
+
+some_same : (x y : List ℕ) → Some x ≡ Some y → x ≡ y
+some_same x y e = cc
+
+some_there : (x : List ℕ) → Some x ≡ None → ⊥
+some_there x e = cc
+
+-- of a content that waits alone, the signal is heard as which it is read
+pub signal_heard :
+    (queue : List (List ℕ)) (content : List ℕ) (next : Option (Bor (List ℕ))) (heard : Option Signal) (signal : PlainSignal)
+    → queue ≡ content ∷ [] → read_content content ≡ Ok signal
+    → IfSome next (λ octets. slice_get queue 0 ≡ Some octets.now) → IfNone next (slice_get queue 0 ≡ None)
+    → IfSome next (λ octets. (said : PlainSignal) → read_content octets.now ≡ Ok said → option_map plain heard ≡ Some said)
+    → option_map plain heard ≡ Some signal
+signal_heard queue content None heard signal waits reads some none said =
+    absurd (some_there content (subst (λ q. slice_get q 0 ≡ None) waits none))
+signal_heard queue content (Some octets) heard signal waits reads some none said =
+    let same : content ≡ octets.now = some_same _ _ (subst (λ q. slice_get q 0 ≡ Some octets.now) waits some) in
+    said signal (subst (λ c. read_content c ≡ Ok signal) same reads)
+
+-- the signal that was heard is the one that is read
+pub plain_same : (heard : Option Signal) (signal : Signal) (said : PlainSignal) → heard ≡ Some signal → option_map plain heard ≡ Some said
+    → plain signal ≡ said
+plain_same heard signal said is e = plain_is (plain signal) said (ap (option_map plain) (sym is) ∙ e)
+  where
+    plain_is : (x y : PlainSignal) → Some x ≡ Some y → x ≡ y
+    plain_is x y e = cc
+
+pub none_heard : (heard : Option Signal) (said : PlainSignal) → heard ≡ None → option_map plain heard ≡ Some said → ⊥
+none_heard heard said is e = none_said said (ap (option_map plain) (sym is) ∙ e)
+  where
+    none_said : (x : PlainSignal) → None ≡ Some x → ⊥
+    none_said x e = cc
 
 map_constant : (xs : List ℕ) → map {B = ℕ} (λ octet. 255) xs ≡ replicate (length xs) 255
 map_constant [] = refl

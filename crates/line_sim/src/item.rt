@@ -9,12 +9,9 @@ ghost use Rattle.line_sim.specs.Octets.{AreOctetsOf, Carries, TellsFinal, is_fin
 ghost use Rattle.signals.specs.Reading.{read_content};
 ghost use Rattle.signals.specs.Signals.{PlainSignal, plain};
 ghost use Rattle.signals.specs.Writing.{IsWritable};
-ghost use Rattle.stations.specs.AnswererStep.{StepsOrRefuses, answerer_step};
-ghost use Rattle.stations.specs.CallerStep.{caller_step};
-ghost use Rattle.stations.specs.Inputs.{hears, listens};
+ghost use Rattle.signals.specs.declared.fault.SignalFault.{SignalFault};
 ghost use Rattle.stations.specs.Lending.{plain_item};
-ghost use Rattle.stations.specs.CallerFields.{AnswersOrRefuses};
-ghost use Rattle.std.specs.Prelude.{◌≡◌, [], ◌∷◌, List, ℕ, drop, replicate, IfOk, IsTrue, ◌↔◌};
+ghost use Rattle.std.specs.Prelude.{◌≡◌, [], ◌∷◌, replicate, option_map, IfOk, IfSome, IfNone, IsTrue, ◌↔◌};
 
 use crate::event::{Fields, Kind, LineItem};
 use crate::sender::Sender;
@@ -67,34 +64,14 @@ fn training_octets(alloc: Global, count: u32) -> Result<Vec<u8>, AllocError>
     Ok(octets)
 }
 
-/// The caller hears the signal whose frame came last.
-fn caller_hears(deframer: &mut Deframer, caller: &mut Caller) -> Result<Turn, AllocError>
-    ensures rest { deframer.new ≡ record deframer.old { queue = drop 1 deframer.old.queue } }
-    ensures heard { (content : List ℕ) (signal : PlainSignal) → deframer.old.queue ≡ content ∷ [] → read_content content ≡ Ok signal →
-        AnswersOrRefuses caller.old caller.new result (λ t. caller_step t (hears signal)) }
+/// The signal that a frame's content says, where there is a frame and it says a signal.
+fn signal_in(content: Option<&[u8]>) -> Option<Signal<'_>>
+    ensures said { IfSome content.entry (λ octets. (signal : PlainSignal) → read_content octets.now ≡ Ok signal
+        → option_map plain result ≡ Some signal) }
+    ensures refused { IfSome content.entry (λ octets. (fault : SignalFault) → read_content octets.now ≡ Err fault → result ≡ None) }
+    ensures none { IfNone content.entry (result ≡ None) }
 {
-    let Some(content) = deframer.next() else {
-        return Ok(Turn::Silent);
-    };
-    let Ok(signal) = signals::read(content) else {
-        return Ok(Turn::Silent);
-    };
-    caller.step(CallerIn::Heard(signal))
-}
-
-/// The answerer hears the signal whose frame came last.
-fn answerer_hears(deframer: &mut Deframer, answerer: &mut Answerer) -> Result<Turn, AllocError>
-    ensures rest { deframer.new ≡ record deframer.old { queue = drop 1 deframer.old.queue } }
-    ensures heard { (content : List ℕ) (signal : PlainSignal) → deframer.old.queue ≡ content ∷ [] → read_content content ≡ Ok signal →
-        StepsOrRefuses answerer.old answerer.new result (answerer_step answerer.old (listens signal)) }
-{
-    let Some(content) = deframer.next() else {
-        return Ok(Turn::Silent);
-    };
-    let Ok(signal) = signals::read(content) else {
-        return Ok(Turn::Silent);
-    };
-    answerer.step(AnswererIn::Heard(signal))
+    signals::read(content?).ok()
 }
 
 /// An item under way, of the station that sends it: the octets of a frame or of a training check.
@@ -204,7 +181,10 @@ impl<S: Sender> InTransit<S> {
             return Ok(Turn::Silent);
         }
         deframer.feed(&self.octets)?;
-        caller_hears(deframer, caller)
+        let Some(signal) = signal_in(deframer.next()) else {
+            return Ok(Turn::Silent);
+        };
+        caller.step(CallerIn::Heard(signal))
     }
 
     /// Comes to the answerer. Errs where memory is refused: the answerer has not heard it.
@@ -224,7 +204,10 @@ impl<S: Sender> InTransit<S> {
             return answerer.step(AnswererIn::Training(&self.octets));
         }
         deframer.feed(&self.octets)?;
-        answerer_hears(deframer, answerer)
+        let Some(signal) = signal_in(deframer.next()) else {
+            return Ok(Turn::Silent);
+        };
+        answerer.step(AnswererIn::Heard(signal))
     }
 
     /// All octets of a training check become FF.
