@@ -1,17 +1,17 @@
 -- That the record of an event has no float.
 use Rattle.std.proofs.Common.{◌≡◌, ℕ, Bool, true, false, List, refl}
-use Rattle.std.specs.Prelude.{Option, None, Some, Ok}
+use Rattle.std.specs.Prelude.{Option, None, Some, Ok, option_map}
 use Rattle.serde_json.specs.Data.{Data, Members}
 use Rattle.serde_json.specs.Written.{has_float, members_have_float}
-use Rattle.signals.specs.Signals.{dis, dcs, pps, ppr}
+use Rattle.signals.specs.Signals.{PlainSignal}
 use Rattle.stations.specs.declared.turn.Turn.{Turn}
 use Rattle.stations.specs.declared.turn.Turn.TheVariants as turn
 use Rattle.line_sim.specs.declared.event.Entry.{Entry}
-use Rattle.line_sim.specs.declared.event.Fields.{Fields}
-use Rattle.line_sim.specs.declared.event.Fields.TheVariants as field
 use Rattle.line_sim.specs.declared.event.Kind.{Kind}
+use Rattle.engines.specs.Records.{signal_record}
 use Rattle.engines.proofs.RecordData.{says_whole}
 use Rattle.calls.specs.CallRecords.{entry_record, item_data, member_if, refused_data, says_data, sends_data}
+use Rattle.calls.specs.Explained.{signal_said}
 
 -- a value that need not be there has a float
 abbrev float_in : Option Data → Bool
@@ -26,12 +26,9 @@ refused_whole : (refused : Bool) → float_in (refused_data refused) ≡ false
 refused_whole true = refl
 refused_whole false = refl
 
-fields_whole : (fields : Fields) → float_in (says_data fields) ≡ false
-fields_whole field.Nothing = refl
-fields_whole (field.Dis caps) = says_whole (Ok (dis caps))
-fields_whole (field.Dcs params) = says_whole (Ok (dcs params))
-fields_whole (field.Pps ends page block last) = says_whole (Ok (pps ends page block last))
-fields_whole (field.Ppr map) = says_whole (Ok (ppr map))
+said_whole : (said : Option PlainSignal) → float_in (option_map signal_record said) ≡ false
+said_whole None = refl
+said_whole (Some signal) = says_whole (Ok signal)
 
 sends_whole : (sends : Turn) (fcds : ℕ) → float_in (sends_data sends fcds) ≡ false
 sends_whole turn.Silent fcds = refl
@@ -56,5 +53,5 @@ pub entry_whole : (number : ℕ) (entry : Entry) → has_float (entry_record num
 entry_whole number entry =
     member_whole _ (item_data entry.item) _ (item_whole entry.item)
     (member_whole _ (refused_data entry.refused) _ (refused_whole entry.refused)
-    (member_whole _ (says_data entry.fields) _ (fields_whole entry.fields)
+    (member_whole _ (says_data entry.fields) _ (said_whole (signal_said entry.fields))
     (member_whole _ (sends_data entry.turn entry.fcds) _ (sends_whole entry.turn entry.fcds) refl)))

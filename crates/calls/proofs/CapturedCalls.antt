@@ -61,7 +61,8 @@ one_taken start framing left content old now new before others more was waits ki
           ap (λ (l : List CapturedFrame). l ++ frames_of left.queue) kinds
           ∙ (append_assoc now (frames_of (content ∷ [])) (frames_of left.queue)
           ∙ (ap (λ (l : List CapturedFrame). now ++ l)
-          (sym (frames_both (content ∷ []) left.queue) ∙ ap frames_of (ap (λ (q : List (List ℕ)). content ∷ q) gone ∙ sym frames)) ∙ was.kinds));
+          (sym (frames_both (content ∷ []) left.queue) ∙ ap frames_of (ap (λ (q : List (List ℕ)). content ∷ q) gone ∙ sym frames))
+          ∙ was.kinds));
       count =
           let both : others_of (content ∷ left.queue) ≡ others_of (content ∷ []) + others_of left.queue =
           others_both (content ∷ []) left.queue in
@@ -78,7 +79,8 @@ one_taken start framing left content old now new before others more was waits ki
     front (x ∷ xs) e = let same : x ≡ content = cc in ap (λ c. c ∷ xs) same
 
 -- no content waits
-pub all_taken : (start framing : DeframerState) (old now : List CapturedFrame) (before others : ℕ) → TakenSo start framing old now before others
+pub all_taken : (start framing : DeframerState) (old now : List CapturedFrame) (before others : ℕ)
+    → TakenSo start framing old now before others
     → slice_get framing.queue 0 ≡ None
     → (now ≡ old ++ frames_of start.queue) × (others ≡ before + others_of start.queue)
     × (record framing { queue = drop 1 framing.queue } ≡ record start { queue = [] })
@@ -191,12 +193,14 @@ pub record DrawnSo (caller answerer commands answers : List CapturedFrame) (befo
   pub each : entries ≡ map drawn_of drawn
   pub left : (rest : List LineFrame) → AreInOrder before commands answers rest → AreInOrder Nothing caller answerer (drawn ++ rest)
 
-pub none_drawn : (caller answerer : List CapturedFrame) (entries : List Entry) → entries ≡ [] → DrawnSo caller answerer caller answerer Nothing entries
+pub none_drawn : (caller answerer : List CapturedFrame) (entries : List Entry) → entries ≡ []
+    → DrawnSo caller answerer caller answerer Nothing entries
 none_drawn caller answerer entries empty = record { drawn = []; each = empty; left = λ rest order. order }
 
 -- one frame more
 pub one_drawn : (caller answerer commands answers commands_left answers_left : List CapturedFrame) (before then : Before) (frame : LineFrame)
-    (entries new : List Entry) → DrawnSo caller answerer commands answers before entries → next_frame before commands answers ≡ Some frame
+    (entries new : List Entry) → DrawnSo caller answerer commands answers before entries
+    → next_frame before commands answers ≡ Some frame
     → new ≡ entries ++ drawn_of frame ∷ [] → then ≡ before_after frame → commands_left ≡ left_after Caller frame.from commands
     → answers_left ≡ left_after Answerer frame.from answers → DrawnSo caller answerer commands_left answers_left then new
 one_drawn caller answerer commands answers commands_left answers_left before then frame entries new was next one is of_c of_a = record {

@@ -1,16 +1,15 @@
 -- The lines of a call as JSON, one object a line, as the command that runs a call writes them for programs.
-use Rattle.std.specs.Prelude.{ℕ, ◌++◌, Bool, true, false, List, Option, Some, None, codes, length}
+use Rattle.std.specs.Prelude.{ℕ, ◌++◌, Bool, true, false, List, Option, Some, None, codes, length, option_map}
 use Rattle.serde_json.specs.Data.{Data, Members, boolean, member, no_members, object, put}
-use Rattle.signals.specs.Signals.{dis, dcs, pps, ppr}
 use Rattle.stations.specs.declared.turn.End.{End}
 use Rattle.stations.specs.declared.turn.Turn.{Turn}
 use Rattle.stations.specs.declared.turn.Turn.TheVariants.{Silent}
 use Rattle.line_sim.specs.declared.event.Entry.{Entry}
 use Rattle.line_sim.specs.declared.event.Fields.{Fields}
-use Rattle.line_sim.specs.declared.event.Fields.TheVariants as field
 use Rattle.line_sim.specs.declared.event.Kind.{Kind}
 use Rattle.line_sim.specs.declared.live.Ending.{Ending}
 use Rattle.engines.specs.Records.{count, record_line, signal_record, words}
+use Rattle.calls.specs.Explained.{signal_said}
 use Rattle.calls.specs.Scripts.{word_of}
 use Rattle.calls.specs.Transcripts.{end_text, item_text, turn_text}
 
@@ -21,11 +20,7 @@ item_data (Some kind) = Some (words (item_text (Some kind)))
 
 -- what a DIS, a DCS, a PPS or a PPR says, as the record of such a frame has it
 abbrev pub says_data : Fields → Option Data
-says_data field.Nothing = None
-says_data (field.Dis caps) = Some (signal_record (dis caps))
-says_data (field.Dcs params) = Some (signal_record (dcs params))
-says_data (field.Pps ends page block last) = Some (signal_record (pps ends page block last))
-says_data (field.Ppr map) = Some (signal_record (ppr map))
+says_data fields = option_map signal_record (signal_said fields)
 
 -- what a station sends, as a line has it, if it sends something
 abbrev pub sends_data : Turn → ℕ → Option Data

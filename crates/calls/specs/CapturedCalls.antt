@@ -57,10 +57,11 @@ is_answer (Command Rr) Ppr = true
 is_answer (Command Rr) Rnr = true
 is_answer before kind = false
 
--- a frame of a station
+-- a frame of the caller
 abbrev pub of_caller : CapturedFrame → LineFrame
 of_caller frame = record { from = Caller; frame = frame }
 
+-- a frame of the answerer
 abbrev pub of_answerer : CapturedFrame → LineFrame
 of_answerer frame = record { from = Answerer; frame = frame }
 

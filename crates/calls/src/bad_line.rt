@@ -169,7 +169,7 @@ fn tell_driven<T: CallWriter>(
     ensures unwritten { IfErr result (λ fault. IsOutside fault ⊎ (writer.new ≡ writer.old)) }
 {
     headline();
-    let _pages = document.pages();
+    let _pages = document.pages(); // for the proof: what holds of every document
     let wish = Wish {
         modems: options.modems,
         coding: options.coding,

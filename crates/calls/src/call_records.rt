@@ -8,11 +8,11 @@ ghost use Rattle.serde_json.specs.View.{members_view, view};
 ghost use Rattle.std.specs.Io.KnownBytes.{Appends};
 ghost use Rattle.std.specs.Prelude.{◌≡◌, IfErr, IfOk, OnOk, option_map};
 
+use crate::explained::signal_said;
 use crate::transcript::{ItemText, TurnText, end_word, event_word};
 use engines::{ToolFault, signal_record, write_record};
 use line_sim::{Ending, Entry, Fields, Kind};
 use serde_json::{Map, Value, json, put};
-use signals::Signal;
 use stations::{End, Turn};
 use std::alloc::{AllocError, Global};
 use std::io::Write;
@@ -33,27 +33,10 @@ fn item_value(alloc: Global, item: Option<Kind>) -> Result<Option<Value>, AllocE
 fn says_value(alloc: Global, fields: Fields) -> Result<Option<Value>, AllocError>
     ensures { IfOk result (λ value. option_map view value ≡ says_data fields) }
 {
-    let says = match fields {
-        Fields::Nothing => return Ok(None),
-        Fields::Dis(caps) => signal_record(alloc, &Signal::Dis(caps))?,
-        Fields::Dcs(params) => signal_record(alloc, &Signal::Dcs(params))?,
-        Fields::Pps {
-            ends,
-            page,
-            block,
-            last,
-        } => {
-            let signal = Signal::Pps {
-                ends,
-                page,
-                block,
-                last,
-            };
-            signal_record(alloc, &signal)?
-        }
-        Fields::Ppr(map) => signal_record(alloc, &Signal::Ppr(map))?,
-    };
-    Ok(Some(says))
+    match signal_said(fields) {
+        Some(signal) => Ok(Some(signal_record(alloc, &signal)?)),
+        None => Ok(None),
+    }
 }
 
 /// What a station sends, if it sends something.

@@ -233,8 +233,8 @@ fn left_after(side: Side, from: Side, frames: &[CapturedFrame]) -> &[CapturedFra
     }
 }
 
-/// What a picture is drawn from of two captures, by the frames of the caller and of the answerer: each of them once, as one that comes, and each answer after the first command that it can answer. Errs with 8 where there are 2^64 frames, and
-/// with 9.
+/// What a picture is drawn from of two captures, by the frames of the caller and of the answerer: each of them once, as one that comes,
+/// and each answer after the first command that it can answer. Errs with 8 where there are 2^64 frames, and with 9.
 pub fn ladder_of(
     alloc: Global,
     caller: &[CapturedFrame],

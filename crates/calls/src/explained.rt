@@ -1,9 +1,10 @@
 //! The lines of a call with what its signals say, in words.
 
-ghost use Rattle.calls.specs.Explained.{explained_line, fields_line};
+ghost use Rattle.calls.specs.Explained.{explained_line, fields_line, signal_said};
 ghost use Rattle.engines.specs.Faults.{IsOutside};
+ghost use Rattle.signals.specs.Signals.{plain};
 ghost use Rattle.std.specs.Io.KnownBytes.{Appends};
-ghost use Rattle.std.specs.Prelude.{◌≡◌, IfErr, OnOk};
+ghost use Rattle.std.specs.Prelude.{◌≡◌, IfErr, OnOk, option_map};
 
 use crate::transcript::write_entry;
 use engines::{ToolFault, write_signal};
@@ -11,30 +12,37 @@ use line_sim::{Entry, Fields};
 use signals::Signal;
 use std::io::Write;
 
-/// Writes the line of what an information field says, and none where there is none.
-fn write_fields<W: Write>(fields: Fields, writer: &mut W) -> Result<(), ToolFault>
-    ensures text { OnOk result (Appends (W.contents writer.old) (W.contents writer.new) (fields_line fields)) }
-    ensures fault { IfErr result IsOutside }
+/// The signal of an information field, if there is one.
+pub(crate) fn signal_said<'a>(fields: Fields) -> Option<Signal<'a>>
+    ensures { option_map plain result ≡ signal_said fields }
 {
     match fields {
-        Fields::Nothing => Ok(()),
-        Fields::Dis(caps) => write_signal(&Signal::Dis(caps), &[], writer),
-        Fields::Dcs(params) => write_signal(&Signal::Dcs(params), &[], writer),
+        Fields::Nothing => None,
+        Fields::Dis(caps) => Some(Signal::Dis(caps)),
+        Fields::Dcs(params) => Some(Signal::Dcs(params)),
         Fields::Pps {
             ends,
             page,
             block,
             last,
-        } => {
-            let signal = Signal::Pps {
-                ends,
-                page,
-                block,
-                last,
-            };
-            write_signal(&signal, &[], writer)
-        }
-        Fields::Ppr(map) => write_signal(&Signal::Ppr(map), &[], writer),
+        } => Some(Signal::Pps {
+            ends,
+            page,
+            block,
+            last,
+        }),
+        Fields::Ppr(map) => Some(Signal::Ppr(map)),
+    }
+}
+
+/// Writes the line of what an information field says, and none where there is none.
+fn write_fields<W: Write>(fields: Fields, writer: &mut W) -> Result<(), ToolFault>
+    ensures text { OnOk result (Appends (W.contents writer.old) (W.contents writer.new) (fields_line fields)) }
+    ensures fault { IfErr result IsOutside }
+{
+    match signal_said(fields) {
+        Some(signal) => write_signal(&signal, &[], writer),
+        None => Ok(()),
     }
 }
 

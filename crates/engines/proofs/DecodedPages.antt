@@ -1,6 +1,6 @@
 -- What is given of a page whose image is written into no octets.
-use Rattle.std.proofs.Common.{ℕ, ◌≡◌, List, [], Some, inr, length, refl, ◌∙◌}
-use Rattle.std.specs.Prelude.{◌≢◌}
+use Rattle.std.proofs.Common.{ℕ, ◌≡◌, List, [], None, Some, inl, inr, length, refl, ◌∙◌}
+use Rattle.std.specs.Prelude.{◌≢◌, Option}
 use Rattle.raster.specs.Packed.{bits_of}
 use Rattle.raster.specs.Pages.{PagePixels}
 use Rattle.run_tables.specs.declared.fault.CodeFault.{CodeFault}
@@ -13,8 +13,8 @@ use Rattle.page_code.specs.PageReaders.{IsPageRefused}
 use Rattle.page_code.specs.RowsSoFar.{AreWholeRows}
 use Rattle.page_code.specs.declared.page_reader.RefusedCode.{RefusedCode}
 use Rattle.raster.specs.declared.packed.Order.{Order}
-use Rattle.engines.specs.CodedPages.{DecodesPage, RefusesShow, SalvagesRows, WritesPage}
-use Rattle.engines.specs.Decodings.{GivesPage, GivesRepaired}
+use Rattle.engines.specs.CodedPages.{DecodesPage, RefusesCode, RefusesShow, SalvagesRows, WritesPage}
+use Rattle.engines.specs.Decodings.{GivesPage, GivesRepaired, IsKept, RefusesKept}
 use Rattle.engines.specs.Faults.{fault_of_code}
 use Rattle.engines.specs.declared.decoding.Broken.{Broken}
 use Rattle.engines.specs.declared.decoding.Broken.TheVariants.{Nothing, WholeRows, AllRows}
@@ -56,13 +56,23 @@ module _ (form : PageForm) (octets image : List ℕ) (page : PagePixels) (writes
 
 pub refused_code : (coding : Coding) (order : Order) (width : ℕ) (octets : List ℕ) (code : RefusedCode)
     → IsPageRefused coding width (bits_of order octets) code → (answer : ToolFault) → answer ≡ fault_of_code code.fault
-    → RefusesShow coding order width octets answer
-refused_code coding order width octets code is answer e = inr (record {
+    → RefusesCode coding order width octets answer
+refused_code coding order width octets code is answer e = record {
   code_fault = code.fault;
   refuses = is.refuses;
   other = is.memory;
   is = e ∙ at_its_bit code.fault.place code.fault.kind is.memory;
-})
+}
+
+pub refused_show : (kept : Option RefusedCode) (form : PageForm) (octets : List ℕ) (fault : ToolFault) → RefusesKept kept form octets fault
+    → RefusesShow form.coding form.order form.width octets fault
+refused_show None form octets fault refused = inl refused
+refused_show (Some code) form octets fault refused = inr refused.1
+
+pub refused_kept : (kept : Option RefusedCode) (form : PageForm) (octets : List ℕ) (fault : ToolFault) → RefusesKept kept form octets fault
+    → IsKept kept fault
+refused_kept None form octets fault refused = inl refused
+refused_kept (Some code) form octets fault refused = inr (code, refl, refused.0)
 
 -- ---- no lines of repaired rows are told of a page that is read to its end, nor of one whose rest is refused
 

@@ -1,7 +1,7 @@
 -- Where pages begin that come after others.
-use Rattle.std.proofs.Common.{ℕ, zero, suc, ◌≡◌, ◌+◌, ◌-◌, ◌*◌, ◌/◌, ◌%◌, ◌<◌, ◌≤◌, Bool, true, false, List, [], ◌∷◌, ◌++◌, length, drop}
+use Rattle.std.proofs.Common.{ℕ, suc, ◌≡◌, ◌+◌, ◌-◌, ◌*◌, ◌/◌, ◌%◌, ◌<◌, ◌≤◌, Bool, true, List, [], ◌∷◌, ◌++◌, length, drop}
 use Rattle.std.proofs.Common.{length-append, bit_and, w8, ◌^◌, Some, None, inl, inr, refl, ap, sym, ◌∙◌, subst, arith, append_assoc, drop-drop, get_or, set}
-use Rattle.std.specs.Prelude.{◌⊎◌, Option, slice_index, nat_eq}
+use Rattle.std.specs.Prelude.{◌⊎◌, nat_eq}
 use Rattle.std.specs.Int.{bit_at, bit_not, div_ceil}
 use Rattle.std.specs.List.{AllByRecursion}
 use Rattle.std.proofs.lemmas.Bool.{cases_eq}
@@ -14,7 +14,7 @@ use Rattle.page_code.specs.declared.coding.Coding.TheVariants.{OneDim, T6}
 use Rattle.page_code.specs.OneDimension.Fronts.{zeros_before}
 use Rattle.page_code.specs.OneDimension.Pages.{eol_word, eol_words}
 use Rattle.page_code.proofs.OneDimension.ZerosBefore.{length-eol, none_zeros, zeros_split}
-use Rattle.engines.specs.LaterPages.{AfterPage, AreAfter, BeginsByEol, IsFrom, IsLater, IsLaterIn, IsLaterOneDim, NothingLeft}
+use Rattle.engines.specs.LaterPages.{AfterPage, AreAfter, IsFrom, IsLater, IsLaterIn, IsLaterOneDim, NothingLeft}
 use Rattle.engines.specs.declared.options.PageForm.{PageForm}
 
 -- EOLs were read from the bit `used` on up to a place, and the last of them begins without its fill at the bit `start`

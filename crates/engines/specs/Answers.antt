@@ -24,10 +24,11 @@ after_line count = codes "octets after the page " ++ (decimal count ++ codes "\n
 abbrev pub rows_line : ℕ → List ℕ
 rows_line rows = codes "rows " ++ (decimal rows ++ codes "\n")
 
--- a page's rows and the bits of its code, and the octets after it where there are any, as lines or as records
+-- a page's rows and the bits of its code as a line, or as a record
 abbrev pub page_text : Bool → ℕ → ℕ → List ℕ
 page_text records rows bits = cond records (record_line (page_record rows bits)) (page_line rows bits)
 
+-- the octets after a page, where there are any, as a line, or as a record
 abbrev pub after_text : Bool → ℕ → List ℕ
 after_text records count = cond (nat_eq count 0) [] (cond records (record_line (after_record count)) (after_line count))
 
@@ -55,7 +56,8 @@ end_text verbose records rows bits after has_end =
 abbrev pub TellsPage : PageForm → DecodeOptions → List ℕ → ReadTo → ℕ → List ℕ → List ℕ → Result Bool ToolFault → Type 0
 TellsPage form options octets (End bits) rows lines told end =
     (has_end : Bool) × (IsTrue has_end ↔ HasItsEnd form.coding form.order octets bits)
-    × (told ≡ end_text options.verbose options.records rows bits (octets_after octets bits) has_end) × (end ≡ Ok (has_end || not options.whole))
+    × (told ≡ end_text options.verbose options.records rows bits (octets_after octets bits) has_end)
+    × (end ≡ Ok (has_end || not options.whole))
 TellsPage form options octets (Lines count) rows lines told end =
     (told ≡ as_told options.records lines ++ cond options.verbose (rows_text options.records rows) []) × (end ≡ Ok true)
 TellsPage form options octets (NoEnd bit) rows lines told end =

@@ -1,15 +1,16 @@
 -- What each way of decoding gives of a page.
-use Rattle.std.specs.Prelude.{ℕ, ◌≡◌, Bool, true, false, List, [], Some}
+use Rattle.std.specs.Prelude.{ℕ, ◌≡◌, ◌⊎◌, Bool, true, false, List, [], Option, Some, None}
 use Rattle.page_code.specs.declared.Coding.{Coding}
 use Rattle.page_code.specs.declared.Coding.TheVariants.{OneDim, T6}
-use Rattle.engines.specs.CodedPages.{DecodesPage, RefusesShow, SalvagesRows}
-use Rattle.engines.specs.Faults.{IsOutside}
+use Rattle.engines.specs.CodedPages.{DecodesPage, RefusesCode, RefusesShow, SalvagesRows}
+use Rattle.page_code.specs.declared.page_reader.RefusedCode.{RefusedCode}
+use Rattle.engines.specs.Faults.{IsOutside, fault_of_code}
 use Rattle.engines.specs.Repairs.{RefusesRepair, RepairsPage}
 use Rattle.engines.specs.RepairsT6.{RepairsT6}
 use Rattle.engines.specs.declared.decoding.Broken.{Broken}
 use Rattle.engines.specs.declared.decoding.Broken.TheVariants.{Nothing, WholeRows, AllRows}
 use Rattle.engines.specs.declared.decoding.ReadTo.{ReadTo}
-use Rattle.engines.specs.declared.decoding.ReadTo.TheVariants.{End, Fault, Lines}
+use Rattle.engines.specs.declared.decoding.ReadTo.TheVariants.{End, Fault, Lines, NoEnd}
 use Rattle.engines.specs.declared.fault.ToolFault.{ToolFault}
 use Rattle.engines.specs.declared.options.PageForm.{PageForm}
 
@@ -49,3 +50,23 @@ abbrev pub RefusesDecoding : Broken → PageForm → List ℕ → ToolFault → 
 RefusesDecoding Nothing form octets fault = RefusesShow form.coding form.order form.width octets fault
 RefusesDecoding WholeRows form octets fault = IsOutside fault
 RefusesDecoding AllRows form octets fault = RefusesRepaired form.coding form octets fault
+
+-- the fault is that of the refusal that is kept
+abbrev pub IsOfKept : Option RefusedCode → ToolFault → Type 0
+IsOfKept kept fault = (code : RefusedCode) × (kept ≡ Some code) × (fault ≡ fault_of_code code.fault)
+
+-- where a page is refused, the refusal is kept; memory, reading and writing may fail too
+abbrev pub IsKept : Option RefusedCode → ToolFault → Type 0
+IsKept kept fault = IsOutside fault ⊎ IsOfKept kept fault
+
+-- why octets begin with no page's code: memory is refused, and nothing is kept; or it is the refusal that is kept
+abbrev pub RefusesKept : Option RefusedCode → PageForm → List ℕ → ToolFault → Type 0
+RefusesKept None form octets fault = IsOutside fault
+RefusesKept (Some code) form octets fault = (fault ≡ fault_of_code code.fault) × RefusesCode form.coding form.order form.width octets fault
+
+-- what is kept of a page that is read so far: the refusal of its rest, and of a page without one nothing
+abbrev pub KeepsReadTo : Option RefusedCode → ReadTo → Type 0
+KeepsReadTo kept (Fault fault) = IsOfKept kept fault
+KeepsReadTo kept (End bits) = kept ≡ None
+KeepsReadTo kept (Lines count) = kept ≡ None
+KeepsReadTo kept (NoEnd bits) = kept ≡ None

@@ -85,6 +85,7 @@ ReadsTo octets form rows end = MatchResult end
 abbrev pub IsTried : List ℕ → Tried → Type 0
 IsTried octets tried = ReadsTo octets tried.form tried.rows tried.end
 
+-- the way that was tried
 abbrev pub form_of : Tried → PageForm
 form_of tried = tried.form
 
@@ -95,10 +96,12 @@ pub record AreTried (octets : List ℕ) (tried : List Tried) : Type 0 where
 
 -- ---- what is written
 
+-- a code in words
 abbrev pub coding_name : Coding → List ℕ
 coding_name OneDim = codes "T.4"
 coding_name T6 = codes "T.6"
 
+-- an order of bits in words
 abbrev pub order_name : Order → List ℕ
 order_name MsbFirst = codes "most significant bit first"
 order_name LsbFirst = codes "least significant bit first"

@@ -11,10 +11,12 @@ use Rattle.raster.specs.Pages.{PagePixels}
 use Rattle.page_code.specs.declared.Coding.{Coding}
 use Rattle.page_code.specs.declared.Coding.TheVariants.{OneDim, T6}
 use Rattle.page_code.specs.Codings.{ReadsIn}
+use Rattle.page_code.specs.declared.page_reader.RefusedCode.{RefusedCode}
 use Rattle.page_code.specs.OneDimension.Fronts.{CodeBegins}
 use Rattle.page_code.specs.OneDimension.Pages.{AreZeros, eol_word, eol_words}
 use Rattle.engines.specs.Answers.{AnswersDecode}
 use Rattle.engines.specs.DecodeRecords.{as_told, begins_record}
+use Rattle.engines.specs.Decodings.{IsKept, IsOfKept}
 use Rattle.engines.specs.Records.{record_line}
 use Rattle.engines.specs.CodedPages.{RefusesCode, WritesPage}
 use Rattle.engines.specs.declared.fault.ToolFault.{ToolFault}
@@ -90,6 +92,17 @@ Reaches form pages octets later (End count) = (1 ≤ count) × (count ≤ pages)
     × AfterPage false form later later
 Reaches form pages octets later (Broken number fault) = (1 ≤ number) × (number ≤ pages) × AreAfter form octets (number - 1) later
     × RefusesCode form.coding form.order form.width later fault
+
+-- what is kept of what comes after pages: the refusal of one that can't be read, and else nothing
+abbrev pub KeepsReached : Option RefusedCode → Reached → Type 0
+KeepsReached kept (Broken number fault) = IsOfKept kept fault
+KeepsReached kept (End count) = kept ≡ None
+KeepsReached kept Page = kept ≡ None
+
+-- the fault of a page, or of one before it, is that of the refusal that is kept; but where the file has no such page, where memory is
+-- refused, and where reading or writing fails
+abbrev pub KeepsPage : Option RefusedCode → ToolFault → Type 0
+KeepsPage kept fault = (fault ≡ No 28) ⊎ IsKept kept fault
 
 -- the line of the octet at which a page begins
 abbrev pub begins_line : ℕ → ℕ → List ℕ

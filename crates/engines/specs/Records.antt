@@ -17,10 +17,11 @@ use Rattle.signals.specs.declared.signal.PageEnd.{PageEnd}
 use Rattle.engines.specs.SignalWords.{is_in_map}
 use Rattle.engines.specs.Texts.{coding_text, lines_text, modems_text, page_end_text, speed_text}
 
--- a text, and a number
+-- a text
 abbrev pub words : List ℕ → Data
 words text = string text
 
+-- a number from 0 on
 abbrev pub count : ℕ → Data
 count n = number (unsigned n)
 

@@ -1,14 +1,14 @@
 //! What `decode` gives of octets in memory: a page, what is told of it, and whether all is there that is asked for.
 ghost use Rattle.engines.specs.Answers.{AnswersDecode, after_text, end_text, no_rtc_line, octets_after, page_text, rows_text};
 ghost use Rattle.engines.specs.CodedPages.{WritesPage};
-ghost use Rattle.engines.specs.Decodings.{RefusesDecoding, broken_asked};
+ghost use Rattle.engines.specs.Decodings.{IsKept, RefusesDecoding, broken_asked};
 ghost use Rattle.engines.specs.Faults.{IsOutside};
 ghost use Rattle.engines.specs.PageEnds.{HasItsEnd};
 ghost use Rattle.page_code.specs.PageReaders.{IsPageRefused};
 ghost use Rattle.raster.specs.Packed.{bits_of};
 ghost use Rattle.raster.specs.Pixels.{IsWidth};
 ghost use Rattle.std.specs.Io.KnownBytes.{Appends};
-ghost use Rattle.std.specs.Prelude.{◌++◌, ◌↔◌, [], ℕ, List, Some, IfErr, IfOk, IfSome, IsTrue, OnOk, cond};
+ghost use Rattle.std.specs.Prelude.{◌≡◌, ◌++◌, ◌↔◌, [], ℕ, List, Some, None, true, false, IfErr, IfOk, IfSome, IsTrue, OnOk, cond};
 
 use crate::decode_records::{told_as, write_after, write_page, write_rows};
 use crate::decoding::{Broken, Decoded, ReadTo, decode_page};
@@ -164,6 +164,9 @@ pub fn answer_decode(
     ensures answered { IfOk result (λ answer. (image : List ℕ) → WritesPage answer.page (Some []) (Some image)
         → AnswersDecode form options octets.now image answer.told.items answer.end) }
     ensures refused { IfErr result (RefusesDecoding (broken_asked options.salvage options.repair) form octets.now) }
+    ensures kept { options.repair ≡ false → IfErr result (IsKept kept.new) }
+    ensures kept_rows { options.repair ≡ false → IfOk result (λ answer. IfErr answer.end (IsKept kept.new)) }
+    ensures kept_none { options.repair ≡ true → kept.new ≡ None }
 {
     let broken = Broken::asked(options.salvage, options.repair);
     let Decoded {

@@ -1,19 +1,24 @@
-//! An image that is read, and its code, which is written row by row.
+//! An image that is read, and its code, which is written row by row; and a code that is read.
 
 ghost use Rattle.engines.specs.CodedPages.{AppendsCode, RefusesImage};
+ghost use Rattle.engines.specs.Decodings.{RefusesKept};
 ghost use Rattle.engines.specs.Faults.{IsOutside};
+ghost use Rattle.page_code.specs.PageReaders.{IsPageRead, IsPageRefused};
 ghost use Rattle.page_code.specs.RowCoders.{CodesRows, EndsPage, IsSameCoder};
+ghost use Rattle.raster.specs.Packed.{bits_of};
 ghost use Rattle.raster.specs.Pages.{max_rows};
 ghost use Rattle.raster.specs.Pbm.{AreImages};
+ghost use Rattle.raster.specs.Pixels.{IsWidth};
 ghost use Rattle.raster.specs.declared.row.Color.{Color};
 ghost use Rattle.std.specs.Io.KnownBytes.{Appends};
-ghost use Rattle.std.specs.Prelude.{◌≡◌, ◌<◌, ◌++◌, ◌∷◌, [], List, ℕ, false, IfErr, IfOk, IfSome, OnOk, length};
+ghost use Rattle.std.specs.Prelude.{◌≡◌, ◌<◌, ◌++◌, ◌∷◌, [], List, ℕ, None, false, IfErr, IfOk, IfSome, OnOk, length};
 
-use crate::fault::ToolFault;
-use page_code::{Coding, RowCoder};
+use crate::fault::{NO_MEMORY, ToolFault};
+use crate::options::PageForm;
+use page_code::{Coding, PageRead, RefusedCode, RowCoder};
 use raster::{Page, Row, read_first_pbm};
 use run_tables::Order;
-use std::alloc::Global;
+use std::alloc::{AllocError, Global};
 use std::io::{Read, Write};
 
 /// The fault of an input of more than one image.
@@ -34,6 +39,37 @@ pub fn read_image<R: Read>(alloc: Global, reader: &mut R) -> Result<Page, ToolFa
         return Err(SEVERAL_PAGES);
     }
     Ok(page)
+}
+
+/// The page whose code octets begin with, and how many bits the code has. Errs at the bit where they are refused, and how far they were
+/// read is kept in `kept` then, where else nothing is; and with 9.
+pub(crate) fn read_code(
+    alloc: Global,
+    octets: &[u8],
+    form: PageForm,
+    kept: &mut Option<RefusedCode>,
+) -> Result<(Page, u128), ToolFault>
+    requires { IsWidth form.width }
+    ensures read { IfOk result (λ read. IsPageRead form.coding form.width form.fine (bits_of form.order octets.now) read.0 read.1) }
+    ensures none { IfOk result (λ read. kept.new ≡ None) }
+    ensures known { IfSome kept.new (IsPageRefused form.coding form.width (bits_of form.order octets.now)) }
+    ensures refused { IfErr result (RefusesKept kept.new form octets.now) }
+{
+    let PageForm {
+        coding,
+        order,
+        width,
+        fine,
+    } = form;
+    *kept = None;
+    match coding.page(alloc, octets, order, width, fine) {
+        Ok(PageRead::Page(page, bits)) => Ok((page, bits)),
+        Ok(PageRead::Refused(code)) => {
+            *kept = Some(code);
+            Err(ToolFault::from(code.fault))
+        }
+        Err(AllocError) => Err(NO_MEMORY),
+    }
 }
 
 /// Writes the code of a page of one row or more, its last octet filled with 0 bits. Rows are coded one after the other, and

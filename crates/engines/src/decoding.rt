@@ -1,19 +1,20 @@
 //! The way of decoding a page that is asked for, and what it gives.
-ghost use Rattle.engines.specs.CodedPages.{RefusesShow, WritesPage};
-ghost use Rattle.engines.specs.Decodings.{GivesPage, RefusesDecoding, broken_asked};
-ghost use Rattle.engines.specs.Faults.{IsOutside};
+ghost use Rattle.engines.specs.CodedPages.{WritesPage};
+ghost use Rattle.engines.specs.Decodings.{GivesPage, IsKept, KeepsReadTo, RefusesDecoding, RefusesKept, broken_asked};
+ghost use Rattle.engines.specs.Faults.{IsOutside, fault_of_code};
 ghost use Rattle.page_code.specs.PageReaders.{IsPageRefused};
 ghost use Rattle.raster.specs.Packed.{bits_of};
 ghost use Rattle.raster.specs.Pixels.{IsWidth};
-ghost use Rattle.std.specs.Prelude.{◌≡◌, [], ℕ, List, Some, IfErr, IfOk, IfSome, length};
+ghost use Rattle.std.specs.Prelude.{◌≡◌, ◌≢◌, [], ℕ, List, Some, None, IfErr, IfOk, IfSome, length};
 
-use crate::fault::{NO_MEMORY, ToolFault};
+use crate::coded::read_code;
+use crate::fault::ToolFault;
 use crate::options::PageForm;
 use crate::repair::repair_lines;
 use crate::repair_t6::repair_t6;
-use page_code::{Coding, PageRead, RefusedCode};
+use page_code::{Coding, RefusedCode};
 use raster::Page;
-use std::alloc::{AllocError, Global};
+use std::alloc::Global;
 
 /// What is given of a page that can't be read.
 #[derive(Clone, Copy, Debug, PartialEq, Eq)]
@@ -77,31 +78,17 @@ fn decode_whole(
     ensures known { IfSome kept.new (IsPageRefused form.coding form.width (bits_of form.order octets.now)) }
     ensures given { IfOk result (λ given. (image : List ℕ) → WritesPage given.page (Some []) (Some image)
         → GivesPage Broken.Nothing form octets.now given.read_to (length given.page.rows) image given.lines.items) }
-    ensures refused { IfErr result (RefusesShow form.coding form.order form.width octets.now) }
+    ensures refused { IfErr result (RefusesKept kept.new form octets.now) }
+    ensures kept_rows { IfOk result (λ given. KeepsReadTo kept.new given.read_to) }
 {
-    let PageForm {
-        coding,
-        order,
-        width,
-        fine,
-    } = form;
-    *kept = None;
+    let (page, bits) = read_code(alloc, octets, form, kept)?;
     let lines = Vec::new(alloc);
-    match coding.page(alloc, octets, order, width, fine) {
-        Ok(PageRead::Page(page, bits)) => {
-            let read_to = ReadTo::End(bits);
-            Ok(Decoded {
-                page,
-                lines,
-                read_to,
-            })
-        }
-        Ok(PageRead::Refused(code)) => {
-            *kept = Some(code);
-            Err(ToolFault::from(code.fault))
-        }
-        Err(AllocError) => Err(NO_MEMORY),
-    }
+    let read_to = ReadTo::End(bits);
+    Ok(Decoded {
+        page,
+        lines,
+        read_to,
+    })
 }
 
 /// The whole rows of octets that are refused so.
@@ -115,6 +102,7 @@ fn salvage_refused(
     requires rest { IsPageRefused form.coding form.width (bits_of form.order octets.now) code }
     ensures given { IfOk result (λ given. (image : List ℕ) → WritesPage given.page (Some []) (Some image)
         → GivesPage Broken.WholeRows form octets.now given.read_to (length given.page.rows) image given.lines.items) }
+    ensures read_to { IfOk result (λ given. given.read_to ≡ ReadTo.Fault (fault_of_code code.fault)) }
     ensures refused { IfErr result IsOutside }
 {
     let PageForm {
@@ -147,17 +135,11 @@ fn salvage_rows(
     ensures given { IfOk result (λ given. (image : List ℕ) → WritesPage given.page (Some []) (Some image)
         → GivesPage Broken.WholeRows form octets.now given.read_to (length given.page.rows) image given.lines.items) }
     ensures refused { IfErr result IsOutside }
+    ensures kept_rows { IfOk result (λ given. KeepsReadTo kept.new given.read_to) }
 {
-    let PageForm {
-        coding,
-        order,
-        width,
-        fine,
-    } = form;
-    *kept = None;
-    let lines = Vec::new(alloc);
-    match coding.page(alloc, octets, order, width, fine) {
-        Ok(PageRead::Page(page, bits)) => {
+    match read_code(alloc, octets, form, kept) {
+        Ok((page, bits)) => {
+            let lines = Vec::new(alloc);
             let read_to = ReadTo::End(bits);
             Ok(Decoded {
                 page,
@@ -165,11 +147,10 @@ fn salvage_rows(
                 read_to,
             })
         }
-        Ok(PageRead::Refused(code)) => {
-            *kept = Some(code);
-            salvage_refused(alloc, octets, form, code)
-        }
-        Err(AllocError) => Err(NO_MEMORY),
+        Err(fault) => match *kept {
+            Some(code) => salvage_refused(alloc, octets, form, code),
+            None => Err(fault),
+        },
     }
 }
 
@@ -177,6 +158,7 @@ fn salvage_rows(
 /// asked for: to the page whose image `decode_engine`, `salvage_engine` or `repair_engine` writes, or what `repair_t6` gives. Errs where
 /// no page is given: at the bit where they are refused, and with 9 where memory is. How far they were read is kept in `kept`, where
 /// they are refused and not repaired, and none else.
+#[tactic(auto, using(crate::proofs::DecodedPages::refused_show, crate::proofs::DecodedPages::refused_kept))]
 pub fn decode_page(
     alloc: Global,
     octets: &[u8],
@@ -189,6 +171,9 @@ pub fn decode_page(
     ensures given { IfOk result (λ given. (image : List ℕ) → WritesPage given.page (Some []) (Some image)
         → GivesPage broken form octets.now given.read_to (length given.page.rows) image given.lines.items) }
     ensures refused { IfErr result (RefusesDecoding broken form octets.now) }
+    ensures kept { broken ≢ Broken.AllRows → IfErr result (IsKept kept.new) }
+    ensures kept_rows { broken ≢ Broken.AllRows → IfOk result (λ given. KeepsReadTo kept.new given.read_to) }
+    ensures kept_none { broken ≡ Broken.AllRows → kept.new ≡ None }
 {
     *kept = None;
     match broken {

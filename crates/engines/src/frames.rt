@@ -200,9 +200,10 @@ pub(crate) fn has_no_frame(octets: u64, number: u64) -> bool
 
 /// Reads bits, and writes a line for each good frame in them, with its number from 1, its content in hex and what it says, and then
 /// a line with the counts of all gaps. At most `how.most` octets of a content are shown, and a line has `..` after them where it has
-/// more; the line of a DIS, a DCS, a PPS or a PPR is followed by one that says it in words, or each line is a record, as `how.form` says. Each line is written,
-/// and the writer flushed, as soon as its frame was read. Answers whether the other order of bits is worth a try: more than 64 octets
-/// had no good frame. Errs with 8 where the reader or the writer fails, or the reader doesn't end in 2^64 reads, and with 9.
+/// more; the line of a DIS, a DCS, a PPS or a PPR is followed by one that says it in words, or each line is a record, as `how.form` says.
+/// Each line is written, and the writer flushed, as soon as its frame was read. Answers whether the other order of bits is worth a try:
+/// more than 64 octets had no good frame. Errs with 8 where the reader or the writer fails, or the reader doesn't end in 2^64 reads, and
+/// with 9.
 pub fn list_engine<R: Read, W: Write>(
     alloc: Global,
     reader: &mut R,

@@ -10,11 +10,12 @@ ghost use Rattle.std.specs.Io.KnownBytes.{Appends};
 ghost use Rattle.std.specs.List.{list_any};
 ghost use Rattle.std.specs.Prelude.{◌≡◌, ◌++◌, All, IfErr, IfOk, OnOk, cond, is_some, map, option_map};
 
+use crate::coded::read_code;
 use crate::fault::{NO_MEMORY, ToolFault};
 use crate::fault_kind::FaultKind;
 use crate::options::PageForm;
 use page_code::Coding;
-use run_tables::{CodeFaultKind, Order};
+use run_tables::Order;
 use std::alloc::Global;
 use std::io::Write;
 
@@ -94,31 +95,29 @@ pub fn format_of(octets: &[u8]) -> Option<&'static str>
 }
 
 /// Reads octets in one way. Errs with 9 where memory is refused.
+#[tactic(auto, using(crate::proofs::RefusedRows::whole_rows))]
 fn try_way(alloc: Global, octets: &[u8], form: PageForm) -> Result<Tried, ToolFault>
     requires { IsWidth form.width }
     ensures tried { IfOk result (IsTried octets.now) }
     ensures form { IfOk result (λ tried. tried.form ≡ form) }
     ensures refused { IfErr result IsOutside }
 {
-    let PageForm {
-        coding,
-        order,
-        width,
-        fine,
-    } = form;
-    let fault = match coding.decode(alloc, octets, order, width, fine) {
+    let mut kept = None;
+    match read_code(alloc, octets, form, &mut kept) {
         Ok((page, bits)) => {
             let rows = page.rows().len();
             let end = Ok(bits);
-            return Ok(Tried { form, rows, end });
+            Ok(Tried { form, rows, end })
         }
-        Err(fault) if fault.kind == CodeFaultKind::NoMemory => return Err(NO_MEMORY),
-        Err(fault) => ToolFault::from(fault),
-    };
-    let page = coding.salvage(alloc, octets, order, width, fine)?;
-    let rows = page.rows().len();
-    let end = Err(fault);
-    Ok(Tried { form, rows, end })
+        Err(fault) => match kept {
+            Some(code) => {
+                let rows = code.rows as usize;
+                let end = Err(fault);
+                Ok(Tried { form, rows, end })
+            }
+            None => Err(fault),
+        },
+    }
 }
 
 /// Reads octets in one code, one order of bits and each of these widths, and appends how far that is. Errs with 9 where memory is refused.

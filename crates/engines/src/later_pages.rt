@@ -1,28 +1,26 @@
 //! Pages of a file one after another, and which of them is decoded.
 
-ghost use Rattle.engines.specs.Decodings.{RefusesDecoding, broken_asked};
+ghost use Rattle.engines.specs.Decodings.{IsKept, RefusesDecoding, RefusesKept, broken_asked};
 ghost use Rattle.engines.specs.Faults.{IsOutside};
 ghost use Rattle.engines.specs.LaterPages.{AfterPage, AnswersPage, AnswersReached, AreAfter, IsFrom, IsLater, IsLaterOneDim, IsLaterT6, Reaches};
-ghost use Rattle.engines.specs.LaterPages.{begins_text, broken_line, pages_line};
-ghost use Rattle.page_code.specs.Codings.{IsLongestIn, ReadsIn};
+ghost use Rattle.engines.specs.LaterPages.{KeepsPage, KeepsReached, begins_text, broken_line, pages_line};
 ghost use Rattle.page_code.specs.OneDimension.Fronts.{zeros_before};
-ghost use Rattle.page_code.specs.PageCodes.{RefusesPage as PageFault};
 ghost use Rattle.page_code.specs.PageReaders.{IsPageRefused};
 ghost use Rattle.raster.specs.Packed.{bits_of, place_in};
 ghost use Rattle.raster.specs.Pixels.{IsWidth};
 ghost use Rattle.std.specs.Int.{bit_at};
 ghost use Rattle.std.specs.Io.KnownBytes.{Appends};
-ghost use Rattle.std.specs.Prelude.{◌≡◌, ◌≢◌, ◌≤◌, ◌<◌, ◌+◌, ◌-◌, ◌*◌, ◌⊎◌, ℕ};
+ghost use Rattle.std.specs.Prelude.{false, None, ◌≡◌, ◌≤◌, ◌<◌, ◌+◌, ◌-◌, ◌*◌, ◌⊎◌, ℕ};
 ghost use Rattle.std.specs.Prelude.{IfErr, IfOk, IfSome, OnErr, OnOk, drop, length};
 
 use crate::answer::{DecodeAnswer, answer_decode};
+use crate::coded::read_code;
 use crate::decode_records::{told_as, write_begins};
-use crate::fault::{NO_MEMORY, ToolFault};
+use crate::fault::ToolFault;
 use crate::options::{DecodeOptions, PageForm};
 use page_code::{Coding, RefusedCode};
 use raster::Page;
 use raster::packed::{Order, bit_of};
-use run_tables::{CodeFault, CodeFaultKind};
 use std::alloc::Global;
 use std::io::Write;
 
@@ -139,17 +137,21 @@ fn cut_before(octets: &mut Vec<u8>, order: Order, start: u128)
 }
 
 /// Takes away the first page of octets, where another one follows it: they are those of that page then. Answers whether one does.
-/// Errs where the page can't be read, and with 9; then, and where none follows, the octets stay.
-fn skip_page(alloc: Global, octets: &mut Vec<u8>, form: PageForm) -> Result<bool, CodeFault>
+/// Errs where the page can't be read, and how far it was is kept then; and with 9. Then, and where none follows, the octets stay.
+fn skip_page(
+    alloc: Global,
+    octets: &mut Vec<u8>,
+    form: PageForm,
+    kept: &mut Option<RefusedCode>,
+) -> Result<bool, ToolFault>
     requires { IsWidth form.width }
     ensures skipped { IfOk result (λ more. AfterPage more form octets.old.items octets.new.items) }
-    ensures refused { IfErr result (λ fault. fault.kind ≢ CodeFaultKind.NoMemory
-        → PageFault (ReadsIn form.coding) (IsLongestIn form.coding) form.width (bits_of form.order octets.old.items) fault) }
+    ensures none { IfOk result (λ more. kept.new ≡ None) }
+    ensures known { IfSome kept.new (IsPageRefused form.coding form.width (bits_of form.order octets.old.items)) }
+    ensures refused { IfErr result (RefusesKept kept.new form octets.old.items) }
     ensures stays { OnErr result (octets.new.items ≡ octets.old.items) }
 {
-    let (_page, used) = form
-        .coding
-        .decode(alloc, octets, form.order, form.width, form.fine)?;
+    let (_page, used) = read_code(alloc, octets, form, kept)?;
     let Some(start) = later_in(octets, form, used) else {
         return Ok(false);
     };
@@ -158,24 +160,32 @@ fn skip_page(alloc: Global, octets: &mut Vec<u8>, form: PageForm) -> Result<bool
 }
 
 /// Takes away pages at the beginning of octets, of a width of 1 to 2,432 pixels, and answers what comes after them. The octets
-/// are then those from there on; where a page before that can't be read, or is the last one, from its beginning on. Errs with 9 where
-/// memory is refused.
+/// are then those from there on; where a page before that can't be read, or is the last one, from its beginning on. How far a page
+/// was read that can't be is kept in `kept`, and else nothing. Errs with 9 where memory is refused.
 pub fn skip_pages(
     alloc: Global,
     octets: &mut Vec<u8>,
     form: PageForm,
     pages: u32,
+    kept: &mut Option<RefusedCode>,
 ) -> Result<Reached, ToolFault>
     requires { IsWidth form.width }
     ensures reached { IfOk result (λ reached. Reaches form pages octets.old.items octets.new.items reached) }
+    ensures known { IfSome kept.new (IsPageRefused form.coding form.width (bits_of form.order octets.new.items)) }
+    ensures kept { IfOk result (KeepsReached kept.new) }
     ensures refused { IfErr result IsOutside }
 {
+    *kept = None;
     for before in 0..pages {
-        match skip_page(alloc, octets, form) {
+        match skip_page(alloc, octets, form, kept) {
             Ok(true) => {}
             Ok(false) => return Ok(Reached::End(before + 1)),
-            Err(fault) if fault.kind == CodeFaultKind::NoMemory => return Err(NO_MEMORY),
-            Err(fault) => return Ok(Reached::Broken(before + 1, ToolFault::from(fault))),
+            Err(fault) => {
+                return match *kept {
+                    Some(_) => Ok(Reached::Broken(before + 1, fault)),
+                    None => Err(fault),
+                };
+            }
         }
     }
     Ok(Reached::Page)
@@ -240,6 +250,8 @@ fn answer_reached(
         AnswersReached form options at.0 at.1 octets.now answer.page answer.told.items answer.end) }
     ensures refused { IfErr result (λ fault. IsOutside fault
         ⊎ RefusesDecoding (broken_asked options.salvage options.repair) form octets.now fault) }
+    ensures kept { options.repair ≡ false → IfErr result (IsKept kept.new) }
+    ensures kept_rows { options.repair ≡ false → IfOk result (λ answer. IfErr answer.end (IsKept kept.new)) }
 {
     let mut begun = Vec::new(alloc);
     let (page, octet) = at;
@@ -261,7 +273,7 @@ fn answer_reached(
 /// Decodes the page of this number, counted from 1, of octets with pages of this form one after another, as `answer_decode` does the
 /// first one. The octets are those from that page on then, so that bits are counted from its octet on; where the file has no such page,
 /// or one before it can't be read to its end, from the last one's or from that one's. Errs as `answer_decode` does, and keeps as there
-/// how far they were read.
+/// how far they were read, or how far the one before it was.
 pub fn answer_page(
     alloc: Global,
     octets: &mut Vec<u8>,
@@ -276,10 +288,11 @@ pub fn answer_page(
         AnswersPage form options page octets.old.items octets.new.items answer.page answer.told.items answer.end) }
     ensures refused { IfErr result (λ fault. IsOutside fault ⊎ (AreAfter form octets.old.items (page - 1) octets.new.items
         × RefusesDecoding (broken_asked options.salvage options.repair) form octets.new.items fault)) }
+    ensures kept { options.repair ≡ false → IfErr result (IsKept kept.new) }
+    ensures kept_rows { options.repair ≡ false → IfOk result (λ answer. IfErr answer.end (KeepsPage kept.new)) }
 {
-    *kept = None;
     let size = octets.len();
-    let reached = skip_pages(alloc, octets, form, page.saturating_sub(1))?;
+    let reached = skip_pages(alloc, octets, form, page.saturating_sub(1), kept)?;
     let octet = size.saturating_sub(octets.len());
     let none = Page::new(alloc, form.width, form.fine)?;
     let mut lines = Vec::new(alloc);

@@ -50,7 +50,7 @@ pub use crate::missing::{Missing, Stored, StoredFront};
 pub use crate::numbers::PageNumbers;
 pub use crate::options::{DecodeOptions, PageForm};
 pub use crate::pages::{
-    Salvage, code_engine, decode_engine, salvage_engine, show_engine, write_some,
+    Salvage, code_engine, decode_engine, salvage_engine, show_engine, show_page, write_some,
 };
 pub use crate::records::{signal_record, write_record};
 pub use crate::refused::{Expected, refused_at, refused_in};

@@ -1,14 +1,17 @@
 //! What is done with images and coded pages: coding, showing and decoding, over any reader and any writer.
 ghost use Rattle.engines.specs.CodedPages.{CodesImage, DecodesPage, RefusesImage, RefusesShow, SalvagesPage, ShowsPage};
+ghost use Rattle.engines.specs.Decodings.{IsKept};
 ghost use Rattle.engines.specs.Faults.{IsOutside};
+ghost use Rattle.page_code.specs.PageReaders.{IsPageRefused};
+ghost use Rattle.raster.specs.Packed.{bits_of};
 ghost use Rattle.raster.specs.PbmText.{AppendsSome, ArePagesText};
 ghost use Rattle.raster.specs.Pixels.{IsWidth};
 ghost use Rattle.std.specs.Prelude.{◌≡◌, ◌<◌, ◌⊎◌, ◌∷◌, [], IfErr, IfOk, IfSome, OnOk, length};
 
-use crate::coded::{read_image, write_code};
+use crate::coded::{read_code, read_image, write_code};
 use crate::fault::{NO_MEMORY, ToolFault};
 use crate::options::PageForm;
-use page_code::Coding;
+use page_code::{Coding, RefusedCode};
 use raster::{Page, write_pbm, write_text};
 use run_tables::{CodeFaultKind, Order};
 use std::alloc::Global;
@@ -61,7 +64,33 @@ pub fn show_engine<R: Read, W: Write>(
 {
     let mut octets = Vec::new(alloc);
     reader.read_to_end(&mut octets)?;
-    let (page, _used) = coding.decode(alloc, &octets, order, width, false)?;
+    let form = PageForm {
+        coding,
+        order,
+        width,
+        fine: false,
+    };
+    show_page(alloc, &octets, form, &mut None, writer)
+}
+
+/// Writes the page whose code octets begin with as text, for a width of 1 to 2,432 pixels. Errs at the bit where they are refused, and
+/// how far they were read is kept in `kept` then; with 8 where the writer fails, and with 9.
+#[tactic(auto, using(crate::proofs::DecodedPages::refused_show, crate::proofs::DecodedPages::refused_kept))]
+pub fn show_page<W: Write>(
+    alloc: Global,
+    octets: &[u8],
+    form: PageForm,
+    kept: &mut Option<RefusedCode>,
+    writer: &mut W,
+) -> Result<(), ToolFault>
+    requires { IsWidth form.width }
+    ensures shown { OnOk result (ShowsPage form.coding form.order form.width (W.contents writer.old) (W.contents writer.new) octets.now) }
+    ensures refused { IfErr result (RefusesShow form.coding form.order form.width octets.now) }
+    ensures unwritten { IfErr result (λ fault. IsOutside fault ⊎ (writer.new ≡ writer.old)) }
+    ensures known { IfSome kept.new (IsPageRefused form.coding form.width (bits_of form.order octets.now)) }
+    ensures kept { IfErr result (IsKept kept.new) }
+{
+    let (page, _used) = read_code(alloc, octets, form, kept)?;
     write_text(&page, writer)?;
     Ok(())
 }

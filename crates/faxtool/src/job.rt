@@ -156,7 +156,9 @@ pub fn do_whole(rt: &HostRuntime, job: &Job, notes: &mut Notes) -> Result<(), To
 }
 
 /// Lists the frames of a job's capture, or draws those of two. Answers whether nothing is missing.
-fn run_frames(rt: &HostRuntime, job: &Job, notes: &mut Notes) -> Result<bool, ToolFault> {
+fn run_frames(rt: &HostRuntime, job: &Job, notes: &mut Notes) -> Result<bool, ToolFault>
+    ensures { IfErr result IsOutside }
+{
     match job {
         Job::Frames {
             most,

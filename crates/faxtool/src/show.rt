@@ -4,7 +4,7 @@ ghost use Rattle.raster.specs.Pixels.{IsWidth};
 
 use crate::files::{self, read_input};
 use crate::notes::Notes;
-use engines::{ToolFault, show_engine};
+use engines::{PageForm, ToolFault, show_page};
 use page_code::Coding;
 use run_tables::Order;
 
@@ -20,9 +20,15 @@ pub fn show_file(
     requires { IsWidth width }
 {
     read_input(rt, input, notes)?;
-    let mut reader = notes.octets.as_slice();
+    let form = PageForm {
+        coding,
+        order,
+        width,
+        fine: false,
+    };
     let mut writer = files::print(rt)?;
-    let shown = show_engine(rt.alloc(), &mut reader, &mut writer, coding, order, width);
+    let kept = &mut notes.refused;
+    let shown = show_page(rt.alloc(), &notes.octets, form, kept, &mut writer);
     let printed = files::end_print(writer, shown.is_ok(), notes);
     shown?;
     printed

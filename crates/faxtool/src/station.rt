@@ -168,7 +168,8 @@ impl Keeper<LimitedAnswerer> for Folder<'_> {
     ghost use Rattle.std.specs.Prelude.{◌≡◌, ◌+◌};
 
     ghost keeps = { λ old c new after kept.
-        StoresAll (λ first page then. then.stored ≡ first.stored + 1) (λ first page then. then.stored ≡ first.stored) c after old new kept };
+        StoresAll (λ first page then. then.stored ≡ first.stored + 1) (λ first page then. then.stored ≡ first.stored)
+        c after old new kept };
 
     type Refused = ToolFault;
 

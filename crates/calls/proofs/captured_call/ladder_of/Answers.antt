@@ -16,7 +16,8 @@ loop-frame-preserved c = (
   one_drawn c.args.caller.now c.args.answerer.now c.loop-frame.caller.now c.loop-frame.answerer.now c.left_after-caller.result.now
       c.left_after-answerer.result.now c.loop-frame.before c.before-before.result c.in-Some.frame c.loop-frame.ladder.entries
       c.add.new.self.entries c.loop-frame.invariant.0 (sym c.next_frame.ensures ∙ c.in-Some.is)
-      (ap (λ (d : Drawn). d.entries) c.in_ok-add.ensures.added ∙ ap (λ e. c.loop-frame.ladder.entries ++ drawn_entry e ∷ []) c.entry.ensures)
+      (ap (λ (d : Drawn). d.entries) c.in_ok-add.ensures.added
+      ∙ ap (λ e. c.loop-frame.ladder.entries ++ drawn_entry e ∷ []) c.entry.ensures)
       c.before-before.ensures c.left_after-caller.ensures c.left_after-answerer.ensures,
   ap (λ (d : Drawn). d.feet) c.in_ok-add.ensures.added ∙ c.in_ok-add.ensures.going,
 )

@@ -1,31 +1,10 @@
 -- What the check asks of `decode_whole`.
-use Rattle.std.proofs.Common.{subst}
-use Rattle.raster.specs.Packed.{bits_of}
-use Rattle.page_code.specs.PageReaders.{IsPageRead, IsPageRefused, IsRead}
-use Rattle.page_code.specs.declared.page_reader.PageRead.{PageRead}
-use Rattle.engines.proofs.DecodedPages.{refused_code, whole}
+use Rattle.engines.proofs.DecodedPages.{whole}
 use Rattle.engines.proofs.decoding.decode_whole.Goals as goal
 
-pub returns-in-Ok-Page-clause-given : goal.returns-in-Ok-Page-clause-given
-returns-in-Ok-Page-clause-given c = λ image writes.
-    let form = c.args.form in
-    let bits = bits_of form.order c.args.octets.now in
-    let read : IsPageRead form.coding form.width form.fine bits c.in-Ok-Page.page c.in-Ok-Page.bits =
-    subst (λ (read : PageRead). IsRead form.coding form.width form.fine bits read) c.in-Ok-Page.field-0-is c.in-Ok-Page.ensures in (
-      whole form c.args.octets.now image c.in-Ok-Page.page writes form.coding c.in-Ok-Page.bits read.reads,
-      c.new-lines.ensures.items,
-    )
-
-pub returns-in-Ok-Refused-clause-known : goal.returns-in-Ok-Refused-clause-known
-returns-in-Ok-Refused-clause-known c =
-    let form = c.args.form in
-    let bits = bits_of form.order c.args.octets.now in
-    subst (λ (read : PageRead). IsRead form.coding form.width form.fine bits read) c.in-Ok-Refused.field-0-is c.in-Ok-Refused.ensures
-
-pub returns-in-Ok-Refused-clause-refused : goal.returns-in-Ok-Refused-clause-refused
-returns-in-Ok-Refused-clause-refused c =
-    let form = c.args.form in
-    let bits = bits_of form.order c.args.octets.now in
-    let is : IsPageRefused form.coding form.width bits c.in-Ok-Refused.code =
-    subst (λ (read : PageRead). IsRead form.coding form.width form.fine bits read) c.in-Ok-Refused.field-0-is c.in-Ok-Refused.ensures in
-    refused_code form.coding form.order form.width c.args.octets.now c.in-Ok-Refused.code is c.from.result c.from.ensures
+pub returns-clause-given : goal.returns-clause-given
+returns-clause-given c = λ image writes. (
+  whole c.args.form c.args.octets.now image c.in_ok-page.page writes c.args.form.coding c.in_ok-page.bits
+      c.in_ok-page.ensures.read.reads,
+  c.new-lines.ensures.items,
+)

@@ -1,4 +1,5 @@
-use Rattle.std.proofs.Common.{inl, inr, refl, sym, ap, ◌∙◌, arith, ◌≤◌, ◌*◌, ℕ, length}
+-- What the check asks of `later_one_dim`.
+use Rattle.std.proofs.Common.{inl, refl, sym, ap, arith, ◌*◌, ℕ}
 use Rattle.raster.specs.Packed.{bits_of}
 use Rattle.engines.proofs.LaterPages.{none_past, nothing_there, one_eol, page_there}
 use Rattle.engines.proofs.later_pages.later_one_dim.Goals as goal
