@@ -48,8 +48,8 @@ TIMERS = TOP / "docs" / "TIMERS.md"
 WAITS = TOP / "crates" / "stations" / "specs" / "Waits.antt"
 WAIT_ROW = re.compile(r"^(caller|answerer)(?:_longer)?_wait (\w+) = (?:Some )?(T\d)$", re.M)
 FAULTS = TOP / "docs" / "FAULTS.md"
-HELP = TOP / "crates" / "faxtool" / "src" / "faults.rt"
-KINDS = TOP / "crates" / "engines" / "specs" / "FaultKinds.antt"
+HELP = TOP / "crates" / "faxtool" / "src" / "fault_table.rt"
+KINDS = TOP / "crates" / "faults" / "specs" / "FaultKinds.antt"
 # The line of what a station refuses, which is no `ToolFault`.
 STATION_LINE = ("at a line", 31)
 SECTION = re.compile(r"^## Definitions\n(.*?)(?=^## |\Z)", re.M | re.S)

@@ -43,7 +43,7 @@ pub mod laws;
 pub use crate::event::{Entry, Event, Kind};
 """
 STEP, ANSWERER = "stations/specs/AnswererStep.antt", "stations/src/answerer.rt"
-MARK, ASSEMBLER = "stations/src/mark.rt", "stations/src/assembler.rt"
+MARK, ASSEMBLER = "signals/src/mark.rt", "partial_page/src/assembler.rt"
 CALLER_STEP, CALLER = "stations/specs/CallerStep.antt", "stations/src/caller.rt"
 ROWS, SPENDING = "stations/proofs/CallerRows.antt", "stations/proofs/Spending.antt"
 LIMITS, RUN_LAWS = "stations/proofs/OpenLimits.antt", "stations/proofs/RunLaws.antt"

@@ -6,11 +6,11 @@ use Rattle.stations.specs.CallerFields.{AreCallable}
 use Rattle.stations.specs.Layers.{Document}
 use Rattle.line_sim.specs.declared.live.Ending.{Ending}
 use Rattle.calls.specs.Calls.{LeavesCall, LeavesTold, RefusesCall, RunsCall}
-use Rattle.engines.specs.Faults.{IsOutside}
+use Rattle.faults.specs.Faults.{IsOutside}
 use Rattle.calls.specs.Scripts.{IsScript}
 use Rattle.calls.specs.SentBits.{Written}
-use Rattle.engines.specs.declared.fault.ToolFault.{ToolFault}
-use Rattle.engines.specs.declared.fault.ToolFault.TheVariants.{No}
+use Rattle.faults.specs.declared.fault.ToolFault.{ToolFault}
+use Rattle.faults.specs.declared.fault.ToolFault.TheVariants.{No}
 use Rattle.calls.specs.declared.options.CallOptions.{CallOptions}
 use Rattle.calls.specs.declared.script.Command.{Command}
 

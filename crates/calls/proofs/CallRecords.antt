@@ -8,8 +8,8 @@ use Rattle.stations.specs.declared.turn.Turn.{Turn}
 use Rattle.stations.specs.declared.turn.Turn.TheVariants as turn
 use Rattle.line_sim.specs.declared.event.Entry.{Entry}
 use Rattle.line_sim.specs.declared.event.Kind.{Kind}
-use Rattle.engines.specs.Records.{signal_record}
-use Rattle.engines.proofs.RecordData.{says_whole}
+use Rattle.captures.specs.Records.{signal_record}
+use Rattle.captures.proofs.RecordData.{says_whole}
 use Rattle.calls.specs.CallRecords.{entry_record, item_data, member_if, refused_data, says_data, sends_data}
 use Rattle.calls.specs.Explained.{signal_said}
 

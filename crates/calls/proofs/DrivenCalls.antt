@@ -19,11 +19,11 @@ use Rattle.line_sim.specs.declared.live.Ending.{Ending}
 use Rattle.calls.specs.BadLines.{DrivesCall, Going, LeavesAfter, LeavesDriven, RefusesDriven, TellsAll, TellsDriven, bad_call, gone}
 use Rattle.calls.specs.BadLines.{put_by_steps}
 use Rattle.calls.specs.Calls.{EndsAs, HaveRows, answerer_caps, call_world, caller_wish}
-use Rattle.engines.specs.Faults.{IsOutside}
+use Rattle.faults.specs.Faults.{IsOutside}
 use Rattle.calls.specs.SentBits.{WritesAfter, WritesLines, Written, on_way_to}
 use Rattle.calls.specs.Transcripts.{ending_text, entry_lines}
-use Rattle.engines.specs.declared.fault.ToolFault.{ToolFault}
-use Rattle.engines.specs.declared.fault.ToolFault.TheVariants.{No}
+use Rattle.faults.specs.declared.fault.ToolFault.{ToolFault}
+use Rattle.faults.specs.declared.fault.ToolFault.TheVariants.{No}
 use Rattle.calls.specs.declared.losses.BadLine.{BadLine}
 use Rattle.calls.specs.declared.options.CallOptions.{CallOptions}
 use Rattle.calls.proofs.DrivenSteps.{steps_lead}

@@ -2,8 +2,8 @@
 use Rattle.std.proofs.Common.{◌≡◌, ℕ, List, refl}
 use Rattle.std.proofs.lemmas.Bool.{both_ways}
 use Rattle.calls.specs.Scripts.{IsLineFault, has_wrong_blank}
-use Rattle.engines.specs.declared.line_fault.LineFault.{LineFault}
-use Rattle.engines.specs.declared.line_fault.LineFault.TheVariants.{NotUtf8, Blank, Word, Count}
+use Rattle.faults.specs.declared.line_fault.LineFault.{LineFault}
+use Rattle.faults.specs.declared.line_fault.LineFault.TheVariants.{NotUtf8, Blank, Word, Count}
 
 pub one_line_fault : (line : List ℕ) (a b : LineFault) → IsLineFault line a → IsLineFault line b → a ≡ b
 one_line_fault line NotUtf8 NotUtf8 p q = refl

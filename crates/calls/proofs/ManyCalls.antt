@@ -19,21 +19,21 @@ use Rattle.line_sim.specs.Represents.{Shows}
 use Rattle.line_sim.specs.declared.live.Ending.{Ending}
 use Rattle.calls.specs.BadLines.{RefusesDriven, bad_call, gone}
 use Rattle.calls.specs.Calls.{EndsAs}
-use Rattle.engines.specs.Faults.{IsOutside}
+use Rattle.faults.specs.Faults.{IsOutside}
 use Rattle.calls.specs.ManyCalls.{AreDrivenTo, CountsAll, IsCallOf, IsDrivenTo, Tallies, TellsMany, all_ends, borne_in, end_row, ended_at}
 use Rattle.calls.specs.LineTimes.{seconds_in}
 use Rattle.calls.specs.FewTries.{slower_speeds}
 use Rattle.calls.specs.ManyCalls.{few_in, few_row, mild_in, mild_row, one_line, place_of, sum_row, table_text, through_in}
 use Rattle.calls.specs.Seconds.{CountsSeconds, Histogram, TellsSeconds, seconds_row}
 use Rattle.calls.specs.Totals.{one_if, total}
-use Rattle.engines.specs.declared.fault.ToolFault.{ToolFault}
+use Rattle.faults.specs.declared.fault.ToolFault.{ToolFault}
 use Rattle.calls.specs.declared.losses.BadLine.{BadLine}
 use Rattle.calls.specs.declared.many_calls.Counted.{Counted}
 use Rattle.calls.specs.declared.many_calls.OneCall.{OneCall}
 use Rattle.calls.specs.declared.options.CallOptions.{CallOptions}
 use Rattle.calls.specs.declared.tallies.Tally.{Tally}
 use Rattle.calls.proofs.CountedSteps.{total_both}
-use Rattle.engines.proofs.FirstElements.{take_next}
+use Rattle.faults.proofs.FirstElements.{take_next}
 
 -- what the call of a number came to, of what its steps lead to
 pub is_call : (options : CallOptions) (bad : BadLine) (number : ℕ) (document : Document) (new : DrivenFields) (counted : Counted)

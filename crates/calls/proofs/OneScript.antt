@@ -9,8 +9,8 @@ use Rattle.std.proofs.lemmas.List.{append-nil, get_or_at}
 use Rattle.line_sim.specs.declared.event.Event.{Event}
 use Rattle.line_sim.specs.declared.event.Event.TheVariants.{DeliverToAnswerer, DeliverToCaller, LoseToAnswerer, LoseToCaller, Spoil}
 use Rattle.line_sim.specs.declared.event.Event.TheVariants.{CallerTimeout, CallerT5, AnswererT1, AnswererT2, Busy}
-use Rattle.engines.specs.declared.fault.ToolFault.{ToolFault}
-use Rattle.engines.specs.declared.fault.ToolFault.TheVariants.{No, AtBit, AtLine}
+use Rattle.faults.specs.declared.fault.ToolFault.{ToolFault}
+use Rattle.faults.specs.declared.fault.ToolFault.TheVariants.{No, AtBit, AtLine}
 use Rattle.calls.specs.declared.script.Command.{Command}
 use Rattle.calls.specs.declared.script.Command.TheVariants.{Events, Polite}
 use Rattle.calls.specs.Scripts.{HasNoFeed, IsCount, IsLineOf, IsScript, IsSkipped, LinesSay, RefusesScript, Says, ended, said_before}

@@ -3,8 +3,8 @@ use Rattle.std.proofs.Common.{◌≡◌, ◌+◌, ◌≤◌, ℕ, List, [], ◌�
 use Rattle.std.proofs.Common.{length-append, arith, inl, inr}
 use Rattle.std.proofs.lemmas.List.{append-nil}
 use Rattle.std.specs.List.{AllByRecursion}
-use Rattle.engines.specs.declared.fault.ToolFault.{ToolFault}
-use Rattle.engines.specs.declared.fault.ToolFault.TheVariants.{No, AtBit, AtLine}
+use Rattle.faults.specs.declared.fault.ToolFault.{ToolFault}
+use Rattle.faults.specs.declared.fault.ToolFault.TheVariants.{No, AtBit, AtLine}
 use Rattle.calls.specs.declared.script.Command.{Command}
 use Rattle.calls.specs.Scripts.{AddsLine, HasNoFeed, IsLineAt, IsScript, LinesSay, RefusesLine, RefusesScript, ended}
 use Rattle.calls.specs.Scripts.{said_before}

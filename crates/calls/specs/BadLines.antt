@@ -26,12 +26,12 @@ use Rattle.line_sim.specs.declared.event.Entry.{Entry}
 use Rattle.line_sim.specs.declared.event.Event.{Event}
 use Rattle.line_sim.specs.declared.live.Ending.{Ending}
 use Rattle.calls.specs.Calls.{EndsAs, answerer_caps, call_world, caller_wish}
-use Rattle.engines.specs.Faults.{IsOutside}
+use Rattle.faults.specs.Faults.{IsOutside}
 use Rattle.calls.specs.Losses.{fate_of, generator_of, is_busy_word}
 use Rattle.calls.specs.SentBits.{WritesItems, Written, on_way_to}
 use Rattle.calls.specs.Transcripts.{call_text, entry_lines}
-use Rattle.engines.specs.declared.fault.ToolFault.{ToolFault}
-use Rattle.engines.specs.declared.fault.ToolFault.TheVariants.{No}
+use Rattle.faults.specs.declared.fault.ToolFault.{ToolFault}
+use Rattle.faults.specs.declared.fault.ToolFault.TheVariants.{No}
 use Rattle.calls.specs.declared.losses.BadLine.{BadLine}
 use Rattle.calls.specs.declared.options.CallOptions.{CallOptions}
 

@@ -8,7 +8,8 @@ use Rattle.line_sim.specs.declared.event.Entry.{Entry}
 use Rattle.line_sim.specs.declared.event.Fields.{Fields}
 use Rattle.line_sim.specs.declared.event.Kind.{Kind}
 use Rattle.line_sim.specs.declared.live.Ending.{Ending}
-use Rattle.engines.specs.Records.{count, record_line, signal_record, words}
+use Rattle.faults.specs.RecordLines.{count, record_line, words}
+use Rattle.captures.specs.Records.{signal_record}
 use Rattle.calls.specs.Explained.{signal_said}
 use Rattle.calls.specs.Scripts.{word_of}
 use Rattle.calls.specs.Transcripts.{end_text, item_text, turn_text}

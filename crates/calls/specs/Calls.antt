@@ -21,12 +21,12 @@ use Rattle.line_sim.specs.Represents.{Shows}
 use Rattle.line_sim.specs.declared.call.Call.{Call}
 use Rattle.line_sim.specs.declared.event.Event.{Event}
 use Rattle.line_sim.specs.declared.live.Ending.{Ending}
-use Rattle.engines.specs.Faults.{IsOutside}
+use Rattle.faults.specs.Faults.{IsOutside}
 use Rattle.calls.specs.Scripts.{IsFirstBadLine, IsScript}
 use Rattle.calls.specs.SentBits.{WritesCall, WritesSent, Written}
 use Rattle.calls.specs.Transcripts.{call_text, entry_lines}
-use Rattle.engines.specs.declared.fault.ToolFault.{ToolFault}
-use Rattle.engines.specs.declared.fault.ToolFault.TheVariants.{No, AtLine}
+use Rattle.faults.specs.declared.fault.ToolFault.{ToolFault}
+use Rattle.faults.specs.declared.fault.ToolFault.TheVariants.{No, AtLine}
 use Rattle.calls.specs.declared.options.CallOptions.{CallOptions}
 use Rattle.calls.specs.declared.script.Command.{Command}
 use Rattle.calls.specs.declared.script.Command.TheVariants.{Events, Polite}

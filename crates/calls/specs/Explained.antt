@@ -4,9 +4,9 @@ use Rattle.signals.specs.Signals.{PlainSignal, dis, dcs, pps, ppr}
 use Rattle.line_sim.specs.declared.event.Entry.{Entry}
 use Rattle.line_sim.specs.declared.event.Fields.{Fields}
 use Rattle.line_sim.specs.declared.event.Fields.TheVariants as field
-use Rattle.engines.specs.SignalWords.{words_of}
-use Rattle.engines.specs.declared.frames.ListForm.{ListForm}
-use Rattle.engines.specs.declared.frames.ListForm.TheVariants.{Plain}
+use Rattle.captures.specs.SignalWords.{words_of}
+use Rattle.captures.specs.declared.frames.ListForm.{ListForm}
+use Rattle.captures.specs.declared.frames.ListForm.TheVariants.{Plain}
 use Rattle.calls.specs.SentBits.{Written}
 use Rattle.calls.specs.Transcripts.{entry_line}
 

@@ -22,8 +22,8 @@ use Rattle.line_sim.specs.declared.event.Kind.{Kind}
 use Rattle.line_sim.specs.declared.event.Kind.TheVariants.{Ppr}
 use Rattle.calls.specs.BadLines.{AreOfSteps, Going, bad_call, gone, patience_of}
 use Rattle.calls.specs.Calls.{call_world}
-use Rattle.engines.specs.Frames.{line}
-use Rattle.engines.specs.Texts.{spaced}
+use Rattle.captures.specs.Frames.{line}
+use Rattle.captures.specs.Texts.{spaced}
 use Rattle.calls.specs.FewTries.{FewTriesGone, HasFewTries}
 use Rattle.calls.specs.LineTimes.{RunsSteps, seconds_in, waited_in}
 use Rattle.calls.specs.Seconds.{AreShares, Shares, seconds_row}

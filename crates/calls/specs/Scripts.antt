@@ -7,10 +7,10 @@ use Rattle.std.specs.Str.Parse.{IsNumeral, digits_value}
 use Rattle.line_sim.specs.declared.event.Event.{Event}
 use Rattle.line_sim.specs.declared.event.Event.TheVariants.{DeliverToAnswerer, DeliverToCaller, LoseToAnswerer, LoseToCaller}
 use Rattle.line_sim.specs.declared.event.Event.TheVariants.{Spoil, CallerTimeout, CallerT5, AnswererT1, AnswererT2, Busy}
-use Rattle.engines.specs.declared.fault.ToolFault.{ToolFault}
-use Rattle.engines.specs.declared.fault.ToolFault.TheVariants.{No, AtBit, AtLine}
-use Rattle.engines.specs.declared.line_fault.LineFault.{LineFault}
-use Rattle.engines.specs.declared.line_fault.LineFault.TheVariants.{NotUtf8, Blank, Word, Count}
+use Rattle.faults.specs.declared.fault.ToolFault.{ToolFault}
+use Rattle.faults.specs.declared.fault.ToolFault.TheVariants.{No, AtBit, AtLine}
+use Rattle.faults.specs.declared.line_fault.LineFault.{LineFault}
+use Rattle.faults.specs.declared.line_fault.LineFault.TheVariants.{NotUtf8, Blank, Word, Count}
 use Rattle.calls.specs.declared.script.Command.{Command}
 use Rattle.calls.specs.declared.script.Command.TheVariants.{Events, Polite}
 

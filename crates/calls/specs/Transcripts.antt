@@ -11,7 +11,7 @@ use Rattle.line_sim.specs.declared.event.Fields.TheVariants as field
 use Rattle.line_sim.specs.declared.event.Kind.{Kind}
 use Rattle.line_sim.specs.declared.event.Kind.TheVariants as kind
 use Rattle.line_sim.specs.declared.live.Ending.{Ending}
-use Rattle.engines.specs.Frames.{line}
+use Rattle.captures.specs.Frames.{line}
 use Rattle.calls.specs.Scripts.{word_of}
 
 -- what was delivered or lost; an FCD with the number of its frame

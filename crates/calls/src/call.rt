@@ -2,9 +2,9 @@
 
 ghost use Rattle.calls.specs.Calls.{HaveRows, IsAtLine, IsBadScript, LeavesCall, LeavesTold, RefusesCall, RunsCall, TellsCommand};
 ghost use Rattle.calls.specs.Calls.{TellsCommands, TellsEvent, TellsNext, answerer_caps};
-ghost use Rattle.engines.specs.Faults.{IsOutside};
+ghost use Rattle.faults.specs.Faults.{IsOutside};
 ghost use Rattle.calls.specs.Scripts.{IsScript};
-ghost use Rattle.engines.specs.declared.fault.ToolFault.TheVariants.{No};
+ghost use Rattle.faults.specs.declared.fault.ToolFault.TheVariants.{No};
 ghost use Rattle.calls.specs.declared.script.Command.TheVariants.{Events, Polite};
 ghost use Rattle.line_sim.specs.Line.{World as WorldValue};
 ghost use Rattle.line_sim.specs.Report.{number_of};
@@ -18,7 +18,7 @@ use crate::counts::Counts;
 use crate::options::CallOptions;
 use crate::script::{Command, read_script};
 use crate::sent::write_sent;
-use engines::{FAILED, ToolFault};
+use faults::{FAILED, ToolFault};
 use line_sim::laws::headline;
 use line_sim::{Ending, Event, LiveCall, Next, WorldFault};
 use raster::{Document, Page, read_pbm};

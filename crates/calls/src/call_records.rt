@@ -2,15 +2,16 @@
 
 ghost use Rattle.calls.specs.CallRecords.{answerer_record, caller_record, ending_records, entry_record, item_data, put_if};
 ghost use Rattle.calls.specs.CallRecords.{refused_data, says_data, sends_data};
-ghost use Rattle.engines.specs.Faults.{IsOutside};
-ghost use Rattle.engines.specs.Records.{record_line};
+ghost use Rattle.faults.specs.Faults.{IsOutside};
+ghost use Rattle.faults.specs.RecordLines.{record_line};
 ghost use Rattle.serde_json.specs.View.{members_view, view};
 ghost use Rattle.std.specs.Io.KnownBytes.{Appends};
 ghost use Rattle.std.specs.Prelude.{◌≡◌, IfErr, IfOk, OnOk, option_map};
 
 use crate::explained::signal_said;
 use crate::transcript::{ItemText, TurnText, end_word, event_word};
-use engines::{ToolFault, signal_record, write_record};
+use captures::signal_record;
+use faults::{ToolFault, write_record};
 use line_sim::{Ending, Entry, Fields, Kind};
 use serde_json::{Map, Value, json, put};
 use stations::{End, Turn};

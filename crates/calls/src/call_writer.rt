@@ -1,12 +1,12 @@
 //! What a call is written to: its lines, and where they are wanted the octets that are sent on the line.
 
-ghost use Rattle.engines.specs.Faults.{IsOutside};
+ghost use Rattle.faults.specs.Faults.{IsOutside};
 ghost use Rattle.calls.specs.SentBits.{Written, WritesLines, WritesOctets};
 ghost use Rattle.calls.specs.Transcripts.{ending_text, entry_line};
 ghost use Rattle.std.specs.Prelude.{IfErr, OnOk};
 
 use crate::transcript::{write_ending, write_entry};
-use engines::ToolFault;
+use faults::ToolFault;
 use line_sim::{Ending, Entry};
 use signals::Side;
 use std::io::Write;

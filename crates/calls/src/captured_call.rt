@@ -2,14 +2,15 @@
 
 ghost use Rattle.calls.specs.CapturedCalls.{IsDrawnOf, before_after, content_frame, entry_of, frames_of, is_answer, left_after};
 ghost use Rattle.calls.specs.CapturedCalls.{next_frame, others_of};
-ghost use Rattle.engines.specs.Faults.{IsOutside};
+ghost use Rattle.faults.specs.Faults.{IsOutside};
 ghost use Rattle.hdlc.specs.Gaps.{good};
 ghost use Rattle.raster.specs.Packed.{bits_of};
 ghost use Rattle.std.specs.Prelude.{◌≡◌, ◌+◌, ◌++◌, ◌∷◌, [], IfErr, IfOk, IfSome, OnOk, None, Some};
 
 use crate::call::after;
 use crate::ladder::Ladder;
-use engines::{FAILED, NO_MEMORY, ToolFault, feed_in, read_some};
+use captures::{feed_in, read_some};
+use faults::{FAILED, NO_MEMORY, ToolFault};
 use hdlc::Deframer;
 use line_sim::{Entry, Event, Fields, Kind};
 use raster::packed::Order;

@@ -2,7 +2,7 @@
 
 use crate::call_writer::CallWriter;
 use crate::ladder::Ladder;
-use engines::ToolFault;
+use faults::ToolFault;
 use line_sim::{Ending, Entry};
 use signals::Side;
 

@@ -1,13 +1,14 @@
 //! The lines of a call with what its signals say, in words.
 
 ghost use Rattle.calls.specs.Explained.{explained_line, fields_line, signal_said};
-ghost use Rattle.engines.specs.Faults.{IsOutside};
+ghost use Rattle.faults.specs.Faults.{IsOutside};
 ghost use Rattle.signals.specs.Signals.{plain};
 ghost use Rattle.std.specs.Io.KnownBytes.{Appends};
 ghost use Rattle.std.specs.Prelude.{◌≡◌, IfErr, OnOk, option_map};
 
 use crate::transcript::write_entry;
-use engines::{ToolFault, write_signal};
+use captures::write_signal;
+use faults::ToolFault;
 use line_sim::{Entry, Fields};
 use signals::Signal;
 use std::io::Write;

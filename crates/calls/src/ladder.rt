@@ -3,13 +3,13 @@
 ghost use Rattle.calls.specs.Ladders.{entries_in, entries_of_round, entries_of_rounds, entries_of_row, entries_of_rows, feet_of};
 ghost use Rattle.calls.specs.Ladders.{item_after, repeated};
 ghost use Rattle.calls.specs.DrawnFields.{drawn_entry};
-ghost use Rattle.engines.specs.Faults.{IsOutside};
+ghost use Rattle.faults.specs.Faults.{IsOutside};
 ghost use Rattle.std.specs.Prelude.{◌≡◌, ◌+◌, ◌++◌, ◌∷◌, [], length, IfErr, IfOk, IfSome, IsTrue, OnOk, None, Some};
 
 use crate::alike::same_entry;
 use crate::call::after;
 use crate::drawn_fields::drawn;
-use engines::{FAILED, ToolFault};
+use faults::{FAILED, ToolFault};
 use line_sim::{Ending, Entry, Event, Kind};
 use stations::{End, Turn};
 use std::alloc::{AllocError, Global};

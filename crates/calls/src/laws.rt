@@ -6,9 +6,9 @@ ghost use Rattle.calls.specs.OptionsMean.{LinesAreAsked, OptionsMean};
 ghost use Rattle.calls.specs.Scripts.{IsLineFault, IsScript, RefusesScript};
 ghost use Rattle.calls.specs.ScriptsMean.{CountsMake, CountsMean, LinesMean, WordsDo};
 ghost use Rattle.calls.specs.Transcripts.{ArePrintedLines};
-ghost use Rattle.engines.specs.declared.fault.ToolFault.{ToolFault};
-ghost use Rattle.engines.specs.declared.fault.ToolFault.TheVariants.{No};
-ghost use Rattle.engines.specs.declared.line_fault.LineFault.{LineFault};
+ghost use Rattle.faults.specs.declared.fault.ToolFault.{ToolFault};
+ghost use Rattle.faults.specs.declared.fault.ToolFault.TheVariants.{No};
+ghost use Rattle.faults.specs.declared.line_fault.LineFault.{LineFault};
 ghost use Rattle.calls.specs.declared.script.Command.{Command};
 ghost use Rattle.std.specs.Prelude.{ℕ, ◌≡◌, List};
 

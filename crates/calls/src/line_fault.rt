@@ -6,7 +6,7 @@ ghost use Rattle.std.specs.Bool.{MatchBool};
 ghost use Rattle.std.specs.Prelude.{◌≡◌, ℕ, IfSome, List};
 
 use crate::script::{event_named, split_line};
-use engines::LineFault;
+use faults::LineFault;
 
 /// What is wrong with the line of this number, from 1, of a script that is refused there. `None` where the text has no
 /// such line.

@@ -2,13 +2,13 @@
 
 ghost use Rattle.calls.specs.LineTimes.{Runs, RunsAfter, after_item, before_item, is_page, lasting, longer_wait, new_clock, new_clocks};
 ghost use Rattle.calls.specs.LineTimes.{octet_after, seconds_in, ticks_of, waited_in};
-ghost use Rattle.engines.specs.Faults.{IsOutside};
+ghost use Rattle.faults.specs.Faults.{IsOutside};
 ghost use Rattle.line_sim.specs.Octets.{sender_to, under_way_to};
 ghost use Rattle.std.specs.Prelude.{◌≡◌, ◌≤◌, ◌+◌, ◌*◌, drop, IfErr, IfOk};
 
 use crate::counts::Counts;
 use crate::many_calls::sum;
-use engines::{FAILED, ToolFault};
+use faults::{FAILED, ToolFault};
 use line_sim::{Event, Form, LiveCall};
 use signals::Side;
 use stations::{End, Wait};

@@ -1,12 +1,12 @@
 //! What `call --times` does: it runs many calls of a document over a bad line, over any writer, and tells what became of them.
 
 ghost use Rattle.calls.specs.BadLines.{Going, RefusesDriven, Stands, is_marked};
-ghost use Rattle.engines.specs.Faults.{IsOutside};
+ghost use Rattle.faults.specs.Faults.{IsOutside};
 ghost use Rattle.calls.specs.ManyCalls.{CountsAll, IsCallOf, IsDrivenTo, TellsMany, counts_in, counts_with, frames_again};
 ghost use Rattle.calls.specs.ManyCalls.{counts_words, ends_words, is_delivery, is_loss, is_spoiling, one_line};
 ghost use Rattle.calls.specs.FewTries.{slower_speeds};
 ghost use Rattle.calls.specs.Totals.{one_if};
-ghost use Rattle.engines.specs.declared.fault.ToolFault.TheVariants.{No};
+ghost use Rattle.faults.specs.declared.fault.ToolFault.TheVariants.{No};
 ghost use Rattle.line_sim.specs.Fates.{entries_of};
 ghost use Rattle.stations.specs.CallerFields.{AreCallable};
 ghost use Rattle.std.specs.Io.KnownBytes.{Appends};
@@ -22,7 +22,7 @@ use crate::seconds::Seconds;
 use crate::tallies::Tally;
 use crate::transcript::end_word;
 use crate::tries::{Stood, TryCounts};
-use engines::{FAILED, NO_MEMORY, ToolFault};
+use faults::{FAILED, NO_MEMORY, ToolFault};
 use line_sim::{DrivenCall, Ending, Entry, Event, Kind, Step};
 use rand_pcg::Lcg64Xsh32;
 use raster::laws::pbm_reads_exactly;

@@ -7,14 +7,14 @@ ghost use Rattle.calls.specs.Pictures.{head_text, height_of, items_in, joint_tex
 ghost use Rattle.calls.specs.Pictures.{paper_text, picture_text, refused_text, round_text, rounds_text, row_begin, row_label, row_numbers};
 ghost use Rattle.calls.specs.Pictures.{row_shape, row_side, row_text, row_words, rows_text, shape_text, sheet_text, size_text};
 ghost use Rattle.calls.specs.Pictures.{stations_text, style_text, view_text};
-ghost use Rattle.engines.specs.Faults.{IsOutside};
+ghost use Rattle.faults.specs.Faults.{IsOutside};
 ghost use Rattle.std.specs.Io.KnownBytes.{Appends};
 ghost use Rattle.std.specs.Prelude.{◌≡◌, ◌+◌, ◌*◌, length, IfErr, IfOk, OnOk};
 
 use crate::drawn_fields::FieldsText;
 use crate::ladder::{Feet, Ladder, Round, Row};
 use crate::transcript::{ItemText, TurnText, end_word, write_entry};
-use engines::{FAILED, ToolFault};
+use faults::{FAILED, ToolFault};
 use line_sim::{Entry, Event, Kind};
 use stations::{End, Turn};
 use std::fmt;

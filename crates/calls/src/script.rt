@@ -3,11 +3,11 @@
 ghost use Rattle.calls.specs.Scripts.{AddsLine, HasNoFeed, IsCount, IsLineOf, IsNoLine, IsScript, RefusesLine};
 ghost use Rattle.calls.specs.Scripts.{RefusesScript, Says, word_of};
 ghost use Rattle.line_sim.specs.declared.event.Event.{Event as EventValue};
-ghost use Rattle.engines.specs.declared.fault.ToolFault.TheVariants.{No};
+ghost use Rattle.faults.specs.declared.fault.ToolFault.TheVariants.{No};
 ghost use Rattle.calls.specs.declared.script.Command.{Command as CommandValue};
 ghost use Rattle.std.specs.Prelude.{◌≡◌, ◌++◌, ◌∷◌, ℕ, List, MatchOption, MatchResult};
 
-use engines::{NO_MEMORY, ToolFault};
+use faults::{NO_MEMORY, ToolFault};
 use line_sim::Event;
 use std::alloc::Global;
 

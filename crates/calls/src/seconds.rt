@@ -2,12 +2,12 @@
 
 ghost use Rattle.calls.specs.Seconds.{CountsSeconds, IsShare, TellsSeconds, counted_seconds};
 ghost use Rattle.calls.specs.declared.many_calls.OneCall.{OneCall as OneCallValue};
-ghost use Rattle.engines.specs.Faults.{IsOutside};
+ghost use Rattle.faults.specs.Faults.{IsOutside};
 ghost use Rattle.std.specs.Prelude.{◌≡◌, ◌≤◌, ◌++◌, ◌∷◌, [], List, IfErr, IfOk, OnOk};
 
 use crate::call::after;
 use crate::many_calls::OneCall;
-use engines::ToolFault;
+use faults::ToolFault;
 use std::alloc::Global;
 use std::io::Write;
 use std::marker::Model;

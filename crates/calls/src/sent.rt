@@ -1,13 +1,13 @@
 //! What a call has put under way, written as octets.
 
-ghost use Rattle.engines.specs.Faults.{IsOutside};
+ghost use Rattle.faults.specs.Faults.{IsOutside};
 ghost use Rattle.calls.specs.SentBits.{WritesAfter, WritesTo};
 ghost use Rattle.line_sim.specs.Octets.{under_way_to};
 ghost use Rattle.std.specs.Prelude.{drop, IfErr, OnOk};
 
 use crate::call_writer::CallWriter;
 use crate::counts::Counts;
-use engines::ToolFault;
+use faults::ToolFault;
 use line_sim::LiveCall;
 use signals::Side;
 

@@ -1,6 +1,6 @@
 //! What many calls have come to, in numbers: how many ended how, and sums.
 
-ghost use Rattle.engines.specs.Faults.{IsOutside};
+ghost use Rattle.faults.specs.Faults.{IsOutside};
 ghost use Rattle.calls.specs.ManyCalls.{Tallies, all_ends, borne_in, end_row, ended_at, few_in, is_mild, mild_in, place_of, row_of};
 ghost use Rattle.calls.specs.ManyCalls.{few_row, mild_row, sum_row, table_text, through_in};
 ghost use Rattle.calls.specs.declared.many_calls.OneCall.{OneCall as OneCallValue};
@@ -11,7 +11,7 @@ ghost use Rattle.std.specs.Prelude.{◌≡◌, ◌≤◌, [], ◌∷◌, ◌++�
 use crate::call::after;
 use crate::many_calls::{CallCounts, OneCall, one_if, sum};
 use crate::transcript::end_word;
-use engines::ToolFault;
+use faults::ToolFault;
 use stations::End;
 use std::io::Write;
 

@@ -1,12 +1,12 @@
 //! What `call` prints: a line for each event of a call, and what has become of it.
 
-ghost use Rattle.engines.specs.Faults.{IsOutside};
+ghost use Rattle.faults.specs.Faults.{IsOutside};
 ghost use Rattle.calls.specs.Transcripts.{end_text, ending_text, entry_line};
 ghost use Rattle.calls.specs.Scripts.{word_of};
 ghost use Rattle.std.specs.Io.KnownBytes.{Appends};
 ghost use Rattle.std.specs.Prelude.{◌≡◌, IfErr, OnOk};
 
-use engines::ToolFault;
+use faults::ToolFault;
 use line_sim::{Ending, Entry, Event, Kind};
 use stations::{End, Turn};
 use std::fmt;

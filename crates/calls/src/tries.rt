@@ -2,7 +2,7 @@
 
 ghost use Rattle.calls.specs.TriesCounted.{begins, first_try, goes_on, is_bad_in, is_check_in, is_mcf, is_mcf_in, met_by, stays, stood_in};
 ghost use Rattle.calls.specs.TriesCounted.{tried};
-ghost use Rattle.engines.specs.Faults.{IsOutside};
+ghost use Rattle.faults.specs.Faults.{IsOutside};
 ghost use Rattle.line_sim.specs.Entries.{head_kind};
 ghost use Rattle.line_sim.specs.Fates.{entries_of};
 ghost use Rattle.line_sim.specs.Line.{World};
@@ -14,7 +14,7 @@ ghost use Rattle.std.specs.Prelude.{◌≡◌, ◌≢◌, IfErr, IfOk, Some};
 use crate::call::after;
 use crate::counts::Counts;
 use crate::many_calls::{is_loss, is_spoiling, one_if, sum};
-use engines::ToolFault;
+use faults::ToolFault;
 use line_sim::{DrivenCall, Event, Kind, Step};
 
 /// How much is under way in a call before or after a step, and whether its caller is sending a block.

@@ -2,7 +2,7 @@
 
 use crate::streams::{Narrow, OneByOne};
 use calls::{CallOptions, call_engine};
-use engines::{FAILED, NO_MEMORY, ToolFault};
+use faults::{FAILED, NO_MEMORY, ToolFault};
 use page_code::Coding;
 use signals::Modems;
 use std::alloc::Global;

@@ -1,7 +1,8 @@
 //! What no clause says of `frames`: a list of frames as it is printed, and readers and writers that fail.
 
 use crate::streams::{Narrow, OneByOne};
-use engines::{FAILED, NO_MEMORY, frames_engine};
+use captures::frames_engine;
+use faults::{FAILED, NO_MEMORY};
 use std::io;
 use std::io::Read;
 use std::test::Fail;

@@ -1,11 +1,11 @@
 //! What no clause says of images and coded pages: octets that come and go one by one, and readers and writers that fail.
 
 use crate::streams::{Narrow, OneByOne};
-use engines::{
-    FAILED, PageForm, Repair, ToolFault, code_engine, decode_engine, repair_engine, salvage_engine,
-    show_engine,
-};
+use faults::{FAILED, ToolFault};
 use page_code::Coding;
+use page_files::{
+    PageForm, Repair, code_engine, decode_engine, repair_engine, salvage_engine, show_engine,
+};
 use run_tables::Order;
 use std::test::Fail;
 

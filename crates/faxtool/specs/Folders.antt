@@ -1,9 +1,9 @@
 -- What is noted while the pages in a capture are written into a folder.
 use Rattle.std.specs.Prelude.{◌≡◌, Bool, false, max}
-use Rattle.engines.specs.PageNumbers.{after, page_missing}
-use Rattle.engines.specs.declared.captured.Captured.{Captured}
-use Rattle.engines.specs.declared.captured.Captured.TheVariants.{Page}
-use Rattle.engines.specs.declared.numbers.PageNumbers.{PageNumbers}
+use Rattle.captures.specs.PageNumbers.{after, page_missing}
+use Rattle.captures.specs.declared.captured.Captured.{Captured}
+use Rattle.captures.specs.declared.captured.Captured.TheVariants.{Page}
+use Rattle.captures.specs.declared.numbers.PageNumbers.{PageNumbers}
 
 -- The last page's number, and whether nothing is missing of any, before and after something found: a page has the next number; where
 -- something is missing of a page, later pages have numbers after that page's own.

@@ -15,9 +15,9 @@ use Rattle.page_code.specs.declared.Coding.TheVariants.{OneDim, T6}
 use Rattle.raster.specs.Pixels.{IsWidth}
 use Rattle.raster.specs.declared.packed.Order.{Order}
 use Rattle.raster.specs.declared.packed.Order.TheVariants.{LsbFirst, MsbFirst}
-use Rattle.engines.specs.declared.frames.ListForm.{ListForm}
-use Rattle.engines.specs.declared.frames.ListForm.TheVariants.{Explained, Plain, Records}
-use Rattle.engines.specs.declared.fault.ToolFault.TheVariants.{No}
+use Rattle.captures.specs.declared.frames.ListForm.{ListForm}
+use Rattle.captures.specs.declared.frames.ListForm.TheVariants.{Explained, Plain, Records}
+use Rattle.faults.specs.declared.fault.ToolFault.TheVariants.{No}
 use Rattle.signals.specs.declared.params.Caps.{Caps}
 use Rattle.signals.specs.declared.params.Modems.{Modems}
 use Rattle.signals.specs.declared.params.Modems.TheVariants.{Fallback, V27, V29, V27V29, V17}
@@ -26,8 +26,8 @@ use Rattle.signals.specs.declared.params.PageWidth.TheVariants.{W1728, W2048, W2
 use Rattle.calls.specs.Losses.{IsRate}
 use Rattle.calls.specs.declared.losses.BadLine.{BadLine}
 use Rattle.calls.specs.declared.options.CallOptions.{CallOptions}
-use Rattle.engines.specs.declared.options.DecodeOptions.{DecodeOptions}
-use Rattle.engines.specs.declared.options.PageForm.{PageForm}
+use Rattle.page_files.specs.declared.options.DecodeOptions.{DecodeOptions}
+use Rattle.page_files.specs.declared.options.PageForm.{PageForm}
 use Rattle.faxtool.specs.declared.station_words.GivenWaits.{GivenWaits}
 use Rattle.faxtool.specs.declared.words.Job.{Job}
 use Rattle.faxtool.specs.declared.words.Job.TheVariants.{Answer, Call, Captures, Code, Decode, Dial, Drive, Frames, Identify, Show, Version}

@@ -1,13 +1,14 @@
 //! The files of the octets on the line of a call.
 
-ghost use Rattle.engines.specs.Faults.{IsOutside};
+ghost use Rattle.faults.specs.Faults.{IsOutside};
 ghost use Rattle.std.specs.Prelude.{IfErr};
 
 use crate::files::{self, Printed};
 use crate::notes::{Notes, Part};
 use crate::outputs::{self, Growing};
 use calls::{InForm, WithBits};
-use engines::{ListForm, ToolFault};
+use captures::ListForm;
+use faults::ToolFault;
 use std::fs::File;
 use std::io;
 use std::io::{BufWriter, ErrorKind, Write};

@@ -1,7 +1,7 @@
 //! The command `call` with a script, and what each call leaves.
 
 ghost use Rattle.calls.specs.Calls.{HaveRows};
-ghost use Rattle.engines.specs.Faults.{IsOutside};
+ghost use Rattle.faults.specs.Faults.{IsOutside};
 ghost use Rattle.std.specs.Prelude.{IfErr};
 
 use crate::bits::CallFiles;
@@ -9,7 +9,7 @@ use crate::files::{read_file, read_input};
 use crate::notes::{Notes, Part};
 use crate::{diagram, outputs};
 use calls::{CallOptions, call_to_end, ended_normally, read_script};
-use engines::{NO_MEMORY, ToolFault};
+use faults::{NO_MEMORY, ToolFault};
 use raster::{Page, write_pbm};
 
 /// Runs a call by a script's file, and prints what has become of it. The file of the stored pages is

@@ -3,8 +3,9 @@
 use crate::files::{self, InAndOut};
 use crate::notes::{Notes, Part};
 use crate::outputs;
-use engines::{ToolFault, read_image, write_code};
+use faults::ToolFault;
 use page_code::Coding;
+use page_files::{read_image, write_code};
 use run_tables::Order;
 
 /// Codes an image's file. The output's file is opened only once the image is read, and its code is written row by row: neither the

@@ -1,13 +1,14 @@
 //! The command `decode`.
 
-ghost use Rattle.engines.specs.Faults.{IsOutside};
+ghost use Rattle.faults.specs.Faults.{IsOutside};
 ghost use Rattle.raster.specs.Pixels.{IsWidth};
 ghost use Rattle.std.specs.Prelude.{IfErr};
 
 use crate::files::{InAndOut, read_input};
 use crate::notes::Notes;
 use crate::outputs::{self, Output};
-use engines::{DecodeAnswer, DecodeOptions, PageForm, ToolFault, answer_page, write_some};
+use faults::ToolFault;
+use page_files::{DecodeAnswer, DecodeOptions, PageForm, answer_page, write_some};
 use raster::Page;
 use std::io::{BufWriter, Write};
 

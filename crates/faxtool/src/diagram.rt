@@ -1,13 +1,13 @@
 //! The picture of a call.
 
-ghost use Rattle.engines.specs.Faults.{IsOutside};
+ghost use Rattle.faults.specs.Faults.{IsOutside};
 ghost use Rattle.std.specs.Prelude.{IfErr};
 
 use crate::bits::{self, CallFiles, CallOutput};
 use crate::notes::{Notes, Part};
 use crate::outputs;
 use calls::{Ladder, WithDiagram, write_picture};
-use engines::ToolFault;
+use faults::ToolFault;
 
 /// Opens what a call is written to, which is drawn too where that is asked for. Errs with 8 where a file can't be made or standard
 /// output is closed, which is noted, and with 9.

@@ -6,7 +6,7 @@ use crate::diagram;
 use crate::files::{self, read_input};
 use crate::notes::Notes;
 use calls::{BadLine, CallOptions, drive_many, drive_to_end, ended_normally};
-use engines::ToolFault;
+use faults::ToolFault;
 
 /// Runs the first call over a bad line, or many where a number is given. Answers whether the first one ended normally for both
 /// stations, and yes for many.

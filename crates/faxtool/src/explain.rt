@@ -2,7 +2,7 @@
 
 ghost use Rattle.faxtool.specs.Jobs.{HasWidth};
 ghost use Rattle.raster.specs.Pixels.{IsWidth};
-ghost use Rattle.engines.specs.Faults.{IsOutside};
+ghost use Rattle.faults.specs.Faults.{IsOutside};
 ghost use Rattle.std.specs.Prelude.{IfErr, IfSome};
 
 use crate::names::file_of;
@@ -10,11 +10,11 @@ use crate::notes::{Notes, Part};
 use crate::words::{Job, Outcome};
 use calls::line_fault_at;
 use clap::Error;
-use engines::{
-    Expected, Explained, Known, LineFault, PageForm, ToolFault, is_shown, refused_at, refused_in,
-    write_fault, write_notice,
+use faults::{
+    Expected, Explained, Known, LineFault, ToolFault, is_shown, write_fault, write_notice,
 };
 use page_code::Coding;
+use page_files::{PageForm, refused_at, refused_in};
 use run_tables::Order;
 use std::env::{self, Env, FillError};
 use std::io;

@@ -1,11 +1,11 @@
 //! Files by their names, of which `-` is standard input or output.
 
-ghost use Rattle.engines.specs.Faults.{IsOutside};
+ghost use Rattle.faults.specs.Faults.{IsOutside};
 ghost use Rattle.std.specs.Prelude.{◌≡◌, IfErr};
 
 use crate::notes::{Notes, Part};
 use crate::progress::Progress;
-use engines::ToolFault;
+use faults::ToolFault;
 use std::io::{BufWriter, ErrorKind, Read, Write};
 use std::{fs, io};
 

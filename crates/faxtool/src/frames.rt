@@ -1,17 +1,18 @@
 //! The command `frames`.
 
-ghost use Rattle.engines.specs.Faults.{IsOutside};
-ghost use Rattle.engines.specs.PageNumbers.{after, page_missing};
+ghost use Rattle.faults.specs.Faults.{IsOutside};
+ghost use Rattle.captures.specs.PageNumbers.{after, page_missing};
 ghost use Rattle.std.specs.Prelude.{◌≡◌, IfErr, OnOk, false, max};
 
 use crate::explain::notice;
 use crate::notes::{Notes, Part};
 use crate::{files, outputs};
-use engines::{
-    Captured, FoundStore, FrontStore, ListForm, ListOptions, Missing, NO_MEMORY, PageNumbers,
-    Stored, StoredFront, ToolFault, list_engine, pages_engine, salvage_pages_engine, write_missing,
-    write_stored, write_stored_front,
+use captures::{
+    Captured, FoundStore, FrontStore, ListForm, ListOptions, Missing, PageNumbers, Stored,
+    StoredFront, list_engine, pages_engine, salvage_pages_engine, write_missing, write_stored,
+    write_stored_front,
 };
+use faults::{NO_MEMORY, ToolFault};
 use raster::{Page, write_pbm};
 use run_tables::Order;
 

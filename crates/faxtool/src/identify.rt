@@ -2,7 +2,8 @@
 
 use crate::files::{self, read_input};
 use crate::notes::Notes;
-use engines::{ToolFault, identify_engine};
+use faults::ToolFault;
+use page_files::identify_engine;
 
 /// Prints as which format a file begins, and in which ways it reads as a page. Errs with 7 or 29 where there is neither; how far the file
 /// reads is printed then.

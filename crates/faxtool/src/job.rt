@@ -1,12 +1,11 @@
 //! What is done for a job: its outputs are looked at, its command runs, and its fault is shown.
 
-ghost use Rattle.engines.specs.Faults.{IsOutside};
+ghost use Rattle.faults.specs.Faults.{IsOutside};
 ghost use Rattle.faxtool.specs.Jobs.{HasWidth};
 ghost use Rattle.std.specs.Prelude.{IfErr};
 
 use crate::bits::CallFiles;
 use crate::call::call_file;
-use crate::captures::{CaptureFiles, draw_captures};
 use crate::code::code_file;
 use crate::decode::decode_file;
 use crate::explain::{is_explained, show_fault};
@@ -17,10 +16,12 @@ use crate::names::{bits_of, output_of};
 use crate::notes::{Notes, Part};
 use crate::show::show_file;
 use crate::station_run::{end_station, run_station};
+use crate::two_captures::{CaptureFiles, draw_captures};
 use crate::version::print_version;
 use crate::words::{Job, Outcome, Request};
 use crate::{drives, outputs};
-use engines::{ListOptions, ToolFault};
+use captures::ListOptions;
+use faults::ToolFault;
 
 /// Does a job, and shows its fault: a line, and on a terminal or where that is asked for, one of words.
 pub fn run_request(rt: &HostRuntime, request: &Request) -> Outcome

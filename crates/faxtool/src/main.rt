@@ -4,7 +4,6 @@
 
 mod bits;
 mod call;
-mod captures;
 mod captures_words;
 mod code;
 mod commands;
@@ -12,7 +11,7 @@ mod decode;
 mod diagram;
 mod drives;
 mod explain;
-mod faults;
+mod fault_table;
 mod files;
 mod frames;
 mod identify;
@@ -27,11 +26,12 @@ mod station_run;
 mod station_words;
 mod table;
 mod trace;
+mod two_captures;
 mod version;
 mod words;
 
-use engines::{NO_MEMORY, ToolFault};
 use explain::{refuse_words, refused};
+use faults::{NO_MEMORY, ToolFault};
 use job::run_request;
 use std::process::ExitCode;
 use std::{env, io};

@@ -1,10 +1,10 @@
 //! What is noted of a job while it is done, for the words that explain its fault.
 
-ghost use Rattle.engines.specs.Faults.{IsOutside};
-ghost use Rattle.engines.specs.declared.fault.ToolFault.TheVariants.{No};
+ghost use Rattle.faults.specs.Faults.{IsOutside};
+ghost use Rattle.faults.specs.declared.fault.ToolFault.TheVariants.{No};
 ghost use Rattle.std.specs.Prelude.{◌≡◌, ◌≢◌, [], None, Some};
 
-use engines::{NO_MEMORY, ToolFault};
+use faults::{NO_MEMORY, ToolFault};
 use page_code::RefusedCode;
 use std::alloc::Global;
 use std::io::ErrorKind;

@@ -1,11 +1,11 @@
 //! The files that are written, and what was there before them.
 
-ghost use Rattle.engines.specs.Faults.{IsOutside};
+ghost use Rattle.faults.specs.Faults.{IsOutside};
 ghost use Rattle.std.specs.Prelude.{◌≤◌, IfErr, IfOk};
 
 use crate::files::STANDARD;
 use crate::notes::{Notes, Part};
-use engines::ToolFault;
+use faults::ToolFault;
 use std::fs::{File, OpenOptions, Permissions};
 use std::io::{ErrorKind, IsTerminal, Write};
 use std::os::unix::fs::OpenOptionsExt;

@@ -4,8 +4,9 @@ ghost use Rattle.raster.specs.Pixels.{IsWidth};
 
 use crate::files::{self, read_input};
 use crate::notes::Notes;
-use engines::{PageForm, ToolFault, show_page};
+use faults::ToolFault;
 use page_code::Coding;
+use page_files::{PageForm, show_page};
 use run_tables::Order;
 
 /// Shows the page in a file.

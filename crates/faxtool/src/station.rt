@@ -1,6 +1,6 @@
 //! One end of a call, by lines of text on standard input and output.
 
-ghost use Rattle.engines.specs.Faults.{IsOutside};
+ghost use Rattle.faults.specs.Faults.{IsOutside};
 ghost use Rattle.std.specs.Prelude.{IfErr};
 
 use crate::explain::notice;
@@ -13,7 +13,7 @@ use calls::{CallOptions, end_word};
 use conversations::{
     Conversation, ConverseFault, Durations, Ending, Keeper, PageStore, converse, keep_pages,
 };
-use engines::{FAILED, NO_MEMORY, ToolFault};
+use faults::{FAILED, NO_MEMORY, ToolFault};
 use raster::{Page, read_pbm, write_pbm};
 use signals::{Caps, Wish};
 use stations::{CallEnd, Caller, LimitedAnswerer, Limits, StoppableCaller, Turn};

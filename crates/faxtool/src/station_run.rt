@@ -6,7 +6,8 @@ use crate::explain::show_fault;
 use crate::notes::Notes;
 use crate::station::{self, Answering, Dialling, Halted, Talked};
 use crate::words::{Job, Outcome};
-use engines::{ToolFault, write_ended, write_line_fault};
+use captures::write_ended;
+use faults::{ToolFault, write_line_fault};
 use stations::{CallEnd, End};
 
 /// Runs the station of a job; another job isn't done.

@@ -1,11 +1,12 @@
 //! What a station heard and said, as text with its time.
 
-ghost use Rattle.engines.specs.Faults.{IsOutside};
+ghost use Rattle.faults.specs.Faults.{IsOutside};
 ghost use Rattle.std.specs.Prelude.{IfErr};
 
 use crate::notes::{Notes, Part};
+use captures::{ContentText, write_traced, write_traced_check};
 use conversations::{Follower, Heard, Kind, Said, TimedLine, heard_as};
-use engines::{ContentText, ToolFault, write_traced, write_traced_check};
+use faults::ToolFault;
 use hdlc::Deframer;
 use stations::Listening;
 use std::alloc::Global;

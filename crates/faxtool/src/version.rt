@@ -1,11 +1,11 @@
 //! The command `version`.
 
-ghost use Rattle.engines.specs.Faults.{IsOutside};
+ghost use Rattle.faults.specs.Faults.{IsOutside};
 ghost use Rattle.std.specs.Prelude.{IfErr};
 
 use crate::files;
 use crate::notes::Notes;
-use engines::ToolFault;
+use faults::ToolFault;
 use std::io::Write;
 
 /// The program's version, as the file `VERSION` at the top has it.

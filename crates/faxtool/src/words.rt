@@ -14,10 +14,12 @@ use crate::captures_words::{captures_job, has_captures, unfit_frames};
 use crate::commands::faxtool_command;
 use crate::station_words::{GivenWaits, station_job, unfit_station};
 use calls::{BadLine, CallOptions, read_rate};
+use captures::ListForm;
 use clap::error::ErrorKind;
 use clap::{ArgMatches, Command, Error};
-use engines::{DecodeOptions, ListForm, NO_MEMORY, PageForm, ToolFault};
+use faults::{NO_MEMORY, ToolFault};
 use page_code::Coding;
+use page_files::{DecodeOptions, PageForm};
 use run_tables::Order;
 use signals::{Caps, Modems};
 use std::alloc::{AllocError, Global};
@@ -201,7 +203,7 @@ pub fn status(outcome: &Outcome) -> u8
 
 impl From<AllocError> for Outcome {
     ghost use Rattle.std.specs.Prelude.{◌≡◌};
-    ghost use Rattle.engines.specs.declared.fault.ToolFault.TheVariants.{No};
+    ghost use Rattle.faults.specs.declared.fault.ToolFault.TheVariants.{No};
     ghost use Rattle.faxtool.specs.declared.words.Outcome.TheVariants.{Fault};
 
     ghost from_gives = { λ _ outcome. outcome ≡ Fault (No 9) };

@@ -9,7 +9,7 @@ use Rattle.stations.specs.Stopping.{StoppableCallerFields}
 use Rattle.stations.specs.declared.howfar.AnswererProgress.{AnswererProgress}
 use Rattle.stations.specs.declared.howfar.BlockProgress.{BlockProgress}
 use Rattle.stations.specs.declared.howfar.CallerProgress.{CallerProgress}
-use Rattle.stations.specs.declared.mark.Mark.{Mark}
+use Rattle.signals.specs.declared.mark.Mark.{Mark}
 use Rattle.terminals.specs.Runs.{TerminalFields}
 use Rattle.g3fax.specs.Answering.{AnsweringFields}
 use Rattle.g3fax.specs.Codes.{Tells}

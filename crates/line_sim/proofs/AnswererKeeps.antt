@@ -10,18 +10,21 @@ use Rattle.signals.specs.declared.params.Params.{Params}
 use Rattle.signals.specs.declared.signal.PageEnd.{PageEnd}
 use Rattle.signals.specs.declared.signal.PageEnd.TheVariants.{Null, Mps, Eom, Eop}
 use Rattle.partial_page.specs.Store.{no_frames, joined_frames}
-use Rattle.stations.specs.Layers.{is_good_training, page_read, within_page_limit, within_frame_size}
+use Rattle.stations.specs.Layers.{is_good_training, page_read, within_page_limit}
+use Rattle.partial_page.specs.Assembling.{within_frame_size}
 use Rattle.stations.specs.Blocks.{Block, mark_of, last_frame_of, joined, pages_past, open_past, pages_before, open_before}
 use Rattle.stations.specs.Inputs.{AnswererInput, listens, trains, t2, t1, is_busy, PlainItem, framed, checked}
 use Rattle.stations.specs.Laws.{Each}
 use Rattle.stations.specs.CallerFields.{IsSending}
 use Rattle.stations.specs.CallerStep.{Caller, blocks_of}
-use Rattle.stations.specs.AnswererStep.{all_there, Answerer, AnswererAnswer, answerer_silent, same_mark, is_repeated, last_counted}
+use Rattle.stations.specs.AnswererStep.{Answerer, AnswererAnswer, answerer_silent, is_repeated}
+use Rattle.partial_page.specs.Assembling.{all_there, last_counted}
+use Rattle.signals.specs.Marks.{same_mark}
 use Rattle.stations.specs.AnswererStep.{confirms, first_dcs, later_dcs, judges_training, keeps_frame, state_after, accepts, stores}
 use Rattle.stations.specs.AnswererStep.{takes_block, judges_block, answers_pps, answers_repeated, answers_rr, leaves, answerer_table}
 use Rattle.stations.specs.AnswererStep.{unless_answerer_ended, answerer_step, answerer_items}
-use Rattle.stations.specs.declared.mark.Mark.{Mark}
-use Rattle.stations.specs.AnswererStep.{Asked}
+use Rattle.signals.specs.declared.mark.Mark.{Mark}
+use Rattle.partial_page.specs.Assembling.{Asked}
 use Rattle.stations.specs.declared.turn.CallerState.{CallerState}
 use Rattle.stations.specs.declared.turn.AnswererState.{AnswererState}
 use Rattle.stations.specs.declared.turn.End.{End}

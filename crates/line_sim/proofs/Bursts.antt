@@ -5,7 +5,7 @@ use Rattle.std.proofs.lemmas.List.{length-set, get_or-set_same, get_or-set_other
 use Rattle.std.proofs.lemmas.Bool.{agree_below_at}
 use Rattle.partial_page.specs.Store.{no_frames, frame_of, bit_of}
 use Rattle.stations.specs.CallerStep.{all_frames}
-use Rattle.stations.specs.AnswererStep.{Frames}
+use Rattle.partial_page.specs.Assembling.{Frames}
 use Rattle.line_sim.specs.LineFacts.{HoldsAll}
 use Rattle.line_sim.proofs.Stores.{length_none}
 

@@ -19,7 +19,7 @@ use Rattle.stations.specs.CallerStep.{answers_dis, answers_ftt, goes_on, ends_gr
 use Rattle.stations.specs.CallerStep.{caller_table, unless_caller_ended, caller_step, fcds, burst_of, pps_items, present_in, training_items}
 use Rattle.stations.specs.CallerStep.{caller_items}
 use Rattle.stations.specs.AnswererStep.{Answerer, state_after}
-use Rattle.stations.specs.AnswererStep.{Asked}
+use Rattle.partial_page.specs.Assembling.{Asked}
 use Rattle.stations.specs.declared.turn.CallerState.{CallerState}
 use Rattle.stations.specs.declared.turn.End.{End}
 use Rattle.stations.specs.declared.turn.Turn.{Turn}

@@ -5,7 +5,7 @@ use Rattle.std.specs.Prelude.{nat_lt, ◌⊎◌, ◌&&◌, not, map}
 use Rattle.std.proofs.lemmas.Bool.{ltb-true}
 use Rattle.signals.specs.Agreement.{allowed}
 use Rattle.signals.specs.Signals.{PlainSignal, dcs, fcd, pps, rnr, rr}
-use Rattle.stations.specs.Layers.{within_frame_size}
+use Rattle.partial_page.specs.Assembling.{within_frame_size}
 use Rattle.stations.specs.Laws.{SpeedsHold}
 use Rattle.stations.specs.Inputs.{CallerInput, hears, timeout, t5, AnswererInput, listens, trains, t2, t1, PlainItem, framed, checked}
 use Rattle.stations.specs.CallerStep.{Caller, CallerAnswer, caller_step, caller_items}

@@ -8,7 +8,7 @@ use Rattle.raster.proofs.PackedLemmas.{length-bits_in}
 use Rattle.partial_page.specs.Store.{is_marked}
 use Rattle.raster.specs.Octets.{packed, fill_of}
 use Rattle.raster.proofs.OctetLemmas.{bits_of-packed}
-use Rattle.stations.specs.AnswererStep.{Frames, ppr_map}
+use Rattle.partial_page.specs.Assembling.{Frames, ppr_map}
 
 length_packed : (bits : List Bool) → length bits ≡ 256 → length (packed bits) ≡ 32
 length_packed bits size =

@@ -11,12 +11,14 @@ use Rattle.signals.specs.declared.params.Wish.{Wish}
 use Rattle.signals.specs.declared.signal.PageEnd.{PageEnd}
 use Rattle.signals.specs.declared.signal.PageEnd.TheVariants.{Null, Mps, Eom, Eop}
 use Rattle.partial_page.specs.Store.{no_frames, joined_frames}
-use Rattle.stations.specs.Layers.{Document, page_read, within_page_limit, within_frame_size, agreed_for, training, is_good_training}
+use Rattle.stations.specs.Layers.{Document, page_read, within_page_limit, agreed_for, training, is_good_training}
+use Rattle.partial_page.specs.Assembling.{within_frame_size}
 use Rattle.stations.specs.Blocks.{Block, mark_of, last_frame_of, joined, call_blocks, is_page_end, pages_past, pages_before, open_before}
 use Rattle.stations.specs.Inputs.{PlainItem, framed, checked}
 use Rattle.stations.specs.Laws.{Each, AreReadable, IsSendableFrame}
 use Rattle.stations.specs.CallerStep.{Caller, all_frames, fcds, pps_of, burst_of}
-use Rattle.stations.specs.AnswererStep.{Frames, all_there, Answerer, AnswererAnswer, is_repeated, state_after, accepts, stores, takes_block}
+use Rattle.stations.specs.AnswererStep.{Answerer, AnswererAnswer, is_repeated, state_after, accepts, stores, takes_block}
+use Rattle.partial_page.specs.Assembling.{Frames, all_there}
 use Rattle.stations.specs.AnswererStep.{answers_pps, answerer_items}
 use Rattle.stations.specs.declared.turn.AnswererState.{AnswererState}
 use Rattle.stations.specs.declared.turn.CallerState.TheVariants.{WaitDis, WaitCfr, WaitBlock}

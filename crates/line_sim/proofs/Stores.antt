@@ -7,7 +7,7 @@ use Rattle.std.proofs.lemmas.Bool.{and_parts}
 use Rattle.std.proofs.lemmas.List.{length-set}
 use Rattle.partial_page.specs.Store.{no_frames, frame_of, has_frame, joined_frames}
 use Rattle.stations.specs.Blocks.{joined}
-use Rattle.stations.specs.AnswererStep.{Frames, is_whole, all_there}
+use Rattle.partial_page.specs.Assembling.{Frames, is_whole, all_there}
 use Rattle.line_sim.specs.LineFacts.{HoldsAll}
 use Rattle.line_sim.proofs.Lists.{get_within}
 

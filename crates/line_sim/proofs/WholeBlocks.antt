@@ -12,7 +12,8 @@ use Rattle.stations.specs.Blocks.{Block, mark_of, last_frame_of, joined, open_be
 use Rattle.stations.specs.Inputs.{listens, PlainItem}
 use Rattle.stations.specs.Laws.{Each}
 use Rattle.stations.specs.CallerStep.{Caller, blocks_of, pps_of}
-use Rattle.stations.specs.AnswererStep.{all_there, Answerer, AnswererAnswer, is_repeated, stores, takes_block, judges_block, answers_pps}
+use Rattle.stations.specs.AnswererStep.{Answerer, AnswererAnswer, is_repeated, stores, takes_block, judges_block, answers_pps}
+use Rattle.partial_page.specs.Assembling.{all_there}
 use Rattle.stations.specs.AnswererStep.{answerer_table, unless_answerer_ended, answerer_step, answerer_items}
 use Rattle.stations.specs.declared.turn.AnswererState.{AnswererState}
 use Rattle.stations.specs.declared.turn.Turn.{Turn}

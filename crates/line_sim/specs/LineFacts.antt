@@ -13,10 +13,11 @@ use Rattle.stations.specs.Inputs.{PlainItem, framed, checked}
 use Rattle.stations.specs.Laws.{Each, AreReadable}
 use Rattle.stations.specs.CallerFields.{IsSending}
 use Rattle.stations.specs.CallerStep.{Caller, blocks_of}
-use Rattle.stations.specs.AnswererStep.{Frames, Answerer, state_after}
-use Rattle.stations.specs.declared.mark.Mark.{Mark}
+use Rattle.stations.specs.AnswererStep.{Answerer, state_after}
+use Rattle.partial_page.specs.Assembling.{Frames}
+use Rattle.signals.specs.declared.mark.Mark.{Mark}
 use Rattle.stations.specs.declared.mark.Accepted.{Accepted}
-use Rattle.stations.specs.AnswererStep.{Asked}
+use Rattle.partial_page.specs.Assembling.{Asked}
 use Rattle.stations.specs.declared.turn.CallerState.{CallerState}
 use Rattle.stations.specs.declared.turn.AnswererState.{AnswererState}
 use Rattle.stations.specs.declared.turn.CallerState.TheVariants.{WaitDis, WaitCfr, WaitBlock, WaitReady}

@@ -1,3 +1,4 @@
 pub mod BlockLemmas
 pub mod NumberLemmas
 pub mod StoreLemmas
+pub mod WholeBlocks

@@ -2,11 +2,13 @@
 //! gathers the frames of a block. It uses `raster`.
 #![tactic(auto)]
 
+mod assembler;
 mod blocks;
 mod fault;
 pub mod laws;
 mod store;
 
+pub use crate::assembler::BlockAssembler;
 pub use crate::blocks::{Blocks, MAX_PAGE_OCTETS};
 pub use crate::fault::BlockFault;
 pub use crate::store::BlockStore;

@@ -11,3 +11,4 @@ pub mod BitNumbers
 pub mod Exactly
 pub mod Refusals
 pub mod Reasons
+pub mod Marks

@@ -6,6 +6,7 @@ mod agreement;
 mod control;
 mod fault;
 pub mod laws;
+mod mark;
 mod params;
 mod reading;
 mod reason;
@@ -15,6 +16,7 @@ mod writing;
 
 pub use crate::agreement::{NotCompatible, agree, allows, lower};
 pub use crate::fault::SignalFault;
+pub use crate::mark::{Mark, Pps};
 pub use crate::params::{Caps, Modems, PageWidth, Params, Speed, Wish};
 pub use crate::reading::read;
 pub use crate::reason::{Reason, why_not};

@@ -11,14 +11,18 @@ use Rattle.signals.specs.declared.signal.PageEnd.{PageEnd}
 use Rattle.signals.specs.declared.signal.PageEnd.TheVariants.{Null, Mps, Eom, Eop}
 use Rattle.partial_page.specs.Store.{has_frame, joined_frames, no_frames}
 use Rattle.stations.specs.Laws.{ReadsByGrammar}
-use Rattle.stations.specs.Layers.{IsPageOf, page_read, within_page_limit, within_frame_size, is_good_training}
+use Rattle.stations.specs.Layers.{IsPageOf, page_read, within_page_limit, is_good_training}
+use Rattle.partial_page.specs.Assembling.{within_frame_size}
 use Rattle.stations.specs.Inputs.{AnswererInput, listens, trains, t2, t1, is_busy}
-use Rattle.stations.specs.AnswererStep.{Frames, Answerer, AnswererAnswer, answerer_table, unless_answerer_ended, answerer_silent, all_there}
-use Rattle.stations.specs.AnswererStep.{StepsOrRefuses, answerer_step, is_whole}
-use Rattle.stations.specs.AnswererStep.{is_repeated, last_counted, takes_block, stores, answers_pps, accepts, confirms}
+use Rattle.stations.specs.AnswererStep.{Answerer, AnswererAnswer, answerer_table, unless_answerer_ended, answerer_silent}
+use Rattle.partial_page.specs.Assembling.{Frames, all_there}
+use Rattle.stations.specs.AnswererStep.{StepsOrRefuses, answerer_step}
+use Rattle.partial_page.specs.Assembling.{is_whole}
+use Rattle.stations.specs.AnswererStep.{is_repeated, takes_block, stores, answers_pps, accepts, confirms}
+use Rattle.partial_page.specs.Assembling.{last_counted}
 use Rattle.stations.specs.AnswererKeeping.{AnswererKeeps, AnswerersKeep, MeetsBlock, MeetsDcs, MeetsFrame, TakesBlock}
-use Rattle.stations.specs.TurnsMean.{IsTooLong}
-use Rattle.stations.specs.declared.mark.Mark.{Mark}
+use Rattle.partial_page.specs.Assembling.{IsTooLong}
+use Rattle.signals.specs.declared.mark.Mark.{Mark}
 use Rattle.stations.specs.declared.turn.AnswererState.{AnswererState}
 use Rattle.stations.specs.declared.turn.AnswererState.TheVariants.{PhaseB, WaitTraining, Message}
 use Rattle.stations.specs.declared.turn.End.{End}

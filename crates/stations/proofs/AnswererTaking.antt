@@ -14,14 +14,18 @@ use Rattle.partial_page.specs.Frames.{frame_size}
 use Rattle.partial_page.proofs.StoreLemmas.{is_kept}
 use Rattle.partial_page.specs.Store.{IsKept, has_frame, joined_frames, no_frames}
 use Rattle.stations.specs.Laws.{ReadsByGrammar}
-use Rattle.stations.specs.Layers.{page_read, within_page_limit, within_frame_size}
+use Rattle.stations.specs.Layers.{page_read, within_page_limit}
+use Rattle.partial_page.specs.Assembling.{within_frame_size}
 use Rattle.stations.specs.Inputs.{AnswererInput, listens}
-use Rattle.stations.specs.AnswererStep.{Frames, Answerer, AnswererAnswer, answerer_table, answerer_step, is_whole, all_there, is_repeated}
-use Rattle.stations.specs.AnswererStep.{judges_block, last_counted, ppr_map, same_mark, stores, takes_block, confirms}
+use Rattle.stations.specs.AnswererStep.{Answerer, AnswererAnswer, answerer_table, answerer_step, is_repeated}
+use Rattle.partial_page.specs.Assembling.{Frames, is_whole, all_there}
+use Rattle.stations.specs.AnswererStep.{judges_block, stores, takes_block, confirms}
+use Rattle.partial_page.specs.Assembling.{last_counted, ppr_map}
+use Rattle.signals.specs.Marks.{same_mark}
 use Rattle.stations.specs.AnswererKeeping.{AnswerersTake, CountsLast, MarksMissing, MeetsBlock}
 use Rattle.stations.specs.EndsMean.{IsBad}
-use Rattle.stations.specs.TurnsMean.{IsTooLong}
-use Rattle.stations.specs.declared.mark.Mark.{Mark}
+use Rattle.partial_page.specs.Assembling.{IsTooLong}
+use Rattle.signals.specs.declared.mark.Mark.{Mark}
 use Rattle.stations.specs.declared.turn.AnswererState.{AnswererState}
 use Rattle.stations.specs.declared.turn.AnswererState.TheVariants.{PhaseB, WaitTraining, Message}
 use Rattle.stations.specs.declared.turn.Turn.TheVariants.{Ppr as SendPpr}

@@ -11,13 +11,16 @@ use Rattle.signals.specs.declared.signal.PageEnd.{PageEnd}
 use Rattle.signals.specs.declared.signal.PageEnd.TheVariants.{Null, Mps, Eom, Eop}
 use Rattle.partial_page.specs.Store.{has_frame, joined_frames}
 use Rattle.stations.specs.Laws.{ReadsByGrammar}
-use Rattle.stations.specs.Layers.{IsPageOf, page_read, within_page_limit, within_frame_size, is_good_training}
+use Rattle.stations.specs.Layers.{IsPageOf, page_read, within_page_limit, is_good_training}
+use Rattle.partial_page.specs.Assembling.{within_frame_size}
 use Rattle.stations.specs.Inputs.{AnswererInput, listens, trains, t2, t1, is_busy}
-use Rattle.stations.specs.AnswererStep.{Frames, Answerer, AnswererAnswer, answerer_table, unless_answerer_ended, answerer_step, is_whole}
-use Rattle.stations.specs.AnswererStep.{all_there, is_clear, is_repeated, last_counted, takes_block, stores, judges_block, answers_pps}
+use Rattle.stations.specs.AnswererStep.{Answerer, AnswererAnswer, answerer_table, unless_answerer_ended, answerer_step}
+use Rattle.partial_page.specs.Assembling.{Frames, is_whole}
+use Rattle.stations.specs.AnswererStep.{is_clear, is_repeated, takes_block, stores, judges_block, answers_pps}
+use Rattle.partial_page.specs.Assembling.{all_there, last_counted}
 use Rattle.stations.specs.AnswererStep.{end_after, leaves, confirms}
 use Rattle.stations.specs.EndsMean.{IsAccepted, IsBad, TakesBadBlock, AnswererEndsBy, AnswerersEndsMean}
-use Rattle.stations.specs.declared.mark.Mark.{Mark}
+use Rattle.signals.specs.declared.mark.Mark.{Mark}
 use Rattle.stations.specs.declared.mark.Accepted.{Accepted}
 use Rattle.stations.specs.declared.turn.AnswererState.{AnswererState}
 use Rattle.stations.specs.declared.turn.AnswererState.TheVariants.{PhaseB, WaitTraining, Message}

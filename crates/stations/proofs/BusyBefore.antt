@@ -7,11 +7,13 @@ use Rattle.signals.specs.Signals.{dcs, fcd, pps, rr, dcn}
 use Rattle.signals.specs.declared.signal.PageEnd.{PageEnd}
 use Rattle.signals.specs.declared.signal.PageEnd.TheVariants.{Null, Mps, Eom, Eop}
 use Rattle.partial_page.specs.Store.{joined_frames}
-use Rattle.stations.specs.Layers.{within_page_limit, within_frame_size, is_good_training, page_read}
+use Rattle.stations.specs.Layers.{within_page_limit, is_good_training, page_read}
+use Rattle.partial_page.specs.Assembling.{within_frame_size}
 use Rattle.stations.specs.Inputs.{AnswererInput, listens, trains, t2, t1, is_busy}
 use Rattle.stations.specs.AnswererStep.{Answerer, AnswererAnswer, answerer_table, unless_answerer_ended, stores}
-use Rattle.stations.specs.AnswererStep.{takes_block, answers_pps, all_there, is_repeated, last_counted, is_clear, accepts}
-use Rattle.stations.specs.declared.mark.Mark.{Mark}
+use Rattle.stations.specs.AnswererStep.{takes_block, answers_pps, is_repeated, is_clear, accepts}
+use Rattle.partial_page.specs.Assembling.{all_there, last_counted}
+use Rattle.signals.specs.declared.mark.Mark.{Mark}
 use Rattle.stations.specs.declared.turn.AnswererState.{AnswererState}
 use Rattle.stations.specs.declared.turn.AnswererState.TheVariants.{PhaseB, WaitTraining, Message}
 use Rattle.stations.specs.declared.turn.End.{End}

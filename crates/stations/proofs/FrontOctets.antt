@@ -1,6 +1,6 @@
 -- The octets of the frames from number 0 on, up to the first that isn't there.
 use Rattle.std.proofs.Common.{◌≡◌, ◌≤◌, ℕ, zero, suc, [], ◌∷◌, drop, length, refl, arith}
-use Rattle.stations.specs.AnswererStep.{Frames}
+use Rattle.partial_page.specs.Assembling.{Frames}
 use Rattle.stations.specs.BadPages.{front_octets}
 
 -- after the last frame they are through

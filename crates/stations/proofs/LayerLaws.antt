@@ -23,7 +23,8 @@ use Rattle.signals.specs.Agreement.{pixels_of}
 use Rattle.signals.specs.declared.params.Params.{Params}
 use Rattle.partial_page.specs.Frames.{frame_size, cut, joined as joined_cut, IsBlock, CutIsFullFrames, JoinedPageIsWithinLimit}
 use Rattle.partial_page.specs.Frames.{OctetsHaveABlock}
-use Rattle.stations.specs.Layers.{code_octets, code_blocks, within_page_limit, code_within_limit, within_frame_size, page_read, IsFullPage}
+use Rattle.stations.specs.Layers.{code_octets, code_blocks, within_page_limit, code_within_limit, page_read, IsFullPage}
+use Rattle.partial_page.specs.Assembling.{within_frame_size}
 use Rattle.stations.specs.Layers.{Fits}
 use Rattle.stations.specs.Blocks.{joined}
 use Rattle.stations.specs.Laws.{Each, joined_all, IsSendableFrame, IsSendable, LayersHold}

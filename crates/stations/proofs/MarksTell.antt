@@ -11,7 +11,7 @@ use Rattle.partial_page.specs.Frames.{OctetsHaveABlock}
 use Rattle.stations.specs.Layers.{Document, in_one_group, code_blocks, code_within_limit}
 use Rattle.stations.specs.Blocks.{Block, mark_of, page_blocks, end_before, groups_after, call_blocks, pages_after, place_after}
 use Rattle.stations.specs.Marks.{MarksTell, Follows, NeighboursDiffer, IsLast, ListsEndSo}
-use Rattle.stations.specs.declared.mark.Mark.{Mark}
+use Rattle.signals.specs.declared.mark.Mark.{Mark}
 use Rattle.stations.proofs.LayerLaws.{coded_some}
 
 either : {A : Type 0} (P : A → Type 0) (b : Bool) (x y : A) → (b ≡ true → P x) → (b ≡ false → P y) → P (cond b x y)

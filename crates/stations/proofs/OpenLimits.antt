@@ -12,16 +12,20 @@ use Rattle.signals.specs.declared.signal.PageEnd.{PageEnd}
 use Rattle.signals.specs.declared.signal.PageEnd.TheVariants.{Null, Mps, Eom, Eop}
 use Rattle.partial_page.specs.Frames.{frame_size}
 use Rattle.partial_page.specs.Store.{no_frames, joined_frames}
-use Rattle.stations.specs.Layers.{within_page_limit, within_frame_size, is_good_training, page_read}
+use Rattle.stations.specs.Layers.{within_page_limit, is_good_training, page_read}
+use Rattle.partial_page.specs.Assembling.{within_frame_size}
 use Rattle.stations.specs.Inputs.{AnswererInput, listens, trains, t2, t1, is_busy}
-use Rattle.stations.specs.AnswererStep.{Answerer, AnswererAnswer, Frames, answerer_silent, answerer_step, answerer_table}
+use Rattle.stations.specs.AnswererStep.{Answerer, AnswererAnswer, answerer_silent, answerer_step, answerer_table}
+use Rattle.partial_page.specs.Assembling.{Frames}
 use Rattle.stations.specs.AnswererStep.{unless_answerer_ended, first_dcs, later_dcs, judges_training, keeps_frame, accepts, stores}
-use Rattle.stations.specs.AnswererStep.{takes_block, judges_block, answers_pps, answers_repeated, answers_rr, all_there, is_repeated}
-use Rattle.stations.specs.AnswererStep.{last_counted, is_clear, confirms, StepsOrRefuses, new_answerer}
+use Rattle.stations.specs.AnswererStep.{takes_block, judges_block, answers_pps, answers_repeated, answers_rr, is_repeated}
+use Rattle.partial_page.specs.Assembling.{all_there}
+use Rattle.stations.specs.AnswererStep.{is_clear, confirms, StepsOrRefuses, new_answerer}
+use Rattle.partial_page.specs.Assembling.{last_counted}
 use Rattle.stations.specs.declared.turn.Turn.{Turn}
 use Rattle.stations.specs.Limits.{open_octets, AreShort, IsLimited, OpenIsLimited, StepsKeepLimits}
 use Rattle.stations.specs.Runs.{answerer_after}
-use Rattle.stations.specs.declared.mark.Mark.{Mark}
+use Rattle.signals.specs.declared.mark.Mark.{Mark}
 use Rattle.stations.specs.declared.turn.AnswererState.{AnswererState}
 use Rattle.stations.specs.declared.turn.AnswererState.TheVariants.{PhaseB, WaitTraining, Message}
 use Rattle.stations.specs.declared.turn.End.{End}

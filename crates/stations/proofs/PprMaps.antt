@@ -10,7 +10,7 @@ use Rattle.raster.specs.declared.packed.Order.TheVariants.{LsbFirst}
 use Rattle.raster.proofs.OctetLemmas.{bits_of-packed}
 use Rattle.raster.proofs.PackedLemmas.{length-bits_in}
 use Rattle.partial_page.specs.Store.{bit_of, is_marked}
-use Rattle.stations.specs.AnswererStep.{Frames, ppr_map}
+use Rattle.partial_page.specs.Assembling.{Frames, ppr_map}
 
 length_packed : (bits : List Bool) → length bits ≡ 256 → length (packed bits) ≡ 32
 length_packed bits size =

@@ -11,18 +11,21 @@ use Rattle.signals.specs.declared.params.Params.{Params}
 use Rattle.signals.specs.declared.signal.PageEnd.{PageEnd}
 use Rattle.signals.specs.declared.signal.PageEnd.TheVariants.{Null, Mps, Eom, Eop}
 use Rattle.partial_page.specs.Store.{no_frames, joined_frames, frame_of}
-use Rattle.stations.specs.Layers.{IsPageOf, within_page_limit, within_frame_size, is_good_training, page_read}
+use Rattle.stations.specs.Layers.{IsPageOf, within_page_limit, is_good_training, page_read}
+use Rattle.partial_page.specs.Assembling.{within_frame_size}
 use Rattle.stations.specs.Blocks.{joined}
 use Rattle.stations.specs.Laws.{Each, ReadsByGrammar}
 use Rattle.stations.specs.Inputs.{CallerInput, AnswererInput, listens, trains, t2, t1, is_busy}
 use Rattle.stations.specs.CallerStep.{Caller, caller_step, caller_silent, unless_caller_ended}
-use Rattle.stations.specs.AnswererStep.{Answerer, AnswererAnswer, Frames, answerer_silent, answerer_step, answerer_table}
+use Rattle.stations.specs.AnswererStep.{Answerer, AnswererAnswer, answerer_silent, answerer_step, answerer_table}
+use Rattle.partial_page.specs.Assembling.{Frames}
 use Rattle.stations.specs.AnswererStep.{unless_answerer_ended, first_dcs, later_dcs, judges_training, keeps_frame, accepts, stores}
-use Rattle.stations.specs.AnswererStep.{takes_block, answers_pps, answers_repeated, answers_rr, all_there, is_repeated, last_counted}
+use Rattle.stations.specs.AnswererStep.{takes_block, answers_pps, answers_repeated, answers_rr, is_repeated}
+use Rattle.partial_page.specs.Assembling.{all_there, last_counted}
 use Rattle.stations.specs.AnswererStep.{is_clear, confirms, new_answerer}
 use Rattle.stations.specs.Runs.{answerer_after, EndedCallerStays, EndedAnswererStays, IsHeard, AreJoined, IsReadOf, StoredIsRead}
 use Rattle.stations.specs.Runs.{StepsStoreOpen, IsAllowedDcs, KeptIsReady, StaysReady}
-use Rattle.stations.specs.declared.mark.Mark.{Mark}
+use Rattle.signals.specs.declared.mark.Mark.{Mark}
 use Rattle.stations.specs.declared.turn.AnswererState.{AnswererState}
 use Rattle.stations.specs.declared.turn.AnswererState.TheVariants.{PhaseB, WaitTraining, Message}
 use Rattle.stations.specs.declared.turn.End.{End}

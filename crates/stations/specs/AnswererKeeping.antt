@@ -9,11 +9,12 @@ use Rattle.signals.specs.declared.signal.PageEnd.TheVariants.{Null}
 use Rattle.partial_page.specs.Store.{IsKept, bit_of, has_frame, joined_frames, no_frames}
 use Rattle.stations.specs.Layers.{IsPageOf}
 use Rattle.stations.specs.Inputs.{AnswererInput, listens, is_busy}
-use Rattle.stations.specs.AnswererStep.{Answerer, AnswererAnswer, answerer_step, last_counted}
+use Rattle.stations.specs.AnswererStep.{Answerer, AnswererAnswer, answerer_step}
+use Rattle.partial_page.specs.Assembling.{last_counted}
 use Rattle.stations.specs.EndsMean.{IsAccepted, IsBad}
-use Rattle.stations.specs.TurnsMean.{IsTooLong}
-use Rattle.stations.specs.AnswererStep.{Asked}
-use Rattle.stations.specs.declared.mark.Mark.{Mark}
+use Rattle.partial_page.specs.Assembling.{IsTooLong}
+use Rattle.partial_page.specs.Assembling.{Asked}
+use Rattle.signals.specs.declared.mark.Mark.{Mark}
 use Rattle.stations.specs.declared.turn.AnswererState.TheVariants.{PhaseB, WaitTraining, Message}
 use Rattle.stations.specs.declared.turn.Turn.{Turn}
 use Rattle.stations.specs.declared.turn.Turn.TheVariants.{Ppr as SendPpr}

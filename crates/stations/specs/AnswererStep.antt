@@ -11,8 +11,10 @@ use Rattle.signals.specs.declared.signal.PageEnd.{PageEnd}
 use Rattle.signals.specs.declared.signal.PageEnd.TheVariants.{Null, Mps, Eom, Eop}
 use Rattle.partial_page.specs.Store.{no_frames, has_frame, is_marked, joined_frames}
 use Rattle.raster.specs.Octets.{packed}
-use Rattle.stations.specs.Layers.{is_good_training, page_read, within_page_limit, within_frame_size}
-use Rattle.stations.specs.declared.mark.Mark.{Mark}
+use Rattle.stations.specs.Layers.{is_good_training, page_read, within_page_limit}
+use Rattle.partial_page.specs.Assembling.{Asked, Frames, all_there, last_counted, ppr_map, within_frame_size}
+use Rattle.signals.specs.Marks.{same_mark}
+use Rattle.signals.specs.declared.mark.Mark.{Mark}
 use Rattle.stations.specs.declared.mark.Accepted.{Accepted}
 use Rattle.stations.specs.Inputs.{AnswererInput, listens, trains, t2, t1, is_busy, PlainItem, framed}
 use Rattle.stations.specs.declared.turn.AnswererState.{AnswererState}
@@ -23,31 +25,9 @@ use Rattle.stations.specs.declared.turn.Turn.{Turn}
 use Rattle.stations.specs.declared.turn.Turn.TheVariants.{Silent, Dis as SendDis, Cfr as SendCfr, Ftt as SendFtt, Mcf as SendMcf}
 use Rattle.stations.specs.declared.turn.Turn.TheVariants.{Ppr as SendPpr, Rnr as SendRnr, Dcn as SendDcn}
 
--- the open frames: at each number 0 to 255 the data of its frame, where it is open
-abbrev pub Frames : Type 0
-Frames = List (Option (List ℕ))
-
--- each of the first numbers has a frame, up to a count
-abbrev pub is_whole : Frames → ℕ → Bool
-is_whole frames zero = true
-is_whole frames (suc count) = is_whole frames count && has_frame frames count
-
--- the frames up to the last one are all there
-unfoldable pub all_there : Frames → ℕ → Bool
-all_there frames last = is_whole frames (suc last)
-
 -- no frame is open
 unfoldable pub is_clear : Frames → Bool
 is_clear frames = list_all (λ frame. not (is_some frame)) frames
-
--- the map of a PPR: the missing frames up to the last one, and all above it
-unfoldable pub ppr_map : Frames → ℕ → List ℕ
-ppr_map frames last = packed (map (λ n. is_marked frames last n) (range_with_len 0 256))
-
--- a PPS that was answered by PPR: its mark, and the last frame that counts
-pub record Asked : Type 0 where
-  pub mark : Mark
-  pub last : ℕ
 
 -- the answerer's tuple: params count from the first DCS that is allowed; ready says that the memory for the open frames is taken
 pub record Answerer : Type 0 where
@@ -72,19 +52,10 @@ pub record AnswererAnswer : Type 0 where
 abbrev pub answerer_silent : Answerer → AnswererAnswer
 answerer_silent s = record { next = s; turn = Silent }
 
--- two marks are the same
-abbrev pub same_mark : Mark → Mark → Bool
-same_mark m n = nat_eq m.page n.page && nat_eq m.block n.block
-
 -- a mark is that of the last accepted block
 abbrev pub is_repeated : Option Accepted → Mark → Bool
 is_repeated None mark = false
 is_repeated (Some accepted) mark = same_mark accepted.mark mark
-
--- the last frame that counts: of a mark that was asked for, the greater of the two
-abbrev pub last_counted : Option Asked → Mark → ℕ → ℕ
-last_counted None mark last = last
-last_counted (Some asked) mark last = cond (same_mark asked.mark mark) (max asked.last last) last
 
 -- MCF, or RNR while busy
 abbrev pub confirms : Answerer → Turn

@@ -8,7 +8,8 @@ use Rattle.run_tables.specs.declared.fault.CodeFaultKind.{CodeFaultKind}
 use Rattle.page_code.specs.Codings.{read_rows}
 use Rattle.signals.specs.Agreement.{pixels_of}
 use Rattle.signals.specs.declared.params.Params.{Params}
-use Rattle.stations.specs.AnswererStep.{Answerer, Frames}
+use Rattle.stations.specs.AnswererStep.{Answerer}
+use Rattle.partial_page.specs.Assembling.{Frames}
 use Rattle.stations.specs.declared.turn.End.TheVariants.{BadPage}
 
 -- a page that can't be read

@@ -4,7 +4,7 @@ use Rattle.raster.specs.Pages.{PagePixels}
 use Rattle.signals.specs.declared.params.Params.{Params}
 use Rattle.signals.specs.declared.signal.PageEnd.{PageEnd}
 use Rattle.signals.specs.declared.signal.PageEnd.TheVariants.{Null, Mps, Eom, Eop}
-use Rattle.stations.specs.declared.mark.Mark.{Mark}
+use Rattle.signals.specs.declared.mark.Mark.{Mark}
 use Rattle.stations.specs.Layers.{in_one_group, code_blocks, code_within_limit}
 
 -- a block of a call: the number of its page, its place in the page, the end that its PPS carries, the parameters of its group,

@@ -10,7 +10,8 @@ use Rattle.stations.specs.Layers.{IsPageOf, agreed_for, code_octets, lowered}
 use Rattle.stations.specs.Blocks.{Block}
 use Rattle.stations.specs.Inputs.{CallerInput, AnswererInput, hears, timeout, t5, listens, t1}
 use Rattle.stations.specs.CallerStep.{Caller, caller_step, blocks_of, confirmed}
-use Rattle.stations.specs.AnswererStep.{Answerer, answerer_step, last_counted}
+use Rattle.stations.specs.AnswererStep.{Answerer, answerer_step}
+use Rattle.partial_page.specs.Assembling.{last_counted}
 use Rattle.stations.specs.declared.mark.Accepted.{Accepted}
 use Rattle.stations.specs.declared.turn.AnswererState.TheVariants.{Message}
 use Rattle.stations.specs.declared.turn.CallerState.TheVariants.{WaitDis, WaitCfr, WaitBlock, WaitReady}

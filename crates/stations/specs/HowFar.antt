@@ -3,7 +3,8 @@ use Rattle.std.specs.Prelude.{ℕ, suc, ◌+◌, List, [], ◌∷◌, length, Op
 use Rattle.std.specs.Option.{option_map}
 use Rattle.raster.specs.Pages.{PagePixels}
 use Rattle.signals.specs.declared.params.Params.{Params}
-use Rattle.stations.specs.AnswererStep.{Answerer, Frames}
+use Rattle.stations.specs.AnswererStep.{Answerer}
+use Rattle.partial_page.specs.Assembling.{Frames}
 use Rattle.stations.specs.Blocks.{Block}
 use Rattle.stations.specs.CallerStep.{Caller, confirmed, present_block}
 use Rattle.stations.specs.Layers.{code_blocks}

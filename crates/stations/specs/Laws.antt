@@ -10,7 +10,8 @@ use Rattle.signals.specs.declared.params.Params.{Params}
 use Rattle.signals.specs.declared.params.Wish.{Wish}
 use Rattle.signals.specs.declared.signal.Side.{Side}
 use Rattle.stations.specs.Layers.{IsPageOf, IsFullPage, Fits, in_one_group, agreed_for, lowered, code_blocks, code_within_limit}
-use Rattle.stations.specs.Layers.{within_frame_size, within_page_limit, page_read, training, is_good_training, speeds_left}
+use Rattle.stations.specs.Layers.{within_page_limit, page_read, training, is_good_training, speeds_left}
+use Rattle.partial_page.specs.Assembling.{within_frame_size}
 use Rattle.stations.specs.Blocks.{joined, groups_after}
 
 -- each item of a list is such an item

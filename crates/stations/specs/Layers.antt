@@ -49,10 +49,6 @@ abbrev pub code_blocks_at : Params → Option PagePixels → Option (List (List 
 code_blocks_at params None = None
 code_blocks_at params (Some page) = code_blocks_within_limit params page
 
--- the data of a frame are at most as long as agreed
-unfoldable pub within_frame_size : Params → List ℕ → Bool
-within_frame_size params octets = nat_le (length octets) (frame_size params.small)
-
 -- rows that were read, as a page of what was agreed
 abbrev pub page_of : Params → Result (List (List Color) × ℕ) (ℕ × CodeFaultKind) → Option PagePixels
 page_of params (Ok read) = Some (record { width = pixels_of params.width; fine = params.fine; rows = read.0 })

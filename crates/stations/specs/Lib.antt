@@ -3,7 +3,6 @@ pub mod Blocks
 pub mod Inputs
 pub mod CallerStep
 pub mod AnswererStep
-pub mod Assembling
 pub mod Left
 pub mod Laws
 pub mod CallerFields

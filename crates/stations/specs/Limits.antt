@@ -3,7 +3,8 @@ use Rattle.std.specs.Prelude.{ℕ, ◌≡◌, ◌≤◌, ◌+◌, List, [], ◌�
 use Rattle.signals.specs.declared.params.Caps.{Caps}
 use Rattle.signals.specs.declared.params.Params.{Params}
 use Rattle.partial_page.specs.Frames.{max_page_octets}
-use Rattle.stations.specs.AnswererStep.{Answerer, Frames, answerer_step, new_answerer}
+use Rattle.stations.specs.AnswererStep.{Answerer, answerer_step, new_answerer}
+use Rattle.partial_page.specs.Assembling.{Frames}
 use Rattle.stations.specs.Inputs.{AnswererInput}
 use Rattle.stations.specs.Runs.{answerer_after}
 

@@ -7,7 +7,8 @@ use Rattle.signals.specs.Signals.{dcs, fcd}
 use Rattle.signals.specs.declared.params.Caps.{Caps}
 use Rattle.signals.specs.declared.params.Params.{Params}
 use Rattle.partial_page.specs.Store.{joined_frames}
-use Rattle.stations.specs.Layers.{IsPageOf, within_frame_size}
+use Rattle.stations.specs.Layers.{IsPageOf}
+use Rattle.partial_page.specs.Assembling.{within_frame_size}
 use Rattle.stations.specs.Blocks.{joined}
 use Rattle.stations.specs.Laws.{Each}
 use Rattle.stations.specs.Inputs.{CallerInput, AnswererInput, listens}

@@ -6,6 +6,7 @@ use Rattle.signals.specs.declared.params.Params.{Params}
 use Rattle.signals.specs.declared.signal.PageEnd.{PageEnd}
 use Rattle.signals.specs.declared.signal.PageEnd.TheVariants.{Eom}
 use Rattle.partial_page.specs.Store.{has_frame}
+use Rattle.partial_page.specs.Assembling.{IsTooLong}
 use Rattle.stations.specs.Layers.{is_good_training}
 use Rattle.stations.specs.Blocks.{Block}
 use Rattle.stations.specs.Inputs.{CallerInput, AnswererInput, hears, timeout, t5, listens, trains, t2, t1, is_busy}
@@ -54,10 +55,6 @@ listens_in t2 = PhaseB ∷ WaitTraining ∷ []
 listens_in t1 = PhaseB ∷ WaitTraining ∷ Message ∷ []
 listens_in (is_busy busy) = PhaseB ∷ WaitTraining ∷ Message ∷ []
 listens_in _ = []
-
--- the most data octets of a frame
-abbrev pub IsTooLong : Params → List ℕ → Type 0
-IsTooLong params octets = ((params.small ≡ true) × (64 < length octets)) ⊎ ((params.small ≡ false) × (256 < length octets))
 
 -- a frame is open
 abbrev pub HasOpen : Answerer → Type 0

@@ -3,13 +3,15 @@
 ghost use Rattle.partial_page.specs.Store.{no_frames, joined_frames};
 ghost use Rattle.std.specs.Prelude.{◌≡◌, ◌≢◌, ◌+◌, ◌++◌, ℕ, true, Some, None, Ok, IfOk, IsOk, IsSome, IsTrue, ◌↔◌, ◌⊎◌, false};
 ghost use Rattle.std.specs.Prelude.{[], is_some, length};
-ghost use Rattle.stations.specs.AnswererStep.{Answerer as AnswererTuple, new_answerer, is_repeated, last_counted, all_there};
+ghost use Rattle.stations.specs.AnswererStep.{Answerer as AnswererTuple, new_answerer, is_repeated};
+ghost use Rattle.partial_page.specs.Assembling.{last_counted, all_there};
 ghost use Rattle.stations.specs.AnswererStep.{confirms, first_dcs, later_dcs, keeps_frame, judges_training, answers_pps};
 ghost use Rattle.stations.specs.AnswererStep.{takes_block, Steps, StepsOrRefuses, AnswererTakesNoMemory, answers_rr, answers_repeated};
 ghost use Rattle.stations.specs.AnswererStep.{leaves, end_after, answerer_ends, answerer_table, answerer_step, answerer_items, is_clear};
 ghost use Rattle.stations.specs.AnswererStep.{state_after, stores};
 ghost use Rattle.stations.specs.declared.turn.End.TheVariants.{BadPage, NoAnswer};
-ghost use Rattle.stations.specs.Layers.{page_read, is_good_training, within_frame_size};
+ghost use Rattle.stations.specs.Layers.{page_read, is_good_training};
+ghost use Rattle.partial_page.specs.Assembling.{within_frame_size};
 ghost use Rattle.stations.specs.declared.turn.AnswererState.TheVariants.{PhaseB, WaitTraining, Message};
 ghost use Rattle.stations.specs.CallerStep.{no_params};
 ghost use Rattle.stations.specs.Inputs.{answerer_input};
@@ -20,18 +22,17 @@ ghost use Rattle.stations.specs.HowFar.{open_count};
 ghost use Rattle.std.specs.Option.{option_map};
 ghost use Rattle.stations.specs.declared.mark.Accepted.{Accepted as AcceptedBlock};
 
-use crate::assembler::BlockAssembler;
 use crate::bad_page::RefusedPage;
 use crate::caller::no_params;
 use crate::input::AnswererIn;
 use crate::laws::{answerers_keep, open_is_limited};
 use crate::lending::Items;
-use crate::mark::{Accepted, Mark, Pps};
+use crate::mark::Accepted;
 use crate::open_page::OpenPage;
 use crate::turn::{AnswererState, End, Turn};
-use partial_page::{BlockFault, BlockStore};
+use partial_page::{BlockAssembler, BlockFault, BlockStore};
 use raster::Page;
-use signals::{Caps, PageEnd, Params, Signal, allows, training_good};
+use signals::{Caps, Mark, PageEnd, Params, Pps, Signal, allows, training_good};
 use std::alloc::{AllocError, Global};
 use std::marker::Model;
 use std::mem;
@@ -54,7 +55,7 @@ impl Model for Answerer {
     ghost use Rattle.std.specs.Prelude.{◌≡◌, ◌≢◌, None, option_map};
     ghost use Rattle.partial_page.specs.Store.{no_frames};
     ghost use Rattle.stations.specs.AnswererStep.{Answerer as AnswererTuple};
-    ghost use Rattle.stations.specs.Assembling.{asked_by};
+    ghost use Rattle.partial_page.specs.Assembling.{asked_by};
     ghost use Rattle.stations.specs.declared.turn.AnswererState.TheVariants.{Message};
 
     ghost Value = { AnswererTuple };
@@ -352,7 +353,7 @@ impl Answerer {
     }
 
     /// Answers an FCD in `Message`. Errs where memory is refused, which changes nothing.
-    #[tactic(auto, unfolding(crate::specs::Layers::within_frame_size))]
+    #[tactic(auto, unfolding(partial_page::specs::Assembling::within_frame_size))]
     fn hear_fcd(&mut self, number: u8, octets: &[u8]) -> Result<Turn, AllocError>
         requires state { self.old.state ≡ Message }
         ensures answers { StepsOrRefuses self.old self.new result (keeps_frame self.old number octets.now) }

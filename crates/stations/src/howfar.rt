@@ -7,7 +7,7 @@ ghost use Rattle.stations.specs.HowFar.{answerer_progress, block_progress, calle
 
 use crate::answerer::Answerer;
 use crate::caller::Caller;
-use crate::mark::Mark;
+use signals::Mark;
 
 /// How far a caller is with a block.
 #[derive(Clone, Copy, Debug, PartialEq, Eq)]

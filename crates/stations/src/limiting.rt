@@ -12,11 +12,10 @@ ghost use Rattle.stations.specs.declared.stopping.Cut.TheVariants.{Stop, Loss};
 use crate::answerer::Answerer;
 use crate::input::AnswererIn;
 use crate::laws::stored_is_read;
-use crate::mark::Mark;
 use crate::stopping::{CallEnd, Cut, call_end};
 use crate::turn::Turn;
 use raster::Page;
-use signals::{Caps, Signal};
+use signals::{Caps, Mark, Signal};
 use std::alloc::{AllocError, Global};
 use std::marker::Model;
 

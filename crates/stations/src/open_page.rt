@@ -3,15 +3,14 @@
 ghost use Rattle.page_code.specs.PageReaders.{GoesOnTo, IsLike};
 ghost use Rattle.partial_page.specs.Store.{joined_frames};
 ghost use Rattle.std.specs.Prelude.{◌≡◌, ◌+◌, ◌++◌, ◌↔◌, ℕ, List, [], true, IfOk, IsTrue, OnOk, length};
-ghost use Rattle.stations.specs.AnswererStep.{all_there};
+ghost use Rattle.partial_page.specs.Assembling.{all_there};
 ghost use Rattle.stations.specs.BadPages.{IsRefused, front_octets, refused_octets};
 ghost use Rattle.stations.specs.Layers.{page_read};
 ghost use Rattle.stations.specs.OpenPage.{AreReadAlike, IsReaderOf, TakesOctets};
 
-use crate::assembler::BlockAssembler;
 use crate::bad_page::RefusedPage;
 use page_code::{PageRead, PageReader};
-use partial_page::{BlockStore, MAX_PAGE_OCTETS};
+use partial_page::{BlockAssembler, BlockStore, MAX_PAGE_OCTETS};
 use raster::Page;
 use raster::packed::Order;
 use signals::Params;

@@ -14,7 +14,8 @@ use Rattle.signals.specs.declared.signal.Side.{Side}
 use Rattle.signals.specs.declared.signal.Side.TheVariants.{Caller as CallerSide, Answerer as AnswererSide}
 use Rattle.stations.proofs.PprMaps.{length_map}
 use Rattle.stations.proofs.Progress.{either}
-use Rattle.stations.specs.AnswererStep.{Answerer, AnswererAnswer, all_there, answerer_silent, answerer_step, answerer_table, answers_pps}
+use Rattle.stations.specs.AnswererStep.{Answerer, AnswererAnswer, answerer_silent, answerer_step, answerer_table, answers_pps}
+use Rattle.partial_page.specs.Assembling.{all_there}
 use Rattle.stations.specs.AnswererStep.{answers_repeated}
 use Rattle.stations.specs.AnswererStep.{answers_rr, is_clear, is_repeated, judges_block, stores, takes_block, unless_answerer_ended}
 use Rattle.signals.specs.Agreement.{allowed}
@@ -23,10 +24,11 @@ use Rattle.stations.specs.Bursts.{CutByCarrier, PlainBurst, bursts_of, items_of}
 use Rattle.stations.specs.CallerStep.{Caller, blocks_of, burst_of, caller_items, fcds, pps_items, present_block, present_in, training_items}
 use Rattle.stations.specs.Inputs.{AnswererInput, PlainItem, framed, checked, listens, trains}
 use Rattle.stations.specs.Laws.{Each}
-use Rattle.stations.specs.Layers.{code_blocks, code_octets, code_within_limit, is_good_training, within_frame_size, within_page_limit}
+use Rattle.stations.specs.Layers.{code_blocks, code_octets, code_within_limit, is_good_training, within_page_limit}
+use Rattle.partial_page.specs.Assembling.{within_frame_size}
 use Rattle.stations.specs.Limiting.{LimitedFields, busy_answer, busy_while, filled, is_full, is_kept_out, limited_step, not_ready}
 use Rattle.stations.specs.declared.limiting.Limits.{Limits}
-use Rattle.stations.specs.declared.mark.Mark.{Mark}
+use Rattle.signals.specs.declared.mark.Mark.{Mark}
 use Rattle.stations.specs.declared.stopping.Cut.{Cut}
 use Rattle.stations.specs.declared.turn.AnswererState.{AnswererState}
 use Rattle.stations.specs.declared.turn.AnswererState.TheVariants.{PhaseB, WaitTraining, Message}

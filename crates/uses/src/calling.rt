@@ -5,7 +5,7 @@ ghost use Rattle.std.specs.Prelude.{IfOk};
 
 use calls::{CallOptions, call_engine};
 use conversations::{Conversation, PageStore, TakeFault, TimedLine, answer_line};
-use engines::ToolFault;
+use faults::ToolFault;
 use line_sim::{Answered, Event, Feed, Report, World, WorldFault, answer_stream};
 use page_code::Coding;
 use raster::Document;

@@ -2,6 +2,8 @@
 
 ghost use Rattle.std.specs.Prelude.{};
 
+use captures::frames_engine;
+use faults::ToolFault;
 use hdlc::{Deframer, write_frame};
 use partial_page::{BlockFault, BlockStore, Blocks};
 use run_tables::{BitWriter, Order};
@@ -49,4 +51,12 @@ pub fn lose_a_frame(alloc: Global, coded: Vec<u8>, lost: u8) -> Result<[u8; 32],
         }
     }
     Ok(store.missing(last))
+}
+
+/// What `faxtool frames` writes for the bits of a line that are in memory.
+pub fn list_frames(alloc: Global, bits: &[u8]) -> Result<Vec<u8>, ToolFault> {
+    let mut reader = bits;
+    let mut list = Vec::new(alloc);
+    frames_engine(alloc, &mut reader, &mut list, None)?;
+    Ok(list)
 }

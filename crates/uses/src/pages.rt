@@ -1,10 +1,11 @@
-//! Images, rows in one dimension, coded pages, and a command.
+//! Images, rows in one dimension, coded pages, a command, and its faults.
 
 ghost use Rattle.raster.specs.Pixels.{IsWidth};
 ghost use Rattle.std.specs.Prelude.{◌≤◌, length};
 
-use engines::{ToolFault, code_engine};
+use faults::{Explained, Known, ToolFault};
 use page_code::{Coding, PageReader};
+use page_files::code_engine;
 use raster::{Page, RasterFault, Row, read_pbm, write_pbm};
 use run_tables::{BitReader, BitWriter, CodeFault, Order};
 use std::alloc::{AllocError, Global};
@@ -83,4 +84,18 @@ pub fn code_image(alloc: Global, image: &[u8]) -> Result<Vec<u8>, ToolFault> {
     let mut coded = Vec::new(alloc);
     code_engine(alloc, &mut reader, &mut coded, Coding::T6, Order::MsbFirst)?;
     Ok(coded)
+}
+
+/// A fault in words, as `faxtool` says it of a file.
+pub fn in_words(alloc: Global, fault: ToolFault, file: &str) -> Result<String, AllocError> {
+    let known = Known {
+        file,
+        reason: None,
+        begins: &[],
+        row: None,
+        expected: None,
+        read_as: None,
+        line: None,
+    };
+    format!(in alloc; "{}", Explained { fault, known })
 }

@@ -3,7 +3,7 @@ use Rattle.std.proofs.Common.{take, subst, sym}
 use Rattle.std.proofs.lemmas.List.{take_all}
 use Rattle.calls.specs.Calls.{TellsCommands}
 use Rattle.calls.proofs.CallSteps.{none_followed, one_followed}
-use Rattle.engines.proofs.FirstElements.{take_next}
+use Rattle.faults.proofs.FirstElements.{take_next}
 use Rattle.calls.proofs.call.follow_all.Goals as goal
 
 pub loop-command-init : goal.loop-command-init

@@ -2,7 +2,7 @@
 use Rattle.std.proofs.Common.{◌≡◌, ℕ, length, rules, subst}
 use Rattle.std.proofs.KnownBytes.{Appends-trans}
 use Rattle.std.specs.Io.KnownBytes.{Appends}
-use Rattle.engines.specs.Records.{record_line}
+use Rattle.faults.specs.RecordLines.{record_line}
 use Rattle.calls.specs.CallRecords.{answerer_record, caller_record}
 use Rattle.calls.proofs.call_records.write_ending_records.Goals as goal
 

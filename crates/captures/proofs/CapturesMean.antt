@@ -1,0 +1,373 @@
+-- What is found in whole sequences of signals.
+use Rattle.std.proofs.Common.{◌≡◌, ◌≢◌, ◌<◌, ◌≤◌, ◌+◌, ◌⊎◌, ℕ, Bool, true, false, cond, not, List, [], ◌∷◌, ◌++◌, ◌%◌, length}
+use Rattle.std.proofs.Common.{refl}
+use Rattle.std.proofs.Common.{ap, sym, ◌∙◌, subst, arith, inl, inr}
+use Rattle.std.proofs.lemmas.Bool.{le-leb}
+use Rattle.std.proofs.lemmas.Bool.Decides.{nat_tests}
+use Rattle.std.proofs.lemmas.List.{append-nil}
+use Rattle.std.specs.Prelude.{Option, None, Some, nat_eq, nat_le, slice_set}
+use Rattle.partial_page.proofs.StoreLemmas.{is_kept}
+use Rattle.partial_page.specs.Frames.{frame_size}
+use Rattle.partial_page.specs.Store.{joined_frames, no_frames}
+use Rattle.signals.specs.Signals.{PlainSignal, dcs, fcd, pps}
+use Rattle.signals.specs.declared.params.Params.{Params}
+use Rattle.signals.specs.declared.signal.PageEnd.{PageEnd}
+use Rattle.signals.specs.declared.signal.PageEnd.TheVariants.{Null, Mps, Eom, Eop}
+use Rattle.partial_page.specs.Assembling.{all_there}
+use Rattle.partial_page.specs.Assembling.{within_frame_size}
+use Rattle.partial_page.specs.Assembling.{IsTooLong}
+use Rattle.signals.specs.declared.mark.Mark.{Mark}
+use Rattle.signals.specs.declared.mark.Pps.{Pps}
+use Rattle.captures.specs.Captured.{Capture, Step, at_end, empty_capture, finds_none, gathers, gives_up, hears, hears_block, hears_fcd}
+use Rattle.captures.specs.Captured.{hears_pps}
+use Rattle.captures.specs.Captured.{is_waiting, judges, left_open, overlaid, page_in, takes_block, turns_from, turns_to, last_of, ◌>>>◌}
+use Rattle.captures.specs.CapturesMean.{BlocksEnd, CapturesMean, FramesAreKept, IsAfterBlock, IsAwaited, OthersChangeNothing}
+use Rattle.captures.specs.CapturesMean.{found_in, hears_signals, mark_of}
+use Rattle.captures.specs.declared.captured.Captured.{Captured}
+use Rattle.captures.specs.declared.captured.Captured.TheVariants.{MissingFrame, MissingBlocks, Unfinished, BlockBeforeDcs}
+
+-- ---- sequences
+
+-- the data of an FCD have at most 64 octets
+abbrev IsShort : PlainSignal → Type 0
+IsShort (fcd number octets) = length octets ≤ 64
+IsShort signal = Unit {0}
+
+abbrev AreShort : List PlainSignal → Type 0
+AreShort [] = Unit {0}
+AreShort (signal ∷ signals) = IsShort signal × AreShort signals
+
+within : (params : Params) (octets : List ℕ) → length octets ≤ 64 → within_frame_size params octets ≡ true
+unfolding within_frame_size
+within params octets short = at params.small
+  where
+    at : (small : Bool) → nat_le (length octets) (frame_size small) ≡ true
+    at true = le-leb (length octets) 64 short
+    at false = le-leb (length octets) 256 (omega (arith, short))
+
+-- the data of an FCD are kept, however long they are
+abbrev keeps : Option Params → ℕ → List ℕ → Capture → Step
+keeps None number octets s = finds_none s
+keeps (Some params) number octets s = finds_none (record s { coming = slice_set s.coming number (Some octets); begun = true })
+
+abbrev keeps_all : PlainSignal → Capture → Step
+keeps_all (fcd number octets) s = keeps s.params number octets s
+keeps_all signal s = hears signal s
+
+abbrev all_kept : List PlainSignal → Capture → Step
+all_kept [] s = finds_none s
+all_kept (signal ∷ signals) s = keeps_all signal s >>> all_kept signals
+
+one_kept : (signal : PlainSignal) (s : Capture) → IsShort signal → hears signal s ≡ keeps_all signal s
+unfolding hears
+one_kept (fcd number octets) s short = at s.params
+  where
+    at : (params : Option Params) → hears_fcd params number octets s ≡ keeps params number octets s
+    at None = refl
+    at (Some params) = ap (λ (b : Bool). finds_none (cond b (record s {
+      coming = slice_set s.coming number
+          (Some octets);
+      begun = true;
+    }) s))
+        (within params octets short)
+one_kept signal s short = refl
+
+kept_each : (signals : List PlainSignal) (s : Capture) → AreShort signals → hears_signals signals s ≡ all_kept signals s
+kept_each [] s short = refl
+kept_each (signal ∷ signals) s (first, rest) =
+    ap (λ (step : Step). step >>> hears_signals signals) (one_kept signal s first)
+    ∙ ap (λ (step : Step). record { then = step.then; found = (keeps_all signal s).found ++ step.found })
+    (kept_each signals (keeps_all signal s).then rest)
+
+abbrev found_so : List PlainSignal → List Captured
+found_so signals = (all_kept signals (empty_capture None)).found ++ at_end (all_kept signals (empty_capture None)).then
+
+found_is : (signals : List PlainSignal) → AreShort signals → found_in signals ≡ found_so signals
+found_is signals short = ap (λ (step : Step). step.found ++ at_end step.then) (kept_each signals (empty_capture None) short)
+
+joined : (a b : List ℕ) → a ++ (b ++ []) ≡ a ++ b
+joined a b = ap (λ (octets : List ℕ). a ++ octets) (append-nil b)
+
+two_parts : (a b : List ℕ) → (a ++ []) ++ (b ++ []) ≡ a ++ b
+two_parts a b = ap (λ (octets : List ℕ). octets ++ (b ++ [])) (append-nil a) ∙ joined a b
+
+filled : (a : List ℕ) → 0 < length a → nat_eq (length (a ++ [])) 0 ≡ false
+filled a some = ap (λ (octets : List ℕ). nat_eq (length octets) 0) (append-nil a) ∙ more (length a) some
+  where
+    more : (n : ℕ) → 0 < n → nat_eq n 0 ≡ false
+    more n some = grind (arith, nat_tests)
+
+pub captures_mean : CapturesMean
+unfolding hears hears_block judges takes_block gives_up left_open at_end overlaid no_frames joined_frames all_there
+captures_mean params next a b la lb = record {
+  one_block = one;
+  two_blocks = two;
+  two_pages = found_is (dcs params ∷ fcd 0 a ∷ pps Mps 0 0 0 ∷ fcd 0 b ∷ pps Eop 1 0 0 ∷ []) (tt, (la, (tt, (lb, (tt, tt)))))
+      ∙ pages params a b;
+  two_groups = found_is (dcs params ∷ fcd 0 a ∷ pps Eom 0 0 0 ∷ dcs next ∷ fcd 0 b ∷ pps Eop 1 0 0 ∷ []) (
+    tt,
+    (
+      la,
+      (
+        tt,
+        (
+          tt,
+          (
+            lb,
+            (
+              tt,
+              tt,
+            ),
+          ),
+        ),
+      ),
+    ),
+  ) ∙ pages next a b;
+  page_again = again;
+  block_again = found_is (dcs params ∷ fcd 0 a ∷ pps Null 0 0 0 ∷ fcd 0 a ∷ pps Null 0 0 0 ∷ fcd 0 b ∷ pps Eop 0 1 0 ∷ []) (
+    tt,
+    (
+      la,
+      (
+        tt,
+        (la, (tt, (lb, (tt, tt)))),
+      ),
+    ),
+  ) ∙ ap (λ (octets : List ℕ). page_in params (mark_of 0 1) octets ∷ []) (two_parts a b);
+  frame_again = found_is (dcs params ∷ fcd 1 b ∷ pps Eop 0 0 1 ∷ fcd 0 a ∷ pps Eop 0 0 1 ∷ []) (tt, (lb, (tt, (la, (tt, tt)))))
+      ∙ ap (λ (octets : List ℕ). page_in params (mark_of 0 0) octets ∷ []) (joined a b);
+  smaller_last = found_is (dcs params ∷ fcd 1 b ∷ pps Eop 0 0 1 ∷ fcd 0 a ∷ pps Eop 0 0 0 ∷ []) (tt, (lb, (tt, (la, (tt, tt)))))
+      ∙ ap (λ (octets : List ℕ). page_in params (mark_of 0 0) octets ∷ []) (joined a b);
+  later_frame = found_is (dcs params ∷ fcd 0 a ∷ fcd 0 b ∷ pps Eop 0 0 0 ∷ []) (tt, (la, (lb, (tt, tt))))
+      ∙ ap (λ (octets : List ℕ). page_in params (mark_of 0 0) octets ∷ []) (append-nil b);
+  later_block = found_is (dcs params ∷ fcd 0 a ∷ pps Eop 0 0 1 ∷ fcd 0 b ∷ fcd 1 a ∷ pps Eop 0 0 1 ∷ []) (
+    tt,
+    (
+      la,
+      (
+        tt,
+        (
+          lb,
+          (
+            la,
+            (
+              tt,
+              tt,
+            ),
+          ),
+        ),
+      ),
+    ),
+  ) ∙ ap (λ (octets : List ℕ). page_in params (mark_of 0 0) octets ∷ []) (joined b a);
+  never_came = never;
+  page_after = found_is (dcs params ∷ fcd 1 b ∷ pps Mps 0 0 1 ∷ fcd 0 a ∷ pps Eop 1 0 0 ∷ []) (tt, (lb, (tt, (la, (tt, tt)))))
+      ∙ ap (λ (octets : List ℕ). MissingFrame (mark_of 0 0) 0 ∷ page_in params (mark_of 1 0) octets ∷ []) (append-nil a);
+  block_after = found_is (dcs params ∷ fcd 1 b ∷ pps Null 0 0 1 ∷ fcd 0 a ∷ pps Eop 0 1 0 ∷ []) (tt, (lb, (tt, (la, (tt, tt)))));
+  no_block = found_is (dcs params ∷ fcd 0 a ∷ pps Mps 0 1 0 ∷ fcd 0 b ∷ pps Eop 1 0 0 ∷ []) (tt, (la, (tt, (lb, (tt, tt)))))
+      ∙ ap (λ (octets : List ℕ). MissingBlocks (mark_of 0 1) ∷ page_in params (mark_of 1 0) octets ∷ []) (append-nil b);
+  no_end = found_is (dcs params ∷ fcd 0 a ∷ []) (tt, (la, tt));
+  dcs_in_block = found_is (dcs params ∷ fcd 0 a ∷ dcs next ∷ fcd 0 b ∷ pps Eop 0 0 0 ∷ []) (tt, (la, (tt, (lb, (tt, tt)))))
+      ∙ ap (λ (octets : List ℕ). Unfinished ∷ page_in next (mark_of 0 0) octets ∷ []) (append-nil b);
+  dcs_in_page = λ some. found_is (dcs params ∷ fcd 0 a ∷ pps Null 0 0 0 ∷ dcs next ∷ fcd 0 b ∷ pps Eop 0 0 0 ∷ []) (
+    tt,
+    (
+      la,
+      (
+        tt,
+        (
+          tt,
+          (lb, (tt, tt)),
+        ),
+      ),
+    ),
+  ) ∙ (ap (λ (empty : Bool). (cond (not empty) (Unfinished ∷ []) [] ++ page_in next (mark_of 0 0) (b ++ [])
+      ∷ []) ++ []) (filled a some) ∙ ap (λ (octets : List ℕ). Unfinished ∷ page_in next (mark_of 0 0) octets ∷ []) (append-nil b));
+  dcs_in_resend = found_is (dcs params ∷ fcd 0 a ∷ pps Eop 0 0 1 ∷ dcs next ∷ fcd 1 b ∷ pps Eop 0 0 1 ∷ []) (
+    tt,
+    (
+      la,
+      (
+        tt,
+        (
+          tt,
+          (
+            lb,
+            (
+              tt,
+              tt,
+            ),
+          ),
+        ),
+      ),
+    ),
+  );
+  no_dcs = unread;
+}
+  where
+    pages : (then : Params) (a b : List ℕ) → page_in params (mark_of 0 0) (a ++ []) ∷ page_in then (mark_of 1 0) (b ++ []) ∷ []
+        ≡ page_in params (mark_of 0 0) a ∷ page_in then (mark_of 1 0) b ∷ []
+    pages then a b = ap (λ (octets : List ℕ). page_in params (mark_of 0 0) octets ∷ page_in then (mark_of 1 0) (b ++ []) ∷ [])
+        (append-nil a)
+        ∙ ap (λ (octets : List ℕ). page_in params (mark_of 0 0) a ∷ page_in then (mark_of 1 0) octets ∷ []) (append-nil b)
+
+    one : (ends : PageEnd) → ends ≢ Null → found_in (dcs params ∷ fcd 0 a ∷ pps ends 0 0 0 ∷ []) ≡ page_in params (mark_of 0 0) a ∷ []
+    one Null other = absurd (other refl)
+    one Mps other = found_is (dcs params ∷ fcd 0 a ∷ pps Mps 0 0 0 ∷ []) (tt, (la, (tt, tt)))
+        ∙ ap (λ (octets : List ℕ). page_in params (mark_of 0 0) octets ∷ []) (append-nil a)
+    one Eom other = found_is (dcs params ∷ fcd 0 a ∷ pps Eom 0 0 0 ∷ []) (tt, (la, (tt, tt)))
+        ∙ ap (λ (octets : List ℕ). page_in params (mark_of 0 0) octets ∷ []) (append-nil a)
+    one Eop other = found_is (dcs params ∷ fcd 0 a ∷ pps Eop 0 0 0 ∷ []) (tt, (la, (tt, tt)))
+        ∙ ap (λ (octets : List ℕ). page_in params (mark_of 0 0) octets ∷ []) (append-nil a)
+
+    two : (ends : PageEnd) → ends ≢ Null → found_in (dcs params ∷ fcd 0 a ∷ pps Null 0 0 0 ∷ fcd 0 b ∷ pps ends 0 1 0 ∷ [])
+        ≡ page_in params (mark_of 0 1) (a ++ b) ∷ []
+    two Null other = absurd (other refl)
+    two Mps other = found_is (dcs params ∷ fcd 0 a ∷ pps Null 0 0 0 ∷ fcd 0 b ∷ pps Mps 0 1 0 ∷ []) (tt, (la, (tt, (lb, (tt, tt)))))
+        ∙ ap (λ (octets : List ℕ). page_in params (mark_of 0 1) octets ∷ []) (two_parts a b)
+    two Eom other = found_is (dcs params ∷ fcd 0 a ∷ pps Null 0 0 0 ∷ fcd 0 b ∷ pps Eom 0 1 0 ∷ []) (tt, (la, (tt, (lb, (tt, tt)))))
+        ∙ ap (λ (octets : List ℕ). page_in params (mark_of 0 1) octets ∷ []) (two_parts a b)
+    two Eop other = found_is (dcs params ∷ fcd 0 a ∷ pps Null 0 0 0 ∷ fcd 0 b ∷ pps Eop 0 1 0 ∷ []) (tt, (la, (tt, (lb, (tt, tt)))))
+        ∙ ap (λ (octets : List ℕ). page_in params (mark_of 0 1) octets ∷ []) (two_parts a b)
+
+    again : (ends : PageEnd) → ends ≢ Null → found_in (dcs params ∷ fcd 0 a ∷ pps ends 0 0 0 ∷ fcd 0 a ∷ pps ends 0 0 0 ∷ [])
+        ≡ page_in params (mark_of 0 0) a ∷ []
+    again Null other = absurd (other refl)
+    again Mps other = found_is (dcs params ∷ fcd 0 a ∷ pps Mps 0 0 0 ∷ fcd 0 a ∷ pps Mps 0 0 0 ∷ []) (tt, (la, (tt, (la, (tt, tt)))))
+        ∙ ap (λ (octets : List ℕ). page_in params (mark_of 0 0) octets ∷ []) (append-nil a)
+    again Eom other = found_is (dcs params ∷ fcd 0 a ∷ pps Eom 0 0 0 ∷ fcd 0 a ∷ pps Eom 0 0 0 ∷ []) (tt, (la, (tt, (la, (tt, tt)))))
+        ∙ ap (λ (octets : List ℕ). page_in params (mark_of 0 0) octets ∷ []) (append-nil a)
+    again Eop other = found_is (dcs params ∷ fcd 0 a ∷ pps Eop 0 0 0 ∷ fcd 0 a ∷ pps Eop 0 0 0 ∷ []) (tt, (la, (tt, (la, (tt, tt)))))
+        ∙ ap (λ (octets : List ℕ). page_in params (mark_of 0 0) octets ∷ []) (append-nil a)
+
+    never : (ends : PageEnd) → found_in (dcs params ∷ fcd 1 b ∷ pps ends 0 0 1 ∷ []) ≡ MissingFrame (mark_of 0 0) 0 ∷ []
+    never Null = found_is (dcs params ∷ fcd 1 b ∷ pps Null 0 0 1 ∷ []) (tt, (lb, (tt, tt)))
+    never Mps = found_is (dcs params ∷ fcd 1 b ∷ pps Mps 0 0 1 ∷ []) (tt, (lb, (tt, tt)))
+    never Eom = found_is (dcs params ∷ fcd 1 b ∷ pps Eom 0 0 1 ∷ []) (tt, (lb, (tt, tt)))
+    never Eop = found_is (dcs params ∷ fcd 1 b ∷ pps Eop 0 0 1 ∷ []) (tt, (lb, (tt, tt)))
+
+    unread : (ends : PageEnd) → found_in (fcd 0 a ∷ pps ends 0 0 0 ∷ []) ≡ BlockBeforeDcs (mark_of 0 0) ∷ []
+    unread Null = found_is (fcd 0 a ∷ pps Null 0 0 0 ∷ []) (la, (tt, tt))
+    unread Mps = found_is (fcd 0 a ∷ pps Mps 0 0 0 ∷ []) (la, (tt, tt))
+    unread Eom = found_is (fcd 0 a ∷ pps Eom 0 0 0 ∷ []) (la, (tt, tt))
+    unread Eop = found_is (fcd 0 a ∷ pps Eop 0 0 0 ∷ []) (la, (tt, tt))
+
+-- ---- every state
+
+pub others_change_nothing : OthersChangeNothing
+unfolding hears
+others_change_nothing (dcs params) s none = absurd none
+others_change_nothing (fcd number octets) s none = absurd none
+others_change_nothing (pps ends page block last) s none = absurd none
+others_change_nothing signal s other = refl
+
+too_long : (params : Params) (octets : List ℕ) → IsTooLong params octets → within_frame_size params octets ≡ false
+unfolding within_frame_size
+too_long params octets long = at params.small refl long
+  where
+    at : (small : Bool) → params.small ≡ small → IsTooLong params octets → nat_le (length octets) (frame_size small) ≡ false
+    at true is (inl (same, more)) = grind (arith, nat_tests)
+    at true is (inr (same, more)) = let e : true ≡ false = sym is ∙ same in cc
+    at false is (inl (same, more)) = let e : false ≡ true = sym is ∙ same in cc
+    at false is (inr (same, more)) = grind (arith, nat_tests)
+
+not_too_long : (params : Params) (octets : List ℕ) → (IsTooLong params octets → ⊥) → within_frame_size params octets ≡ true
+unfolding within_frame_size
+not_too_long params octets short = at params.small refl
+  where
+    least : (most : ℕ) → (most < length octets → ⊥) → length octets ≤ most
+    least most none = omega (arith, none)
+
+    at : (small : Bool) → params.small ≡ small → nat_le (length octets) (frame_size small) ≡ true
+    at true is = le-leb (length octets) 64 (least 64 (λ more. short (inl (is, more))))
+    at false is = le-leb (length octets) 256 (least 256 (λ more. short (inr (is, more))))
+
+pub frames_are_kept : FramesAreKept
+unfolding hears
+frames_are_kept params number octets s is some = (
+  λ short. (
+    slice_set s.coming number (Some octets),
+    is_kept s.coming number octets some,
+    heard
+        ∙ by true (not_too_long params octets short),
+  ),
+  λ long. heard ∙ by false (too_long params octets long),
+)
+  where
+    kept : Capture
+    kept = record s { coming = slice_set s.coming number (Some octets); begun = true }
+
+    heard : hears_fcd s.params number octets s ≡ hears_fcd (Some params) number octets s
+    heard = ap (λ (p : Option Params). hears_fcd p number octets s) is
+
+    by : (b : Bool) → within_frame_size params octets ≡ b → hears_fcd (Some params) number octets s ≡ finds_none (cond b kept s)
+    by b e = ap (λ (b : Bool). finds_none (cond b kept s)) e
+
+either : {A : Type 0} (P : A → Type 0) (b : Bool) (x y : A) → P x → P y → P (cond b x y)
+either P true x y f g = f
+either P false x y f g = g
+
+-- a PPS of a block leaves it waiting, or takes it
+abbrev Leaves : PageEnd → Mark → ℕ → Option Pps → Step → Type 0
+Leaves ends mark last before step = (step.then.coming ≡ no_frames) × (step.then.begun ≡ false)
+    × (IsAwaited ends mark last before step.then.waiting
+    ⊎ ((step.then.waiting ≡ None) × (step.then.taken ≡ Some mark) × IsAfterBlock ends mark step.then))
+
+next_is : (n : ℕ) → n < 255 → (n + 1) % 256 ≡ n + 1
+next_is n less = omega (arith, less)
+
+judged : (params : Params) (ends : PageEnd) (mark : Mark) (last counts : ℕ) (before : Option Pps) (s : Capture)
+    → IsAwaited ends mark last before (Some (record { mark = mark; ends = ends; last = counts }))
+    → Leaves ends mark last before (judges params ends mark counts (gathers s))
+unfolding judges takes_block
+judged params ends mark last counts before s awaited = either (Leaves ends mark last before) (all_there (gathers s).kept counts)
+    (takes_block params ends mark (joined_frames (gathers s).kept (counts + 1)) (gathers s))
+    (finds_none (record (gathers s) { waiting = Some (record { mark = mark; ends = ends; last = counts }) }))
+    (taken ends) (refl, refl, inl awaited)
+  where
+    taken : (ends : PageEnd)
+        → Leaves ends mark last before (takes_block params ends mark (joined_frames (gathers s).kept (counts + 1)) (gathers s))
+    taken Null = (refl, refl, inr (refl, refl, ((λ less. next_is mark.block less), (λ e. ap (λ (n : ℕ). (n + 1) % 256) e))))
+    taken Mps = (refl, refl, inr (refl, refl, (refl, refl, refl)))
+    taken Eom = (refl, refl, inr (refl, refl, (refl, refl, refl)))
+    taken Eop = (refl, refl, inr (refl, refl, (refl, refl, refl)))
+
+-- the last frame that counts is one or the other
+counts_new : (before : Option Pps) (last : ℕ) → last ≤ last_of before last
+counts_new None last = omega arith
+counts_new (Some waiting) last = omega arith
+
+-- what waits for frames of a block goes on waiting as it comes again
+still_waits : (mark : Mark) (s : Capture) → is_waiting s.waiting mark ≡ true → (turns_from mark s >>> turns_to mark).then.waiting
+    ≡ s.waiting
+still_waits mark s same =
+    ap (λ (b : Bool). (cond b (finds_none s) (gives_up s s.waiting) >>> turns_to mark).then.waiting) same ∙ stays (nat_eq mark.block s.next)
+  where
+    stays : (b : Bool) → (cond b (finds_none s) (record {
+      then = record s { octets = []; next = mark.block; spoiled = true };
+      found = MissingBlocks mark ∷ [];
+    })).then.waiting ≡ s.waiting
+    stays true = refl
+    stays false = refl
+
+pub blocks_end : BlocksEnd
+unfolding hears hears_block
+blocks_end params ends mark last s is new =
+    subst (Leaves ends mark last s.waiting) (sym heard)
+    (judged params ends mark last (last_of turned.waiting last) s.waiting turned awaited)
+  where
+    turned : Capture
+    turned = (turns_from mark s >>> turns_to mark).then
+
+    awaited : IsAwaited ends mark last s.waiting (Some (record { mark = mark; ends = ends; last = last_of turned.waiting last }))
+    awaited = record {
+      counts = last_of turned.waiting last;
+      waits = refl;
+      new = counts_new turned.waiting last;
+      old = λ waiting e same.
+          let waits : turned.waiting ≡ Some waiting = still_waits mark s same ∙ e in
+          subst (λ (w : Option Pps). waiting.last ≤ last_of w last) (sym waits) (omega arith);
+    }
+
+    heard : hears_pps s.params ends mark last s ≡ hears_block params ends mark last s
+    heard = ap (λ (p : Option Params). hears_pps p ends mark last s) is
+        ∙ ap (λ (b : Bool). cond b (finds_none (record s { coming = no_frames; begun = false })) (hears_block params ends mark last s)) new

@@ -1,0 +1,79 @@
+-- Of a block that comes again the greater of the two last frames counts: when its PPS comes, no other block waits for frames any more.
+use Rattle.std.proofs.Common.{◌≡◌, ℕ, Bool, true, false, cond, refl, ap, sym, subst}
+use Rattle.std.specs.Prelude.{Option, None, Some, Result, Ok, Err, OnOk, List, max, nat_eq, option_map, ◌∷◌, []}
+use Rattle.signals.specs.declared.params.Params.{Params}
+use Rattle.signals.specs.declared.signal.PageEnd.{PageEnd}
+use Rattle.signals.specs.declared.signal.PageEnd.TheVariants.{Null, Mps, Eom, Eop}
+use Rattle.partial_page.specs.Assembling.{last_counted}
+use Rattle.partial_page.specs.Assembling.{asked_by}
+use Rattle.signals.specs.declared.mark.Mark.{Mark}
+use Rattle.signals.specs.declared.mark.Pps.{Pps}
+use Rattle.captures.specs.Captured.{Capture, Takes, after_lack, finds_none, gathers, gives_up, hears_block, is_waiting, judges, last_of}
+use Rattle.captures.specs.Captured.{turns_from, turns_to, ◌>>>◌}
+use Rattle.captures.specs.declared.captured.Captured.{Captured}
+use Rattle.captures.specs.declared.captured.Captured.TheVariants.{MissingBlocks}
+use Rattle.captures.proofs.Capturing.{takes_first}
+
+abbrev CountsGreater : Mark → ℕ → Option Pps → Type 0
+CountsGreater mark last waits = last_counted (option_map asked_by waits) mark last ≡ last_of waits last
+
+of_mark : (mark : Mark) (last : ℕ) (waits : Option Pps) → is_waiting waits mark ≡ true → CountsGreater mark last waits
+of_mark mark last None same = refl
+of_mark mark last (Some waiting) same = ap (λ (b : Bool). cond b (max waiting.last last) last) same
+
+lacks_none : (ends : PageEnd) (mark : Mark) (s : Capture) → (after_lack ends mark s).waiting ≡ s.waiting
+lacks_none Null mark s = refl
+lacks_none Mps mark s = refl
+lacks_none Eom mark s = refl
+lacks_none Eop mark s = refl
+
+given_up : (s : Capture) (waits : Option Pps) → s.waiting ≡ waits → (gives_up s waits).then.waiting ≡ None
+unfolding gives_up
+given_up s None e = e
+given_up s (Some waiting) e = lacks_none waiting.ends waiting.mark _
+
+turned_to : (mark : Mark) (s : Capture) → (turns_to mark s).then.waiting ≡ s.waiting
+turned_to mark s = stays (nat_eq mark.block s.next)
+  where
+    stays : (b : Bool) → (cond b (finds_none s) (record {
+      then = record s { octets = []; next = mark.block; spoiled = true };
+      found = MissingBlocks mark ∷ [];
+    })).then.waiting ≡ s.waiting
+    stays true = refl
+    stays false = refl
+
+counts_greater : (mark : Mark) (last : ℕ) (s : Capture) →
+    last_counted (option_map asked_by (turns_from mark s >>> turns_to mark).then.waiting) mark last
+    ≡ last_of (turns_from mark s >>> turns_to mark).then.waiting last
+counts_greater mark last s = subst (CountsGreater mark last) (sym (turned_to mark (turns_from mark s).then))
+    (turned (is_waiting s.waiting mark) refl)
+  where
+    turned : (b : Bool) → is_waiting s.waiting mark ≡ b
+        → CountsGreater mark last (cond b (finds_none s) (gives_up s s.waiting)).then.waiting
+    turned true same = of_mark mark last s.waiting same
+    turned false other = subst (CountsGreater mark last) (sym (given_up s s.waiting refl)) refl
+
+-- a PPS of a block that isn't whole yet: what waits is turned from, and its frames are judged by the last one that counts
+pub block_heard : {A E : Type 0} (result : Result A E) (params : Params) (pps counted : Pps) (s from to gathered new : Capture)
+    (out out_from out_to all : List Captured) → Takes (turns_from pps.mark s) from out out_from
+    → Takes (turns_to pps.mark from) to out_from out_to
+    → counted ≡ record pps { last = last_counted (option_map asked_by to.waiting) pps.mark pps.last } → gathered ≡ gathers to
+    → OnOk result (Takes (judges params counted.ends counted.mark counted.last gathered) new out_to all)
+    → OnOk result (Takes (hears_block params pps.ends pps.mark pps.last s) new out all)
+unfolding hears_block
+block_heard (Ok done) params pps counted s from to gathered new out out_from out_to all a b is gathers_is judged =
+    takes_first (turns_from pps.mark s >>> turns_to pps.mark)
+    (λ s. judges params pps.ends pps.mark (last_of s.waiting pps.last) (gathers s)) to new out out_to all turned
+    (subst (λ (last : ℕ). Takes (judges params pps.ends pps.mark last (gathers to)) new out_to all) greater
+    (subst (λ (x : Capture). Takes (judges params pps.ends pps.mark counts x) new out_to all) gathers_is
+    (subst (λ (p : Pps). Takes (judges params p.ends p.mark p.last gathered) new out_to all) is judged)))
+  where
+    counts : ℕ
+    counts = last_counted (option_map asked_by to.waiting) pps.mark pps.last
+
+    turned : Takes (turns_from pps.mark s >>> turns_to pps.mark) to out out_to
+    turned = takes_first (turns_from pps.mark s) (turns_to pps.mark) from to out out_from out_to a b
+
+    greater : counts ≡ last_of to.waiting pps.last
+    greater = subst (λ (x : Capture). CountsGreater pps.mark pps.last x.waiting) (sym turned.is) (counts_greater pps.mark pps.last s)
+block_heard (Err refused) params pps counted s from to gathered new out out_from out_to all a b is gathers_is judged = tt

@@ -1,0 +1,10 @@
+-- A PPS of a block that isn't whole yet is heard as the definition says.
+use Rattle.captures.proofs.LastFrames.{block_heard}
+use Rattle.captures.proofs.captured.Capture.hear_block.Goals as goal
+
+pub returns-clause-taken : goal.returns-clause-taken
+returns-clause-taken c =
+    block_heard c.judge.result c.args.params c.args.pps c.counted-counted.result c.args.self.now c.turn_from.new.self c.turn_to.new.self
+    c.gather.new.self c.judge.new.self c.args.out.now.items c.turn_from.new.out.items c.turn_to.new.out.items c.judge.new.out.items
+    c.in_ok-turn_from.ensures.taken c.in_ok-turn_to.ensures.taken c.counted-counted.ensures c.in_ok-gather.ensures.gathered
+    c.judge.ensures.taken

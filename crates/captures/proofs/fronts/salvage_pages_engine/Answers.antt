@@ -1,0 +1,49 @@
+-- What the check asks of `salvage_pages_engine`.
+use Rattle.std.proofs.Common.{rules, take}
+use Rattle.captures.proofs.Listing.{all_listed, none_listed, nothing, piece_listed, worth_told}
+use Rattle.captures.proofs.Salvaging.{nothing_salvaged, piece_salvaged, whole_salvaged}
+use Rattle.std.proofs.KnownBytes.{Appends-kept}
+use Rattle.captures.proofs.fronts.salvage_pages_engine.Goals as goal
+
+pub loop-read-init : goal.loop-read-init
+loop-read-init g c = (
+  none_listed _ _ _ c.new-deframer.result c.new-deframer.ensures,
+  nothing_salvaged _ _ _ _ c.new-deframer.result c.new-capture.result _ c.new-deframer.ensures c.new-capture.ensures,
+)
+
+pub returns-then-count-eq0-clause-listed : goal.returns-then-count-eq0-clause-listed
+returns-then-count-eq0-clause-listed g c =
+    all_listed _ _ _ _ _ _ _ c.loop-read.deframer c.loop-read.number c.loop-read.octets c.counts.result c.loop-read.invariant.0
+    (nothing (g.R.Read.remaining c.loop-read.reader) (g.R.Read.remaining c.read_some.new.reader) c.in_ok-count.count c.read_some.new.piece
+    c.if-count-eq0.true c.in_ok-count.ensures.came)
+    (c.in_ok-count.ensures.end c.if-count-eq0.true) c.counts.ensures c.in_ok-write_counts.ensures.line
+
+pub returns-then-count-eq0-clause-worth : goal.returns-then-count-eq0-clause-worth
+returns-then-count-eq0-clause-worth g c =
+    worth_told c.args.how (g.R.Read.remaining c.args.reader.now) (g.R.Read.remaining c.loop-read.reader)
+    (g.R.Read.remaining c.read_some.new.reader) (g.W.Write.contents c.args.writer.now) (g.W.Write.contents c.loop-read.writer)
+    c.loop-read.deframer c.loop-read.number c.loop-read.octets c.has_no_frame.result c.loop-read.invariant.0
+    (nothing (g.R.Read.remaining c.loop-read.reader) (g.R.Read.remaining c.read_some.new.reader) c.in_ok-count.count c.read_some.new.piece
+    c.if-count-eq0.true c.in_ok-count.ensures.came)
+    (c.in_ok-count.ensures.end c.if-count-eq0.true) c.has_no_frame.ensures
+
+pub returns-then-count-eq0-clause-given : goal.returns-then-count-eq0-clause-given
+returns-then-count-eq0-clause-given g c =
+    whole_salvaged _ _ c.args.how.order (g.R.Read.remaining c.args.reader.now) (g.R.Read.remaining c.loop-read.reader)
+    (g.R.Read.remaining c.read_some.new.reader) c.loop-read.deframer c.loop-read.capture _ _ _ c.loop-read.invariant.1
+    (nothing (g.R.Read.remaining c.loop-read.reader) (g.R.Read.remaining c.read_some.new.reader) c.in_ok-count.count c.read_some.new.piece
+    c.if-count-eq0.true c.in_ok-count.ensures.came)
+    (c.in_ok-count.ensures.end c.if-count-eq0.true) c.in_ok-salvage_end.ensures.given
+
+pub loop-read-preserved : goal.loop-read-preserved
+loop-read-preserved g c = (
+  piece_listed _ _ _ _ _ _ _ c.loop-read.deframer c.feed_in.new.deframer c.salvage_frames.new.deframer c.loop-read.number
+      c.in_ok-number.number c.loop-read.octets c.saturating_add-octets.result (take c.in_ok-count.count c.read_some.new.piece)
+      c.loop-read.invariant.0 c.in_ok-count.ensures.came c.in_ok-feed_in.ensures.ok
+      (Appends-kept _ _ _ _ c.in_ok-number.ensures.lines c.flush.ensures.bytes) c.in_ok-number.ensures.next
+      c.in_ok-number.ensures.taken (search rules),
+  piece_salvaged _ _ c.args.how.order _ (g.R.Read.remaining c.loop-read.reader) (g.R.Read.remaining c.read_some.new.reader)
+      c.loop-read.deframer c.feed_in.new.deframer c.salvage_frames.new.deframer c.loop-read.capture c.salvage_frames.new.capture _ _ _
+      (take c.in_ok-count.count c.read_some.new.piece) c.loop-read.invariant.1 c.in_ok-count.ensures.came c.in_ok-feed_in.ensures.ok
+      c.in_ok-number.ensures.is c.in_ok-number.ensures.given c.in_ok-number.ensures.taken,
+)

@@ -1,0 +1,14 @@
+use Rattle.captures.proofs.CapturesMean.{blocks_end, captures_mean, frames_are_kept, others_change_nothing}
+use Rattle.captures.proofs.laws.captures_mean.Goals as goal
+
+pub returns-clause-sequences : goal.returns-clause-sequences
+returns-clause-sequences c = captures_mean
+
+pub returns-clause-others : goal.returns-clause-others
+returns-clause-others c = others_change_nothing
+
+pub returns-clause-frames : goal.returns-clause-frames
+returns-clause-frames c = frames_are_kept
+
+pub returns-clause-ends : goal.returns-clause-ends
+returns-clause-ends c = blocks_end

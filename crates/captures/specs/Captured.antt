@@ -1,0 +1,228 @@
+-- The pages in what is sent on a line, by its signals alone (ITU-T T.30, Annex A): what anyone who hears the caller can read,
+-- with no station.
+use Rattle.std.specs.Prelude.{ℕ, ◌≡◌, ◌+◌, ◌++◌, ◌∷◌, [], ◌%◌, ◌||◌, Bool, true, false, cond, not, map, max, nat_eq, List, length}
+use Rattle.std.specs.Prelude.{Option, Some, None, Result, Ok, Err, slice_set}
+use Rattle.std.specs.List.{filter, range_with_len}
+use Rattle.raster.specs.declared.packed.Order.TheVariants.{LsbFirst}
+use Rattle.raster.specs.declared.row.Color.{Color}
+use Rattle.raster.specs.Packed.{bits_of}
+use Rattle.run_tables.specs.declared.fault.CodeFaultKind.{CodeFaultKind}
+use Rattle.page_code.specs.Codings.{read_rows}
+use Rattle.partial_page.specs.Store.{no_frames, frame_of, is_missing, joined_frames}
+use Rattle.signals.specs.Agreement.{pixels_of}
+use Rattle.signals.specs.Reading.{read_content}
+use Rattle.signals.specs.Signals.{PlainSignal, dcs, fcd, pps}
+use Rattle.signals.specs.declared.fault.SignalFault.{SignalFault}
+use Rattle.signals.specs.declared.params.Params.{Params}
+use Rattle.signals.specs.declared.signal.PageEnd.{PageEnd}
+use Rattle.signals.specs.declared.signal.PageEnd.TheVariants.{Null}
+use Rattle.partial_page.specs.Assembling.{Frames, all_there}
+use Rattle.signals.specs.Marks.{same_mark}
+use Rattle.partial_page.specs.Assembling.{within_frame_size}
+use Rattle.signals.specs.declared.mark.Mark.{Mark}
+use Rattle.signals.specs.declared.mark.Pps.{Pps}
+use Rattle.captures.specs.declared.captured.Captured.{Captured}
+use Rattle.captures.specs.declared.captured.Captured.TheVariants.{Page, Unread, MissingFrame, MissingBlocks, Unfinished, BlockBeforeDcs}
+
+-- ---- what is known while signals come
+
+-- how pages are sent, by the last DCS; the frames since the last PPS, and whether there were any; the last block, where frames of it
+-- are missing, and those that are there; the last block that was whole; of the open page the octets of its blocks, the number that its next
+-- block has modulo 256, and whether a block of it is missing
+pub record Capture : Type 0 where
+  pub params : Option Params
+  pub coming : Frames
+  pub begun : Bool
+  pub waiting : Option Pps
+  pub kept : Frames
+  pub taken : Option Mark
+  pub octets : List ℕ
+  pub next : ℕ
+  pub spoiled : Bool
+
+-- before any signal, or after a DCS
+abbrev pub empty_capture : Option Params → Capture
+empty_capture params = record {
+  params = params;
+  coming = no_frames;
+  begun = false;
+  waiting = None;
+  kept = no_frames;
+  taken = None;
+  octets = [];
+  next = 0;
+  spoiled = false;
+}
+
+-- a step: what is known then, and what was found
+pub record Step : Type 0 where
+  pub then : Capture
+  pub found : List Captured
+
+-- nothing was found
+abbrev pub finds_none : Capture → Step
+finds_none s = record { then = s; found = [] }
+
+infixl 10 ◌>>>◌
+-- a step after a step
+abbrev pub ◌>>>◌ : Step → (Capture → Step) → Step
+a >>> f = record { then = (f a.then).then; found = a.found ++ (f a.then).found }
+
+-- ---- a block
+
+-- the number of the block after one
+abbrev pub next_block : ℕ → ℕ
+next_block block = (block + 1) % 256
+
+-- after a block that is missing, its page can't be read; after the page's last one another begins
+abbrev pub after_lack : PageEnd → Mark → Capture → Capture
+after_lack Null mark s = record s { octets = []; next = next_block mark.block; spoiled = true }
+after_lack _ mark s = record s { octets = []; next = 0; spoiled = false }
+
+-- the numbers of a block's frames that are missing
+abbrev pub lacking : Frames → ℕ → List ℕ
+lacking frames last = filter (is_missing frames) (range_with_len 0 (last + 1))
+
+-- the block that waits for frames is given up: each frame that is missing is named
+unfoldable pub gives_up : Capture → Option Pps → Step
+gives_up s None = finds_none s
+gives_up s (Some waiting) = record {
+  then = after_lack waiting.ends waiting.mark (record s { waiting = None; kept = no_frames });
+  found = map (λ number. MissingFrame waiting.mark number) (lacking s.kept waiting.last);
+}
+
+-- a block is the one that waits for frames
+abbrev pub is_waiting : Option Pps → Mark → Bool
+is_waiting None mark = false
+is_waiting (Some waiting) mark = same_mark waiting.mark mark
+
+-- another block than the one that waits gives that up
+abbrev pub turns_from : Mark → Capture → Step
+turns_from mark s = cond (is_waiting s.waiting mark) (finds_none s) (gives_up s s.waiting)
+
+-- a block whose number isn't the next one of its page: blocks before it are missing, and the page can't be read
+abbrev pub turns_to : Mark → Capture → Step
+turns_to mark s = cond (nat_eq mark.block s.next) (finds_none s) (record {
+  then = record s { octets = []; next = mark.block; spoiled = true };
+  found = MissingBlocks mark ∷ [];
+})
+
+-- of two frames of one number the later one, where there is one
+abbrev pub later_one : Option (List ℕ) → Option (List ℕ) → Option (List ℕ)
+later_one old (Some octets) = Some octets
+later_one old None = old
+
+-- frames of a block that was sent again: at each number the later one
+unfoldable pub overlaid : Frames → Frames → Frames
+overlaid old later = map (λ n. later_one (frame_of old n) (frame_of later n)) (range_with_len 0 256)
+
+-- the frames since the last PPS are those of the block, with the ones that are kept of it
+abbrev pub gathers : Capture → Capture
+gathers s = record s { coming = no_frames; begun = false; kept = overlaid s.kept s.coming }
+
+-- the last frame that counts of a block that was sent again: the greater of the two
+abbrev pub last_of : Option Pps → ℕ → ℕ
+last_of None last = last
+last_of (Some waiting) last = max waiting.last last
+
+-- ---- a page
+
+-- what reading a page's octets finds
+abbrev pub found_of : Params → Mark → Result (List (List Color) × ℕ) (ℕ × CodeFaultKind) → Captured
+found_of params mark (Ok read) = Page (record { width = pixels_of params.width; fine = params.fine; rows = read.0 })
+found_of params mark (Err fault) = Unread mark (record { place = fault.0; kind = fault.1 })
+
+-- the page that octets are, by the DCS
+unfoldable pub page_in : Params → Mark → List ℕ → Captured
+page_in params mark octets = found_of params mark (read_rows params.coding (pixels_of params.width) (bits_of LsbFirst octets))
+
+-- the open page with a whole block after it; a page of which a block is missing has no octets
+abbrev pub with_block : Capture → List ℕ → List ℕ
+with_block s block = cond s.spoiled [] (s.octets ++ block)
+
+-- a block is whole: the page goes on, or is at its end and is read, unless a block of it is missing
+unfoldable pub takes_block : Params → PageEnd → Mark → List ℕ → Capture → Step
+takes_block params Null mark block s = finds_none (record s {
+  waiting = None;
+  kept = no_frames;
+  taken = Some mark;
+  octets = with_block s block;
+  next = next_block mark.block;
+})
+takes_block params _ mark block s = record {
+  then = record s { waiting = None; kept = no_frames; taken = Some mark; octets = []; next = 0; spoiled = false };
+  found = cond s.spoiled [] (page_in params mark (with_block s block) ∷ []);
+}
+
+-- a block is whole, or waits for the frames that are missing
+unfoldable pub judges : Params → PageEnd → Mark → ℕ → Capture → Step
+judges params ends mark last s =
+    cond (all_there s.kept last)
+    (takes_block params ends mark (joined_frames s.kept (last + 1)) s)
+    (finds_none (record s { waiting = Some (record { mark = mark; ends = ends; last = last }) }))
+
+-- ---- signals
+
+-- a page or a block that has no end, where there is one
+unfoldable pub left_open : Capture → List Captured
+left_open s = cond (s.begun || not (nat_eq (length s.octets) 0)) (Unfinished ∷ []) []
+
+-- what there is at the end of a document: the frames that are missing, and whether a page has no end
+unfoldable pub at_end : Capture → List Captured
+at_end s = (gives_up s s.waiting).found ++ left_open (gives_up s s.waiting).then
+
+-- a DCS: what is open is left, and pages are sent so from now on
+abbrev pub hears_dcs : Params → Capture → Step
+hears_dcs params s = record { then = empty_capture (Some params); found = at_end s }
+
+-- an FCD: data no longer than agreed are kept under their number; none before a DCS
+abbrev pub hears_fcd : Option Params → ℕ → List ℕ → Capture → Step
+hears_fcd None number octets s = finds_none s
+hears_fcd (Some params) number octets s = finds_none (cond (within_frame_size params octets)
+    (record s { coming = slice_set s.coming number (Some octets); begun = true }) s)
+
+-- a block was whole already
+abbrev pub is_taken : Option Mark → Mark → Bool
+is_taken None mark = false
+is_taken (Some taken) mark = same_mark taken mark
+
+-- a PPS of a block that isn't whole yet
+unfoldable pub hears_block : Params → PageEnd → Mark → ℕ → Capture → Step
+hears_block params ends mark last s = turns_from mark s >>> turns_to mark
+    >>> λ s. judges params ends mark (last_of s.waiting last) (gathers s)
+
+-- a PPS: its block is the frames since the PPS before. One that is sent again after it was whole changes nothing
+abbrev pub hears_pps : Option Params → PageEnd → Mark → ℕ → Capture → Step
+hears_pps None ends mark last s = record { then = s; found = BlockBeforeDcs mark ∷ [] }
+hears_pps (Some params) ends mark last s =
+    cond (is_taken s.taken mark) (finds_none (record s { coming = no_frames; begun = false })) (hears_block params ends mark last s)
+
+-- a signal; those of no page change nothing
+unfoldable pub hears : PlainSignal → Capture → Step
+hears (dcs params) s = hears_dcs params s
+hears (fcd number octets) s = hears_fcd s.params number octets s
+hears (pps ends page block last) s = hears_pps s.params ends (record { page = page; block = block }) last s
+hears _ s = finds_none s
+
+-- a content; one that says no signal changes nothing
+abbrev pub hears_read : Result PlainSignal SignalFault → Capture → Step
+hears_read (Ok signal) s = hears signal s
+hears_read (Err fault) s = finds_none s
+
+-- ---- a line
+
+-- contents, one after the other
+unfoldable pub hears_all : List (List ℕ) → Capture → Step
+hears_all [] s = finds_none s
+hears_all (content ∷ contents) s = hears_read (read_content content) s >>> hears_all contents
+
+-- the pages that contents carry, in order, with what is missing of others
+unfoldable pub captured : List (List ℕ) → List Captured
+captured contents =
+    let heard = hears_all contents (empty_capture None) in
+    heard.found ++ at_end heard.then
+
+-- what a step leaves, and the list of what was found with what it finds
+pub record Takes (step : Step) (new : Capture) (before after : List Captured) : Type 0 where
+  pub is : new ≡ step.then
+  pub found : after ≡ before ++ step.found

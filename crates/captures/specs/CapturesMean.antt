@@ -1,0 +1,118 @@
+-- What is found in a capture (ITU-T T.30, Annex A), said by whole sequences of signals, by the ends of a PPS and by what changes nothing.
+use Rattle.std.specs.Prelude.{ℕ, ◌≡◌, ◌≢◌, ◌≤◌, ◌<◌, ◌+◌, ◌⊎◌, ◌++◌, ◌∷◌, [], List, length, false, true, Option, Some, None}
+use Rattle.partial_page.specs.Store.{IsKept, no_frames}
+use Rattle.signals.specs.Signals.{PlainSignal, dcs, fcd, pps}
+use Rattle.signals.specs.declared.params.Params.{Params}
+use Rattle.signals.specs.declared.signal.PageEnd.{PageEnd}
+use Rattle.signals.specs.declared.signal.PageEnd.TheVariants.{Null, Mps, Eom, Eop}
+use Rattle.partial_page.specs.Assembling.{IsTooLong}
+use Rattle.signals.specs.declared.mark.Mark.{Mark}
+use Rattle.signals.specs.declared.mark.Pps.{Pps}
+use Rattle.captures.specs.Captured.{Capture, Step, at_end, empty_capture, finds_none, hears, is_taken, is_waiting, page_in, ◌>>>◌}
+use Rattle.captures.specs.declared.captured.Captured.{Captured}
+use Rattle.captures.specs.declared.captured.Captured.TheVariants.{MissingFrame, MissingBlocks, Unfinished, BlockBeforeDcs}
+
+-- signals, one after the other
+abbrev pub hears_signals : List PlainSignal → Capture → Step
+hears_signals [] s = finds_none s
+hears_signals (signal ∷ signals) s = hears signal s >>> hears_signals signals
+
+-- what is found in the signals of a line
+abbrev pub found_in : List PlainSignal → List Captured
+found_in signals = (hears_signals signals (empty_capture None)).found ++ at_end (hears_signals signals (empty_capture None)).then
+
+-- the mark of a block of a page
+abbrev pub mark_of : ℕ → ℕ → Mark
+mark_of page block = record { page = page; block = block }
+
+-- What is found where data of at most 64 octets are sent, which frames of either size may have: `a` and `b` in frames, after a DCS. Pages,
+-- blocks and frames are counted from 0, and of a block with one frame the PPS has 0 as its last one.
+pub record SequencesMean (params next : Params) (a b : List ℕ) : Type 0 where
+  -- each end but NULL ends the page
+  pub one_block : (ends : PageEnd) → ends ≢ Null → found_in (dcs params ∷ fcd 0 a ∷ pps ends 0 0 0 ∷ [])
+      ≡ page_in params (mark_of 0 0) a ∷ []
+  -- after NULL the page goes on
+  pub two_blocks : (ends : PageEnd) → ends ≢ Null →
+      found_in (dcs params ∷ fcd 0 a ∷ pps Null 0 0 0 ∷ fcd 0 b ∷ pps ends 0 1 0 ∷ []) ≡ page_in params (mark_of 0 1) (a ++ b) ∷ []
+  -- after MPS another page comes
+  pub two_pages : found_in (dcs params ∷ fcd 0 a ∷ pps Mps 0 0 0 ∷ fcd 0 b ∷ pps Eop 1 0 0 ∷ []) ≡
+      page_in params (mark_of 0 0) a ∷ page_in params (mark_of 1 0) b ∷ []
+  -- after EOM another group comes, with a DCS of its own
+  pub two_groups : found_in (dcs params ∷ fcd 0 a ∷ pps Eom 0 0 0 ∷ dcs next ∷ fcd 0 b ∷ pps Eop 1 0 0 ∷ []) ≡
+      page_in params (mark_of 0 0) a ∷ page_in next (mark_of 1 0) b ∷ []
+  -- a whole block that is sent again, since its MCF was lost, isn't found again
+  pub page_again : (ends : PageEnd) → ends ≢ Null →
+      found_in (dcs params ∷ fcd 0 a ∷ pps ends 0 0 0 ∷ fcd 0 a ∷ pps ends 0 0 0 ∷ []) ≡ page_in params (mark_of 0 0) a ∷ []
+  pub block_again :
+      found_in (dcs params ∷ fcd 0 a ∷ pps Null 0 0 0 ∷ fcd 0 a ∷ pps Null 0 0 0 ∷ fcd 0 b ∷ pps Eop 0 1 0 ∷ []) ≡
+      page_in params (mark_of 0 1) (a ++ b) ∷ []
+  -- a frame that is missing comes after a PPR; the PPS of the resend may count only what is sent again
+  pub frame_again : found_in (dcs params ∷ fcd 1 b ∷ pps Eop 0 0 1 ∷ fcd 0 a ∷ pps Eop 0 0 1 ∷ []) ≡
+      page_in params (mark_of 0 0) (a ++ b) ∷ []
+  pub smaller_last : found_in (dcs params ∷ fcd 1 b ∷ pps Eop 0 0 1 ∷ fcd 0 a ∷ pps Eop 0 0 0 ∷ []) ≡
+      page_in params (mark_of 0 0) (a ++ b) ∷ []
+  -- of two frames of one number the later one counts, also after a PPS
+  pub later_frame : found_in (dcs params ∷ fcd 0 a ∷ fcd 0 b ∷ pps Eop 0 0 0 ∷ []) ≡ page_in params (mark_of 0 0) b ∷ []
+  pub later_block : found_in (dcs params ∷ fcd 0 a ∷ pps Eop 0 0 1 ∷ fcd 0 b ∷ fcd 1 a ∷ pps Eop 0 0 1 ∷ []) ≡
+      page_in params (mark_of 0 0) (b ++ a) ∷ []
+  -- a frame that never comes is named, where the signals end and where another page comes, which is found
+  pub never_came : (ends : PageEnd) → found_in (dcs params ∷ fcd 1 b ∷ pps ends 0 0 1 ∷ []) ≡ MissingFrame (mark_of 0 0) 0 ∷ []
+  pub page_after : found_in (dcs params ∷ fcd 1 b ∷ pps Mps 0 0 1 ∷ fcd 0 a ∷ pps Eop 1 0 0 ∷ []) ≡
+      MissingFrame (mark_of 0 0) 0 ∷ page_in params (mark_of 1 0) a ∷ []
+  -- a page without one of its blocks isn't read, and the next one is
+  pub block_after : found_in (dcs params ∷ fcd 1 b ∷ pps Null 0 0 1 ∷ fcd 0 a ∷ pps Eop 0 1 0 ∷ []) ≡ MissingFrame (mark_of 0 0) 0 ∷ []
+  pub no_block : found_in (dcs params ∷ fcd 0 a ∷ pps Mps 0 1 0 ∷ fcd 0 b ∷ pps Eop 1 0 0 ∷ []) ≡
+      MissingBlocks (mark_of 0 1) ∷ page_in params (mark_of 1 0) b ∷ []
+  -- what no PPS ends is named at a DCS, which begins anew, and where the signals end
+  pub no_end : found_in (dcs params ∷ fcd 0 a ∷ []) ≡ Unfinished ∷ []
+  pub dcs_in_block : found_in (dcs params ∷ fcd 0 a ∷ dcs next ∷ fcd 0 b ∷ pps Eop 0 0 0 ∷ []) ≡
+      Unfinished ∷ page_in next (mark_of 0 0) b ∷ []
+  pub dcs_in_page : 0 < length a → found_in (dcs params ∷ fcd 0 a ∷ pps Null 0 0 0 ∷ dcs next ∷ fcd 0 b ∷ pps Eop 0 0 0 ∷ []) ≡
+      Unfinished ∷ page_in next (mark_of 0 0) b ∷ []
+  -- frames before a DCS are none of a block after it
+  pub dcs_in_resend : found_in (dcs params ∷ fcd 0 a ∷ pps Eop 0 0 1 ∷ dcs next ∷ fcd 1 b ∷ pps Eop 0 0 1 ∷ []) ≡
+      MissingFrame (mark_of 0 0) 1 ∷ MissingFrame (mark_of 0 0) 0 ∷ []
+  -- before any DCS nothing can be read
+  pub no_dcs : (ends : PageEnd) → found_in (fcd 0 a ∷ pps ends 0 0 0 ∷ []) ≡ BlockBeforeDcs (mark_of 0 0) ∷ []
+
+-- what is found in these sequences, whatever the parameters and the data are
+abbrev pub CapturesMean : Type 0
+CapturesMean = (params next : Params) (a b : List ℕ) → length a ≤ 64 → length b ≤ 64 → SequencesMean params next a b
+
+-- a signal has nothing to do with pages: it is none of DCS, FCD and PPS
+abbrev pub IsOfNoPage : PlainSignal → Type 0
+IsOfNoPage (dcs params) = ⊥
+IsOfNoPage (fcd number octets) = ⊥
+IsOfNoPage (pps ends page block last) = ⊥
+IsOfNoPage signal = Unit {0}
+
+-- every other signal changes nothing and ends nothing, a DCN too
+abbrev pub OthersChangeNothing : Type 0
+OthersChangeNothing = (signal : PlainSignal) (s : Capture) → IsOfNoPage signal → hears signal s ≡ finds_none s
+
+-- data that aren't too long are kept under their number, and nothing else changes; longer ones change nothing
+abbrev pub FramesAreKept : Type 0
+FramesAreKept = (params : Params) (number : ℕ) (octets : List ℕ) (s : Capture) → s.params ≡ Some params → number < length s.coming →
+    ((IsTooLong params octets → ⊥) → (coming : List (Option (List ℕ))) × IsKept s.coming number octets coming
+    × (hears (fcd number octets) s ≡ finds_none (record s { coming = coming; begun = true })))
+    × (IsTooLong params octets → hears (fcd number octets) s ≡ finds_none s)
+
+-- after a whole block: the page goes on with the next block, which after 255 has the number 0; or it is over, and the next one begins
+abbrev pub IsAfterBlock : PageEnd → Mark → Capture → Type 0
+IsAfterBlock Null mark s = (mark.block < 255 → s.next ≡ mark.block + 1) × (mark.block ≡ 255 → s.next ≡ 0)
+IsAfterBlock ends mark s = (s.octets ≡ []) × (s.next ≡ 0) × (s.spoiled ≡ false)
+
+-- a block waits for frames: its last frame is the one of the PPS, or the greater one of a PPS of this block before it
+pub record IsAwaited (ends : PageEnd) (mark : Mark) (last : ℕ) (before after : Option Pps) : Type 0 where
+  pub counts : ℕ
+  pub waits : after ≡ Some (record { mark = mark; ends = ends; last = counts })
+  pub new : last ≤ counts
+  pub old : (waiting : Pps) → before ≡ Some waiting → is_waiting before mark ≡ true → waiting.last ≤ counts
+
+-- a PPS of a block that wasn't whole before takes the frames since the PPS before it: the block waits for others, or it is whole, and then
+-- its end says what comes
+abbrev pub BlocksEnd : Type 0
+BlocksEnd = (params : Params) (ends : PageEnd) (mark : Mark) (last : ℕ) (s : Capture) → s.params ≡ Some params →
+    is_taken s.taken mark ≡ false → let t = (hears (pps ends mark.page mark.block last) s).then in
+    (t.coming ≡ no_frames) × (t.begun ≡ false)
+    × (IsAwaited ends mark last s.waiting t.waiting ⊎ ((t.waiting ≡ None) × (t.taken ≡ Some mark) × IsAfterBlock ends mark t))

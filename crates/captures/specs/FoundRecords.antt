@@ -1,0 +1,51 @@
+-- The pages in a capture, and what is missing of others, as JSON for programs.
+use Rattle.std.specs.Prelude.{ℕ, true, ◌-◌, ◌^◌, ◌++◌, List, codes, length, min}
+use Rattle.std.specs.Fmt.{decimal}
+use Rattle.raster.specs.Pages.{PagePixels}
+use Rattle.run_tables.specs.Faults.{number_of}
+use Rattle.serde_json.specs.Data.{Data, boolean, member, no_members, null, object}
+use Rattle.signals.specs.declared.mark.Mark.{Mark}
+use Rattle.captures.specs.Missing.{lines_word}
+use Rattle.captures.specs.PageNumbers.{page_missing}
+use Rattle.faults.specs.RecordLines.{count, words}
+use Rattle.captures.specs.declared.captured.Captured.{Captured}
+use Rattle.captures.specs.declared.numbers.PageNumbers.{PageNumbers}
+use Rattle.captures.specs.declared.captured.Captured.TheVariants.{Page, Unread, MissingFrame, MissingBlocks, Unfinished, BlockBeforeDcs}
+
+-- a page that is in a file: the file's name, its rows and its width in pixels, its lines and its number from 1
+abbrev pub stored_record : PageNumbers → PagePixels → Data
+stored_record numbers page = object (member (codes "file") (words (codes "page-" ++ (decimal numbers.file ++ codes ".pbm")))
+    (member (codes "height") (count (length page.rows))
+    (member (codes "lines") (words (lines_word page.fine))
+    (member (codes "page") (count numbers.page)
+    (member (codes "width") (count page.width) no_members)))))
+
+-- the rows of a page before a gap that are in a file: the same, and that it is those rows
+abbrev pub stored_front_record : PageNumbers → PagePixels → Data
+stored_front_record numbers page = object (member (codes "file") (words (codes "page-" ++ (decimal numbers.file ++ codes ".pbm")))
+    (member (codes "height") (count (length page.rows))
+    (member (codes "lines") (words (lines_word page.fine))
+    (member (codes "page") (count numbers.page)
+    (member (codes "salvaged") (boolean true)
+    (member (codes "width") (count page.width) no_members))))))
+
+-- what is missing of a block, by its own number from 0 and its page's from 1
+abbrev pub block_record : List ℕ → ℕ → Mark → Data
+block_record what page mark = object (member (codes "block") (count mark.block)
+    (member (codes "missing") (words what)
+    (member (codes "page") (count page) no_members)))
+
+-- what is missing: of a page that can't be read the bit where it is refused, up to 2 ^ 64 - 1, and the fault; of a page that is there nothing
+abbrev pub missing_record : Captured → Data
+missing_record (Page page) = null
+missing_record (Unread mark fault) = object (member (codes "bit") (count (min (2 ^ 64 - 1) fault.place))
+    (member (codes "fault") (count (number_of fault.kind))
+    (member (codes "missing") (words (codes "page"))
+    (member (codes "page") (count (page_missing (Unread mark fault))) no_members))))
+missing_record (MissingFrame mark frame) = object (member (codes "block") (count mark.block)
+    (member (codes "frame") (count frame)
+    (member (codes "missing") (words (codes "frame"))
+    (member (codes "page") (count (page_missing (MissingFrame mark frame))) no_members))))
+missing_record (MissingBlocks mark) = block_record (codes "blocks before") (page_missing (MissingBlocks mark)) mark
+missing_record Unfinished = object (member (codes "missing") (words (codes "end of page")) no_members)
+missing_record (BlockBeforeDcs mark) = block_record (codes "DCS") (page_missing (BlockBeforeDcs mark)) mark

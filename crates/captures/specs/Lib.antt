@@ -1,0 +1,13 @@
+-- The definitions of `captures`.
+pub mod Texts
+pub mod SignalWords
+pub mod Records
+pub mod TraceRecords
+pub mod Frames
+pub mod Fronts
+pub mod Captured
+pub mod Found
+pub mod PageNumbers
+pub mod Missing
+pub mod FoundRecords
+pub mod CapturesMean

@@ -1,0 +1,42 @@
+-- The pages in a capture, and what is missing of others, in words.
+use Rattle.std.specs.Prelude.{ℕ, Bool, true, false, List, [], ◌++◌, codes, length}
+use Rattle.std.specs.Fmt.{decimal}
+use Rattle.raster.specs.Pages.{PagePixels}
+use Rattle.run_tables.specs.Faults.{number_of}
+use Rattle.captures.specs.PageNumbers.{page_missing}
+use Rattle.captures.specs.declared.captured.Captured.{Captured}
+use Rattle.captures.specs.declared.numbers.PageNumbers.{PageNumbers}
+use Rattle.captures.specs.declared.captured.Captured.TheVariants.{Page, Unread, MissingFrame, MissingBlocks, Unfinished, BlockBeforeDcs}
+
+-- a page by its number from 1
+abbrev pub page_words : ℕ → List ℕ
+page_words page = codes "page " ++ decimal page
+
+-- a block by its page's number, and its own from 0
+abbrev pub block_words : ℕ → ℕ → List ℕ
+block_words page block = page_words page ++ (codes " block " ++ decimal block)
+
+-- what is missing, in words
+abbrev pub missing_text : Captured → List ℕ
+missing_text (Page page) = []
+missing_text (Unread mark fault) = page_words (page_missing (Unread mark fault))
+    ++ (codes ": can't be read, fault " ++ (decimal (number_of fault.kind) ++ (codes " at bit " ++ decimal fault.place)))
+missing_text (MissingFrame mark frame) = block_words (page_missing (MissingFrame mark frame)) mark.block
+    ++ (codes ": frame " ++ (decimal frame ++ codes " is missing"))
+missing_text (MissingBlocks mark) = block_words (page_missing (MissingBlocks mark)) mark.block ++ codes ": the blocks before it are missing"
+missing_text Unfinished = codes "a page has no end"
+missing_text (BlockBeforeDcs mark) = block_words (page_missing (BlockBeforeDcs mark)) mark.block ++ codes ": no DCS before it"
+
+-- the lines of a page
+abbrev pub lines_word : Bool → List ℕ
+lines_word true = codes "fine"
+lines_word false = codes "standard"
+
+-- a page that is in a file: its number, the file's, its size and its lines
+abbrev pub stored_text : PageNumbers → PagePixels → List ℕ
+stored_text numbers page = page_words numbers.page ++ (codes ": page-" ++ (decimal numbers.file ++ (codes ".pbm, " ++ (decimal page.width
+    ++ (codes " x " ++ (decimal (length page.rows) ++ (codes " pixels, " ++ (lines_word page.fine ++ codes " lines"))))))))
+
+-- the rows of a page before a gap that are in a file: the same, and that it is those rows
+abbrev pub stored_front_text : PageNumbers → PagePixels → List ℕ
+stored_front_text numbers page = stored_text numbers page ++ codes ", rows before a gap"

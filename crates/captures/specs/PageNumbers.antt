@@ -1,0 +1,22 @@
+-- The numbers of captured pages and of the files that they go to.
+use Rattle.std.specs.Prelude.{ℕ, ◌+◌, ◌-◌, ◌^◌, max, min}
+use Rattle.captures.specs.declared.captured.Captured.{Captured}
+use Rattle.captures.specs.declared.captured.Captured.TheVariants.{Page, Unread, MissingFrame, MissingBlocks, Unfinished, BlockBeforeDcs}
+use Rattle.captures.specs.declared.numbers.PageNumbers.{PageNumbers}
+
+-- the number after one, up to 2^64 - 1
+abbrev pub after : ℕ → ℕ
+after number = min (number + 1) (2 ^ 64 - 1)
+
+-- the first number that the file of the last page may have: the page's own, and one that no file before it has
+abbrev pub file_from : PageNumbers → ℕ
+file_from numbers = max numbers.page (after numbers.file)
+
+-- the number of a page of which something is missing: one more than that of its PPS; 0 where it isn't known
+abbrev pub page_missing : Captured → ℕ
+page_missing (Page page) = 0
+page_missing (Unread mark fault) = mark.page + 1
+page_missing (MissingFrame mark frame) = mark.page + 1
+page_missing (MissingBlocks mark) = mark.page + 1
+page_missing Unfinished = 0
+page_missing (BlockBeforeDcs mark) = mark.page + 1

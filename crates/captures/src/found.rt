@@ -1,0 +1,137 @@
+//! The frames in bits listed, and the pages that they carry given on, both as they come.
+
+ghost use Rattle.captures.specs.Captured.{at_end, captured, hears_all, hears_read};
+ghost use Rattle.faults.specs.Faults.{IsOutside};
+ghost use Rattle.captures.specs.Found.{GivesOn, TakesEach};
+ghost use Rattle.captures.specs.Frames.{IsOtherOrderWorth, frame_line, frame_lines, listing};
+ghost use Rattle.captures.specs.declared.captured.Captured.{Captured};
+ghost use Rattle.hdlc.specs.Gaps.{good};
+ghost use Rattle.raster.specs.Packed.{bits_of};
+ghost use Rattle.signals.specs.Reading.{read_content};
+ghost use Rattle.std.specs.Io.KnownBytes.{Appends};
+ghost use Rattle.std.specs.Prelude.{◌≡◌, ◌↔◌, ◌+◌, [], IfErr, IfOk, IfSome, IsTrue, OnOk, length};
+
+use crate::captured::{Capture, Captured};
+use crate::frames::{
+    ListOptions, PIECE, feed_in, has_no_frame, read_some, write_counts, write_frame,
+};
+use faults::{FAILED, ToolFault};
+use hdlc::Deframer;
+use std::alloc::Global;
+use std::io::{Read, Write};
+
+/// Where what is found in a capture goes, one after the other.
+pub trait FoundStore {
+    // What it is that something found is taken: the store before, what was found, and the store after.
+    ghost takes: { Self → Captured → Self → Type 0 };
+
+    /// Takes what was found. Errs with 8 where it can't be stored, and with 9.
+    fn take(&mut self, found: Captured) -> Result<(), ToolFault>
+        ensures taken { OnOk result (takes self.old found self.new) }
+        ensures fault { IfErr result IsOutside };
+}
+
+/// Gives on all that was found, in order.
+pub(crate) fn give_all<S: FoundStore>(found: Vec<Captured>, store: &mut S) -> Result<(), ToolFault>
+    ensures given { OnOk result (TakesEach S.takes store.old found.items store.new) }
+    ensures fault { IfErr result IsOutside }
+{
+    for one in found {
+        store.take(one)?;
+    }
+    Ok(())
+}
+
+/// Writes the line of a good frame, and gives on what its signal says of pages; before that the writer is flushed.
+fn take_frame<W: Write, S: FoundStore>(
+    capture: &mut Capture,
+    number: u64,
+    content: &[u8],
+    how: ListOptions,
+    writer: &mut W,
+    store: &mut S,
+) -> Result<(), ToolFault>
+    ensures line { OnOk result (Appends (W.contents writer.old) (W.contents writer.new) (frame_line how number content.now)) }
+    ensures given { OnOk result (GivesOn S.takes (hears_read (read_content content.now) capture.old) capture.new store.old store.new) }
+    ensures fault { IfErr result IsOutside }
+{
+    write_frame(capture.alloc, number, content, how, writer)?;
+    let mut found = Vec::new(capture.alloc);
+    capture.hear_content(content, &mut found)?;
+    if !found.is_empty() {
+        writer.flush()?;
+    }
+    give_all(found, store)
+}
+
+/// Writes a line for each content that waits, the first with this number, and gives on what its signal says of pages. Answers the
+/// number that follows.
+fn take_frames<W: Write, S: FoundStore>(
+    capture: &mut Capture,
+    deframer: &mut Deframer,
+    first: u64,
+    how: ListOptions,
+    writer: &mut W,
+    store: &mut S,
+) -> Result<u64, ToolFault>
+    ensures lines { OnOk result (Appends (W.contents writer.old) (W.contents writer.new) (frame_lines how first deframer.old.queue)) }
+    ensures next { IfOk result (λ next. next ≡ first + length deframer.old.queue) }
+    ensures taken { OnOk result (deframer.new ≡ record deframer.old { queue = [] }) }
+    ensures given { OnOk result (GivesOn S.takes (hears_all deframer.old.queue capture.old) capture.new store.old store.new) }
+    ensures fault { IfErr result IsOutside }
+{
+    let mut number = first;
+    while let Some(content) = deframer.next() {
+        take_frame(capture, number, content, how, writer, store)?;
+        number = number.checked_add(1).ok_or(FAILED)?;
+    }
+    Ok(number)
+}
+
+/// Gives on what there is to say of pages at the end of the bits.
+fn end_capture<S: FoundStore>(capture: &mut Capture, store: &mut S) -> Result<(), ToolFault>
+    ensures given { OnOk result (TakesEach S.takes store.old (at_end capture.old) store.new) }
+    ensures fault { IfErr result IsOutside }
+{
+    let mut found = Vec::new(capture.alloc);
+    capture.end(&mut found)?;
+    give_all(found, store)
+}
+
+/// Reads bits and lists the frames in them, as `list_engine` does, and gives the pages that they carry, and what is missing of others, to
+/// a store: what `captured_in` finds, each as soon as it is found and after its frame's line. No more is kept than the open page. Answers
+/// what `list_engine` does. Errs with 8 where the reader, the writer or the store fails, or the reader doesn't end in 2^64 reads, and
+/// with 9.
+pub fn pages_engine<R: Read, W: Write, S: FoundStore>(
+    alloc: Global,
+    reader: &mut R,
+    writer: &mut W,
+    how: ListOptions,
+    store: &mut S,
+) -> Result<bool, ToolFault>
+    ensures listed { OnOk result (IfSome (R.remaining reader.old) (λ octets.
+        Appends (W.contents writer.old) (W.contents writer.new) (listing how (bits_of how.order octets)))) }
+    ensures worth { IfOk result (λ worth. IfSome (R.remaining reader.old) (λ octets. IsTrue worth ↔ IsOtherOrderWorth how.order octets)) }
+    ensures given { OnOk result (IfSome (R.remaining reader.old) (λ octets.
+        TakesEach S.takes store.old (captured (good (bits_of how.order octets))) store.new)) }
+    ensures fault { IfErr result IsOutside }
+{
+    let mut deframer = Deframer::new(alloc);
+    let mut capture = Capture::new(alloc);
+    let mut number = 1;
+    let mut octets: u64 = 0;
+    let mut piece = [0; PIECE];
+    for _read in 0..u64::MAX {
+        let count = read_some(reader, &mut piece)?;
+        if count == 0 {
+            end_capture(&mut capture, store)?;
+            write_counts(alloc, deframer.counts(), how, writer)?;
+            return Ok(has_no_frame(octets, number));
+        }
+        feed_in(&mut deframer, how.order, &piece[..count])?;
+        octets = octets.saturating_add(count as u64);
+        number = take_frames(&mut capture, &mut deframer, number, how, writer, store)?;
+        writer.flush()?;
+    }
+    Err(FAILED)
+}

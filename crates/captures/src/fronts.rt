@@ -1,0 +1,170 @@
+//! The frames in bits listed, and the pages that they carry given on, also the rows before a gap of those that aren't whole.
+
+ghost use Rattle.captures.specs.Captured.{hears_all, hears_read};
+ghost use Rattle.faults.specs.Faults.{IsOutside};
+ghost use Rattle.captures.specs.Frames.{IsOtherOrderWorth, frame_line, frame_lines, listing};
+ghost use Rattle.captures.specs.Fronts.{GivesFront, IsFrontPage, Salvages, SalvagesAll, SalvagesEach, SalvagesEnd};
+ghost use Rattle.hdlc.specs.Gaps.{good};
+ghost use Rattle.raster.specs.Packed.{bits_of};
+ghost use Rattle.raster.specs.Pages.{PagePixels};
+ghost use Rattle.signals.specs.Reading.{read_content};
+ghost use Rattle.std.specs.Io.KnownBytes.{Appends};
+ghost use Rattle.std.specs.Prelude.{◌≡◌, ◌↔◌, ◌+◌, [], IfErr, IfOk, IfSome, IsTrue, OnOk, length};
+
+use crate::captured::Capture;
+use crate::found::{FoundStore, give_all};
+use crate::frames::{
+    ListOptions, PIECE, feed_in, has_no_frame, read_some, write_counts, write_frame,
+};
+use faults::{FAILED, ToolFault};
+use hdlc::Deframer;
+use raster::Page;
+use run_tables::Order;
+use signals::Params;
+use std::alloc::{AllocError, Global};
+use std::io::{Read, Write};
+
+/// Where the rows before the gaps of pages in a capture go.
+pub trait FrontStore {
+    // What it is that rows before a gap are taken: the store before, the page of the rows, and the store after.
+    ghost fronts: { Self → PagePixels → Self → Type 0 };
+
+    /// Takes the page of the rows before a gap, which has a row. Errs with 8 where it can't be stored, and with 9.
+    fn take_front(&mut self, page: Page) -> Result<(), ToolFault>
+        ensures taken { OnOk result (fronts self.old page self.new) }
+        ensures fault { IfErr result IsOutside };
+}
+
+/// The page of the whole rows at the beginning of octets, by the DCS.
+fn front_page(alloc: Global, params: Params, octets: &[u8]) -> Result<Page, AllocError>
+    ensures { IfOk result (IsFrontPage params octets.now) }
+{
+    let width = params.width.pixels();
+    params
+        .coding
+        .salvage(alloc, octets, Order::LsbFirst, width, params.fine)
+}
+
+/// Gives on the rows before a gap, where there is one.
+fn give_front<S: FrontStore>(
+    alloc: Global,
+    params: Option<Params>,
+    octets: &[u8],
+    store: &mut S,
+) -> Result<(), ToolFault>
+    ensures given { OnOk result (GivesFront S.fronts params octets.now store.old store.new) }
+    ensures fault { IfErr result IsOutside }
+{
+    let Some(params) = params else {
+        return Ok(());
+    };
+    let page = front_page(alloc, params, octets)?;
+    if page.rows().is_empty() {
+        return Ok(());
+    }
+    store.take_front(page)
+}
+
+/// Writes the line of a good frame, and gives on the rows before the gap that it leaves, and then what its signal says of pages; before
+/// that the writer is flushed.
+fn salvage_frame<W: Write, S: FoundStore + FrontStore>(
+    capture: &mut Capture,
+    number: u64,
+    content: &[u8],
+    how: ListOptions,
+    writer: &mut W,
+    store: &mut S,
+) -> Result<(), ToolFault>
+    ensures line { OnOk result (Appends (W.contents writer.old) (W.contents writer.new) (frame_line how number content.now)) }
+    ensures is { OnOk result (capture.new ≡ (hears_read (read_content content.now) capture.old).then) }
+    ensures given { OnOk result (Salvages S.takes S.fronts (read_content content.now) capture.old store.old store.new) }
+    ensures fault { IfErr result IsOutside }
+{
+    write_frame(capture.alloc, number, content, how, writer)?;
+    let params = capture.params();
+    let front = capture.front_before(content)?;
+    let mut found = Vec::new(capture.alloc);
+    capture.hear_content(content, &mut found)?;
+    if !found.is_empty() {
+        writer.flush()?;
+    }
+    give_front(capture.alloc, params, &front, store)?;
+    give_all(found, store)
+}
+
+/// Writes a line for each content that waits, the first with this number, and gives on what each says of pages, with the rows before a
+/// gap. Answers the number that follows.
+fn salvage_frames<W: Write, S: FoundStore + FrontStore>(
+    capture: &mut Capture,
+    deframer: &mut Deframer,
+    first: u64,
+    how: ListOptions,
+    writer: &mut W,
+    store: &mut S,
+) -> Result<u64, ToolFault>
+    ensures lines { OnOk result (Appends (W.contents writer.old) (W.contents writer.new) (frame_lines how first deframer.old.queue)) }
+    ensures next { IfOk result (λ next. next ≡ first + length deframer.old.queue) }
+    ensures taken { OnOk result (deframer.new ≡ record deframer.old { queue = [] }) }
+    ensures is { OnOk result (capture.new ≡ (hears_all deframer.old.queue capture.old).then) }
+    ensures given { OnOk result (SalvagesEach S.takes S.fronts deframer.old.queue capture.old store.old store.new) }
+    ensures fault { IfErr result IsOutside }
+{
+    let mut number = first;
+    while let Some(content) = deframer.next() {
+        salvage_frame(capture, number, content, how, writer, store)?;
+        number = number.checked_add(1).ok_or(FAILED)?;
+    }
+    Ok(number)
+}
+
+/// Gives on the rows of the open page before its gap, and what there is to say of pages at the end of the bits.
+fn salvage_end<S: FoundStore + FrontStore>(
+    capture: &mut Capture,
+    store: &mut S,
+) -> Result<(), ToolFault>
+    ensures given { OnOk result (SalvagesEnd S.takes S.fronts capture.old store.old store.new) }
+    ensures fault { IfErr result IsOutside }
+{
+    let params = capture.params();
+    let front = capture.open_front()?;
+    let mut found = Vec::new(capture.alloc);
+    capture.end(&mut found)?;
+    give_front(capture.alloc, params, &front, store)?;
+    give_all(found, store)
+}
+
+/// Does what `pages_engine` does; and where a page isn't whole, gives the whole rows before its first gap to the store, before what is
+/// missing of it. Errs as `pages_engine` does.
+pub fn salvage_pages_engine<R: Read, W: Write, S: FoundStore + FrontStore>(
+    alloc: Global,
+    reader: &mut R,
+    writer: &mut W,
+    how: ListOptions,
+    store: &mut S,
+) -> Result<bool, ToolFault>
+    ensures listed { OnOk result (IfSome (R.remaining reader.old) (λ octets.
+        Appends (W.contents writer.old) (W.contents writer.new) (listing how (bits_of how.order octets)))) }
+    ensures worth { IfOk result (λ worth. IfSome (R.remaining reader.old) (λ octets. IsTrue worth ↔ IsOtherOrderWorth how.order octets)) }
+    ensures given { OnOk result (IfSome (R.remaining reader.old) (λ octets.
+        SalvagesAll S.takes S.fronts (good (bits_of how.order octets)) store.old store.new)) }
+    ensures fault { IfErr result IsOutside }
+{
+    let mut deframer = Deframer::new(alloc);
+    let mut capture = Capture::new(alloc);
+    let mut number = 1;
+    let mut octets: u64 = 0;
+    let mut piece = [0; PIECE];
+    for _read in 0..u64::MAX {
+        let count = read_some(reader, &mut piece)?;
+        if count == 0 {
+            salvage_end(&mut capture, store)?;
+            write_counts(alloc, deframer.counts(), how, writer)?;
+            return Ok(has_no_frame(octets, number));
+        }
+        feed_in(&mut deframer, how.order, &piece[..count])?;
+        octets = octets.saturating_add(count as u64);
+        number = salvage_frames(&mut capture, &mut deframer, number, how, writer, store)?;
+        writer.flush()?;
+    }
+    Err(FAILED)
+}

@@ -1,0 +1,27 @@
+//! What each command does with frames and the pages in them, over any readers and any writer.
+#![tactic(auto)]
+
+mod captured;
+mod found;
+mod found_records;
+mod frames;
+mod fronts;
+pub mod laws;
+mod missing;
+mod numbers;
+mod records;
+mod signal_words;
+mod texts;
+mod trace_records;
+
+pub use crate::captured::{Captured, captured_in, captured_pages};
+pub use crate::found::{FoundStore, pages_engine};
+pub use crate::found_records::{write_missing, write_stored, write_stored_front};
+pub use crate::frames::{ListForm, ListOptions, feed_in, frames_engine, list_engine, read_some};
+pub use crate::fronts::{FrontStore, salvage_pages_engine};
+pub use crate::missing::{Missing, Stored, StoredFront};
+pub use crate::numbers::PageNumbers;
+pub use crate::records::signal_record;
+pub use crate::signal_words::write_signal;
+pub use crate::texts::ContentText;
+pub use crate::trace_records::{write_ended, write_traced, write_traced_check};

@@ -1,0 +1,120 @@
+//! The pages in a capture, and what is missing of others, in words.
+
+ghost use Rattle.std.specs.Prelude.{◌≡◌};
+
+use crate::captured::Captured;
+use crate::numbers::{PageNumbers, missing_page};
+use raster::Page;
+use signals::Mark;
+use std::fmt;
+
+/// A block by the number of its page, from 1, and its own.
+#[derive(Clone, Copy, Drop)]
+struct BlockText {
+    page: u64,
+    block: u8,
+}
+
+impl BlockText {
+    /// The block of a mark.
+    fn of(page: u64, mark: &Mark) -> BlockText
+        ensures { result ≡ record { page = page; block = mark.now.block } }
+    {
+        BlockText {
+            page,
+            block: mark.block,
+        }
+    }
+}
+
+impl fmt::Display for BlockText {
+    ghost use Rattle.std.specs.Prelude.{Some};
+    ghost use Rattle.captures.specs.Missing.{block_words};
+
+    ghost output = { λ text. Some (block_words text.page text.block) };
+
+    fn fmt<W: fmt::Write>(&self, f: &mut fmt::Formatter<W>) -> fmt::Result {
+        write!(f, "page {} block {}", self.page, self.block)
+    }
+}
+
+/// What is missing of a page in a capture, in a line with no LF: the page's number from 1, and the numbers of block and frame as
+/// PPS and FCD have them, from 0. Of a page that is there, nothing.
+#[derive(Clone, Copy, Drop)]
+pub struct Missing<'a>(pub &'a Captured);
+
+impl fmt::Display for Missing<'_> {
+    ghost use Rattle.std.specs.Prelude.{Some};
+    ghost use Rattle.captures.specs.Missing.{missing_text};
+
+    ghost output = { λ text. Some (missing_text text.0.now) };
+
+    fn fmt<W: fmt::Write>(&self, f: &mut fmt::Formatter<W>) -> fmt::Result {
+        let page = missing_page(self.0);
+        match self.0 {
+            Captured::Page(_) => Ok(()),
+            Captured::Unread { mark: _, fault } => write!(
+                f,
+                "page {page}: can't be read, fault {} at bit {}",
+                fault.kind.number(),
+                fault.place,
+            ),
+            Captured::MissingFrame { mark, frame } => {
+                write!(f, "{}: frame {frame} is missing", BlockText::of(page, mark))
+            }
+            Captured::MissingBlocks(mark) => write!(
+                f,
+                "{}: the blocks before it are missing",
+                BlockText::of(page, mark),
+            ),
+            Captured::Unfinished => write!(f, "a page has no end"),
+            Captured::BlockBeforeDcs(mark) => {
+                write!(f, "{}: no DCS before it", BlockText::of(page, mark))
+            }
+        }
+    }
+}
+
+/// A page of a capture that is in a file, in a line with no LF: its number and that of its file, which is named `page-N.pbm`, its width
+/// and its rows in pixels, and whether its lines are fine.
+#[derive(Clone, Copy, Drop)]
+pub struct Stored<'a> {
+    /// The numbers of the page and of its file.
+    pub numbers: PageNumbers,
+    /// The page.
+    pub page: &'a Page,
+}
+
+impl fmt::Display for Stored<'_> {
+    ghost use Rattle.std.specs.Prelude.{Some};
+    ghost use Rattle.captures.specs.Missing.{stored_text};
+
+    ghost output = { λ text. Some (stored_text text.numbers text.page.now) };
+
+    fn fmt<W: fmt::Write>(&self, f: &mut fmt::Formatter<W>) -> fmt::Result {
+        let lines = if self.page.fine() { "fine" } else { "standard" };
+        write!(
+            f,
+            "page {}: page-{}.pbm, {} x {} pixels, {lines} lines",
+            self.numbers.page,
+            self.numbers.file,
+            self.page.width(),
+            self.page.rows().len(),
+        )
+    }
+}
+
+/// The rows of a page before a gap that are in a file, in a line with no LF: what `Stored` says of a page, and that it is those rows.
+#[derive(Clone, Copy, Drop)]
+pub struct StoredFront<'a>(pub Stored<'a>);
+
+impl fmt::Display for StoredFront<'_> {
+    ghost use Rattle.std.specs.Prelude.{Some};
+    ghost use Rattle.captures.specs.Missing.{stored_front_text};
+
+    ghost output = { λ text. Some (stored_front_text text.0.numbers text.0.page.now) };
+
+    fn fmt<W: fmt::Write>(&self, f: &mut fmt::Formatter<W>) -> fmt::Result {
+        write!(f, "{}, rows before a gap", self.0)
+    }
+}

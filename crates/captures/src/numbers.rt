@@ -1,0 +1,65 @@
+//! The numbers of captured pages and of the files that they go to.
+ghost use Rattle.captures.specs.PageNumbers.{after, file_from, page_missing};
+ghost use Rattle.std.specs.Prelude.{◌≡◌, max, nat_eq, not};
+
+use crate::captured::Captured;
+
+/// The numbers of the last page that was found and of the last file that was written, from 1, and 0 before the first.
+#[derive(Clone, Copy, Debug, PartialEq, Eq)]
+pub struct PageNumbers {
+    /// The last page's number.
+    pub page: u64,
+    /// The last file's number.
+    pub file: u64,
+}
+
+impl PageNumbers {
+    /// Before any page.
+    pub fn new() -> PageNumbers
+        ensures { result ≡ record { page = 0; file = 0 } }
+    {
+        PageNumbers { page: 0, file: 0 }
+    }
+
+    /// A page was found: it has the next number. Answers the first number that its file may have, its own or the one after the last file.
+    pub fn found(&mut self) -> u64
+        ensures new { self.new ≡ record self.old { page = after self.old.page } }
+        ensures from { result ≡ file_from self.new }
+    {
+        self.page = self.page.saturating_add(1);
+        self.page.max(self.file.saturating_add(1))
+    }
+
+    /// The last page went to the file of this number. Answers whether that isn't the page's own.
+    pub fn written(&mut self, file: u64) -> bool
+        ensures new { self.new ≡ record self.old { file = file } }
+        ensures other { result ≡ not (nat_eq file self.old.page) }
+    {
+        self.file = file;
+        file != self.page
+    }
+
+    /// Something is missing of a page. Answers the page's number, as the PPS has it, and 0 where that isn't known; pages after it
+    /// have greater ones.
+    pub fn missing(&mut self, found: &Captured) -> u64
+        ensures number { result ≡ page_missing found.now }
+        ensures new { self.new ≡ record self.old { page = max self.old.page result } }
+    {
+        let page = missing_page(found);
+        self.page = self.page.max(page);
+        page
+    }
+}
+
+/// The number of a page of which something is missing, from 1, and 0 where it isn't known.
+pub(crate) fn missing_page(found: &Captured) -> u64
+    ensures { result ≡ page_missing found.now }
+{
+    match found {
+        Captured::Unread { mark, .. }
+        | Captured::MissingFrame { mark, .. }
+        | Captured::MissingBlocks(mark)
+        | Captured::BlockBeforeDcs(mark) => u64::from(mark.page) + 1,
+        Captured::Page(_) | Captured::Unfinished => 0,
+    }
+}

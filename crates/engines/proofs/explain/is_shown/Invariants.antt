@@ -1,7 +1,0 @@
--- What holds in the loop of `is_shown`.
-use Rattle.std.proofs.Common.{◌≡◌, drop}
-use Rattle.engines.specs.Explanations.{are_shown}
-use Rattle.engines.proofs.explain.is_shown.Given as goal
-
-abbrev pub invariant-loop-octet : goal.invariant-loop-octet
-invariant-loop-octet l = are_shown l.before (drop l.octet-index l.octet-items) ≡ are_shown 0 l.text

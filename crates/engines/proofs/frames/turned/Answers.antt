@@ -1,8 +1,0 @@
--- What the check asks of `turned`.
-use Rattle.std.proofs.Common.{refl}
-use Rattle.engines.proofs.TurnedBits.{turned_octet}
-use Rattle.engines.proofs.frames.turned.Goals as goal
-
-pub returns : goal.returns
-returns c =
-    turned_octet c.args.octet c.word_at-word.result _ c.word_octets.result c.word_at-word.ensures c.word_octets.ensures refl

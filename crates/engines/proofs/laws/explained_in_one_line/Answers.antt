@@ -1,5 +1,0 @@
-use Rattle.engines.proofs.OneLine.{explained_line}
-use Rattle.engines.proofs.laws.explained_in_one_line.Goals as goal
-
-pub returns : goal.returns
-returns c = explained_line

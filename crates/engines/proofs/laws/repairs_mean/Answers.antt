@@ -1,8 +1,0 @@
-use Rattle.engines.proofs.RepairsMean.{rows_are_listed, torn_is_one_bit_off}
-use Rattle.engines.proofs.laws.repairs_mean.Goals as goal
-
-pub returns-clause-rows : goal.returns-clause-rows
-returns-clause-rows c = rows_are_listed
-
-pub returns-clause-torn : goal.returns-clause-torn
-returns-clause-torn c = torn_is_one_bit_off

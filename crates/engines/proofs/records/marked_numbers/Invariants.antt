@@ -1,8 +1,0 @@
--- What holds in the loop of `marked_numbers`.
-use Rattle.std.proofs.Common.{◌≡◌, map}
-use Rattle.serde_json.specs.View.{view}
-use Rattle.engines.specs.Records.{count, marked_below}
-use Rattle.engines.proofs.records.marked_numbers.Given as goal
-
-abbrev pub invariant-loop-number : goal.invariant-loop-number
-invariant-loop-number l = map view l.numbers.items ≡ map count (marked_below l.marks l.number)

@@ -1,0 +1,4 @@
+-- The lemmas of `faults`.
+pub mod OneLine
+mod FaultKinds
+pub mod FirstElements

@@ -1,0 +1,36 @@
+-- The faults of the program and their lines.
+use Rattle.std.specs.Prelude.{ℕ, ◌≡◌, ◌⊎◌, List, ◌++◌, codes}
+use Rattle.std.specs.Fmt.{decimal}
+use Rattle.std.specs.declared.io.ErrorKind.{ErrorKind}
+use Rattle.std.specs.declared.io.ErrorKind.TheVariants.{OutOfMemory}
+use Rattle.run_tables.specs.declared.fault.CodeFault.{CodeFault}
+use Rattle.run_tables.specs.declared.fault.CodeFaultKind.{CodeFaultKind}
+use Rattle.run_tables.specs.declared.fault.CodeFaultKind.TheVariants.{NoMemory}
+use Rattle.run_tables.specs.Faults.{number_of}
+use Rattle.faults.specs.declared.fault.ToolFault.{ToolFault}
+use Rattle.faults.specs.declared.fault.ToolFault.TheVariants.{No, AtBit, AtLine}
+
+-- the line of a fault, with numbers in decimal digits
+abbrev pub fault_text : ToolFault → List ℕ
+fault_text (No number) = codes "fault " ++ decimal number
+fault_text (AtBit number place) =
+    codes "fault " ++ (decimal number ++ (codes " at bit " ++ decimal place))
+fault_text (AtLine number) = codes "fault 30 at line " ++ decimal number
+
+-- the fault that the program tells of coded bits: that of memory has no place
+abbrev pub fault_at : ℕ → CodeFaultKind → ToolFault
+fault_at place NoMemory = No 9
+fault_at place kind = AtBit (number_of kind) place
+
+-- the fault that the program tells of a fault of coded bits
+abbrev pub fault_of_code : CodeFault → ToolFault
+fault_of_code fault = fault_at fault.place fault.kind
+
+-- a fault of reading or writing, or memory that was refused
+abbrev pub IsOutside : ToolFault → Type 0
+IsOutside fault = (fault ≡ No 8) ⊎ (fault ≡ No 9)
+
+-- the fault of a reader or a writer that fails: 9 where memory was refused in it, else 8
+abbrev pub fault_of_io : ErrorKind → ToolFault
+fault_of_io OutOfMemory = No 9
+fault_of_io kind = No 8

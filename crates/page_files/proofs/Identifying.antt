@@ -1,0 +1,75 @@
+-- What is tried and written of one way more, and of all ways.
+use Rattle.std.proofs.Common.{◌≡◌, ◌<◌, ◌≤◌, ◌+◌, ℕ, List, [], ◌∷◌, ◌++◌, Option, All, length, map, subst, take, get_or, ap, sym, ◌∙◌}
+use Rattle.std.proofs.Common.{append_assoc, arith}
+use Rattle.std.specs.Prelude.{flat_map}
+use Rattle.std.specs.Io.KnownBytes.{Appends}
+use Rattle.std.proofs.KnownBytes.{Appends-trans}
+use Rattle.std.proofs.lemmas.List.{flat_map_more, map_more, map_push, take_all, take_more}
+use Rattle.std.proofs.lemmas.List.Elements.{All-push}
+use Rattle.raster.specs.declared.packed.Order.{Order}
+use Rattle.raster.specs.declared.packed.Order.TheVariants.{LsbFirst, MsbFirst}
+use Rattle.page_code.specs.declared.Coding.{Coding}
+use Rattle.page_code.specs.declared.Coding.TheVariants.{OneDim, T6}
+use Rattle.page_files.specs.Identified.{AreTried, IsTried, form_in, form_of, forms_in, line_of, lines_of, tried_widths}
+use Rattle.page_files.specs.declared.identify.Fit.{Fit}
+use Rattle.page_files.specs.declared.identify.Tried.{Tried}
+use Rattle.page_files.specs.declared.options.PageForm.{PageForm}
+
+-- the line of one way more
+pub line_more : (before now new : Option (List ℕ)) (fit : Fit) (octets : List ℕ) (tried : List Tried) (index : ℕ) (default : Tried)
+    → index < length tried → Appends before now (lines_of fit octets (take index tried))
+    → Appends now new (line_of fit octets (get_or tried index default)) → Appends before new (lines_of fit octets (take (index + 1) tried))
+line_more before now new fit octets tried index default within lines line =
+    let more : lines_of fit octets (take (index + 1) tried)
+    ≡ lines_of fit octets (take index tried) ++ line_of fit octets (get_or tried index default) =
+    ap (λ (l : List Tried). flat_map (line_of fit octets) l) (take_more tried index default within)
+    ∙ sym (flat_map_more (line_of fit octets) [] (take index tried) (get_or tried index default)) in
+    subst (Appends before new) (sym more) (Appends-trans before now new _ _ lines line)
+
+-- the lines of all ways
+pub all_lines : (before now : Option (List ℕ)) (fit : Fit) (octets : List ℕ) (tried : List Tried) (index : ℕ) → length tried ≤ index
+    → Appends before now (lines_of fit octets (take index tried)) → Appends before now (lines_of fit octets tried)
+all_lines before now fit octets tried index past lines =
+    subst (λ (l : List Tried). Appends before now (lines_of fit octets l)) (take_all index tried past) lines
+
+-- the form of one way more
+pub form_more : (coding : Coding) (order : Order) (widths : List ℕ) (index default : ℕ) (initial before after : List Tried) (one : Tried)
+    → index < length widths → after ≡ before ++ one ∷ [] → one.form ≡ form_in coding order (get_or widths index default)
+    → map form_of before ≡ map form_of initial ++ forms_in coding order (take index widths)
+    → map form_of after ≡ map form_of initial ++ forms_in coding order (take (index + 1) widths)
+form_more coding order widths index default initial before after one within is form known =
+    ap (map form_of) is ∙ (map_push form_of before one ∙ (ap (λ (l : List PageForm). l ++ one.form ∷ []) known
+    ∙ (append_assoc (map form_of initial) (forms_in coding order (take index widths)) (one.form ∷ [])
+    ∙ ap (λ (l : List PageForm). map form_of initial ++ l)
+    (ap (λ (f : PageForm). forms_in coding order (take index widths) ++ f ∷ []) form
+    ∙ sym (map_more (form_in coding order) widths index default within)))))
+
+-- one way more is tried
+pub tried_more : (octets : List ℕ) (before after : List Tried) (one : Tried) → after ≡ before ++ one ∷ [] → IsTried octets one
+    → All (IsTried octets) before → All (IsTried octets) after
+tried_more octets before after one is tried all =
+    subst (λ (l : List Tried). All (IsTried octets) l) (sym is) (All-push (IsTried octets) before one all tried)
+
+-- after no way the ways of both codes and both orders: these are all ways
+pub all_tried : (octets : List ℕ) (none first second third all : List Tried) → none ≡ []
+    → map form_of first ≡ map form_of none ++ forms_in T6 MsbFirst tried_widths
+    → map form_of second ≡ map form_of first ++ forms_in T6 LsbFirst tried_widths
+    → map form_of third ≡ map form_of second ++ forms_in OneDim MsbFirst tried_widths
+    → map form_of all ≡ map form_of third ++ forms_in OneDim LsbFirst tried_widths
+    → (All (IsTried octets) none → All (IsTried octets) first) → (All (IsTried octets) first → All (IsTried octets) second)
+    → (All (IsTried octets) second → All (IsTried octets) third) → (All (IsTried octets) third → All (IsTried octets) all)
+    → AreTried octets all
+all_tried octets none first second third all empty one two three four each_one each_two each_three each_four =
+    let forms_one : map form_of first ≡ forms_in T6 MsbFirst tried_widths =
+    one ∙ ap (λ (l : List Tried). map form_of l ++ forms_in T6 MsbFirst tried_widths) empty in
+    let forms_two : map form_of second ≡ forms_in T6 MsbFirst tried_widths ++ forms_in T6 LsbFirst tried_widths =
+    two ∙ ap (λ (l : List PageForm). l ++ forms_in T6 LsbFirst tried_widths) forms_one in
+    let forms_three : map form_of third ≡ (forms_in T6 MsbFirst tried_widths ++ forms_in T6 LsbFirst tried_widths)
+    ++ forms_in OneDim MsbFirst tried_widths =
+    three ∙ ap (λ (l : List PageForm). l ++ forms_in OneDim MsbFirst tried_widths) forms_two in
+    let no_way : All (IsTried octets) none =
+    subst (λ (l : List Tried). All (IsTried octets) l) (sym empty) (λ k d within. absurd (omega (arith, within))) in
+    record {
+      forms_are = four ∙ ap (λ (l : List PageForm). l ++ forms_in OneDim LsbFirst tried_widths) forms_three;
+      each = each_four (each_three (each_two (each_one no_way)));
+    }

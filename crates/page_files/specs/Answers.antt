@@ -1,0 +1,74 @@
+-- What `decode` gives of octets: an image, what is told of it, and whether all is there that is asked for.
+use Rattle.std.specs.Prelude.{ℕ, ◌≡◌, ◌-◌, ◌↔◌, Bool, true, not, ◌||◌, List, [], ◌++◌, length, Result, Ok, Err, IsTrue, codes, cond, nat_eq}
+use Rattle.std.specs.Fmt.{decimal}
+use Rattle.std.specs.Int.{div_ceil}
+use Rattle.page_files.specs.DecodeRecords.{after_record, as_told, page_record, rows_record}
+use Rattle.page_files.specs.Decodings.{GivesPage, broken_asked}
+use Rattle.page_files.specs.PageEnds.{HasItsEnd}
+use Rattle.faults.specs.RecordLines.{record_line}
+use Rattle.page_files.specs.declared.decoding.ReadTo.{ReadTo}
+use Rattle.page_files.specs.declared.decoding.ReadTo.TheVariants.{End, Fault, Lines, NoEnd}
+use Rattle.faults.specs.declared.fault.ToolFault.{ToolFault}
+use Rattle.page_files.specs.declared.options.DecodeOptions.{DecodeOptions}
+use Rattle.page_files.specs.declared.options.PageForm.{PageForm}
+
+-- the line of a page's rows and of the bits of its code
+abbrev pub page_line : ℕ → ℕ → List ℕ
+page_line rows bits = codes "rows " ++ (decimal rows ++ (codes " bits " ++ (decimal bits ++ codes "\n")))
+
+-- the line of the octets after a page
+abbrev pub after_line : ℕ → List ℕ
+after_line count = codes "octets after the page " ++ (decimal count ++ codes "\n")
+
+-- the line of a page's rows alone
+abbrev pub rows_line : ℕ → List ℕ
+rows_line rows = codes "rows " ++ (decimal rows ++ codes "\n")
+
+-- a page's rows and the bits of its code as a line, or as a record
+abbrev pub page_text : Bool → ℕ → ℕ → List ℕ
+page_text records rows bits = cond records (record_line (page_record rows bits)) (page_line rows bits)
+
+-- the octets after a page, where there are any, as a line, or as a record
+abbrev pub after_text : Bool → ℕ → List ℕ
+after_text records count = cond (nat_eq count 0) [] (cond records (record_line (after_record count)) (after_line count))
+
+-- a page's rows alone as a line, or as a record
+abbrev pub rows_text : Bool → ℕ → List ℕ
+rows_text records rows = cond records (record_line (rows_record rows)) (rows_line rows)
+
+-- the line of a page of T.4 without its RTC
+abbrev pub no_rtc_line : ℕ → List ℕ
+no_rtc_line rows = codes "the page ends without its RTC after " ++ (decimal rows ++ codes " rows\n")
+
+-- how many octets come after those of a page's code
+abbrev pub octets_after : List ℕ → ℕ → ℕ
+octets_after octets bits = length octets - div_ceil bits 8
+
+-- what is told of a page that was read to the end of its code: its counts, where they are asked for, and that RTC is missing
+abbrev pub end_text : Bool → Bool → ℕ → ℕ → ℕ → Bool → List ℕ
+end_text verbose records rows bits after has_end =
+    cond verbose (page_text records rows bits ++ after_text records after) [] ++ as_told records (cond has_end [] (no_rtc_line rows))
+
+-- What is told of a page, and whether all is there. Of one that was read to the end of its code, all is there, but for RTC where it is
+-- asked for. Of one that was read line by line, the lines of its repaired rows, and its rows where they are asked for. Of one that ends
+-- without its EOFB, the line that says so, and its rows where they are asked for; and all is there, but where the end is asked for. Where
+-- the rest is refused, nothing is told, and that is the fault. Lines are told as they are, or each as a notice.
+abbrev pub TellsPage : PageForm → DecodeOptions → List ℕ → ReadTo → ℕ → List ℕ → List ℕ → Result Bool ToolFault → Type 0
+TellsPage form options octets (End bits) rows lines told end =
+    (has_end : Bool) × (IsTrue has_end ↔ HasItsEnd form.coding form.order octets bits)
+    × (told ≡ end_text options.verbose options.records rows bits (octets_after octets bits) has_end)
+    × (end ≡ Ok (has_end || not options.whole))
+TellsPage form options octets (Lines count) rows lines told end =
+    (told ≡ as_told options.records lines ++ cond options.verbose (rows_text options.records rows) []) × (end ≡ Ok true)
+TellsPage form options octets (NoEnd bit) rows lines told end =
+    (told ≡ as_told options.records lines ++ cond options.verbose (rows_text options.records rows) []) × (end ≡ Ok (not options.whole))
+TellsPage form options octets (Fault fault) rows lines told end = (told ≡ []) × (end ≡ Err fault)
+
+-- a page is decoded in the way that the options ask for, with these lines for standard error
+pub record AnswersDecode (form : PageForm) (options : DecodeOptions) (octets image told : List ℕ) (end : Result Bool ToolFault)
+    : Type 0 where
+  pub read_to : ReadTo
+  pub rows : ℕ
+  pub lines : List ℕ
+  pub gives : GivesPage (broken_asked options.salvage options.repair) form octets read_to rows image lines
+  pub tells : TellsPage form options octets read_to rows lines told end

@@ -1,0 +1,147 @@
+-- Pages of a file one after another.
+use Rattle.std.specs.Prelude.{ℕ, zero, suc, ◌≡◌, ◌≢◌, ◌≤◌, ◌<◌, ◌+◌, ◌-◌, ◌*◌, ◌/◌, ◌%◌, ◌⊎◌, Bool, true, false, List, [], ◌++◌}
+use Rattle.std.specs.Prelude.{Option, Some, None, Result, Err, ◌&&◌, codes, cond, drop, length, nat_lt, slice_index}
+use Rattle.std.specs.Fmt.{decimal}
+use Rattle.std.specs.Int.{div_ceil}
+use Rattle.std.specs.List.{AllByRecursion}
+use Rattle.raster.specs.declared.packed.Order.{Order}
+use Rattle.raster.specs.declared.row.Color.{Color}
+use Rattle.raster.specs.Packed.{bit_in, bits_of}
+use Rattle.raster.specs.Pages.{PagePixels}
+use Rattle.page_code.specs.declared.Coding.{Coding}
+use Rattle.page_code.specs.declared.Coding.TheVariants.{OneDim, T6}
+use Rattle.page_code.specs.Codings.{ReadsIn}
+use Rattle.page_code.specs.declared.page_reader.RefusedCode.{RefusedCode}
+use Rattle.page_code.specs.OneDimension.Fronts.{CodeBegins}
+use Rattle.page_code.specs.OneDimension.Pages.{AreZeros, eol_word, eol_words}
+use Rattle.page_files.specs.Answers.{AnswersDecode}
+use Rattle.page_files.specs.DecodeRecords.{as_told, begins_record}
+use Rattle.page_files.specs.Decodings.{IsKept, IsOfKept}
+use Rattle.faults.specs.RecordLines.{record_line}
+use Rattle.page_files.specs.CodedPages.{RefusesCode, WritesPage}
+use Rattle.faults.specs.declared.fault.ToolFault.{ToolFault}
+use Rattle.faults.specs.declared.fault.ToolFault.TheVariants.{No}
+use Rattle.page_files.specs.declared.later_pages.Reached.{Reached}
+use Rattle.page_files.specs.declared.later_pages.Reached.TheVariants.{Page, End, Broken}
+use Rattle.page_files.specs.declared.options.DecodeOptions.{DecodeOptions}
+use Rattle.page_files.specs.declared.options.PageForm.{PageForm}
+
+-- The bits begin with EOLs, with fill, and after the last of them comes neither an EOL nor only 0 bits: a page begins with the last
+-- one (ITU-T T.4, 4.1.2), without its fill, where the bits themselves begin at the bit `used`
+pub record BeginsByEol (used start : ℕ) (x : List Bool) : Type 0 where
+  pub before : List ℕ
+  pub last : ℕ
+  pub rest : List Bool
+  pub long : AllByRecursion (λ count. 11 ≤ count) before
+  pub long_last : 11 ≤ last
+  pub split : x ≡ eol_words before ++ (eol_word last ++ rest)
+  pub code : CodeBegins rest
+  pub start_is : start ≡ used + length (eol_words before) + (last - 11)
+
+-- EOLs, or none, and then only 0 bits or nothing
+abbrev pub NothingLeft : List Bool → Type 0
+NothingLeft x = (eols : List ℕ) × (rest : List Bool) × AllByRecursion (λ count. 11 ≤ count) eols × (x ≡ eol_words eols ++ rest) × AreZeros
+    rest
+
+-- Where the page begins that comes after one of T.4, of the bits from the bit `used` on: with the last of the EOLs that they begin
+-- with; where they begin with none, in the next octet. None comes where only EOLs and 0 bits are left.
+abbrev pub IsLaterOneDim : ℕ → List Bool → Option ℕ → Type 0
+IsLaterOneDim used x (Some start) = BeginsByEol used start x ⊎ (CodeBegins x × (start ≡ 8 * div_ceil used 8))
+IsLaterOneDim used x None = NothingLeft x
+
+-- where the page begins that comes after one of T.6: in the first octet from this one on that isn't 0, if there is one
+abbrev pub IsLaterT6 : ℕ → List ℕ → Option ℕ → Type 0
+IsLaterT6 from octets (Some start) = (at : ℕ) × (start ≡ 8 * at) × (from ≤ at) × (at < length octets) × (slice_index octets at ≢ 0)
+    × ((k : ℕ) → from ≤ k → k < at → slice_index octets k ≡ 0)
+IsLaterT6 from octets None = (k : ℕ) → from ≤ k → k < length octets → slice_index octets k ≡ 0
+
+-- the same of a page in a code, which has the first `used` bits of the octets
+abbrev pub IsLaterIn : Coding → Order → List ℕ → ℕ → Option ℕ → Type 0
+IsLaterIn OneDim order octets used start = IsLaterOneDim used (drop used (bits_of order octets)) start
+IsLaterIn T6 order octets used start = IsLaterT6 (div_ceil used 8) octets start
+
+-- where the page begins that comes after the one of the first `used` bits, if one comes
+abbrev pub IsLater : PageForm → List ℕ → ℕ → Option ℕ → Type 0
+IsLater form octets used start = IsLaterIn form.coding form.order octets used start
+
+-- the octets `later` are those from that of a bit on, with 0 bits in place of those before it
+pub record IsFrom (order : Order) (start : ℕ) (octets later : List ℕ) : Type 0 where
+  pub size : length later + start / 8 ≡ length octets
+  pub fill : (k : ℕ) → k < start % 8 → bit_in order later k ≡ false
+  pub same : (k : ℕ) → start % 8 ≤ k → bit_in order later k ≡ bit_in order octets (8 * (start / 8) + k)
+
+-- the octets begin with a page's code of `used` bits
+abbrev pub BeginsWith : PageForm → List ℕ → ℕ → Type 0
+BeginsWith form octets used = (rows : List (List Color)) × ReadsIn form.coding form.width (bits_of form.order octets) rows used
+
+-- the octets begin with a page, and another one follows it: its octets are `later`; or none does
+abbrev pub AfterPage : Bool → PageForm → List ℕ → List ℕ → Type 0
+AfterPage true form octets later = (used : ℕ) × (start : ℕ) × BeginsWith form octets used × IsLater form octets used (Some start)
+    × IsFrom form.order start octets later
+AfterPage false form octets later = (used : ℕ) × BeginsWith form octets used × IsLater form octets used None × (later ≡ octets)
+
+-- a number of pages, one after another, come before the page whose octets are `later`
+abbrev pub AreAfter : PageForm → List ℕ → ℕ → List ℕ → Type 0
+AreAfter form octets zero later = later ≡ octets
+AreAfter form octets (suc pages) later = (before : List ℕ) × AreAfter form octets pages before × AfterPage true form before later
+
+-- what comes after a number of pages: another one; or one of them is the last one, or can't be read
+abbrev pub Reaches : PageForm → ℕ → List ℕ → List ℕ → Reached → Type 0
+Reaches form pages octets later Page = AreAfter form octets pages later
+Reaches form pages octets later (End count) = (1 ≤ count) × (count ≤ pages) × AreAfter form octets (count - 1) later
+    × AfterPage false form later later
+Reaches form pages octets later (Broken number fault) = (1 ≤ number) × (number ≤ pages) × AreAfter form octets (number - 1) later
+    × RefusesCode form.coding form.order form.width later fault
+
+-- what is kept of what comes after pages: the refusal of one that can't be read, and else nothing
+abbrev pub KeepsReached : Option RefusedCode → Reached → Type 0
+KeepsReached kept (Broken number fault) = IsOfKept kept fault
+KeepsReached kept (End count) = kept ≡ None
+KeepsReached kept Page = kept ≡ None
+
+-- the fault of a page, or of one before it, is that of the refusal that is kept; but where the file has no such page, where memory is
+-- refused, and where reading or writing fails
+abbrev pub KeepsPage : Option RefusedCode → ToolFault → Type 0
+KeepsPage kept fault = (fault ≡ No 28) ⊎ IsKept kept fault
+
+-- the line of the octet at which a page begins
+abbrev pub begins_line : ℕ → ℕ → List ℕ
+begins_line page octet = codes "page " ++ (decimal page ++ (codes " begins at octet " ++ (decimal octet ++ codes "\n")))
+
+-- the same as a line, or as a record, where it is asked for and the page isn't the first
+abbrev pub begins_text : Bool → Bool → ℕ → ℕ → List ℕ
+begins_text verbose records page octet = cond (verbose && nat_lt 1 page)
+    (cond records (record_line (begins_record page octet)) (begins_line page octet)) []
+
+-- the line of how many pages a file has
+abbrev pub pages_line : ℕ → List ℕ
+pages_line count = codes "pages in the file: " ++ (decimal count ++ codes "\n")
+
+-- the line of a page that can't be read to its end
+abbrev pub broken_line : ℕ → ℕ → List ℕ
+broken_line number octet = codes "page " ++ (decimal number ++ (codes " begins at octet " ++ (decimal octet
+    ++ codes " and can't be read to its end\n")))
+
+-- what `decode` gives of octets that begin with the page of this number, and before it the line of where they begin in the file
+pub record AnswersReached (form : PageForm) (options : DecodeOptions) (page octet : ℕ) (octets : List ℕ) (decoded : PagePixels)
+    (told : List ℕ) (end : Result Bool ToolFault) : Type 0 where
+  pub lines : List ℕ
+  pub answers : (image : List ℕ) → WritesPage decoded (Some []) (Some image) → AnswersDecode form options octets image lines end
+  pub told_is : told ≡ begins_text options.verbose options.records page octet ++ lines
+
+-- What is given of a page of octets, whose own ones are `later`: what `decode` gives of those, with the line of where they begin. Where
+-- the file has no such page, how many it has, and fault 28; where one before it can't be read to its end, which one, and its fault.
+abbrev pub GivesReached : PageForm → DecodeOptions → ℕ → List ℕ → List ℕ → PagePixels → List ℕ → Result Bool ToolFault → Reached → Type 0
+GivesReached form options page octets later decoded told end Page =
+    AnswersReached form options page (length octets - length later) later decoded told end
+GivesReached form options page octets later decoded told end (End count) =
+    (decoded.rows ≡ []) × (told ≡ as_told options.records (pages_line count)) × (end ≡ Err (No 28))
+GivesReached form options page octets later decoded told end (Broken number fault) =
+    (decoded.rows ≡ []) × (told ≡ as_told options.records (broken_line number (length octets - length later))) × (end ≡ Err fault)
+
+-- what `decode` gives of the page of this number, counted from 1
+pub record AnswersPage (form : PageForm) (options : DecodeOptions) (page : ℕ) (octets later : List ℕ) (decoded : PagePixels)
+    (told : List ℕ) (end : Result Bool ToolFault) : Type 0 where
+  pub reached : Reached
+  pub reaches : Reaches form (page - 1) octets later reached
+  pub gives : GivesReached form options page octets later decoded told end reached

@@ -1,0 +1,12 @@
+-- The definitions of `page_files`.
+pub mod Refusals
+pub mod CodedPages
+pub mod Repairs
+pub mod RepairsT6
+pub mod Decodings
+pub mod PageEnds
+pub mod Answers
+pub mod LaterPages
+pub mod Identified
+pub mod DecodeRecords
+pub mod RepairsMean

@@ -1,0 +1,56 @@
+-- What the command that repairs a coded page does with what it reads.
+use Rattle.std.specs.Prelude.{ℕ, ◌≡◌, ◌≢◌, ◌<◌, ◌⊎◌, Bool, List, [], ◌∷◌, ◌++◌, Option, codes, flat_map, length}
+use Rattle.std.specs.Fmt.{decimal}
+use Rattle.std.specs.Io.KnownBytes.{Appends}
+use Rattle.raster.specs.declared.packed.Order.{Order}
+use Rattle.raster.specs.Packed.{bits_of}
+use Rattle.raster.specs.Pages.{PagePixels}
+use Rattle.raster.specs.PbmText.{AppendsSome, ArePagesText}
+use Rattle.run_tables.specs.declared.fault.CodeFault.{CodeFault}
+use Rattle.run_tables.specs.declared.fault.CodeFaultKind.TheVariants.{NoMemory}
+use Rattle.run_tables.specs.Faults.{number_of as kind_number}
+use Rattle.page_code.specs.declared.one_dim.repair.RepairedRow.{RepairedRow}
+use Rattle.page_code.specs.OneDimension.Repairs.{HasMoreLines, HasNoRow, IsRepair}
+use Rattle.faults.specs.Faults.{IsOutside}
+use Rattle.faults.specs.declared.fault.ToolFault.{ToolFault}
+use Rattle.faults.specs.declared.fault.ToolFault.TheVariants.{AtBit}
+use Rattle.page_files.specs.declared.repair.Repair.{Repair}
+
+-- the line of a repaired row: its number, and the bit where it can't be read
+abbrev pub repaired_line : RepairedRow → List ℕ
+repaired_line row = codes "row " ++ (decimal row.row ++ (codes " repaired at bit " ++ (decimal row.bit ++ codes "\n")))
+
+-- the line with the number of repaired rows
+abbrev pub count_line : ℕ → List ℕ
+count_line count = codes "repaired rows: " ++ (decimal count ++ codes "\n")
+
+-- a line for each repaired row, and one with their number, if there is one
+abbrev pub repaired_text : List RepairedRow → List ℕ
+repaired_text [] = []
+repaired_text (row ∷ rows) = flat_map repaired_line (row ∷ rows) ++ count_line (length (row ∷ rows))
+
+-- the octets read begin with lines that give this page, of which some row is read; its image is written, and the lines of its repaired
+-- rows are
+pub record RepairsPage (order : Order) (width : ℕ) (fine : Bool) (before after lines_before lines_after : Option (List ℕ))
+    (repair : Repair) (octets : List ℕ) : Type 0 where
+  pub page : PagePixels
+  pub repaired : List RepairedRow
+  pub width_is : page.width ≡ width
+  pub fine_is : page.fine ≡ fine
+  pub gives : IsRepair width (bits_of order octets) page.rows repaired
+  pub some : length repaired < length page.rows
+  pub rows_are : repair.rows ≡ length page.rows
+  pub repaired_are : repair.repaired ≡ length repaired
+  pub written : AppendsSome (ArePagesText (page ∷ [])) before after
+  pub listed : Appends lines_before lines_after (repaired_text repaired)
+
+-- no row of the octets read can be read, or there are too many: the fault's bit and number
+pub record RefusesLines (order : Order) (width : ℕ) (octets : List ℕ) (fault : ToolFault) : Type 0 where
+  pub code_fault : CodeFault
+  pub refuses : HasNoRow width (bits_of order octets) code_fault ⊎ HasMoreLines width (bits_of order octets) code_fault
+  pub other : code_fault.kind ≢ NoMemory
+  pub is : fault ≡ AtBit (kind_number code_fault.kind) code_fault.place
+
+-- why no page was given
+abbrev pub RefusesRepair : Order → ℕ → List ℕ → ToolFault → Type 0
+RefusesRepair order width octets fault = IsOutside fault ⊎ RefusesLines order width octets fault

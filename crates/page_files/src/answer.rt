@@ -1,0 +1,200 @@
+//! What `decode` gives of octets in memory: a page, what is told of it, and whether all is there that is asked for.
+ghost use Rattle.page_files.specs.Answers.{AnswersDecode, after_text, end_text, no_rtc_line, octets_after, page_text, rows_text};
+ghost use Rattle.page_files.specs.CodedPages.{WritesPage};
+ghost use Rattle.page_files.specs.Decodings.{IsKept, RefusesDecoding, broken_asked};
+ghost use Rattle.faults.specs.Faults.{IsOutside};
+ghost use Rattle.page_files.specs.PageEnds.{HasItsEnd};
+ghost use Rattle.page_code.specs.PageReaders.{IsPageRefused};
+ghost use Rattle.raster.specs.Packed.{bits_of};
+ghost use Rattle.raster.specs.Pixels.{IsWidth};
+ghost use Rattle.std.specs.Io.KnownBytes.{Appends};
+ghost use Rattle.std.specs.Prelude.{◌≡◌, ◌++◌, ◌↔◌, [], ℕ, List, Some, None, true, false, IfErr, IfOk, IfSome, IsTrue, OnOk, cond};
+
+use crate::decode_records::{told_as, write_after, write_page, write_rows};
+use crate::decoding::{Broken, Decoded, ReadTo, decode_page};
+use crate::options::{DecodeOptions, PageForm};
+use crate::page_end::has_its_end;
+use faults::ToolFault;
+use page_code::RefusedCode;
+use raster::Page;
+use std::alloc::Global;
+use std::io::Write;
+
+/// What is given of octets that a page is decoded from.
+#[derive(Debug, Drop)]
+pub struct DecodeAnswer {
+    /// The page, with no row where none can be read.
+    pub page: Page,
+    /// What is told of the page, in lines or in records.
+    pub told: Vec<u8>,
+    /// Whether all is there that is asked for, or the fault of what can't be read.
+    pub end: Result<bool, ToolFault>,
+}
+
+/// Writes the line, or the record, of a page's rows with the bits of its code.
+fn tell_page<W: Write>(
+    alloc: Global,
+    records: bool,
+    rows: usize,
+    bits: u128,
+    writer: &mut W,
+) -> Result<(), ToolFault>
+    ensures told { OnOk result (Appends (W.contents writer.old) (W.contents writer.new) (page_text records rows bits)) }
+    ensures fault { IfErr result IsOutside }
+{
+    if records {
+        return write_page(alloc, rows, bits, writer);
+    }
+    writeln!(writer, "rows {rows} bits {bits}")?;
+    Ok(())
+}
+
+/// Writes the line, or the record, of the octets after a page, if there are any.
+fn tell_after<W: Write>(
+    alloc: Global,
+    records: bool,
+    count: u128,
+    writer: &mut W,
+) -> Result<(), ToolFault>
+    ensures told { OnOk result (Appends (W.contents writer.old) (W.contents writer.new) (after_text records count)) }
+    ensures fault { IfErr result IsOutside }
+{
+    if count == 0 {
+        return Ok(());
+    }
+    if records {
+        return write_after(alloc, count, writer);
+    }
+    writeln!(writer, "octets after the page {count}")?;
+    Ok(())
+}
+
+/// Writes the lines, or the records, of a page's rows with the bits of its code, and of the octets after it, where they are asked for.
+fn tell_counts<W: Write>(
+    alloc: Global,
+    options: DecodeOptions,
+    rows: usize,
+    bits: u128,
+    after: u128,
+    writer: &mut W,
+) -> Result<(), ToolFault>
+    ensures told { OnOk result (Appends (W.contents writer.old) (W.contents writer.new)
+        (cond options.verbose (page_text options.records rows bits ++ after_text options.records after) [])) }
+    ensures fault { IfErr result IsOutside }
+{
+    if !options.verbose {
+        return Ok(());
+    }
+    tell_page(alloc, options.records, rows, bits, writer)?;
+    tell_after(alloc, options.records, after, writer)?;
+    Ok(())
+}
+
+/// Writes the line of a page without its RTC, where that is so.
+fn tell_no_rtc<W: Write>(has_end: bool, rows: usize, writer: &mut W) -> Result<(), ToolFault>
+    ensures told { OnOk result (Appends (W.contents writer.old) (W.contents writer.new) (cond has_end [] (no_rtc_line rows))) }
+    ensures fault { IfErr result IsOutside }
+{
+    if has_end {
+        return Ok(());
+    }
+    writeln!(writer, "the page ends without its RTC after {rows} rows")?;
+    Ok(())
+}
+
+/// Writes the line, or the record, of a page's rows, where it is asked for.
+fn tell_rows<W: Write>(
+    alloc: Global,
+    options: DecodeOptions,
+    rows: usize,
+    writer: &mut W,
+) -> Result<(), ToolFault>
+    ensures told { OnOk result (Appends (W.contents writer.old) (W.contents writer.new)
+        (cond options.verbose (rows_text options.records rows) [])) }
+    ensures fault { IfErr result IsOutside }
+{
+    if !options.verbose {
+        return Ok(());
+    }
+    if options.records {
+        return write_rows(alloc, rows, writer);
+    }
+    writeln!(writer, "rows {rows}")?;
+    Ok(())
+}
+
+/// Writes what is told of a page that was read to the end of its code, of a number of rows and the first bits of the octets, and answers
+/// whether the code has its end.
+fn tell_end<W: Write>(
+    alloc: Global,
+    octets: &[u8],
+    form: PageForm,
+    options: DecodeOptions,
+    read: (usize, u128),
+    writer: &mut W,
+) -> Result<bool, ToolFault>
+    ensures end { IfOk result (λ has_end. IsTrue has_end ↔ HasItsEnd form.coding form.order octets.now read.1) }
+    ensures told { IfOk result (λ has_end. Appends (W.contents writer.old) (W.contents writer.new)
+        (end_text options.verbose options.records read.0 read.1 (octets_after octets.now read.1) has_end)) }
+    ensures fault { IfErr result IsOutside }
+{
+    let (rows, bits) = read;
+    let after = (octets.len() as u128).saturating_sub(bits.div_ceil(8));
+    tell_counts(alloc, options, rows, bits, after, writer)?;
+    let has_end = has_its_end(octets, form, bits);
+    let mut lines = Vec::new(alloc);
+    tell_no_rtc(has_end, rows, &mut lines)?;
+    let told = told_as(alloc, options.records, lines)?;
+    writer.write_all(&told)?;
+    Ok(has_end)
+}
+
+/// Decodes octets that begin with the code of a page of this form, with a width of 1 to 2,432 pixels, in the way that is asked
+/// for, as `decode_page` does, and tells what is asked for of it. Errs as `decode_page` does, and with 9. How far the octets were read is
+/// kept in `kept` as there.
+pub fn answer_decode(
+    alloc: Global,
+    octets: &[u8],
+    form: PageForm,
+    options: DecodeOptions,
+    kept: &mut Option<RefusedCode>,
+) -> Result<DecodeAnswer, ToolFault>
+    requires { IsWidth form.width }
+    ensures known { IfSome kept.new (IsPageRefused form.coding form.width (bits_of form.order octets.now)) }
+    ensures answered { IfOk result (λ answer. (image : List ℕ) → WritesPage answer.page (Some []) (Some image)
+        → AnswersDecode form options octets.now image answer.told.items answer.end) }
+    ensures refused { IfErr result (RefusesDecoding (broken_asked options.salvage options.repair) form octets.now) }
+    ensures kept { options.repair ≡ false → IfErr result (IsKept kept.new) }
+    ensures kept_rows { options.repair ≡ false → IfOk result (λ answer. IfErr answer.end (IsKept kept.new)) }
+    ensures kept_none { options.repair ≡ true → kept.new ≡ None }
+{
+    let broken = Broken::asked(options.salvage, options.repair);
+    let Decoded {
+        page,
+        lines,
+        read_to,
+    } = decode_page(alloc, octets, form, broken, kept)?;
+    let rows = page.rows().len();
+    let mut told = told_as(alloc, options.records, lines)?;
+    match read_to {
+        ReadTo::End(bits) => {
+            let has_end = tell_end(alloc, octets, form, options, (rows, bits), &mut told)?;
+            let end = Ok(has_end || !options.whole);
+            Ok(DecodeAnswer { page, told, end })
+        }
+        ReadTo::Lines(_) => {
+            tell_rows(alloc, options, rows, &mut told)?;
+            let end = Ok(true);
+            Ok(DecodeAnswer { page, told, end })
+        }
+        ReadTo::NoEnd(_) => {
+            tell_rows(alloc, options, rows, &mut told)?;
+            let end = Ok(!options.whole);
+            Ok(DecodeAnswer { page, told, end })
+        }
+        ReadTo::Fault(fault) => {
+            let end = Err(fault);
+            Ok(DecodeAnswer { page, told, end })
+        }
+    }
+}

@@ -1,0 +1,187 @@
+//! The way of decoding a page that is asked for, and what it gives.
+ghost use Rattle.page_files.specs.CodedPages.{WritesPage};
+ghost use Rattle.page_files.specs.Decodings.{GivesPage, IsKept, KeepsReadTo, RefusesDecoding, RefusesKept, broken_asked};
+ghost use Rattle.faults.specs.Faults.{IsOutside, fault_of_code};
+ghost use Rattle.page_code.specs.PageReaders.{IsPageRefused};
+ghost use Rattle.raster.specs.Packed.{bits_of};
+ghost use Rattle.raster.specs.Pixels.{IsWidth};
+ghost use Rattle.std.specs.Prelude.{◌≡◌, ◌≢◌, [], ℕ, List, Some, None, IfErr, IfOk, IfSome, length};
+
+use crate::coded::read_code;
+use crate::options::PageForm;
+use crate::repair::repair_lines;
+use crate::repair_t6::repair_t6;
+use faults::ToolFault;
+use page_code::{Coding, RefusedCode};
+use raster::Page;
+use std::alloc::Global;
+
+/// What is given of a page that can't be read.
+#[derive(Clone, Copy, Debug, PartialEq, Eq)]
+pub enum Broken {
+    /// Nothing.
+    Nothing,
+    /// The whole rows before the bit where it is refused.
+    WholeRows,
+    /// In the one-dimensional code all its rows, where one that can't be read is the one before it. In T.6 its whole rows; and where
+    /// only its EOFB is missing or broken, that is no fault.
+    AllRows,
+}
+
+impl Broken {
+    /// What is given where `--salvage` or `--repair` is asked for; with both, what `--repair` gives.
+    pub fn asked(salvage: bool, repair: bool) -> Broken
+        ensures { result ≡ broken_asked salvage repair }
+    {
+        if repair {
+            Broken::AllRows
+        } else if salvage {
+            Broken::WholeRows
+        } else {
+            Broken::Nothing
+        }
+    }
+}
+
+/// How far a page was read.
+#[derive(Clone, Copy, Debug, PartialEq, Eq)]
+pub enum ReadTo {
+    /// To the end of its code, which has this number of bits.
+    End(u128),
+    /// To the bit of this fault, where the rest is refused.
+    Fault(ToolFault),
+    /// To its end line by line, where this number of rows is repaired.
+    Lines(usize),
+    /// To the bit after its last row, where EOFB is missing or broken.
+    NoEnd(u128),
+}
+
+/// What is given of a coded page.
+#[derive(Debug, Drop)]
+pub struct Decoded {
+    /// The page, with no row where none can be read.
+    pub page: Page,
+    /// A line for each repaired row, and one with their number, if there is one.
+    pub lines: Vec<u8>,
+    /// How far the page was read.
+    pub read_to: ReadTo,
+}
+
+/// The page of octets that begin with its code. Where they are refused, how far they were read is kept.
+fn decode_whole(
+    alloc: Global,
+    octets: &[u8],
+    form: PageForm,
+    kept: &mut Option<RefusedCode>,
+) -> Result<Decoded, ToolFault>
+    requires { IsWidth form.width }
+    ensures known { IfSome kept.new (IsPageRefused form.coding form.width (bits_of form.order octets.now)) }
+    ensures given { IfOk result (λ given. (image : List ℕ) → WritesPage given.page (Some []) (Some image)
+        → GivesPage Broken.Nothing form octets.now given.read_to (length given.page.rows) image given.lines.items) }
+    ensures refused { IfErr result (RefusesKept kept.new form octets.now) }
+    ensures kept_rows { IfOk result (λ given. KeepsReadTo kept.new given.read_to) }
+{
+    let (page, bits) = read_code(alloc, octets, form, kept)?;
+    let lines = Vec::new(alloc);
+    let read_to = ReadTo::End(bits);
+    Ok(Decoded {
+        page,
+        lines,
+        read_to,
+    })
+}
+
+/// The whole rows of octets that are refused so.
+fn salvage_refused(
+    alloc: Global,
+    octets: &[u8],
+    form: PageForm,
+    code: RefusedCode,
+) -> Result<Decoded, ToolFault>
+    requires width { IsWidth form.width }
+    requires rest { IsPageRefused form.coding form.width (bits_of form.order octets.now) code }
+    ensures given { IfOk result (λ given. (image : List ℕ) → WritesPage given.page (Some []) (Some image)
+        → GivesPage Broken.WholeRows form octets.now given.read_to (length given.page.rows) image given.lines.items) }
+    ensures read_to { IfOk result (λ given. given.read_to ≡ ReadTo.Fault (fault_of_code code.fault)) }
+    ensures refused { IfErr result IsOutside }
+{
+    let PageForm {
+        coding,
+        order,
+        width,
+        fine,
+    } = form;
+    let page = coding.salvage(alloc, octets, order, width, fine)?;
+    let lines = Vec::new(alloc);
+    let fault = ToolFault::from(code.fault);
+    let read_to = ReadTo::Fault(fault);
+    Ok(Decoded {
+        page,
+        lines,
+        read_to,
+    })
+}
+
+/// The page of octets that begin with its code, or its whole rows before the bit where they are refused; how far they were read is kept
+/// then.
+fn salvage_rows(
+    alloc: Global,
+    octets: &[u8],
+    form: PageForm,
+    kept: &mut Option<RefusedCode>,
+) -> Result<Decoded, ToolFault>
+    requires { IsWidth form.width }
+    ensures known { IfSome kept.new (IsPageRefused form.coding form.width (bits_of form.order octets.now)) }
+    ensures given { IfOk result (λ given. (image : List ℕ) → WritesPage given.page (Some []) (Some image)
+        → GivesPage Broken.WholeRows form octets.now given.read_to (length given.page.rows) image given.lines.items) }
+    ensures refused { IfErr result IsOutside }
+    ensures kept_rows { IfOk result (λ given. KeepsReadTo kept.new given.read_to) }
+{
+    match read_code(alloc, octets, form, kept) {
+        Ok((page, bits)) => {
+            let lines = Vec::new(alloc);
+            let read_to = ReadTo::End(bits);
+            Ok(Decoded {
+                page,
+                lines,
+                read_to,
+            })
+        }
+        Err(fault) => match *kept {
+            Some(code) => salvage_refused(alloc, octets, form, code),
+            None => Err(fault),
+        },
+    }
+}
+
+/// Decodes octets that begin with the code of a page of this form, with a width of 1 to 2,432 pixels, in the way that is
+/// asked for: to the page whose image `decode_engine`, `salvage_engine` or `repair_engine` writes, or what `repair_t6` gives. Errs where
+/// no page is given: at the bit where they are refused, and with 9 where memory is. How far they were read is kept in `kept`, where
+/// they are refused and not repaired, and none else.
+#[tactic(auto, using(crate::proofs::DecodedPages::refused_show, crate::proofs::DecodedPages::refused_kept))]
+pub fn decode_page(
+    alloc: Global,
+    octets: &[u8],
+    form: PageForm,
+    broken: Broken,
+    kept: &mut Option<RefusedCode>,
+) -> Result<Decoded, ToolFault>
+    requires { IsWidth form.width }
+    ensures known { IfSome kept.new (IsPageRefused form.coding form.width (bits_of form.order octets.now)) }
+    ensures given { IfOk result (λ given. (image : List ℕ) → WritesPage given.page (Some []) (Some image)
+        → GivesPage broken form octets.now given.read_to (length given.page.rows) image given.lines.items) }
+    ensures refused { IfErr result (RefusesDecoding broken form octets.now) }
+    ensures kept { broken ≢ Broken.AllRows → IfErr result (IsKept kept.new) }
+    ensures kept_rows { broken ≢ Broken.AllRows → IfOk result (λ given. KeepsReadTo kept.new given.read_to) }
+    ensures kept_none { broken ≡ Broken.AllRows → kept.new ≡ None }
+{
+    *kept = None;
+    match broken {
+        Broken::Nothing => decode_whole(alloc, octets, form, kept),
+        Broken::WholeRows => salvage_rows(alloc, octets, form, kept),
+        Broken::AllRows => match form.coding {
+            Coding::OneDim => repair_lines(alloc, octets, form),
+            Coding::T6 => repair_t6(alloc, octets, form),
+        },
+    }
+}

@@ -1,0 +1,322 @@
+//! Pages of a file one after another, and which of them is decoded.
+
+ghost use Rattle.page_files.specs.Decodings.{IsKept, RefusesDecoding, RefusesKept, broken_asked};
+ghost use Rattle.faults.specs.Faults.{IsOutside};
+ghost use Rattle.page_files.specs.LaterPages.{AfterPage, AnswersPage, AnswersReached, AreAfter, IsFrom, IsLater, IsLaterOneDim, IsLaterT6, Reaches};
+ghost use Rattle.page_files.specs.LaterPages.{KeepsPage, KeepsReached, begins_text, broken_line, pages_line};
+ghost use Rattle.page_code.specs.OneDimension.Fronts.{zeros_before};
+ghost use Rattle.page_code.specs.PageReaders.{IsPageRefused};
+ghost use Rattle.raster.specs.Packed.{bits_of, place_in};
+ghost use Rattle.raster.specs.Pixels.{IsWidth};
+ghost use Rattle.std.specs.Int.{bit_at};
+ghost use Rattle.std.specs.Io.KnownBytes.{Appends};
+ghost use Rattle.std.specs.Prelude.{false, None, ◌≡◌, ◌≤◌, ◌<◌, ◌+◌, ◌-◌, ◌*◌, ◌⊎◌, ℕ};
+ghost use Rattle.std.specs.Prelude.{IfErr, IfOk, IfSome, OnErr, OnOk, drop, length};
+
+use crate::answer::{DecodeAnswer, answer_decode};
+use crate::coded::read_code;
+use crate::decode_records::{told_as, write_begins};
+use crate::options::{DecodeOptions, PageForm};
+use faults::ToolFault;
+use page_code::{Coding, RefusedCode};
+use raster::Page;
+use raster::packed::{Order, bit_of};
+use std::alloc::Global;
+use std::io::Write;
+
+/// What comes after pages of a file.
+#[derive(Clone, Copy, Debug, PartialEq, Eq)]
+pub enum Reached {
+    /// Another page.
+    Page,
+    /// Nothing, or only 0 bits: the file has this number of pages.
+    End(u32),
+    /// The page of this number, counted from 1, can't be read to its end.
+    Broken(u32, ToolFault),
+}
+
+/// The fault of a file with fewer pages than the number of the one that is asked for.
+const FEWER_PAGES: ToolFault = ToolFault::No(28);
+
+/// The 0 bits of an EOL without fill (ITU-T T.4, 4.1.2).
+const EOL_ZEROS: u128 = 11;
+
+/// The number of 0 bits before the first 1 from a place on, or none where there is no 1.
+fn zeros_at(octets: &[u8], order: Order, place: u128) -> Option<u128>
+    requires { place ≤ 8 * length octets.now }
+    ensures zeros { result ≡ zeros_before (drop place (bits_of order octets.now)) }
+    ensures within { IfSome result (λ zeros. place + zeros < 8 * length octets.now) }
+{
+    let end = 8 * octets.len() as u128;
+    let mut at = place;
+    while at < end {
+        if bit_of(order, octets, at) {
+            return Some(at - place);
+        }
+        at += 1;
+    }
+    None
+}
+
+/// Where the page begins in the octets that comes after one in the one-dimensional code, which has the first `used` bits: with the last EOL
+/// that stands there, without its fill, or in the next octet where none does.
+fn later_one_dim(octets: &[u8], order: Order, used: u128) -> Option<u128>
+    requires { used ≤ 8 * length octets.now }
+    ensures later { IsLaterOneDim used (drop used (bits_of order octets.now)) result }
+    ensures within { IfSome result (λ start. start ≤ 8 * length octets.now) }
+{
+    let end = 8 * octets.len() as u128;
+    let mut place = used;
+    let mut start = 8 * used.div_ceil(8);
+    while place < end {
+        let Some(zeros) = zeros_at(octets, order, place) else {
+            return None;
+        };
+        if zeros < EOL_ZEROS {
+            return Some(start);
+        }
+        start = place + zeros - EOL_ZEROS;
+        place += zeros + 1;
+    }
+    None
+}
+
+/// Where the page begins in the octets that comes after one in T.6, which ends in the octet before this one.
+fn later_t6(octets: &[u8], from: usize) -> Option<u128>
+    ensures later { IsLaterT6 from octets.now result }
+    ensures within { IfSome result (λ start. start ≤ 8 * length octets.now) }
+{
+    let mut at = from;
+    while at < octets.len() {
+        if octets[at] != 0 {
+            return Some(8 * at as u128);
+        }
+        at += 1;
+    }
+    None
+}
+
+/// Where the page begins in the octets that comes after the first one, which has the first `used` bits.
+fn later_in(octets: &[u8], form: PageForm, used: u128) -> Option<u128>
+    ensures later { IsLater form octets.now used result }
+    ensures within { IfSome result (λ start. start ≤ 8 * length octets.now) }
+{
+    if used > 8 * octets.len() as u128 {
+        return None;
+    }
+    match form.coding {
+        Coding::OneDim => later_one_dim(octets, form.order, used),
+        Coding::T6 => later_t6(octets, used.div_ceil(8) as usize),
+    }
+}
+
+/// An octet with 0 bits in place of its first ones, one to seven of them.
+fn without_first(order: Order, octet: u8, count: u32) -> u8
+    requires some { 0 < count }
+    requires few { count < 8 }
+    ensures inside { (k : ℕ) → k < count → bit_at result (place_in order k) ≡ 0 }
+    ensures after { (k : ℕ) → count ≤ k → k < 8 → bit_at result (place_in order k) ≡ bit_at octet (place_in order k) }
+{
+    match order {
+        Order::LsbFirst => octet & !(u8::MAX >> (8 - count)),
+        Order::MsbFirst => octet & (u8::MAX >> count),
+    }
+}
+
+/// Takes away the octets before that of a bit, and in its own the bits before it: they are 0.
+fn cut_before(octets: &mut Vec<u8>, order: Order, start: u128)
+    requires { start ≤ 8 * length octets.old.items }
+    ensures { IsFrom order start octets.old.items octets.new.items }
+{
+    let first = (start / 8) as usize;
+    drop(octets.drain(..first));
+    let fill = (start % 8) as u32;
+    if fill > 0 {
+        octets[0] = without_first(order, octets[0], fill);
+    }
+}
+
+/// Takes away the first page of octets, where another one follows it: they are those of that page then. Answers whether one does.
+/// Errs where the page can't be read, and how far it was is kept then; and with 9. Then, and where none follows, the octets stay.
+fn skip_page(
+    alloc: Global,
+    octets: &mut Vec<u8>,
+    form: PageForm,
+    kept: &mut Option<RefusedCode>,
+) -> Result<bool, ToolFault>
+    requires { IsWidth form.width }
+    ensures skipped { IfOk result (λ more. AfterPage more form octets.old.items octets.new.items) }
+    ensures none { IfOk result (λ more. kept.new ≡ None) }
+    ensures known { IfSome kept.new (IsPageRefused form.coding form.width (bits_of form.order octets.old.items)) }
+    ensures refused { IfErr result (RefusesKept kept.new form octets.old.items) }
+    ensures stays { OnErr result (octets.new.items ≡ octets.old.items) }
+{
+    let (_page, used) = read_code(alloc, octets, form, kept)?;
+    let Some(start) = later_in(octets, form, used) else {
+        return Ok(false);
+    };
+    cut_before(octets, form.order, start);
+    Ok(true)
+}
+
+/// Takes away pages at the beginning of octets, of a width of 1 to 2,432 pixels, and answers what comes after them. The octets
+/// are then those from there on; where a page before that can't be read, or is the last one, from its beginning on. How far a page
+/// was read that can't be is kept in `kept`, and else nothing. Errs with 9 where memory is refused.
+pub fn skip_pages(
+    alloc: Global,
+    octets: &mut Vec<u8>,
+    form: PageForm,
+    pages: u32,
+    kept: &mut Option<RefusedCode>,
+) -> Result<Reached, ToolFault>
+    requires { IsWidth form.width }
+    ensures reached { IfOk result (λ reached. Reaches form pages octets.old.items octets.new.items reached) }
+    ensures known { IfSome kept.new (IsPageRefused form.coding form.width (bits_of form.order octets.new.items)) }
+    ensures kept { IfOk result (KeepsReached kept.new) }
+    ensures refused { IfErr result IsOutside }
+{
+    *kept = None;
+    for before in 0..pages {
+        match skip_page(alloc, octets, form, kept) {
+            Ok(true) => {}
+            Ok(false) => return Ok(Reached::End(before + 1)),
+            Err(fault) => {
+                return match *kept {
+                    Some(_) => Ok(Reached::Broken(before + 1, fault)),
+                    None => Err(fault),
+                };
+            }
+        }
+    }
+    Ok(Reached::Page)
+}
+
+/// Writes the line, or the record, of the octet at which a page begins, where it is asked for and the page isn't the first.
+fn tell_begins<W: Write>(
+    alloc: Global,
+    options: DecodeOptions,
+    page: u32,
+    octet: usize,
+    writer: &mut W,
+) -> Result<(), ToolFault>
+    ensures told { OnOk result (Appends (W.contents writer.old) (W.contents writer.new)
+        (begins_text options.verbose options.records page octet)) }
+    ensures fault { IfErr result IsOutside }
+{
+    if !options.verbose || page <= 1 {
+        return Ok(());
+    }
+    if options.records {
+        return write_begins(alloc, page, octet, writer);
+    }
+    writeln!(writer, "page {page} begins at octet {octet}")?;
+    Ok(())
+}
+
+/// Writes the line of how many pages a file has.
+fn tell_count<W: Write>(count: u32, writer: &mut W) -> Result<(), ToolFault>
+    ensures told { OnOk result (Appends (W.contents writer.old) (W.contents writer.new) (pages_line count)) }
+    ensures fault { IfErr result IsOutside }
+{
+    writeln!(writer, "pages in the file: {count}")?;
+    Ok(())
+}
+
+/// Writes the line of a page that can't be read to its end, with the octet at which it begins.
+fn tell_broken<W: Write>(number: u32, octet: usize, writer: &mut W) -> Result<(), ToolFault>
+    ensures told { OnOk result (Appends (W.contents writer.old) (W.contents writer.new) (broken_line number octet)) }
+    ensures fault { IfErr result IsOutside }
+{
+    writeln!(
+        writer,
+        "page {number} begins at octet {octet} and can't be read to its end"
+    )?;
+    Ok(())
+}
+
+/// Decodes octets that begin with the page of this number as `answer_decode` does, and tells first at which octet they begin in the file,
+/// where it is asked for.
+fn answer_reached(
+    alloc: Global,
+    octets: &[u8],
+    form: PageForm,
+    options: DecodeOptions,
+    at: (u32, usize),
+    kept: &mut Option<RefusedCode>,
+) -> Result<DecodeAnswer, ToolFault>
+    requires { IsWidth form.width }
+    ensures known { IfSome kept.new (IsPageRefused form.coding form.width (bits_of form.order octets.now)) }
+    ensures answered { IfOk result (λ answer.
+        AnswersReached form options at.0 at.1 octets.now answer.page answer.told.items answer.end) }
+    ensures refused { IfErr result (λ fault. IsOutside fault
+        ⊎ RefusesDecoding (broken_asked options.salvage options.repair) form octets.now fault) }
+    ensures kept { options.repair ≡ false → IfErr result (IsKept kept.new) }
+    ensures kept_rows { options.repair ≡ false → IfOk result (λ answer. IfErr answer.end (IsKept kept.new)) }
+{
+    let mut begun = Vec::new(alloc);
+    let (page, octet) = at;
+    *kept = None;
+    tell_begins(alloc, options, page, octet, &mut begun)?;
+    let DecodeAnswer {
+        page: decoded,
+        told,
+        end,
+    } = answer_decode(alloc, octets, form, options, kept)?;
+    begun.write_all(&told)?;
+    Ok(DecodeAnswer {
+        page: decoded,
+        told: begun,
+        end,
+    })
+}
+
+/// Decodes the page of this number, counted from 1, of octets with pages of this form one after another, as `answer_decode` does the
+/// first one. The octets are those from that page on then, so that bits are counted from its octet on; where the file has no such page,
+/// or one before it can't be read to its end, from the last one's or from that one's. Errs as `answer_decode` does, and keeps as there
+/// how far they were read, or how far the one before it was.
+pub fn answer_page(
+    alloc: Global,
+    octets: &mut Vec<u8>,
+    form: PageForm,
+    options: DecodeOptions,
+    page: u32,
+    kept: &mut Option<RefusedCode>,
+) -> Result<DecodeAnswer, ToolFault>
+    requires { IsWidth form.width }
+    ensures known { IfSome kept.new (IsPageRefused form.coding form.width (bits_of form.order octets.new.items)) }
+    ensures answered { IfOk result (λ answer.
+        AnswersPage form options page octets.old.items octets.new.items answer.page answer.told.items answer.end) }
+    ensures refused { IfErr result (λ fault. IsOutside fault ⊎ (AreAfter form octets.old.items (page - 1) octets.new.items
+        × RefusesDecoding (broken_asked options.salvage options.repair) form octets.new.items fault)) }
+    ensures kept { options.repair ≡ false → IfErr result (IsKept kept.new) }
+    ensures kept_rows { options.repair ≡ false → IfOk result (λ answer. IfErr answer.end (KeepsPage kept.new)) }
+{
+    let size = octets.len();
+    let reached = skip_pages(alloc, octets, form, page.saturating_sub(1), kept)?;
+    let octet = size.saturating_sub(octets.len());
+    let none = Page::new(alloc, form.width, form.fine)?;
+    let mut lines = Vec::new(alloc);
+    match reached {
+        Reached::Page => answer_reached(alloc, octets, form, options, (page, octet), kept),
+        Reached::End(count) => {
+            tell_count(count, &mut lines)?;
+            let told = told_as(alloc, options.records, lines)?;
+            let end = Err(FEWER_PAGES);
+            Ok(DecodeAnswer {
+                page: none,
+                told,
+                end,
+            })
+        }
+        Reached::Broken(number, fault) => {
+            tell_broken(number, octet, &mut lines)?;
+            let told = told_as(alloc, options.records, lines)?;
+            let end = Err(fault);
+            Ok(DecodeAnswer {
+                page: none,
+                told,
+                end,
+            })
+        }
+    }
+}

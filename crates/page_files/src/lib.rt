@@ -1,0 +1,28 @@
+//! What each command does with images and coded pages, over any readers and any writer.
+#![tactic(auto)]
+
+mod answer;
+mod coded;
+mod decode_records;
+mod decoding;
+mod identify;
+mod later_pages;
+pub mod laws;
+mod options;
+mod page_end;
+mod pages;
+mod refused;
+mod repair;
+mod repair_t6;
+
+pub use crate::answer::{DecodeAnswer, answer_decode};
+pub use crate::coded::{read_image, write_code};
+pub use crate::decoding::{Broken, Decoded, ReadTo, decode_page};
+pub use crate::identify::{Tried, format_of, identify_engine, try_ways};
+pub use crate::later_pages::{Reached, answer_page, skip_pages};
+pub use crate::options::{DecodeOptions, PageForm};
+pub use crate::pages::{
+    Salvage, code_engine, decode_engine, salvage_engine, show_engine, show_page, write_some,
+};
+pub use crate::refused::{refused_at, refused_in};
+pub use crate::repair::{Repair, repair_engine};

@@ -1,0 +1,183 @@
+//! What is done with images and coded pages: coding, showing and decoding, over any reader and any writer.
+ghost use Rattle.page_files.specs.CodedPages.{CodesImage, DecodesPage, RefusesImage, RefusesShow, SalvagesPage, ShowsPage};
+ghost use Rattle.page_files.specs.Decodings.{IsKept};
+ghost use Rattle.faults.specs.Faults.{IsOutside};
+ghost use Rattle.page_code.specs.PageReaders.{IsPageRefused};
+ghost use Rattle.raster.specs.Packed.{bits_of};
+ghost use Rattle.raster.specs.PbmText.{AppendsSome, ArePagesText};
+ghost use Rattle.raster.specs.Pixels.{IsWidth};
+ghost use Rattle.std.specs.Prelude.{◌≡◌, ◌<◌, ◌⊎◌, ◌∷◌, [], IfErr, IfOk, IfSome, OnOk, length};
+
+use crate::coded::{read_code, read_image, write_code};
+use crate::options::PageForm;
+use faults::{NO_MEMORY, ToolFault};
+use page_code::{Coding, RefusedCode};
+use raster::{Page, write_pbm, write_text};
+use run_tables::{CodeFaultKind, Order};
+use std::alloc::Global;
+use std::io::{Read, Write};
+
+/// What there was of a coded page.
+#[derive(Clone, Copy, Debug, PartialEq, Eq)]
+pub struct Salvage {
+    /// How many rows were written.
+    pub rows: usize,
+    /// How many bits the page's code has, or the fault for which the rest of it was refused.
+    pub end: Result<u128, ToolFault>,
+}
+
+/// Reads a PBM file of one image, as `read_image` does, and writes the image's code, as `write_code` does.
+/// Errs with the first fault of the file or with 27 where it has several images, and then nothing is
+/// written; with 8 where the reader or the writer fails, and with 9.
+pub fn code_engine<R: Read, W: Write>(
+    alloc: Global,
+    reader: &mut R,
+    writer: &mut W,
+    coding: Coding,
+    order: Order,
+) -> Result<(), ToolFault>
+    ensures coded { OnOk result (IfSome (R.remaining reader.old)
+        (CodesImage coding order (W.contents writer.old) (W.contents writer.new))) }
+    ensures refused { IfErr result (λ fault. IfSome (R.remaining reader.old) (λ octets. RefusesImage octets fault)) }
+    ensures unwritten { IfErr result (λ fault. IsOutside fault ⊎ (writer.new ≡ writer.old)) }
+{
+    let page = read_image(alloc, reader)?;
+    write_code(alloc, &page, coding, order, writer)
+}
+
+/// Reads octets that begin with the code of a page of this width in pixels, 1 to 2,432, and writes the
+/// page as text. Errs at the bit where they are refused, and then nothing is written; with 8 where the
+/// reader or the writer fails, and with 9.
+pub fn show_engine<R: Read, W: Write>(
+    alloc: Global,
+    reader: &mut R,
+    writer: &mut W,
+    coding: Coding,
+    order: Order,
+    width: u32,
+) -> Result<(), ToolFault>
+    requires { IsWidth width }
+    ensures shown { OnOk result (IfSome (R.remaining reader.old)
+        (ShowsPage coding order width (W.contents writer.old) (W.contents writer.new))) }
+    ensures refused { IfErr result (λ fault. IfSome (R.remaining reader.old) (λ octets. RefusesShow coding order width octets fault)) }
+    ensures unwritten { IfErr result (λ fault. IsOutside fault ⊎ (writer.new ≡ writer.old)) }
+{
+    let mut octets = Vec::new(alloc);
+    reader.read_to_end(&mut octets)?;
+    let form = PageForm {
+        coding,
+        order,
+        width,
+        fine: false,
+    };
+    show_page(alloc, &octets, form, &mut None, writer)
+}
+
+/// Writes the page whose code octets begin with as text, for a width of 1 to 2,432 pixels. Errs at the bit where they are refused, and
+/// how far they were read is kept in `kept` then; with 8 where the writer fails, and with 9.
+#[tactic(auto, using(crate::proofs::DecodedPages::refused_show, crate::proofs::DecodedPages::refused_kept))]
+pub fn show_page<W: Write>(
+    alloc: Global,
+    octets: &[u8],
+    form: PageForm,
+    kept: &mut Option<RefusedCode>,
+    writer: &mut W,
+) -> Result<(), ToolFault>
+    requires { IsWidth form.width }
+    ensures shown { OnOk result (ShowsPage form.coding form.order form.width (W.contents writer.old) (W.contents writer.new) octets.now) }
+    ensures refused { IfErr result (RefusesShow form.coding form.order form.width octets.now) }
+    ensures unwritten { IfErr result (λ fault. IsOutside fault ⊎ (writer.new ≡ writer.old)) }
+    ensures known { IfSome kept.new (IsPageRefused form.coding form.width (bits_of form.order octets.now)) }
+    ensures kept { IfErr result (IsKept kept.new) }
+{
+    let (page, _used) = read_code(alloc, octets, form, kept)?;
+    write_text(&page, writer)?;
+    Ok(())
+}
+
+/// Reads octets that begin with the code of a page of this form, of a width of 1 to 2,432 pixels, and writes the
+/// page as an image of Netpbm's raw PBM format. Answers how many rows the page has and how many bits
+/// its code has. Errs at the bit where they are refused, and then nothing is written; with 8 where the
+/// reader or the writer fails, and with 9.
+pub fn decode_engine<R: Read, W: Write>(
+    alloc: Global,
+    reader: &mut R,
+    writer: &mut W,
+    form: PageForm,
+) -> Result<(usize, u128), ToolFault>
+    requires { IsWidth form.width }
+    ensures decoded { IfOk result (λ counts. IfSome (R.remaining reader.old)
+        (DecodesPage form.coding form.order form.width form.fine (W.contents writer.old) (W.contents writer.new) counts.0 counts.1)) }
+    ensures refused { IfErr result (λ fault. IfSome (R.remaining reader.old) (λ octets.
+        RefusesShow form.coding form.order form.width octets fault)) }
+    ensures unwritten { IfErr result (λ fault. IsOutside fault ⊎ (writer.new ≡ writer.old)) }
+{
+    let PageForm {
+        coding,
+        order,
+        width,
+        fine,
+    } = form;
+    let mut octets = Vec::new(alloc);
+    reader.read_to_end(&mut octets)?;
+    let (page, bits) = coding.decode(alloc, &octets, order, width, fine)?;
+    let rows = page.rows().len();
+    write_pbm(&[page], writer)?;
+    Ok((rows, bits))
+}
+
+/// Does what `decode_engine` does; but where the octets are refused, the whole rows before the refused bit are
+/// written, if there is one, and the answer has the fault. Errs with 8 where the reader or the writer fails, and
+/// with 9.
+pub fn salvage_engine<R: Read, W: Write>(
+    alloc: Global,
+    reader: &mut R,
+    writer: &mut W,
+    form: PageForm,
+) -> Result<Salvage, ToolFault>
+    requires { IsWidth form.width }
+    ensures salvaged { IfOk result (λ salvage. IfSome (R.remaining reader.old)
+        (SalvagesPage form.coding form.order form.width form.fine (W.contents writer.old) (W.contents writer.new) salvage)) }
+    ensures fault { IfErr result IsOutside }
+{
+    let PageForm {
+        coding,
+        order,
+        width,
+        fine,
+    } = form;
+    let mut octets = Vec::new(alloc);
+    reader.read_to_end(&mut octets)?;
+    let fault = match coding.decode(alloc, &octets, order, width, fine) {
+        Ok((page, bits)) => {
+            let rows = page.rows().len();
+            write_pbm(&[page], writer)?;
+            return Ok(Salvage {
+                rows,
+                end: Ok(bits),
+            });
+        }
+        Err(fault) if fault.kind == CodeFaultKind::NoMemory => return Err(NO_MEMORY),
+        Err(fault) => ToolFault::from(fault),
+    };
+    let rows = write_some(coding.salvage(alloc, &octets, order, width, fine)?, writer)?;
+    Ok(Salvage {
+        rows,
+        end: Err(fault),
+    })
+}
+
+/// Writes a page as an image where it has rows, and answers how many.
+pub fn write_some<W: Write>(page: Page, writer: &mut W) -> Result<usize, ToolFault>
+    ensures rows { IfOk result (λ rows. rows ≡ length page.rows) }
+    ensures written { OnOk result (0 < length page.rows →
+        AppendsSome (ArePagesText (page ∷ [])) (W.contents writer.old) (W.contents writer.new)) }
+    ensures none { OnOk result (length page.rows ≡ 0 → W.contents writer.new ≡ W.contents writer.old) }
+    ensures fault { IfErr result IsOutside }
+{
+    let rows = page.rows().len();
+    if rows > 0 {
+        write_pbm(&[page], writer)?;
+    }
+    Ok(rows)
+}

@@ -1,0 +1,199 @@
+//! Where in a coded page a refused bit lies: its row, and what was expected there.
+
+ghost use Rattle.page_files.specs.Refusals.{HasNoEol, IsExpected, IsRefusedRow, IsRefusedRun};
+ghost use Rattle.raster.specs.Packed.{bits_of};
+ghost use Rattle.raster.specs.Pixels.{IsWidth};
+ghost use Rattle.page_code.specs.PageReaders.{IsPageRefused};
+ghost use Rattle.page_code.specs.declared.coding.Coding.TheVariants.{T6};
+ghost use Rattle.std.specs.Bool.{OnTrue};
+ghost use Rattle.std.specs.Prelude.{◌≡◌, ◌≤◌, ◌*◌, IfSome, None, length};
+
+use crate::options::PageForm;
+use faults::Expected;
+use page_code::{Coding, RefusedCode};
+use raster::Color;
+use run_tables::{BitReader, Order};
+use std::alloc::Global;
+
+/// Where a page of this width in pixels is refused at a bit: its row, counted from 1, which is the one after all whole
+/// rows of the octets, and none where memory is refused; and in the one-dimensional code what is expected at the bit: a
+/// run, or an EOL after a whole row, and none where that isn't known.
+pub fn refused_at(
+    alloc: Global,
+    octets: &[u8],
+    coding: Coding,
+    order: Order,
+    width: u32,
+    place: u128,
+) -> (Option<usize>, Option<Expected>)
+    requires { IsWidth width }
+    ensures row { IfSome result.0 (IsRefusedRow coding width (bits_of order octets.now)) }
+    ensures expected { IfSome result.1 (IsExpected width (bits_of order octets.now) place) }
+    ensures of_rows { coding ≡ T6 → result.1 ≡ None }
+{
+    let row = refused_row(alloc, octets, coding, order, width);
+    match coding {
+        Coding::OneDim => (row, expected_at(alloc, octets, order, width, 0, place)),
+        Coding::T6 => (row, None),
+    }
+}
+
+/// Where a page of this form is refused that was read up to this refusal: what `refused_at` says. Only the row in which it is refused is
+/// looked at again.
+#[tactic(auto, using(crate::proofs::RefusedRows::refused_row))]
+pub fn refused_in(
+    alloc: Global,
+    octets: &[u8],
+    form: PageForm,
+    refused: RefusedCode,
+) -> (usize, Option<Expected>)
+    requires { IsWidth form.width }
+    ensures row { IsPageRefused form.coding form.width (bits_of form.order octets.now) refused
+        → IsRefusedRow form.coding form.width (bits_of form.order octets.now) result.0 }
+    ensures expected { IfSome result.1 (IsExpected form.width (bits_of form.order octets.now) refused.fault.place) }
+    ensures of_rows { form.coding ≡ T6 → result.1 ≡ None }
+{
+    let row = refused.rows as usize + 1;
+    let PageForm {
+        coding,
+        order,
+        width,
+        fine: _,
+    } = form;
+    let RefusedCode {
+        fault,
+        row_start,
+        ..
+    } = refused;
+    match coding {
+        Coding::OneDim => (
+            row,
+            expected_at(alloc, octets, order, width, row_start, fault.place),
+        ),
+        Coding::T6 => (row, None),
+    }
+}
+
+/// The row in which a page of this width in pixels is refused, counted from 1: the one after all whole rows of
+/// the octets. None where memory is refused.
+fn refused_row(
+    alloc: Global,
+    octets: &[u8],
+    coding: Coding,
+    order: Order,
+    width: u32,
+) -> Option<usize>
+    requires { IsWidth width }
+    ensures { IfSome result (IsRefusedRow coding width (bits_of order octets.now)) }
+{
+    match coding.salvage(alloc, octets, order, width, false) {
+        Ok(page) => page.rows().len().checked_add(1),
+        Err(_refused) => None,
+    }
+}
+
+/// What is expected at a bit where a page in the one-dimensional code is refused, as its row is read from the last EOL
+/// on, which is looked for from another bit on. None where that is not known.
+fn expected_at(
+    alloc: Global,
+    octets: &[u8],
+    order: Order,
+    width: u32,
+    from: u128,
+    place: u128,
+) -> Option<Expected>
+    requires { IsWidth width }
+    ensures { IfSome result (IsExpected width (bits_of order octets.now) place) }
+{
+    if place > 8 * octets.len() as u128 {
+        return None;
+    }
+    let start = last_start(octets, order, from, place);
+    let reader = BitReader::at(octets, order, start);
+    if has_no_eol(alloc, reader.look_ahead(), width, place) {
+        return Some(Expected::Eol);
+    }
+    match refused_color(reader, width, place) {
+        Some(color) => Some(Expected::RunOf(color)),
+        None => None,
+    }
+}
+
+/// Whether a row of this width in pixels that begins where a reader stands ends at a place, and no EOL begins there.
+fn has_no_eol(alloc: Global, reader: BitReader<'_>, width: u32, place: u128) -> bool
+    requires { IsWidth width }
+    ensures { OnTrue result (HasNoEol width reader.entry.bits place) }
+{
+    let mut reader = reader;
+    let Ok(_row) = reader.read_row_1d(alloc, width) else {
+        return false;
+    };
+    if reader.place() != place {
+        return false;
+    }
+    !reader.starts_with(0, 11)
+}
+
+/// The color of the run that is refused at a bit, as the runs of a row of this width are read from where a reader stands.
+/// None where another thing is refused there.
+fn refused_color(reader: BitReader<'_>, width: u32, place: u128) -> Option<Color>
+    ensures { IfSome result (IsRefusedRun reader.entry.bits place) }
+{
+    let mut reader = reader;
+    let mut color = Color::White;
+    let mut pixels = 0u32;
+    for _number in 0..MOST_RUNS {
+        if pixels >= width {
+            return None;
+        }
+        match reader.read_run(color) {
+            Ok(run) => {
+                pixels = pixels.saturating_add(run);
+                color = color.other();
+            }
+            Err(fault) if fault.place == place => return Some(color),
+            Err(_fault) => return None,
+        }
+    }
+    None
+}
+
+/// More runs than a row has.
+const MOST_RUNS: u32 = 5000;
+
+/// The bit after the last EOL that ends before a bit, and begins at another one or after it; where there is none, that one.
+fn row_start(octets: &[u8], order: Order, from: u128, place: u128) -> u128
+    requires within { place ≤ 8 * length octets.now }
+    requires before { from ≤ place }
+    ensures { result ≤ 8 * length octets.now }
+{
+    let mut zeros = 0u32;
+    let mut start = from;
+    let mut reader = BitReader::at(octets, order, from);
+    for at in from..place {
+        match reader.bit() {
+            Some(false) => zeros = zeros.saturating_add(1),
+            _ => {
+                if zeros >= 11 {
+                    start = at + 1;
+                }
+                zeros = 0;
+            }
+        }
+    }
+    start
+}
+
+/// The bit after the last EOL that ends before a bit, which is looked for from another one on, and then in all octets; 0 where there is
+/// none.
+fn last_start(octets: &[u8], order: Order, from: u128, place: u128) -> u128
+    requires { place ≤ 8 * length octets.now }
+    ensures { result ≤ 8 * length octets.now }
+{
+    let from = from.min(place);
+    let start = row_start(octets, order, from, place);
+    if start > from {
+        return start;
+    }
+    row_start(octets, order, 0, place)
+}
