@@ -1,7 +1,7 @@
 //! One page through each layer: from an image to octets of a line, and back to the same rows.
 
 use hdlc::{Deframer, write_frame};
-use page_code::Coding;
+use page_code::{CodesPages, Coding};
 use partial_page::{BlockStore, Blocks};
 use raster::{read_pbm, write_text};
 use run_tables::{BitWriter, Order};

@@ -3,7 +3,7 @@ use Rattle.std.proofs.Common.{◌≡◌, ◌↔◌, ℕ, zero, suc, ◌≤◌, B
 use Rattle.std.proofs.Common.{sym, subst, ◌∙◌}
 use Rattle.std.specs.Prelude.{◌&&◌, nat_lt, not, Err}
 use Rattle.std.proofs.lemmas.Bool.{leb-true}
-use Rattle.page_code.specs.declared.coding.Coding.{Coding}
+use Rattle.raster.specs.declared.coding.Coding.{Coding}
 use Rattle.rand_pcg.specs.Pcg.{pcg32}
 use Rattle.raster.specs.Pages.{PagePixels}
 use Rattle.signals.specs.Agreement.{agreed, at_first, first_of, speeds_below, takes_pages, tried_speeds, width_of_pixels}

@@ -2,8 +2,8 @@
 use Rattle.std.proofs.Common.{◌≡◌, ℕ, Bool, true, false, cond, List, [], ◌∷◌, refl, sym, subst}
 use Rattle.std.specs.Prelude.{Err}
 use Rattle.std.specs.List.{AllByRecursion}
-use Rattle.page_code.specs.declared.coding.Coding.{Coding}
-use Rattle.page_code.specs.declared.coding.Coding.TheVariants.{OneDim, T6}
+use Rattle.raster.specs.declared.coding.Coding.{Coding}
+use Rattle.raster.specs.declared.coding.Coding.TheVariants.{OneDim, T6}
 use Rattle.raster.specs.Pages.{PagePixels}
 use Rattle.raster.specs.Pbm.{Follow}
 use Rattle.signals.specs.Agreement.{agreed, at_first, first_of, takes_pages, tried_speeds, wished_coding}

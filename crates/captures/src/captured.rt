@@ -20,7 +20,7 @@ ghost use Rattle.partial_page.specs.Assembling.{asked_by};
 use crate::frames::{PIECE, feed_in, read_some};
 use faults::{FAILED, NO_MEMORY, ToolFault};
 use hdlc::Deframer;
-use page_code::PageRead;
+use page_code::{CodesPages, PageRead};
 use partial_page::{BlockAssembler, BlockFault, BlockStore};
 use raster::Page;
 use run_tables::{CodeFault, Order};

@@ -18,6 +18,7 @@ use crate::frames::{
 };
 use faults::{FAILED, ToolFault};
 use hdlc::Deframer;
+use page_code::CodesPages;
 use raster::Page;
 use run_tables::Order;
 use signals::Params;

@@ -13,8 +13,8 @@ use Rattle.run_tables.specs.declared.fault.CodeFaultKind.{CodeFaultKind}
 use Rattle.page_code.specs.Codings.{code_of}
 use Rattle.page_code.specs.PageCodes.{AppendsCode}
 use Rattle.page_code.specs.RowsSoFar.{AreWholeRows}
-use Rattle.page_code.specs.declared.coding.Coding.{Coding}
-use Rattle.page_code.specs.declared.coding.Coding.TheVariants.{OneDim, T6}
+use Rattle.raster.specs.declared.coding.Coding.{Coding}
+use Rattle.raster.specs.declared.coding.Coding.TheVariants.{OneDim, T6}
 use Rattle.g3fax.specs.Handles.{Fills, HasOctets, HasPage}
 use Rattle.g3fax.specs.Pages.{bad_width, is_set}
 use Rattle.g3fax.specs.Statuses.{ok, no_memory, bad_choice}

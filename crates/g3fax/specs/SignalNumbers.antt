@@ -2,8 +2,8 @@
 use Rattle.std.specs.Prelude.{ℕ, Bool, cond, if◌then◌else◌, nat_eq, nat_lt}
 use Rattle.std.specs.declared.option.Option.{Option}
 use Rattle.std.specs.declared.option.Option.TheVariants.{None, Some}
-use Rattle.page_code.specs.declared.coding.Coding.{Coding}
-use Rattle.page_code.specs.declared.coding.Coding.TheVariants.{OneDim, T6}
+use Rattle.raster.specs.declared.coding.Coding.{Coding}
+use Rattle.raster.specs.declared.coding.Coding.TheVariants.{OneDim, T6}
 use Rattle.signals.specs.declared.params.Modems.{Modems}
 use Rattle.signals.specs.declared.params.Modems.TheVariants.{Fallback, V27, V29, V27V29, V17}
 use Rattle.signals.specs.declared.params.Speed.{Speed}

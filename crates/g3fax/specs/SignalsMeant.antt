@@ -2,7 +2,7 @@
 use Rattle.std.specs.Prelude.{ℕ, ◌≡◌, ◌<◌, ◌++◌, Bool, ◌||◌, List, Result, Ok, Err, length, take, if◌then◌else◌, nat_eq, nat_lt, not}
 use Rattle.std.specs.declared.option.Option.{Option}
 use Rattle.std.specs.declared.option.Option.TheVariants.{None, Some}
-use Rattle.page_code.specs.declared.coding.Coding.{Coding}
+use Rattle.raster.specs.declared.coding.Coding.{Coding}
 use Rattle.signals.specs.Agreement.{width_of_pixels}
 use Rattle.signals.specs.Signals.{PlainSignal, plain, dis, dcs, cfr, ftt, fcd, rcp, pps, ppr, mcf, rnr, rr, dcn}
 use Rattle.signals.specs.Writing.{IsWritable}

@@ -10,7 +10,7 @@ ghost use Rattle.std.specs.Prelude.{⊤, [], ◌≡◌, ◌≢◌, ◌<◌, ◌�
 
 use crate::handle::{G3Handle, Kept, opened};
 use crate::status::{BAD_CHOICE, BAD_WIDTH, FULL_HANDLE, NO_MEMORY, NO_ROWS};
-use page_code::Coding;
+use page_code::{CodesPages, Coding};
 use raster::packed::Order;
 use raster::{MAX_WIDTH, Page};
 use std::alloc::Global;

@@ -1,6 +1,6 @@
 -- The smallest losses that break a call, each of a kind.
 use Rattle.std.specs.Prelude.{ℕ, ◌≡◌, true, false, List, [], ◌∷◌, Some}
-use Rattle.page_code.specs.declared.coding.Coding.TheVariants.{T6}
+use Rattle.raster.specs.declared.coding.Coding.TheVariants.{T6}
 use Rattle.raster.specs.Pages.{PagePixels}
 use Rattle.raster.specs.declared.row.Color.{Color}
 use Rattle.signals.specs.declared.params.Caps.{Caps}

@@ -1,6 +1,6 @@
 //! Tests of pages with rows that can't be read.
 
-use page_code::{Coding, OneDim, RepairedPage};
+use page_code::{CodesPages, Coding, OneDim, RepairedPage};
 use raster::packed::Order;
 use raster::{Page, RasterFault, Row};
 use run_tables::{BitWriter, CodeFault, CodeFaultKind};

@@ -3,8 +3,8 @@ use Rattle.std.specs.Prelude.{ℕ, ◌≡◌, ◌↔◌, ◌⊎◌, Bool, List, 
 use Rattle.raster.specs.declared.row.Color.{Color}
 use Rattle.raster.specs.Pixels.{IsWidth}
 use Rattle.run_tables.specs.declared.fault.CodeFaultKind.{CodeFaultKind}
-use Rattle.page_code.specs.declared.coding.Coding.{Coding}
-use Rattle.page_code.specs.declared.coding.Coding.TheVariants.{OneDim, T6}
+use Rattle.raster.specs.declared.coding.Coding.{Coding}
+use Rattle.raster.specs.declared.coding.Coding.TheVariants.{OneDim, T6}
 use Rattle.page_code.specs.Codings.{GivesCodedRows, IsLongestIn, ReadsCode, ReadsExactly, ReadsIn, RefusesAtLongest, RefusesNoPage, code_of}
 use Rattle.page_code.specs.Codings.{IsRefusedIn, RefusesExactly, read_rows}
 use Rattle.page_code.proofs.OneDimension.ReadsItsCode.{reads_its_code as reads_its_code_one_dim}

@@ -11,11 +11,11 @@ use Rattle.raster.proofs.OctetBits.{bits_of-join}
 use Rattle.raster.proofs.PackedLemmas.{bits_in-none}
 use Rattle.run_tables.specs.declared.fault.CodeFault.{CodeFault}
 use Rattle.run_tables.specs.declared.fault.CodeFaultKind.TheVariants.{NoMemory}
-use Rattle.page_code.specs.declared.coding.Coding.{Coding}
+use Rattle.raster.specs.declared.coding.Coding.{Coding}
 use Rattle.page_code.specs.declared.page.Progress.{Progress}
 use Rattle.page_code.specs.Codings.{IsLongestIn, ReadsIn, read_rows}
 use Rattle.page_code.specs.PageCodes.{GivesPage, GivesRows, IsOnlyAnswer, ReadsPage, RefusesPage}
-use Rattle.page_code.specs.declared.coding.Coding.TheVariants.{OneDim, T6}
+use Rattle.raster.specs.declared.coding.Coding.TheVariants.{OneDim, T6}
 use Rattle.page_code.specs.RowsSoFar.{AreRowsSoFar, AreWholeRows, BeginWith, IsFurther, IsReadTo, RowsStay, after_rows, between_rows}
 use Rattle.page_code.specs.PageReaders.{PageReading, StandsFor, GoesOnTo, IsLike, StandsAsBefore}
 use Rattle.page_code.specs.OneDimension.Fronts.{item_word, Step}

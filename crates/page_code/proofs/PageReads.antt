@@ -4,7 +4,7 @@ use Rattle.std.specs.Prelude.{Ok, Err}
 use Rattle.raster.specs.Pixels.{IsWidth}
 use Rattle.run_tables.specs.declared.fault.CodeFault.{CodeFault}
 use Rattle.run_tables.specs.declared.fault.CodeFaultKind.TheVariants.{NoMemory}
-use Rattle.page_code.specs.declared.coding.Coding.{Coding}
+use Rattle.raster.specs.declared.coding.Coding.{Coding}
 use Rattle.page_code.specs.declared.page.Progress.{Progress}
 use Rattle.page_code.specs.Codings.{read_rows}
 use Rattle.page_code.specs.RowsSoFar.{AreRowsSoFar, IsReadTo, ReadsOn}

@@ -13,8 +13,8 @@ use Rattle.raster.proofs.OctetBits.{bits_of-join}
 use Rattle.raster.proofs.PackedLemmas.{bits_in-none}
 use Rattle.run_tables.specs.Written.{Appends, KeepsBits, MovesOctets}
 use Rattle.page_code.specs.Codings.{code_of}
-use Rattle.page_code.specs.declared.coding.Coding.{Coding}
-use Rattle.page_code.specs.declared.coding.Coding.TheVariants.{OneDim, T6}
+use Rattle.raster.specs.declared.coding.Coding.{Coding}
+use Rattle.raster.specs.declared.coding.Coding.TheVariants.{OneDim, T6}
 use Rattle.page_code.specs.OneDimension.Pages.{eol_word, row_words, rows_words}
 use Rattle.page_code.specs.OneDimension.Repairs.{last_of}
 use Rattle.page_code.specs.RowCoders.{CodesOneMore, CodesRows, EndsPage, HandsOut, HoldsBefore, RowCoding, end_of, row_of, rows_of}

@@ -28,8 +28,8 @@ use Rattle.run_tables.specs.RowLaws.{ReadsAsRow}
 use Rattle.run_tables.specs.RowLaws.{IsLongestFront as IsLongestRow}
 use Rattle.run_tables.proofs.FrontLaws.{halts}
 use Rattle.run_tables.proofs.FrontWalks.{read_moved, refuses}
-use Rattle.page_code.specs.declared.coding.Coding.{Coding}
-use Rattle.page_code.specs.declared.coding.Coding.TheVariants.{OneDim, T6}
+use Rattle.raster.specs.declared.coding.Coding.{Coding}
+use Rattle.raster.specs.declared.coding.Coding.TheVariants.{OneDim, T6}
 use Rattle.page_code.specs.declared.one_dim.eol.Eol.TheVariants.{Present}
 use Rattle.page_code.specs.declared.one_dim.Start.{Start}
 use Rattle.page_code.specs.declared.one_dim.Start.TheVariants.{Row, End, Refused}

@@ -5,7 +5,7 @@ use Rattle.raster.specs.declared.row.Color.{Color}
 use Rattle.raster.specs.Packed.{bits_of}
 use Rattle.raster.specs.Pages.{PagePixels}
 use Rattle.run_tables.specs.declared.fault.CodeFaultKind.TheVariants.{NoMemory}
-use Rattle.page_code.specs.declared.coding.Coding.{Coding}
+use Rattle.raster.specs.declared.coding.Coding.{Coding}
 use Rattle.page_code.specs.declared.page_reader.PageRead.{PageRead}
 use Rattle.page_code.specs.declared.page_reader.PageRead.TheVariants.{Page, Refused}
 use Rattle.page_code.specs.declared.page_reader.RefusedCode.{RefusedCode}

@@ -6,8 +6,8 @@ use Rattle.raster.specs.declared.packed.Order.{Order}
 use Rattle.raster.specs.declared.row.Color.{Color}
 use Rattle.raster.specs.Packed.{Bits, FillsOctets, bits_of}
 use Rattle.raster.specs.Pages.{max_rows}
-use Rattle.page_code.specs.declared.coding.Coding.{Coding}
-use Rattle.page_code.specs.declared.coding.Coding.TheVariants.{OneDim, T6}
+use Rattle.raster.specs.declared.coding.Coding.{Coding}
+use Rattle.raster.specs.declared.coding.Coding.TheVariants.{OneDim, T6}
 use Rattle.page_code.specs.Codings.{code_of}
 use Rattle.page_code.specs.OneDimension.Pages.{eol_word, eol_words, row_words, rows_words, rtc}
 use Rattle.page_code.specs.OneDimension.Repairs.{last_of}

@@ -8,8 +8,8 @@ use Rattle.run_tables.specs.declared.fault.CodeFault.{CodeFault}
 use Rattle.run_tables.specs.declared.fault.CodeFaultKind.TheVariants.{NoMemory}
 use Rattle.run_tables.specs.RowLaws.{ReadsAsRow}
 use Rattle.run_tables.specs.RowLaws.{IsLongestFront as IsLongestRow}
-use Rattle.page_code.specs.declared.coding.Coding.{Coding}
-use Rattle.page_code.specs.declared.coding.Coding.TheVariants.{OneDim, T6}
+use Rattle.raster.specs.declared.coding.Coding.{Coding}
+use Rattle.raster.specs.declared.coding.Coding.TheVariants.{OneDim, T6}
 use Rattle.page_code.specs.declared.one_dim.Start.{Start}
 use Rattle.page_code.specs.declared.one_dim.Start.TheVariants as start
 use Rattle.page_code.specs.declared.page_rows.NextRow.{NextRow}

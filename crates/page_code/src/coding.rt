@@ -1,4 +1,4 @@
-//! The names of the codes, and what each of them does.
+//! What each code of pages does, by its name.
 
 ghost use Rattle.page_code.specs.Codings.{code_of, read_rows};
 ghost use Rattle.page_code.specs.PageCodes.{AppendsCode, GivesPage, GivesRows, IsOnlyAnswer, ReadsItsCode, ReadsPage, RefusesPage};
@@ -12,38 +12,80 @@ ghost use Rattle.std.specs.Prelude.{◌≡◌, ◌≢◌, ◌<◌, ◌++◌, ℕ
 
 use crate::one_dim::OneDim;
 use crate::page::{Progress, are_octets};
-use crate::page_reader::read_to_end;
+use crate::page_reader::{PageRead, read_further, read_to_end, read_whole};
 use crate::t6::T6;
 use crate::{one_dim, t6};
-use raster::Page;
 use raster::packed::Order;
+use raster::{Coding, Page};
 use run_tables::{BitWriter, CodeFault};
 use std::alloc::{AllocError, Global};
 
-/// A code of pages.
-#[derive(Clone, Copy, Debug, PartialEq, Eq)]
-pub enum Coding {
-    /// The one-dimensional code of T.4.
-    OneDim,
-    /// The two-dimensional code of T.6.
-    T6,
-}
-
-impl Coding {
-    ghost use Rattle.page_code.specs.Codings.{IsLongestIn, ReadsIn};
-    ghost use Rattle.raster.specs.Octets.{packed};
-
+/// Writing and reading of pages by the name of their code.
+pub trait CodesPages {
     /// Appends the page's code, its last octet filled with 0 bits. Errs where memory is refused, which
     /// changes nothing.
-    #[tactic(auto, unfolding(crate::specs::Codings::code_of))]
-    pub fn encode(
+    fn encode(
         self,
         alloc: Global,
         page: &Page,
         order: Order,
         out: &mut Vec<u8>,
     ) -> Result<(), AllocError>
-        requires { 0 < length page.now.rows }
+        requires { 0 < length page.now.rows };
+
+    /// The page of this width in pixels that the octets' bits begin with, and how many bits it uses;
+    /// what follows is ignored. Errs at the bit where no page's code can go on; and with `NoMemory`, at
+    /// bit 0.
+    fn decode(
+        self,
+        alloc: Global,
+        octets: &[u8],
+        order: Order,
+        width: u32,
+        fine: bool,
+    ) -> Result<(Page, u128), CodeFault>
+        requires { IsWidth width };
+
+    /// What the octets are read as, by this width in pixels: the page that `decode` returns, or its refusal with
+    /// the whole rows before it. Errs where memory is refused.
+    fn page(
+        self,
+        alloc: Global,
+        octets: &[u8],
+        order: Order,
+        width: u32,
+        fine: bool,
+    ) -> Result<PageRead, AllocError>
+        requires { IsWidth width };
+
+    /// The page of the whole rows at the beginning of the octets' bits, of this width in pixels: of a page that
+    /// can't be read, what is there before the refused bit. It has no rows if the first row isn't whole, and
+    /// 20,000 at most. Errs where memory is refused.
+    fn salvage(
+        self,
+        alloc: Global,
+        octets: &[u8],
+        order: Order,
+        width: u32,
+        fine: bool,
+    ) -> Result<Page, AllocError>
+        requires { IsWidth width };
+}
+
+impl CodesPages for Coding {
+    ghost use Rattle.page_code.specs.Codings.{IsLongestIn, ReadsIn};
+    ghost use Rattle.page_code.specs.PageReaders.{IsRead};
+    ghost use Rattle.page_code.specs.RowsSoFar.{AreWholeRows};
+    ghost use Rattle.raster.specs.Octets.{packed};
+
+    #[tactic(auto, unfolding(crate::specs::Codings::code_of))]
+    fn encode(
+        self,
+        alloc: Global,
+        page: &Page,
+        order: Order,
+        out: &mut Vec<u8>,
+    ) -> Result<(), AllocError>
         ensures ok { OnOk result (AppendsCode order (code_of self page.now.width page.now.rows) out.old.items out.new.items) }
         ensures octets { OnOk result (order ≡ Order.LsbFirst
             → out.new.items ≡ out.old.items ++ packed (code_of self page.now.width page.now.rows)) }
@@ -55,11 +97,8 @@ impl Coding {
         }
     }
 
-    /// The page of this width in pixels that the octets' bits begin with, and how many bits it uses;
-    /// what follows is ignored. Errs at the bit where no page's code can go on; and with `NoMemory`, at
-    /// bit 0.
     #[tactic(auto, unfolding(crate::specs::Codings::ReadsIn, crate::specs::Codings::IsLongestIn, crate::specs::Codings::read_rows))]
-    pub fn decode(
+    fn decode(
         self,
         alloc: Global,
         octets: &[u8],
@@ -67,7 +106,6 @@ impl Coding {
         width: u32,
         fine: bool,
     ) -> Result<(Page, u128), CodeFault>
-        requires { IsWidth width }
         ensures reads { IfOk result (λ read. ReadsPage (ReadsIn self) width fine (bits_of order octets.now) read.0 read.1) }
         ensures only { IsOnlyAnswer (ReadsIn self) width (bits_of order octets.now) result }
         ensures refuses { IfErr result (λ fault. fault.kind ≢ NoMemory
@@ -79,6 +117,37 @@ impl Coding {
             Coding::OneDim => OneDim::decode(alloc, octets, order, width, fine),
             Coding::T6 => T6::decode(alloc, octets, order, width, fine),
         }
+    }
+
+    fn page(
+        self,
+        alloc: Global,
+        octets: &[u8],
+        order: Order,
+        width: u32,
+        fine: bool,
+    ) -> Result<PageRead, AllocError>
+        ensures { IfOk result (IsRead self width fine (bits_of order octets.now)) }
+    {
+        let begun = Progress::new(alloc, width, fine);
+        read_whole(alloc, self, octets, order, begun)
+    }
+
+    fn salvage(
+        self,
+        alloc: Global,
+        octets: &[u8],
+        order: Order,
+        width: u32,
+        fine: bool,
+    ) -> Result<Page, AllocError>
+        ensures width { IfOk result (λ page. page.width ≡ width) }
+        ensures fine { IfOk result (λ page. page.fine ≡ fine) }
+        ensures rows { IfOk result (λ page. AreWholeRows self width (bits_of order octets.now) page.rows) }
+    {
+        let mut to = Progress::new(alloc, width, fine);
+        read_further(alloc, self, octets, order, &mut to)?;
+        Ok(to.page)
     }
 }
 

@@ -12,7 +12,7 @@ mod row_coder;
 mod t6;
 mod turned;
 
-pub use crate::coding::{Coding, PageCode};
+pub use crate::coding::{CodesPages, PageCode};
 pub use crate::one_dim::OneDim;
 pub use crate::one_dim::repair::{RepairedPage, RepairedRow};
 pub use crate::page_reader::{PageRead, PageReader, RefusedCode};
@@ -20,3 +20,4 @@ pub use crate::page_rows::{MAX_HELD, NextRow, RowReader};
 pub use crate::row_coder::RowCoder;
 pub use crate::t6::T6;
 pub use crate::t6::page_end::RowsToEnd;
+pub use raster::Coding;

@@ -15,12 +15,12 @@ pub(crate) mod eol;
 pub(crate) mod one_row;
 pub(crate) mod repair;
 
-use crate::coding::{Coding, PageCode, decode_in, encode_in};
+use crate::coding::{PageCode, decode_in, encode_in};
 use crate::one_dim::eol::{Eol, after_five_eols, eol_at, quick_eol};
 use crate::page::{Progress, push_row};
 use crate::turned::{code_of, turned_code};
 use raster::packed::Order;
-use raster::{MAX_ROWS, Page, Row};
+use raster::{Coding, MAX_ROWS, Page, Row};
 use run_tables::{BitReader, BitWriter, CodeFault, CodeFaultKind};
 use std::alloc::{AllocError, Global};
 

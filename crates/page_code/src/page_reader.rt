@@ -10,12 +10,11 @@ ghost use Rattle.raster.specs.Pixels.{IsWidth};
 ghost use Rattle.run_tables.specs.declared.fault.CodeFaultKind.TheVariants.{NoMemory};
 ghost use Rattle.std.specs.Prelude.{◌≡◌, ◌≢◌, [], List, ℕ, IfErr, IfOk, OnErr, OnOk, length};
 
-use crate::coding::Coding;
 use crate::page::Progress;
 use crate::turned::{code_of, turned_code};
 use crate::{one_dim, t6};
-use raster::Page;
 use raster::packed::Order;
+use raster::{Coding, Page};
 use run_tables::CodeFault;
 use std::alloc::{AllocError, Global};
 use std::marker::Model;
@@ -135,7 +134,7 @@ pub(crate) fn read_to_end(
 }
 
 /// Reads on to the page's end or to a refusal. Errs where memory is refused.
-fn read_whole(
+pub(crate) fn read_whole(
     alloc: Global,
     coding: Coding,
     octets: &[u8],
@@ -221,46 +220,6 @@ fn read_whole_turned(
     let turned = turned_code(alloc, octets, order, kept)?;
     let (code, first) = code_of(octets, order, &turned);
     read_whole(alloc, coding, code, first, progress)
-}
-
-impl Coding {
-    /// What the octets are read as, by this width in pixels: the page that `decode` answers, or its refusal with the whole rows
-    /// before it. Errs where memory is refused.
-    pub fn page(
-        self,
-        alloc: Global,
-        octets: &[u8],
-        order: Order,
-        width: u32,
-        fine: bool,
-    ) -> Result<PageRead, AllocError>
-        requires { IsWidth width }
-        ensures { IfOk result (IsRead self width fine (bits_of order octets.now)) }
-    {
-        let begun = Progress::new(alloc, width, fine);
-        read_whole(alloc, self, octets, order, begun)
-    }
-
-    /// The page of the whole rows at the beginning of the octets' bits, of this width in pixels: of a page that
-    /// can't be read, what is there before the refused bit. It has none where the first row isn't whole, and 20,000 at
-    /// most. Errs where memory is refused.
-    pub fn salvage(
-        self,
-        alloc: Global,
-        octets: &[u8],
-        order: Order,
-        width: u32,
-        fine: bool,
-    ) -> Result<Page, AllocError>
-        requires { IsWidth width }
-        ensures width { IfOk result (λ page. page.width ≡ width) }
-        ensures fine { IfOk result (λ page. page.fine ≡ fine) }
-        ensures rows { IfOk result (λ page. AreWholeRows self width (bits_of order octets.now) page.rows) }
-    {
-        let mut to = Progress::new(alloc, width, fine);
-        read_further(alloc, self, octets, order, &mut to)?;
-        Ok(to.page)
-    }
 }
 
 impl PageReader {

@@ -6,11 +6,10 @@ ghost use Rattle.raster.specs.Pages.{max_rows};
 ghost use Rattle.raster.specs.Pixels.{IsWidth};
 ghost use Rattle.std.specs.Prelude.{◌≡◌, ◌≤◌, ◌*◌, IfOk, OnOk, OnErr, length};
 
-use crate::coding::Coding;
 use crate::t6::lines::Lines;
 use crate::{one_dim, t6};
-use raster::Row;
 use raster::packed::Order;
+use raster::{Coding, Row};
 use run_tables::CodeFault;
 use std::alloc::{AllocError, Global};
 use std::marker::Model;

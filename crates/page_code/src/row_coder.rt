@@ -7,12 +7,11 @@ ghost use Rattle.raster.specs.declared.row.Color.{Color};
 ghost use Rattle.run_tables.specs.Written.{Appends, KeepsBits};
 ghost use Rattle.std.specs.Prelude.{◌≡◌, ◌<◌, [], List, IfErr, IfOk, OnErr, OnOk, length, take};
 
-use crate::coding::Coding;
 use crate::one_dim;
 use crate::t6::mode::EOFB;
 use crate::t6::write::Lines;
 use raster::packed::Order;
-use raster::{MAX_ROWS, RasterFault, Row};
+use raster::{Coding, MAX_ROWS, RasterFault, Row};
 use run_tables::BitWriter;
 use std::alloc::{AllocError, Global};
 use std::marker::Model;

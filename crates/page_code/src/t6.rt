@@ -12,9 +12,9 @@ pub(crate) mod page_end;
 pub(crate) mod read;
 pub(crate) mod write;
 
-use crate::coding::{Coding, PageCode, decode_in, encode_in};
-use raster::Page;
+use crate::coding::{PageCode, decode_in, encode_in};
 use raster::packed::Order;
+use raster::{Coding, Page};
 use run_tables::CodeFault;
 use std::alloc::{AllocError, Global};
 

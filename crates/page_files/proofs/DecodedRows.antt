@@ -2,8 +2,8 @@
 use Rattle.std.proofs.Common.{◌<◌, ℕ, zero, suc, Bool, List, [], ◌∷◌, length, slice_index_or, subst, sym, arith}
 use Rattle.raster.specs.declared.row.Color.{Color}
 use Rattle.page_code.specs.Codings.{ReadsIn}
-use Rattle.page_code.specs.declared.coding.Coding.{Coding}
-use Rattle.page_code.specs.declared.coding.Coding.TheVariants.{OneDim, T6}
+use Rattle.raster.specs.declared.coding.Coding.{Coding}
+use Rattle.raster.specs.declared.coding.Coding.TheVariants.{OneDim, T6}
 
 -- what holds of one holds of each of a list of it alone
 pub only_one : {A : Type 0} (Holds : A → Type 0) (one : A) → Holds one → (k : ℕ) (d : A) → k < 1 → Holds (slice_index_or (one ∷ []) k d)

@@ -9,8 +9,8 @@ use Rattle.std.proofs.lemmas.List.{append-nil, drop_all, drop_at, get_or-drop, g
 use Rattle.raster.specs.declared.packed.Order.{Order}
 use Rattle.raster.specs.Packed.{bit_in, bits_of, place_in}
 use Rattle.raster.proofs.PackedLemmas.{high_cut, high_kept, length-bits_in, low_cut, low_kept, place_in-same}
-use Rattle.page_code.specs.declared.coding.Coding.{Coding}
-use Rattle.page_code.specs.declared.coding.Coding.TheVariants.{OneDim, T6}
+use Rattle.raster.specs.declared.coding.Coding.{Coding}
+use Rattle.raster.specs.declared.coding.Coding.TheVariants.{OneDim, T6}
 use Rattle.page_code.specs.OneDimension.Fronts.{zeros_before}
 use Rattle.page_code.specs.OneDimension.Pages.{eol_word, eol_words}
 use Rattle.page_code.proofs.OneDimension.ZerosBefore.{length-eol, none_zeros, zeros_split}

@@ -3,7 +3,7 @@ use Rattle.std.proofs.Common.{◌≡◌, ◌+◌, length, ℕ, zero, suc, Bool, 
 use Rattle.page_code.specs.PageReaders.{IsPageRefused}
 use Rattle.raster.specs.declared.row.Color.{Color}
 use Rattle.page_code.specs.RowsSoFar.{AreRowsSoFar, AreWholeRows}
-use Rattle.page_code.specs.declared.coding.Coding.{Coding}
+use Rattle.raster.specs.declared.coding.Coding.{Coding}
 use Rattle.page_code.specs.declared.page_reader.RefusedCode.{RefusedCode}
 use Rattle.page_files.specs.Refusals.{IsRefusedRow}
 

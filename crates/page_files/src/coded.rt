@@ -15,7 +15,7 @@ ghost use Rattle.std.specs.Prelude.{◌≡◌, ◌<◌, ◌++◌, ◌∷◌, [],
 
 use crate::options::PageForm;
 use faults::{NO_MEMORY, ToolFault};
-use page_code::{Coding, PageRead, RefusedCode, RowCoder};
+use page_code::{CodesPages, Coding, PageRead, RefusedCode, RowCoder};
 use raster::{Page, Row, read_first_pbm};
 use run_tables::Order;
 use std::alloc::{AllocError, Global};

@@ -12,7 +12,7 @@ use crate::options::PageForm;
 use crate::repair::repair_lines;
 use crate::repair_t6::repair_t6;
 use faults::ToolFault;
-use page_code::{Coding, RefusedCode};
+use page_code::{CodesPages, Coding, RefusedCode};
 use raster::Page;
 use std::alloc::Global;
 

@@ -11,7 +11,7 @@ ghost use Rattle.std.specs.Prelude.{◌≡◌, ◌<◌, ◌⊎◌, ◌∷◌, []
 use crate::coded::{read_code, read_image, write_code};
 use crate::options::PageForm;
 use faults::{NO_MEMORY, ToolFault};
-use page_code::{Coding, RefusedCode};
+use page_code::{CodesPages, Coding, RefusedCode};
 use raster::{Page, write_pbm, write_text};
 use run_tables::{CodeFaultKind, Order};
 use std::alloc::Global;

@@ -4,13 +4,13 @@ ghost use Rattle.page_files.specs.Refusals.{HasNoEol, IsExpected, IsRefusedRow, 
 ghost use Rattle.raster.specs.Packed.{bits_of};
 ghost use Rattle.raster.specs.Pixels.{IsWidth};
 ghost use Rattle.page_code.specs.PageReaders.{IsPageRefused};
-ghost use Rattle.page_code.specs.declared.coding.Coding.TheVariants.{T6};
+ghost use Rattle.raster.specs.declared.coding.Coding.TheVariants.{T6};
 ghost use Rattle.std.specs.Bool.{OnTrue};
 ghost use Rattle.std.specs.Prelude.{◌≡◌, ◌≤◌, ◌*◌, IfSome, None, length};
 
 use crate::options::PageForm;
 use faults::Expected;
-use page_code::{Coding, RefusedCode};
+use page_code::{CodesPages, Coding, RefusedCode};
 use raster::Color;
 use run_tables::{BitReader, Order};
 use std::alloc::Global;

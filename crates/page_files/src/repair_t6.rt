@@ -9,7 +9,7 @@ ghost use Rattle.std.specs.Prelude.{[], ℕ, List, Some, IfErr, IfOk, OnOk, leng
 use crate::decoding::{Decoded, ReadTo};
 use crate::options::PageForm;
 use faults::{NO_MEMORY, ToolFault};
-use page_code::{Coding, RowsToEnd, T6};
+use page_code::{CodesPages, Coding, RowsToEnd, T6};
 use run_tables::CodeFaultKind;
 use std::alloc::Global;
 use std::io::Write;

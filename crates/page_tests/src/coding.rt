@@ -2,7 +2,7 @@
 
 ghost use Rattle.std.specs.Prelude.{◌≤◌};
 
-use page_code::{Coding, RowCoder};
+use page_code::{CodesPages, Coding, RowCoder};
 use raster::packed::Order;
 use raster::{Page, RasterFault, Row};
 use run_tables::{CodeFault, CodeFaultKind};

@@ -368,21 +368,8 @@ impl<'a> BitReader<'a> {
     }
 
     /// Two runs, the first of a color and the second of the other one, together of at most `room` pixels, where the
-    /// next 57 bits hold both whole (ITU-T T.6, 2.2.2). Else none, and nothing changed.
-    #[inline(always)]
-    pub fn quick_two_runs(&mut self, color: Color, room: u32) -> Option<(u32, u32)>
-        ensures some { IfSome result (λ runs. (past : CodeFaultKind) → ReadsTwoRuns color room past self.old self.new runs.0 runs.1) }
-        ensures most { IfSome result (λ runs. runs.0 + runs.1 ≤ room) }
-        ensures none { IfNone result (self.new ≡ self.old) }
-    {
-        let mut window = Window::at(self.look_ahead())?;
-        let first = window.run(color, room)?;
-        let second = window.run(color.other(), room - first)?;
-        *self = window.into_reader();
-        Some((first, second))
-    }
-
-    /// As `quick_two_runs`, after bits that are passed over, at most 7: a flag that was seen. The runs and these bits come from one word.
+    /// next 57 bits hold both whole after `flag` bits, at most 7, that are passed over (ITU-T T.6, 2.2.2). Else none,
+    /// and nothing changed.
     #[inline(always)]
     pub fn quick_two_runs_after(&mut self, flag: u32, color: Color, room: u32) -> Option<(u32, u32)>
         requires { flag ≤ 7 }

@@ -1,6 +1,6 @@
 //! Worked agreements, speeds and training checks.
 
-use page_code::Coding;
+use raster::Coding;
 use signals::{
     Caps, Modems, NotCompatible, PageWidth, Params, Speed, Wish, agree, allows, lower,
     training_good, training_len,

@@ -3,7 +3,7 @@
 ghost use Rattle.signals.specs.Signals.{plain};
 ghost use Rattle.signals.specs.Writing.{IsWritable};
 
-use page_code::Coding;
+use raster::Coding;
 use signals::{
     Caps, Modems, PageEnd, PageWidth, Params, Side, Signal, SignalFault, Speed, read, write,
 };

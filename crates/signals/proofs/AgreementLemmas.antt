@@ -4,8 +4,8 @@ use Rattle.std.proofs.Common.{IfOk, get_or, refl, sym, ◌∙◌, ap, subst, inl
 use Rattle.std.proofs.lemmas.Bool.{cases_Bool, and_parts, eqb-true}
 use Rattle.signals.proofs.ValueNumbers.{same_value}
 use Rattle.std.specs.List.{filter, find}
-use Rattle.page_code.specs.declared.coding.Coding.{Coding}
-use Rattle.page_code.specs.declared.coding.Coding.TheVariants.{OneDim, T6}
+use Rattle.raster.specs.declared.coding.Coding.{Coding}
+use Rattle.raster.specs.declared.coding.Coding.TheVariants.{OneDim, T6}
 use Rattle.signals.specs.Agreement.{place_of_speed, pixels_of, supports_speed, common_speed, tried_speeds, speed_order, first_of}
 use Rattle.signals.specs.Agreement.{after_speed, lower_speed, wished_coding, agreed_coding, takes_pages, at_first, offers_coding, allowed}
 use Rattle.signals.specs.Agreement.{AgreedIsAllowed, AgreedFits, LoweredIsAllowed, width_of_pixels, WidthsHavePixels}

@@ -3,8 +3,8 @@ use Rattle.std.proofs.Common.{◌≡◌, ℕ, zero, suc, ◌<◌, Bool, true, fa
 use Rattle.std.proofs.Common.{get_or, Option}
 use Rattle.std.proofs.Common.{Some, None, Err, Contains, refl, inl, inr, arith}
 use Rattle.std.proofs.lemmas.Bool.{and_parts, and_cases, and_from, leb-true, leb-false, ltb-true, le-leb, lt-ltb}
-use Rattle.page_code.specs.declared.coding.Coding.{Coding}
-use Rattle.page_code.specs.declared.coding.Coding.TheVariants.{OneDim, T6}
+use Rattle.raster.specs.declared.coding.Coding.{Coding}
+use Rattle.raster.specs.declared.coding.Coding.TheVariants.{OneDim, T6}
 use Rattle.signals.proofs.EachValue.{all_speeds, each_speed, all_modems, each_modems}
 use Rattle.signals.specs.Agreement.{pixels_of, supports_speed, common_speed, tried_speeds, first_of, after_speed, lower_speed}
 use Rattle.signals.specs.Agreement.{wished_coding}

@@ -5,7 +5,7 @@ use Rattle.std.proofs.lemmas.Bool.{and_parts, agree_below_at}
 use Rattle.signals.proofs.ValueNumbers.{is_found, found, is-found}
 use Rattle.std.specs.Bool.{beq}
 use Rattle.std.specs.List.{flat_map}
-use Rattle.page_code.specs.declared.coding.Coding.{Coding}
+use Rattle.raster.specs.declared.coding.Coding.{Coding}
 use Rattle.raster.proofs.OctetBits.{octet_bits, bits_of-flat_map}
 use Rattle.raster.specs.Packed.{bits_of}
 use Rattle.raster.specs.declared.packed.Order.TheVariants.{LsbFirst}

@@ -4,8 +4,8 @@ use Rattle.std.proofs.Common.{refl, ◌∙◌, ap, arith}
 use Rattle.std.proofs.lemmas.Bool.{le-ltb}
 use Rattle.std.proofs.lemmas.List.{take_all}
 use Rattle.std.specs.Int.{bit_at}
-use Rattle.page_code.specs.declared.coding.Coding.{Coding}
-use Rattle.page_code.specs.declared.coding.Coding.TheVariants.{OneDim, T6}
+use Rattle.raster.specs.declared.coding.Coding.{Coding}
+use Rattle.raster.specs.declared.coding.Coding.TheVariants.{OneDim, T6}
 use Rattle.signals.specs.Controls.{control_of}
 use Rattle.signals.specs.Reading.{field_bit, late_bit, modems_of, speed_of, widest_of, width_of, page_end_of, caps_of, params_at, params_of}
 use Rattle.signals.specs.Reading.{read_fields, read_content}

@@ -1,7 +1,7 @@
 -- What two stations agree on and which speed comes next, said by the standard's table of speeds and by what each side offers.
 use Rattle.std.specs.Prelude.{ℕ, ◌≡◌, ◌≤◌, ◌<◌, ◌↔◌, ◌⊎◌, Bool, true, false, List, [], ◌∷◌, Option, Some, None, Result, Ok, Err, Contains}
 use Rattle.std.specs.Prelude.{codes}
-use Rattle.page_code.specs.declared.coding.Coding.TheVariants.{T6}
+use Rattle.raster.specs.declared.coding.Coding.TheVariants.{T6}
 use Rattle.signals.specs.Agreement.{pixels_of, supports_speed, lower_speed, agreed, allowed}
 use Rattle.signals.specs.Sending.{speed_text, width_text}
 use Rattle.signals.specs.Training.{bits_a_second, training_octets}

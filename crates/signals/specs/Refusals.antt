@@ -1,6 +1,6 @@
 -- Which contents are refused, and with which fault, by their octets; and the octets of each signal that a station sends.
 use Rattle.std.specs.Prelude.{ℕ, ◌≡◌, ◌≢◌, ◌<◌, ◌⊎◌, ◌↔◌, Bool, true, false, cond, List, [], ◌∷◌, length, Some, Err}
-use Rattle.page_code.specs.declared.coding.Coding.TheVariants.{T6}
+use Rattle.raster.specs.declared.coding.Coding.TheVariants.{T6}
 use Rattle.signals.specs.BitNumbers.{least_octets}
 use Rattle.signals.specs.Controls.{control_of}
 use Rattle.signals.specs.Reading.{read_content}

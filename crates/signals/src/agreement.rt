@@ -6,7 +6,7 @@ ghost use Rattle.std.specs.List.{find};
 ghost use Rattle.std.specs.Prelude.{◌≡◌, IfOk, true, length, List};
 
 use crate::params::{Caps, Modems, PageWidth, Params, Speed, Wish};
-use page_code::Coding;
+use raster::Coding;
 use thiserror::Error;
 
 /// Two stations have no way to send the pages.

@@ -3,7 +3,7 @@
 ghost use Rattle.signals.specs.Agreement.{supports_speed, place_of_speed, pixels_of, width_of_pixels};
 ghost use Rattle.std.specs.Prelude.{◌≡◌, nat_eq};
 
-use page_code::Coding;
+use raster::Coding;
 
 /// A modulation and its speed in bits a second.
 #[derive(Clone, Copy, Debug, PartialEq, Eq)]

@@ -9,7 +9,7 @@ use crate::control::Control;
 use crate::fault::SignalFault;
 use crate::params::{Caps, Modems, PageWidth, Params, Speed};
 use crate::signal::{PageEnd, Signal};
-use page_code::Coding;
+use raster::Coding;
 
 /// A bit of the information field, numbered from 1 in order of sending; 0 past the last.
 fn bit(fields: &[u8], number: usize) -> bool

@@ -10,7 +10,7 @@ use crate::control::Control;
 use crate::params::{Caps, Modems, PageWidth, Params, Speed};
 use crate::signal::{PageEnd, Side, Signal};
 use arrayvec::ArrayVec;
-use page_code::Coding;
+use raster::Coding;
 
 /// A bit in its place.
 fn placed(bit: bool, value: u8) -> u8

@@ -17,8 +17,8 @@ use Rattle.page_code.specs.TwoDimensions.Code.{page_code, rows_code}
 use Rattle.page_code.specs.TwoDimensions.Modes.{eofb}
 use Rattle.page_code.specs.TwoDimensions.Positions.{white_line}
 use Rattle.page_code.specs.Codings.{code_of, read_rows, GivesCodedRows}
-use Rattle.page_code.specs.declared.coding.Coding.{Coding}
-use Rattle.page_code.specs.declared.coding.Coding.TheVariants.{OneDim, T6}
+use Rattle.raster.specs.declared.coding.Coding.{Coding}
+use Rattle.raster.specs.declared.coding.Coding.TheVariants.{OneDim, T6}
 use Rattle.signals.specs.Agreement.{pixels_of}
 use Rattle.signals.specs.declared.params.Params.{Params}
 use Rattle.partial_page.specs.Frames.{frame_size, cut, joined as joined_cut, IsBlock, CutIsFullFrames, JoinedPageIsWithinLimit}

@@ -7,7 +7,7 @@ use Rattle.signals.specs.declared.params.Wish.{Wish}
 use Rattle.signals.specs.declared.params.Modems.TheVariants.{Fallback}
 use Rattle.signals.specs.declared.params.PageWidth.TheVariants.{W1728}
 use Rattle.signals.specs.declared.params.Speed.TheVariants.{V27At2400}
-use Rattle.page_code.specs.declared.coding.Coding.TheVariants.{OneDim}
+use Rattle.raster.specs.declared.coding.Coding.TheVariants.{OneDim}
 use Rattle.signals.specs.declared.signal.PageEnd.{PageEnd}
 use Rattle.signals.specs.declared.signal.PageEnd.TheVariants.{Null, Mps, Eom, Eop}
 use Rattle.partial_page.specs.Store.{bit_of}

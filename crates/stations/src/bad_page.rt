@@ -3,7 +3,7 @@
 ghost use Rattle.std.specs.Prelude.{◌≡◌, IfOk};
 ghost use Rattle.stations.specs.BadPages.{IsRefused};
 
-use page_code::Coding;
+use page_code::{CodesPages, Coding};
 use raster::packed::Order;
 use run_tables::{CodeFault, CodeFaultKind};
 use signals::Params;

@@ -28,7 +28,7 @@ use crate::input::CallerIn;
 use crate::laws::{callers_end, callers_keep, steps_spend};
 use crate::lending::{Items, pps};
 use crate::turn::{CallerState, End, Turn};
-use page_code::Coding;
+use page_code::{CodesPages, Coding};
 use partial_page::laws::octets_have_a_block;
 use partial_page::{BlockFault, Blocks};
 use raster::packed::Order;

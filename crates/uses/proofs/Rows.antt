@@ -2,7 +2,7 @@
 use Rattle.std.proofs.Common.{◌<◌, ℕ, Bool, List, length, subst, sym, arith}
 use Rattle.raster.specs.declared.row.Color.{Color}
 use Rattle.page_code.specs.Codings.{ReadsIn}
-use Rattle.page_code.specs.declared.coding.Coding.TheVariants.{OneDim}
+use Rattle.raster.specs.declared.coding.Coding.TheVariants.{OneDim}
 
 pub has_row : (width : ℕ) (bits : List Bool) (rows : List (List Color)) (used : ℕ) → ReadsIn OneDim width bits rows used → 0 < length rows
 unfolding ReadsIn

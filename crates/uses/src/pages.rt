@@ -4,7 +4,7 @@ ghost use Rattle.raster.specs.Pixels.{IsWidth};
 ghost use Rattle.std.specs.Prelude.{◌≤◌, length};
 
 use faults::{Explained, Known, ToolFault};
-use page_code::{Coding, PageReader};
+use page_code::{CodesPages, Coding, PageReader};
 use page_files::code_engine;
 use raster::{Page, RasterFault, Row, read_pbm, write_pbm};
 use run_tables::{BitReader, BitWriter, CodeFault, Order};

@@ -26,7 +26,7 @@ use Rattle.run_tables.proofs.CodeLooks.{step_from_put}
 use Rattle.run_tables.proofs.FrontWalks.{way_on}
 use Rattle.page_code.specs.Codings.{read_rows}
 use Rattle.page_code.specs.RowsSoFar.{AreRowsSoFar, BeginWith, IsFurther, IsReadTo, LeadsTo, ReadsOn, after_rows}
-use Rattle.page_code.specs.declared.coding.Coding.TheVariants.{OneDim}
+use Rattle.raster.specs.declared.coding.Coding.TheVariants.{OneDim}
 use Rattle.page_code.specs.declared.one_dim.Start.{Start}
 use Rattle.page_code.specs.declared.one_dim.Start.TheVariants.{Row, End, Refused}
 use Rattle.page_code.specs.declared.one_dim.eol.Eol.TheVariants.{Present}

@@ -10,7 +10,7 @@ use Rattle.page_code.specs.OneDimension.Fronts.{zeros_before}
 use Rattle.page_code.specs.OneDimension.Pages.{AreZeros, eol_word}
 use Rattle.page_code.specs.TwoDimensions.Modes.{Mode, SpellsLine, SpellsRow, eofb, mode_words}
 use Rattle.page_code.specs.TwoDimensions.Modes.Mode.{pass, vertical, horizontal}
-use Rattle.page_code.specs.declared.coding.Coding.TheVariants.{T6}
+use Rattle.raster.specs.declared.coding.Coding.TheVariants.{T6}
 use Rattle.page_code.specs.declared.page.Progress.{Progress}
 use Rattle.page_code.specs.RowsSoFar.{IsFurther, IsReadTo, between_rows}
 use Rattle.page_code.specs.TwoDimensions.Fronts.{PageStep, page_begin, page_item_word}

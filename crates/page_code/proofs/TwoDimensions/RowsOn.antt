@@ -21,7 +21,7 @@ use Rattle.run_tables.specs.Fronts.Look.{go, stop, refuse}
 use Rattle.run_tables.specs.RowFronts.{amount, run_of}
 use Rattle.run_tables.proofs.FrontLaws.{halts, answers_there}
 use Rattle.run_tables.proofs.FrontWalks.{stops, refuses, read_walk}
-use Rattle.page_code.specs.declared.coding.Coding.TheVariants.{T6}
+use Rattle.raster.specs.declared.coding.Coding.TheVariants.{T6}
 use Rattle.page_code.specs.declared.t6.mode.ModeCode.{ModeCode}
 use Rattle.page_code.specs.declared.t6.mode.ModeCode.TheVariants.{Pass, Horizontal, Vertical}
 use Rattle.page_code.specs.declared.t6.read.Start.TheVariants.{Row, End, Refused}

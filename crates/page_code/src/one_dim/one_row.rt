@@ -7,12 +7,11 @@ ghost use Rattle.raster.specs.Pixels.{IsWidth};
 ghost use Rattle.raster.specs.declared.row.Color.{Color};
 ghost use Rattle.std.specs.Prelude.{◌≤◌, ◌<◌, ◌*◌, List, length};
 
-use crate::coding::Coding;
 use crate::one_dim::eol::{Eol, eol_at, quick_eol};
 use crate::one_dim::{Start, start_at};
 use crate::page_rows::{NextRow, RowPlace, refused};
-use raster::MAX_ROWS;
 use raster::packed::Order;
+use raster::{Coding, MAX_ROWS};
 use run_tables::{BitReader, CodeFault, CodeFaultKind};
 use std::alloc::{AllocError, Global};
 

@@ -4,13 +4,12 @@ ghost use Rattle.page_code.specs.TwoDimensions.PageEnds.{NoRowBegins};
 ghost use Rattle.raster.specs.Packed.{bits_of};
 ghost use Rattle.std.specs.Prelude.{◌≡◌, ◌<◌, ◌≤◌, ◌*◌, IfOk, IsFalse, IsTrue, drop, length};
 
-use crate::coding::Coding;
 use crate::one_dim::eol::zeros_from;
 use crate::page::Progress;
 use crate::page_reader::read_further;
 use crate::t6::T6;
-use raster::Page;
 use raster::packed::Order;
+use raster::{Coding, Page};
 use std::alloc::{AllocError, Global};
 
 /// The whole rows of a page, and whether its end is after them.
@@ -43,7 +42,7 @@ fn no_row_begins(octets: &[u8], order: Order, place: u128) -> bool
 impl T6 {
     ghost use Rattle.page_code.specs.RowsSoFar.{AreWholeRows};
     ghost use Rattle.page_code.specs.TwoDimensions.PageEnds.{HoldsRowsTo};
-    ghost use Rattle.page_code.specs.declared.coding.Coding.TheVariants.{T6 as InT6};
+    ghost use Rattle.raster.specs.declared.coding.Coding.TheVariants.{T6 as InT6};
     ghost use Rattle.raster.specs.Pixels.{IsWidth};
 
     /// The whole rows at the beginning of the octets' bits, of this width in pixels, as `Coding::salvage` gives them, and

@@ -19,7 +19,6 @@ ghost use Rattle.std.specs.Prelude.{◌≡◌, ◌≤◌, ◌<◌, ◌+◌, [], 
 
 pub(crate) mod one_row;
 
-use crate::coding::Coding;
 use crate::page::{Progress, push_row};
 use crate::t6::front::{Front, left_of_b1, right_of_b1, to_a1, under_b1, under_b2};
 use crate::t6::lines::Lines;
@@ -27,7 +26,7 @@ use crate::t6::mode::{EOFB, EOFB_NUMBER, ModeCode, Shift};
 use crate::t6::mode_table::mode_of;
 use crate::turned::{code_of, turned_code};
 use raster::packed::Order;
-use raster::{MAX_ROWS, Page, Row};
+use raster::{Coding, MAX_ROWS, Page, Row};
 use run_tables::{BitReader, CodeFault, CodeFaultKind};
 use std::alloc::{AllocError, Global};
 

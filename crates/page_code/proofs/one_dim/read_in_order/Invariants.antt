@@ -1,6 +1,6 @@
 use Rattle.std.proofs.Common.{◌≡◌, ◌-◌, length}
 use Rattle.raster.specs.Packed.{bits_of}
-use Rattle.page_code.specs.declared.coding.Coding.TheVariants.{OneDim}
+use Rattle.raster.specs.declared.coding.Coding.TheVariants.{OneDim}
 use Rattle.page_code.specs.RowsSoFar.{IsReadTo}
 use Rattle.page_code.proofs.one_dim.read_in_order.Given as goal
 

@@ -6,11 +6,11 @@ ghost use Rattle.raster.specs.Pages.{max_rows};
 ghost use Rattle.raster.specs.Pixels.{IsWidth};
 ghost use Rattle.std.specs.Prelude.{◌≤◌, ◌*◌, length};
 
-use crate::coding::Coding;
 use crate::page_rows::{NextRow, RowPlace, refused};
 use crate::t6::lines::Lines;
 use crate::t6::mode::EOFB;
 use crate::t6::read::{Start, read_row, start_at};
+use raster::Coding;
 use raster::packed::Order;
 use run_tables::{BitReader, CodeFault};
 use std::alloc::{AllocError, Global};

@@ -2,7 +2,7 @@
 use Rattle.std.proofs.Common.{◌≤◌, ◌*◌, ap, arith, length}
 use Rattle.raster.specs.Packed.{bits_of}
 use Rattle.raster.proofs.PackedLemmas.{length-bits_in}
-use Rattle.page_code.specs.declared.coding.Coding.TheVariants.{T6}
+use Rattle.raster.specs.declared.coding.Coding.TheVariants.{T6}
 use Rattle.page_code.specs.declared.page.Progress.{Progress}
 use Rattle.page_code.proofs.PageReaders.{read_none, salvaged}
 use Rattle.page_code.proofs.TwoDimensions.PageEnds.{ends_there, ends_within}

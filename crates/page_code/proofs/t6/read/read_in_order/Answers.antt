@@ -3,7 +3,7 @@ use Rattle.std.proofs.lemmas.Result.{err_from_is_err_and}
 use Rattle.raster.specs.Packed.{bits_of}
 use Rattle.raster.specs.Pages.{PagePixels}
 use Rattle.run_tables.specs.Reading.{Reading}
-use Rattle.page_code.specs.declared.coding.Coding.TheVariants.{T6}
+use Rattle.raster.specs.declared.coding.Coding.TheVariants.{T6}
 use Rattle.page_code.specs.RowsSoFar.{IsReadTo}
 use Rattle.page_code.specs.TwoDimensions.Positions.{white_line}
 use Rattle.page_code.proofs.TwoDimensions.RowsOn.{ends_on, read_within, refuses_on, row_read, row_refused}

@@ -1,6 +1,6 @@
 use Rattle.std.proofs.Common.{◌≡◌, ◌-◌, length}
 use Rattle.raster.specs.Packed.{bits_of}
-use Rattle.page_code.specs.declared.coding.Coding.TheVariants.{T6}
+use Rattle.raster.specs.declared.coding.Coding.TheVariants.{T6}
 use Rattle.page_code.specs.RowsSoFar.{IsReadTo}
 use Rattle.page_code.specs.TwoDimensions.Positions.{white_line}
 use Rattle.page_code.specs.TwoDimensions.Writing.{reference_at}

@@ -3,7 +3,7 @@ use Rattle.page_code.specs.Codings.{code_of}
 use Rattle.page_code.specs.OneDimension.Pages.{page_words}
 use Rattle.page_code.specs.TwoDimensions.Code.{page_code}
 use Rattle.page_code.proofs.CodingPacked.{encoded_packed}
-use Rattle.page_code.proofs.coding.Coding.encode.Goals as goal
+use Rattle.page_code.proofs.coding.CodingCodesPages.encode.Goals as goal
 
 pub returns-in-OneDim-clause-octets : goal.returns-in-OneDim-clause-octets
 unfolding code_of

@@ -2,7 +2,7 @@ use Rattle.std.proofs.Common.{◌∙◌, ap}
 use Rattle.raster.specs.Packed.{bits_of}
 use Rattle.page_code.specs.declared.page.Progress.{Progress}
 use Rattle.page_code.proofs.PageReaders.{read_none, salvaged}
-use Rattle.page_code.proofs.coding.Coding.salvage.Goals as goal
+use Rattle.page_code.proofs.coding.CodingCodesPages.salvage.Goals as goal
 
 pub read_further-requires-clause-read : goal.read_further-requires-clause-read
 read_further-requires-clause-read c = rw c.new-to.ensures (read_none c.args.self c.args.width (bits_of c.args.order c.args.octets.now))
