@@ -28,7 +28,8 @@ pub record IsStored (old : List ℕ) (from word : ℕ) (new : List ℕ) : Type 0
   pub inside : (k : ℕ) → k < 64 → bit_in MsbFirst new (from + k) ≡ bit_of_word word k
   pub after : (k : ℕ) → from + 64 ≤ k → bit_in MsbFirst new k ≡ bit_in MsbFirst old k
 
--- a painter of a row: its word is the one that its place is in, and its octets are 0 from that word on
+-- A painter of a row: its width is a row's width and its place is within it; its word of 64 bits begins at or before its place, and its
+-- octets are 0 from that word on.
 pub record FitsPainter (painter : Painter) : Type 0 where
   pub wide : IsWidth painter.width
   pub within : painter.place ≤ painter.width
@@ -38,7 +39,7 @@ pub record FitsPainter (painter : Painter) : Type 0 where
   pub low : painter.end ≤ painter.place + 64
   pub clear : (k : ℕ) → painter.end ≤ k + 64 → bit_in MsbFirst painter.octets.items k ≡ false
 
--- these runs are painted: whatever runs follow, with the turns that are left the bits become those of all the runs
+-- These runs, white first, are painted: whatever runs follow, with the turns that are left the bits become those of all the runs.
 pub record Paints (runs : List ℕ) (painter : Painter) : Type 0 where
   pub total : sum runs ≡ painter.place
   pub drawn : (tail : List ℕ) (k : ℕ)
