@@ -1,4 +1,10 @@
--- Fronts: whole items at the beginning of bits, each of which may come after those before it.
+-- Fronts: whole items at the beginning of bits, each valid after the ones before it. One theory for every code finds the bit where no
+-- valid code can go on; it is proved once. Its automaton has states, items with the bits that write them, and `Step`: which items are valid
+-- in a state, and the state that each leads to; `look` says what is seen in the bits: an item, the end, or a refusal with its kind. The only
+-- premise is that looking finds exactly the valid items (`Finds`). Then reading ends after whole items; an end that items lead to is read; a
+-- refusal is at the end of the longest front (`Longest`); and of two fronts of the same bits, one begins the other. There are three such
+-- automata: rows of one dimension (`RowFronts` here), pages of one dimension and pages of T.6 (`OneDimension.Fronts`, `TwoDimensions.Fronts`
+-- of page_code).
 use Rattle.std.specs.Prelude.{ℕ, zero, suc, ◌≡◌, ◌+◌, ◌<◌, Bool, List, [], ◌∷◌, ◌++◌, length, drop, Result, Ok, Err, ◌⊎◌}
 
 -- What is seen in the bits in a state: `go`, an item, and the state that it leads to; `stop`, the end, with the result and the number of
