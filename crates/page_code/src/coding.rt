@@ -20,12 +20,12 @@ use raster::packed::Order;
 use run_tables::{BitWriter, CodeFault};
 use std::alloc::{AllocError, Global};
 
-/// A code of pages.
+/// The name of a code of pages.
 #[derive(Clone, Copy, Debug, PartialEq, Eq)]
 pub enum Coding {
-    /// The one-dimensional code of T.4.
+    /// The one-dimensional code of ITU-T T.4, 4.1 (MH).
     OneDim,
-    /// The two-dimensional code of T.6.
+    /// The two-dimensional code of ITU-T T.6 (MMR).
     T6,
 }
 
@@ -33,8 +33,10 @@ impl Coding {
     ghost use Rattle.page_code.specs.Codings.{IsLongestIn, ReadsIn};
     ghost use Rattle.raster.specs.Octets.{packed};
 
-    /// Appends the page's code, its last octet filled with 0 bits. Errs where memory is refused, which
-    /// changes nothing.
+    /// Appends the page's prescribed code to the octets, its last octet filled with 0 bits. In one dimension:
+    /// EOL, the rows by their own runs with one EOL between two, six EOLs (ITU-T T.4, 4.1); in T.6: the rows
+    /// by the prescribed modes, and EOFB (T.6, 2.2). The page must have a row. Errs if memory is refused,
+    /// which changes nothing.
     #[tactic(auto, unfolding(crate::specs::Codings::code_of))]
     pub fn encode(
         self,
@@ -55,9 +57,10 @@ impl Coding {
         }
     }
 
-    /// The page of this width in pixels that the octets' bits begin with, and how many bits it uses;
-    /// what follows is ignored. Errs at the bit where no page's code can go on; and with `NoMemory`, at
-    /// bit 0.
+    /// Reads a page of this width in pixels from the beginning of the octets' bits, and returns it with the
+    /// number of bits used; what follows is ignored. Errs at the first bit that fits no page, with the kind
+    /// of the bits from there; and with `NoMemory` (9), at bit 0. If the least significant bit comes first,
+    /// up to 4 MiB are turned in a copy, which is freed when the page is read.
     #[tactic(auto, unfolding(crate::specs::Codings::ReadsIn, crate::specs::Codings::IsLongestIn, crate::specs::Codings::read_rows))]
     pub fn decode(
         self,
@@ -100,7 +103,7 @@ fn write_page(
     }
 }
 
-/// Appends the page's code, as `PageCode::encode` of each code.
+/// Appends the page's code, as `PageCode::encode` of each code does.
 #[inline(always)]
 pub(crate) fn encode_in(
     coding: Coding,
@@ -124,7 +127,7 @@ pub(crate) fn encode_in(
     done
 }
 
-/// The page that the octets begin with and the bits used, as `PageCode::decode` of each code.
+/// Reads the page that the octets begin with, as `PageCode::decode` of each code does.
 #[inline(always)]
 pub(crate) fn decode_in(
     coding: Coding,
@@ -145,30 +148,31 @@ pub(crate) fn decode_in(
     }
 }
 
-/// Writing and reading of pages in one code.
+/// Writing and reading of pages in one code: `OneDim` (T.4) and `T6` implement it. A code has no state, so no function has a
+/// receiver.
 pub trait PageCode {
     // the prescribed code of rows of a width
     ghost code: { ℕ → List (List Color) → List Bool };
 
-    // bits read as rows of a width, and how many of them were used
+    // the bits read as rows of a width, with this number of bits used
     ghost Reads: { ℕ → List Bool → List (List Color) → ℕ → Type 0 };
 
-    // what bits read as: rows of a width and the bits used, or the place and the kind of a refusal
+    // the result of reading bits: rows of a width and the bits used, or the place and the kind of a refusal
     ghost outcome: { ℕ → List Bool → Result (List (List Color) × ℕ) (ℕ × Kind) };
 
-    // bits are refused at a place, after their longest front, and with the kind of the bits there
+    // bits are refused at a place, after their longest front, with the kind of the bits there
     ghost Longest: { ℕ → List Bool → ℕ → Kind → Type 0 };
 
-    /// Appends the page's code, its last octet filled with 0 bits. Errs where memory is refused, which
-    /// changes nothing.
+    /// Appends the page's prescribed code to the octets, its last octet filled with 0 bits. The page must
+    /// have a row. Errs if memory is refused, which changes nothing.
     fn encode(alloc: Global, page: &Page, order: Order, out: &mut Vec<u8>) -> Result<(), AllocError>
         requires { 0 < length page.now.rows }
         ensures ok { OnOk result (AppendsCode order (code page.now.width page.now.rows) out.old.items out.new.items) }
         ensures err { OnErr result (out.new.items ≡ out.old.items) };
 
-    /// The page of this width in pixels that the octets' bits begin with, and how many bits it uses;
-    /// what follows is ignored. Errs at the bit where no page's code can go on; and with `NoMemory`, at
-    /// bit 0.
+    /// Reads a page of this width in pixels from the beginning of the octets' bits, and returns it with the
+    /// number of bits used; what follows is ignored. Errs at the first bit that fits no page, with the kind
+    /// of the bits from there; and with `NoMemory` (9), at bit 0.
     fn decode(
         alloc: Global,
         octets: &[u8],
@@ -185,6 +189,7 @@ pub trait PageCode {
 
     /// The law of the code: the code of a page, followed by any bits, reads as the page with the code's
     /// length. Nothing runs.
+    // the contract of a function with an empty body: as one of the trait's ghost members its proof would have to be in specs/
     fn reads_its_code()
         ensures { ReadsItsCode code Reads };
 }
