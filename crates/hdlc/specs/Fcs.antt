@@ -9,7 +9,7 @@ use Rattle.raster.specs.Octets.{octets_of, number}
 abbrev pub xor : Bool → Bool → Bool
 xor x y = if x then not y else y
 
--- the bits at the same places added without carry; past the second list as they are
+-- the bits at the same places added without carry; bits past the second list stay as they are
 abbrev pub add : List Bool → List Bool → List Bool
 add [] ys = []
 add (x ∷ xs) [] = x ∷ xs

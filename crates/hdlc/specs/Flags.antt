@@ -15,7 +15,7 @@ flag_at bits place = begins flag (drop place bits)
 unfoldable pub flags : List Bool → List ℕ
 flags bits = filter (flag_at bits) (range_with_len 0 (length bits - 7))
 
--- a place with the first of those after it, that one with the next, and so on
+-- a place with the first of the others, that one with the next, and so on
 abbrev pub pairs_from : ℕ → List ℕ → List (ℕ × ℕ)
 pairs_from p [] = []
 pairs_from p (q ∷ qs) = (p, q) ∷ pairs_from q qs

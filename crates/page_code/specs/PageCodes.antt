@@ -1,4 +1,4 @@
--- What writing and reading a page answer, whichever the code is.
+-- The results of writing and reading a page, in any code.
 use Rattle.std.specs.Prelude.{ℕ, ◌≡◌, ◌≤◌, ◌<◌, ◌++◌, Bool, List, length, All, Result, Ok, Err, MatchResult, ◌≢◌, ◌⊎◌}
 use Rattle.raster.specs.declared.packed.Order.{Order}
 use Rattle.raster.specs.declared.row.Color.{Color}

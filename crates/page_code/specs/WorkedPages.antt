@@ -47,7 +47,7 @@ pub record AreT6Pages : Type 0 where
   pub blank_written : page_code 8 (blank ∷ []) ≡ text (codes "1" ++ codes "000000000001000000000001")
   pub stripe_written : page_code 8 (stripe ∷ []) ≡ text (codes "001" ++ codes "0111" ++ codes "11" ++ codes "1" ++
       codes "000000000001000000000001")
-  -- the same row again: three times V0; a white one after it: pass mode, V0
+  -- the stripe again after itself: three times V0; a white row after it: pass mode, V0
   pub again_written : page_code 8 (stripe ∷ stripe ∷ blank ∷ []) ≡ text (codes "0010111111" ++ codes "111" ++ codes "00011" ++
       codes "000000000001000000000001")
   -- the stripe one pixel to the right: VR1, VR1, V0; and back: VL1, VL1, V0

@@ -7,16 +7,16 @@ use Rattle.raster.specs.declared.packed.Order.TheVariants.{MsbFirst}
 use Rattle.raster.specs.Packed.{bit_in}
 use Rattle.raster.specs.Words.{bit_of_word}
 
--- the bit at a place, where the bits from another one on are those of a word, and after the word all as its last one
+-- the bit at a place: from one place on the bits are a word's, and after the word all are equal to its last bit
 abbrev pub drawn_bit : List ℕ → ℕ → ℕ → ℕ → Bool
 drawn_bit octets from word k = if nat_lt k from then bit_in MsbFirst octets k else bit_of_word word (k - from)
 
--- the bit at a place, where the bits are 0 at first and turn at each of the places
+-- the bit at a place, if the bits are 0 at first and turn at each of the places
 abbrev pub bit_of_turns : List ℕ → ℕ → Bool
 bit_of_turns [] k = false
 bit_of_turns (place ∷ places) k = if nat_lt k place then bit_of_turns places k else not (bit_of_turns places k)
 
--- the places where runs end that begin at a place
+-- the places at which runs end, if they begin at a place
 abbrev pub ends_of : ℕ → List ℕ → List ℕ
 ends_of from [] = []
 ends_of from (run ∷ runs) = (from + run) ∷ ends_of (from + run) runs

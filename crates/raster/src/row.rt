@@ -233,7 +233,7 @@ impl Row {
         ensures few { result ≤ length out.new.items }
         ensures changes { AreChanges self.now (take result out.new.items) }
     {
-        let _width = self.width(); // tells the proof that it is a width
+        let _width = self.width(); // shows the proof that it is a width
         self.pixels.put_changes(out)
     }
 
@@ -245,7 +245,7 @@ impl Row {
         ensures ok { OnOk result (AppendsChanges self.now out.old.items out.new.items) }
         ensures err { OnErr result (out.new.items ≡ out.old.items) }
     {
-        let _width = self.width(); // tells the proof that it is a width
+        let _width = self.width(); // shows the proof that it is a width
         self.pixels.changes(out)
     }
 
@@ -255,7 +255,7 @@ impl Row {
         requires { from ≤ length self.now }
         ensures { EndsRun self.now from color result }
     {
-        let _width = self.width(); // tells the proof that it is a width
+        let _width = self.width(); // shows the proof that it is a width
         self.pixels.first_other(from, color.is(Color::Black))
     }
 

@@ -145,7 +145,7 @@ pub(crate) fn shifted_word(order: Order, octets: &[u8], at: usize, within: u32) 
     word << within | next as u64 >> (8 - within)
 }
 
-/// The bits of eight octets from a bit of the first of them on, 57 to 64 bits.
+/// The bits of eight octets from a bit of the first octet on, 57 to 64 bits.
 #[inline(always)]
 pub(crate) fn moved_word(order: Order, octets: &[u8], at: usize, within: u32) -> u64
     requires at { at + 8 ≤ length octets.now }

@@ -1,4 +1,4 @@
--- Refusals of coded bits: the numbers of their kinds, and where one of memory is.
+-- Refusals of coded bits: the numbers of their kinds, and the bit at which NoMemory is put.
 use Rattle.std.specs.Prelude.{ℕ, ◌≡◌, ◌≢◌, ◌⊎◌}
 use Rattle.run_tables.specs.declared.fault.CodeFault.{CodeFault}
 use Rattle.run_tables.specs.declared.fault.CodeFaultKind.{CodeFaultKind}

@@ -1,4 +1,4 @@
--- Why bits are refused where a run code has to be (ITU-T T.4, 4.1.1): one sentence for each kind, over the tables of codes alone.
+-- Why bits are refused at a place that needs a run code (ITU-T T.4, 4.1.1): one sentence for each kind, over the tables of codes alone.
 -- How bits are read doesn't matter here.
 use Rattle.std.specs.Prelude.{ℕ, ◌≡◌, ◌+◌, ◌<◌, ◌≤◌, ◌⊎◌, Bool, List, [], ◌∷◌, ◌++◌, length, sum}
 use Rattle.raster.specs.declared.row.Color.{Color}

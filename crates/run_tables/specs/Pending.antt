@@ -1,4 +1,4 @@
--- Bits that a writer holds: those of octets, and then the first ones of a word that waits to be stored.
+-- Bits that a writer holds: in octets, and after them the first ones of a word that waits to be stored.
 use Rattle.std.specs.Prelude.{ℕ, ◌≡◌, ◌≤◌, ◌<◌, ◌+◌, ◌*◌, ◌%◌, ◌++◌, Bool, false, List, length, map}
 use Rattle.std.specs.List.{range_with_len}
 use Rattle.raster.specs.declared.packed.Order.{Order}

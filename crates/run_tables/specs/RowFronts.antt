@@ -1,4 +1,4 @@
--- A one-dimensional row, run code by run code (ITU-T T.4, 4.1.1): where a reader of it is, which codes may be there, and
+-- A one-dimensional row, run code by run code (ITU-T T.4, 4.1.1): where a reader of it is, which codes are valid there, and
 -- what is seen in the bits.
 use Rattle.std.specs.Prelude.{ℕ, suc, ◌≡◌, ◌+◌, Bool, List, [], ◌++◌, length, map, replicate, if◌then◌else◌, nat_eq, nat_lt, Option, Some}
 use Rattle.std.specs.Prelude.{None, Result, Ok, Err, Contains}

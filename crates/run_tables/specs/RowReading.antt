@@ -1,4 +1,4 @@
--- What reading a one-dimensional row answers, and what it leaves (ITU-T T.4, 4.1.1).
+-- The results of reading a one-dimensional row, and the reader after it (ITU-T T.4, 4.1.1).
 use Rattle.std.specs.Prelude.{ℕ, ◌≡◌, ◌≢◌, ◌+◌, ◌<◌, ◌≤◌, ◌++◌, List, length, replicate, None, Some, Option, Result, Ok, Err, sum, ◌⊎◌}
 use Rattle.raster.specs.declared.row.Color.{Color}
 use Rattle.raster.specs.declared.row.Color.TheVariants.{White}

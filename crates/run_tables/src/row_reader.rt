@@ -19,7 +19,7 @@ impl<'a> BitReader<'a> {
         requires { IsWidth width }
         ensures { IfOk result (λ next. IsInRow width self.old self.new runs.new.items next.0 next.1) }
     {
-        let _place = self.place(); // tells the proof that it is within the bits
+        let _place = self.place(); // shows the proof that it is within the bits
         runs.clear();
         let mut color = Color::White;
         let mut room = width;
@@ -54,7 +54,7 @@ impl<'a> BitReader<'a> {
         requires { IsWidth width }
         ensures { IfOk result (IsQuickRow width self.old self.new) }
     {
-        let _place = self.place(); // tells the proof that it is within the bits
+        let _place = self.place(); // shows the proof that it is within the bits
         let Some(mut window) = Window::at(self.look_ahead()) else {
             return Ok(None);
         };

@@ -1,4 +1,4 @@
--- A page in the one-dimensional code, item by item (ITU-T T.4, 4.1): where a reader of it is, which items may be there, and
+-- A page in the one-dimensional code, item by item (ITU-T T.4, 4.1): where a reader of it is, which items are valid there, and
 -- what is seen in the bits.
 use Rattle.std.specs.Prelude.{ℕ, zero, suc, ◌≡◌, ◌+◌, ◌<◌, ◌≤◌, Bool, true, false, List, [], ◌∷◌, ◌++◌, length, drop, if◌then◌else◌, nat_lt}
 use Rattle.std.specs.Prelude.{Option, Some, None, Result}

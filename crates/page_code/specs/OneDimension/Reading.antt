@@ -1,4 +1,4 @@
--- What the parts of a one-dimensional page's reader and writer answer (ITU-T T.4, 4.1).
+-- The results of the parts of a one-dimensional page's reader and writer (ITU-T T.4, 4.1).
 use Rattle.std.specs.Prelude.{ℕ, ◌≡◌, ◌+◌, ◌<◌, ◌≤◌, Bool, List, length, drop, None, Some, Result, Ok, Err, [], ◌∷◌, ◌++◌, ◌⊎◌}
 use Rattle.raster.specs.declared.row.Color.{Color}
 use Rattle.raster.specs.Pages.{max_rows}

@@ -18,7 +18,7 @@ use Rattle.page_code.specs.OneDimension.Pages.{AreZeros, EolBegins, ReadsAs, eol
 
 -- Lines
 
--- a line of a page: the row that it spells, or the bit where its row can't be read
+-- a line of a page: the row that it spells, or the bit at which its row can't be read
 pub data Line : Type 0 where
   spelled : List Color → Line
   broken : ℕ → Line

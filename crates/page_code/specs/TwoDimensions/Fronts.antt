@@ -1,4 +1,4 @@
--- Reading a T.6 page item by item: where a reader is, which items may be there, and what is seen in the bits (ITU-T T.6, 2.2 and 2.4).
+-- Reading a T.6 page item by item: where a reader is, which items are valid there, and what is seen in the bits (ITU-T T.6, 2.2 and 2.4).
 use Rattle.std.specs.Prelude.{ℕ, suc, ◌≡◌, ◌+◌, ◌-◌, ◌<◌, Bool, true, List, [], ◌∷◌, ◌++◌, length, if◌then◌else◌, nat_eq, nat_lt, Option}
 use Rattle.std.specs.Prelude.{Some, None, Result, Ok, Err, Contains}
 use Rattle.raster.specs.declared.row.Color.{Color}

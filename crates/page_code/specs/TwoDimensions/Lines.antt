@@ -87,7 +87,7 @@ pub record StepsBy (held : List ℕ) (word : ℕ) (line next : CodingLine) (coun
   pub count_is : count ≡ length (mode_word code)
   pub leads : Leads held line next code
 
--- the color turns at a place once more: the list has one place more, or one less if the place was its last
+-- the color turns at a place once more: the list has one place more, or one less if the place was in it
 pub record TurnsAt (old new : List ℕ) (place : ℕ) : Type 0 where
   pub rising : IsRising new
   pub below : All (λ p. p ≤ place) new

@@ -1,4 +1,4 @@
--- What the parts of a T.6 page's reader answer (ITU-T T.6, 2.2).
+-- The results of the parts of a T.6 page's reader (ITU-T T.6, 2.2).
 use Rattle.std.specs.Prelude.{ℕ, suc, ◌≡◌, ◌+◌, ◌<◌, ◌≤◌, ◌⊎◌, Bool, true, false, List, [], ◌∷◌, ◌++◌, length, if◌then◌else◌, Option, None}
 use Rattle.std.specs.Prelude.{Some, Result, Ok, Err, ◌-◌, replicate}
 use Rattle.raster.specs.declared.row.Color.{Color}

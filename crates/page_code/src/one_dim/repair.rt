@@ -182,7 +182,7 @@ fn find_line(
 fn copied(alloc: Global, row: &Row) -> Result<Row, AllocError>
     ensures { IfOk result (λ copy. copy ≡ row.now) }
 {
-    let _width = row.width(); // tells the proof that it is a page's width
+    let _width = row.width(); // shows the proof that it is a page's width
     let mut runs = Vec::new(alloc);
     if row.runs(alloc, &mut runs).is_err() {
         return Err(AllocError);

@@ -168,7 +168,7 @@ fn no_mode(reader: &BitReader) -> CodeFault
 fn next_mode(reader: &mut BitReader) -> Option<ModeCode>
     ensures { FindsMode reader.old reader.new result }
 {
-    let _start = reader.place(); // tells the proof that it is within the bits
+    let _start = reader.place(); // shows the proof that it is within the bits
     let (mode, count) = mode_of((reader.peek_57() >> 57) as u32);
     let length = count as usize % 8;
     let Some(code) = mode else {
@@ -307,7 +307,7 @@ fn quick_part(reader: &mut BitReader, lines: &mut Lines) -> bool
     ensures more { OnTrue result (reader.old.place < reader.new.place) }
     ensures none { OnFalse result ((reader.new ≡ reader.old) × (lines.new.line ≡ lines.old.line)) }
 {
-    let _start = reader.place(); // tells the proof that it is within the bits
+    let _start = reader.place(); // shows the proof that it is within the bits
     let enough = reader.has_57();
     if !enough {
         return false;
@@ -349,8 +349,8 @@ fn read_row(alloc: Global, reader: &mut BitReader, lines: &mut Lines) -> Result<
     ensures next { IfOk result (λ row. lines.new.reference ≡ row) }
     ensures same { OnErr result (lines.new.reference ≡ lines.old.reference) }
 {
-    let _start = reader.place(); // tells the proof that it is within the bits
-    let _width = lines.width(); // tells the proof that there are pixels to read
+    let _start = reader.place(); // shows the proof that it is within the bits
+    let _width = lines.width(); // shows the proof that there are pixels to read
     lines.begin();
     while lines.is_short() {
         let done = quick_part(reader, lines);
