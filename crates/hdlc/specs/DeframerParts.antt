@@ -10,7 +10,7 @@ use Rattle.hdlc.specs.OpenGap.{begun, held, recent, unclosed}
 use Rattle.hdlc.specs.Collects.{Collects}
 use Rattle.hdlc.specs.Kept.{Kept}
 
--- the count of a class
+-- the count of a class in a record of counts
 abbrev pub count_in : Counts → Class → ℕ
 count_in counts Good = counts.good
 count_in counts Aborted = counts.aborted
@@ -19,7 +19,7 @@ count_in counts Short = counts.short
 count_in counts Long = counts.long
 count_in counts Damaged = counts.damaged
 
--- what a flag finder keeps of the bits so far
+-- a flag finder keeps what matters of the bits so far: whether a flag came, the bits after it, the last eight bits, the open gap
 pub record Cuts (finder : FlagFinder) (bits : List Bool) : Type 0 where
   pub begun : finder.begun ≡ begun bits
   pub held : finder.held ≡ held bits
@@ -41,8 +41,8 @@ kept_in finder = record {
   ending = finder.gap.unstuffed.window;
 }
 
--- After these bits, of whose good contents `handed` were handed out, this is kept, these are the counts, and these
--- contents wait.
+-- The parts of a deframer after these bits: what the finder keeps, the counts by class, and a queue of the good contents without the
+-- first `handed`.
 pub record PartsAfter (finder : FlagFinder) (counts : Counts) (queue : List (List ℕ)) (bits : List Bool) (handed : ℕ) : Type 0 where
   pub cuts : Cuts finder bits
   pub counted : (class : Class) → count_in counts class ≡ min (2 ^ 64 - 1) (count_of class bits)

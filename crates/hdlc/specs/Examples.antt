@@ -12,13 +12,14 @@ use Rattle.hdlc.specs.Gaps.{unstuffed, good, count_of}
 abbrev pub message_confirmation : List ℕ
 message_confirmation = 0x7E ∷ 0xDF ∷ 0x47 ∷ 0x30 ∷ 0x8A ∷ 0xC6 ∷ 0xFB ∷ 0x01 ∷ []
 
--- the same with one bit changed
+-- the frame of MCF with one bit changed
 abbrev pub one_bit_wrong : List ℕ
 one_bit_wrong = 0x7E ∷ 0xDF ∷ 0x47 ∷ 0x31 ∷ 0x8A ∷ 0xC6 ∷ 0xFB ∷ 0x01 ∷ []
 
--- the worked rows that the definitions are checked by
+-- written-out bits and what the definitions say of them: check sequences, stuffed bits, a gap of each class but Long, fill, flags that
+-- share a 0
 pub record AreExamples : Type 0 where
-  -- the check sequences of a well-known text and of two frames
+  -- the check sequences of the text 123456789 and of two frames
   pub check_text : fcs_of (codes "123456789") ≡ 0x906E
   pub check_confirmation : check_octets (0xFF ∷ 0x13 ∷ 0x8C ∷ []) ≡ 0xA2 ∷ 0xF1 ∷ []
   pub check_ready : check_octets (0xFF ∷ 0x13 ∷ 0x84 ∷ []) ≡ 0xEA ∷ 0x7D ∷ []

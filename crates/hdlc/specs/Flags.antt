@@ -3,7 +3,7 @@ use Rattle.std.specs.Prelude.{ℕ, ◌+◌, ◌-◌, Bool, true, false, List, []
 use Rattle.std.specs.List.{range_with_len, filter}
 use Rattle.run_tables.specs.Texts.{begins}
 
--- the flag sequence, 01111110
+-- the flag sequence, 01111110 (ISO/IEC 13239)
 abbrev pub flag : List Bool
 flag = false ∷ true ∷ true ∷ true ∷ true ∷ true ∷ true ∷ false ∷ []
 
@@ -11,11 +11,11 @@ flag = false ∷ true ∷ true ∷ true ∷ true ∷ true ∷ true ∷ false ∷
 abbrev pub flag_at : List Bool → ℕ → Bool
 flag_at bits place = begins flag (drop place bits)
 
--- the places of the flags, in order; the last place where eight bits are left is the last that can have one
+-- the places in the whole bit list where a flag begins, in order; the last place that can have one has eight bits left
 unfoldable pub flags : List Bool → List ℕ
 flags bits = filter (flag_at bits) (range_with_len 0 (length bits - 7))
 
--- a place with the first of those after it, that one with the next, and so on
+-- a place with the first of the others, that one with the next, and so on
 abbrev pub pairs_from : ℕ → List ℕ → List (ℕ × ℕ)
 pairs_from p [] = []
 pairs_from p (q ∷ qs) = (p, q) ∷ pairs_from q qs
@@ -25,10 +25,10 @@ abbrev pub neighbours : List ℕ → List (ℕ × ℕ)
 neighbours [] = []
 neighbours (p ∷ ps) = pairs_from p ps
 
--- the bits after the flag at the first place and before the flag at the second: none where the two touch or share a 0
+-- the bits after the flag at the first place and before the flag at the second: no bits if the two touch or share a 0
 abbrev pub between : List Bool → ℕ × ℕ → List Bool
 between bits pair = drop (pair.0 + 8) (take pair.1 bits)
 
--- the gaps of neighbouring flags, in order; fewer than eight bits are fill and no gap
+-- the bits between two neighbouring flags, in order; fewer than eight bits are fill and no gap, as when the flags touch or share a 0
 unfoldable pub gaps : List Bool → List (List Bool)
 gaps bits = filter (λ gap. nat_lt 7 (length gap)) (map (between bits) (neighbours (flags bits)))

@@ -7,8 +7,8 @@ use Rattle.hdlc.specs.Fcs.{check_octets}
 use Rattle.hdlc.specs.Flags.{flag, gaps}
 use Rattle.hdlc.specs.Gaps.{unstuffed, good}
 
--- A flag, bits and a flag, whose only gap is good and has the content. Without the stuffed ones the bits are those of the
--- content and its check sequence; after five 1 bits at their end a 0 bit is stuffed too.
+-- The frame of a content: a flag, bits and a flag, whose only gap is good and has the content. Without the stuffed ones the bits are
+-- those of the content and its check sequence; a 0 bit is stuffed also after five 1 bits at their end.
 pub record IsFrame (content : List ℕ) (frame : List Bool) : Type 0 where
   pub body : List Bool
   pub is : frame ≡ flag ++ body ++ flag
@@ -24,6 +24,6 @@ pub record EndsIdle (bits : List Bool) : Type 0 where
   pub few : zeros ≤ 7
   pub is : bits ≡ front ++ flag ++ replicate zeros false
 
--- no bits, or such
+-- bits that a frame may follow: no bits, or bits that end with a flag and at most seven 0 bits
 abbrev pub IsReady : List Bool → Type 0
 IsReady bits = (bits ≡ []) ⊎ EndsIdle bits

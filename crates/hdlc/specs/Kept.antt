@@ -5,25 +5,25 @@ use Rattle.raster.specs.Octets.{number, octets_of}
 use Rattle.hdlc.specs.Gaps.{has_six, unstuffed}
 use Rattle.hdlc.specs.OpenGap.{begun, held, recent, unclosed}
 
--- what is kept of bits: nothing else of them decides how the next ones count
+-- What a deframer keeps of all bits so far, which is all that decides how the next ones count.
 pub record Kept : Type 0 where
-  -- a flag has come; how many bits came after the last one, at most eight; the last eight bits as a number
+  -- whether a flag has come; how many bits came after the last one, at most eight; the last eight bits as a number
   pub begun : Bool
   pub held : ℕ
   pub last : ℕ
-  -- of the open gap, the bits after the last flag but for the last eight: how many, at most eight; how many 1 bits in a row
-  -- end them, at most six; there are six 1 bits in a row
+  -- the open gap is the bits after the last flag without the last eight: how many they are, at most eight; how many 1 bits in a row
+  -- end them, at most six; whether there are six 1 bits in a row (so that it is aborted)
   pub seen : ℕ
   pub ones : ℕ
   pub aborted : Bool
-  -- of its unstuffed bits: as many whole octets as a frame may have; there are more; how many bits came after the whole octets;
-  -- the last eight bits as a number
+  -- of its unstuffed bits: the whole octets, at most 302 as in a frame; whether there are more; how many bits came after the whole
+  -- octets; the last eight bits as a number
   pub octets : List ℕ
   pub long : Bool
   pub part : ℕ
   pub ending : ℕ
 
--- with an open gap and its unstuffed bits
+-- what is kept, from an open gap and its unstuffed bits
 abbrev pub kept_with : Bool → ℕ → ℕ → List Bool → List Bool → Kept
 kept_with begun held last gap unstuffed = record {
   begun = begun;
@@ -38,6 +38,6 @@ kept_with begun held last gap unstuffed = record {
   ending = number (recent false unstuffed);
 }
 
--- what is kept of these bits
+-- what a deframer keeps after these bits
 unfoldable pub kept_of : List Bool → Kept
 kept_of bits = kept_with (begun bits) (held bits) (number (recent true bits)) (unclosed bits) (unstuffed (unclosed bits))

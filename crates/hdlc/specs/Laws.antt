@@ -8,7 +8,7 @@ use Rattle.hdlc.specs.Gaps.{good}
 use Rattle.hdlc.specs.DeframerState.{DeframerState, IsAfter, IsIdle}
 use Rattle.hdlc.specs.Frames.{IsFrame, IsReady}
 
--- the flags are the places where there is a flag, and no other
+-- the flags of bits are exactly the places where there is a flag
 abbrev pub FlagsStand : Type 0
 FlagsStand = (bits : List Bool) (place : ℕ) → Contains (flags bits) place ↔ (flag_at bits place ≡ true)
 
@@ -16,18 +16,18 @@ FlagsStand = (bits : List Bool) (place : ℕ) → Contains (flags bits) place �
 abbrev pub FlagForgets : Type 0
 FlagForgets = (before later : List Bool) → gaps ((before ++ flag) ++ later) ≡ gaps (before ++ flag) ++ gaps (flag ++ later)
 
--- bits that follow leave the good contents that there are, and may bring more after them
+-- bits that follow leave the good contents that there are, and may add more after them
 abbrev pub GoodContentsStay : Type 0
 GoodContentsStay = (bits more : List Bool) → (new : List (List ℕ)) × (good (bits ++ more) ≡ good bits ++ new)
 
--- A frame and 0 bits to an octet, after bits that are empty or end with a flag and at most seven 0 bits, leave them so; the
--- gaps grow by the frame's only gap, and so the good contents by its content alone.
+-- A frame and up to seven 0 bits to an octet, after bits that are empty or end with a flag and at most seven 0 bits, leave such bits; the
+-- gaps grow by the frame's only gap, and the good contents by its content alone.
 abbrev pub FrameGrows : Type 0
 FrameGrows = (bits : List Bool) (content : List ℕ) (frame : List Bool) (zeros : ℕ) → IsReady bits → IsFrame content frame → zeros ≤ 7
     → IsReady (bits ++ (frame ++ replicate zeros false)) × (gaps (bits ++ (frame ++ replicate zeros false)) ≡ gaps bits ++ gaps frame)
     × (good (bits ++ (frame ++ replicate zeros false)) ≡ good bits ++ content ∷ [])
 
--- the same of the octets that hold a frame
+-- the octets that hold a frame, after bits that a frame may follow, leave such bits too, and add its content alone to the good contents
 abbrev pub FrameOctetsGrow : Type 0
 FrameOctetsGrow = (bits : List Bool) (content : List ℕ) (frame : List Bool) (octets : List ℕ) → IsReady bits
     → IsFrame content frame → FillsOctets LsbFirst frame octets
@@ -42,7 +42,7 @@ abbrev pub NextWaits : Type 0
 NextWaits = (state : DeframerState) (bits : List Bool) (handed : ℕ) → IsAfter state bits handed
     → slice_get state.queue 0 ≡ slice_get (good bits) handed
 
--- without the first of its queue it is the state after the same bits, with one content more handed out
+-- without the first content of its queue it is the state after the same bits, with one content more handed out
 abbrev pub NextStands : Type 0
 NextStands = (state : DeframerState) (bits : List Bool) (handed : ℕ) → IsAfter state bits handed → handed < length (good bits)
     → IsAfter (record state { queue = drop 1 state.queue }) bits (handed + 1)

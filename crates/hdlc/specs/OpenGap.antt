@@ -8,7 +8,7 @@ use Rattle.hdlc.specs.Flags.{flags, flag}
 unfoldable pub recent : Bool → List Bool → List Bool
 recent fill bits = drop (length bits) (fill ∷ fill ∷ fill ∷ fill ∷ fill ∷ fill ∷ fill ∷ fill ∷ bits)
 
--- the last of a place and those after it
+-- the last of a place and the places after it
 abbrev pub last_from : ℕ → List ℕ → ℕ
 last_from p [] = p
 last_from p (q ∷ qs) = last_from q qs
@@ -22,12 +22,12 @@ last_of (p ∷ ps) = Some (last_from p ps)
 abbrev pub last_flag : List Bool → Option ℕ
 last_flag bits = last_of (flags bits)
 
--- the bits after the flag at a place, but for the last eight
+-- the bits after the flag at a place, without the last eight
 abbrev pub unclosed_after : List Bool → Option ℕ → List Bool
 unclosed_after bits None = []
 unclosed_after bits (Some p) = drop (p + 8) (take (length bits - 8) bits)
 
--- the bits after the last flag, but for the last eight: these may belong to the next flag
+-- the bits after the last flag, without the last eight, which may belong to the next flag
 abbrev pub unclosed : List Bool → List Bool
 unclosed bits = unclosed_after bits (last_flag bits)
 
@@ -40,19 +40,19 @@ held_after bits (Some p) = min 8 (length bits - (p + 8))
 abbrev pub held : List Bool → ℕ
 held bits = held_after bits (last_flag bits)
 
--- the bits after the flag at a place, but for the last seven
+-- the bits after the flag at a place, without the last seven
 abbrev pub settled_after : List Bool → Option ℕ → List Bool
 settled_after bits None = []
 settled_after bits (Some p) = drop (p + 8) (take (length bits - 7) bits)
 
--- the bits after the last flag, but for the last seven: a gap, if the next bit ends a flag
+-- the bits after the last flag, without the last seven: a gap, if the next bit ends a flag
 abbrev pub settled : List Bool → List Bool
 settled bits = settled_after bits (last_flag bits)
 
--- a flag has come
+-- whether a flag has come
 abbrev pub begun : List Bool → Bool
 begun bits = is_some (last_flag bits)
 
--- the last eight bits are a flag
+-- whether the last eight bits are a flag
 abbrev pub at_flag : List Bool → Bool
 at_flag bits = begins flag (recent true bits)

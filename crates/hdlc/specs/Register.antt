@@ -9,11 +9,11 @@ use Rattle.hdlc.specs.Fcs.{xor, add, divisor}
 abbrev pub shift_in : List Bool → Bool → List Bool
 shift_in register b = if xor b (get_or register 0 false) then add (drop 1 register ++ false ∷ []) divisor else drop 1 register ++ false ∷ []
 
--- the same on a number, with the first bit as the least significant
+-- one more bit of the octets, with the register as a number whose least significant bit is its first
 abbrev pub crc_bit : ℕ → Bool → ℕ
 crc_bit register b = if xor b (nat_eq (register % 2) 1) then bit_xor (register / 2) 0x8408 else register / 2
 
--- the same with the eight bits of an octet
+-- the eight bits of one more octet, the least significant first
 abbrev pub crc_octet : ℕ → ℕ → ℕ
 crc_octet register octet = fold crc_bit register (bits_of LsbFirst (octet ∷ []))
 
@@ -21,10 +21,10 @@ crc_octet register octet = fold crc_bit register (bits_of LsbFirst (octet ∷ []
 abbrev pub remainder_of : ℕ → ℕ
 remainder_of register = fold crc_bit register (replicate 8 false)
 
--- the same of each register whose high octet is 0
+-- for each register whose high octet is 0, the register after eight 0 bits more
 abbrev pub remainders : List ℕ
 remainders = map remainder_of (range_with_len 0 256)
 
--- the same with sixteen 0 bits more
+-- for each register whose high octet is 0, the register after sixteen 0 bits more
 abbrev pub twice_remainders : List ℕ
 twice_remainders = map (λ register. remainder_of (remainder_of register)) (range_with_len 0 256)

@@ -8,20 +8,20 @@ use Rattle.raster.specs.Octets.{number}
 use Rattle.raster.specs.Words.{number_bits}
 use Rattle.hdlc.specs.declared.bit_buffer.BitBuffer.{BitBuffer}
 
--- one bit as it is sent after a number of 1 bits in a row: a 0 bit comes after the fifth
+-- one bit as it is sent after `ones` 1 bits in a row: a 0 bit is sent after the fifth
 abbrev pub stuffed_bit : ℕ → Bool → List Bool
 stuffed_bit ones b = b ∷ cond (b && not (nat_lt ones 4)) (false ∷ []) []
 
--- how many 1 bits in a row then end what was sent
+-- how many 1 bits in a row end what was sent after that bit
 abbrev pub run_sent : ℕ → Bool → ℕ
 run_sent ones b = cond (b && nat_lt ones 4) (1 + ones) 0
 
--- bits as they are sent after a number of 1 bits in a row
+-- bits as they are sent after `ones` 1 bits in a row
 abbrev pub stuffed_from : ℕ → List Bool → List Bool
 stuffed_from ones [] = []
 stuffed_from ones (b ∷ bits) = stuffed_bit ones b ++ stuffed_from (run_sent ones b) bits
 
--- how many 1 bits in a row end what was sent, where more bits come
+-- how many 1 bits in a row end what was sent after these bits
 abbrev pub run_after_all : ℕ → List Bool → ℕ
 run_after_all ones [] = ones
 run_after_all ones (b ∷ bits) = run_after_all (run_sent ones b) bits
@@ -30,11 +30,11 @@ run_after_all ones (b ∷ bits) = run_after_all (run_sent ones b) bits
 abbrev pub stuffed_at : ℕ → List Bool
 stuffed_at place = stuffed_from (place / 256) (map (λ bit. nat_eq (bit_at (place % 256) bit) 1) (range_with_len 0 8))
 
--- how many they are
+-- how many bits each entry of the table sends: five rows of 256 octets
 abbrev pub stuffed_lengths : List ℕ
 stuffed_lengths = map (λ place. length (stuffed_at place)) (range_with_len 0 1280)
 
--- the numbers that they are, the first bit the most significant
+-- the bits that each entry of the table sends, as a number, the first bit the most significant
 abbrev pub stuffed_numbers : List ℕ
 stuffed_numbers = map (λ place. number (reverse (stuffed_at place))) (range_with_len 0 1280)
 

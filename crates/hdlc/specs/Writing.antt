@@ -6,7 +6,7 @@ use Rattle.hdlc.specs.Flags.{flag, gaps}
 use Rattle.hdlc.specs.Gaps.{has_six, unstuffed}
 use Rattle.hdlc.specs.OpenGap.{last_flag}
 
--- nothing but the flag in front has come
+-- only the flag in front has come
 pub record Alone (xs : List Bool) : Type 0 where
   pub last : last_flag xs ≡ Some 0
   pub none : gaps xs ≡ []
@@ -18,7 +18,7 @@ pub record Written (pre bits : List Bool) (count : ℕ) : Type 0 where
   pub six : has_six pre ≡ false
   pub unstuffed : unstuffed pre ≡ bits
 
--- the bits of a writer: what stood there, a flag, and the stuffed text of some bits
+-- the bits of a writer: the bits that were there, a flag, and the stuffed text of some bits
 pub record IsWriting (all start bits : List Bool) (count : ℕ) : Type 0 where
   pub pre : List Bool
   pub text : Written pre bits count

@@ -10,10 +10,10 @@ use crate::stuffing::stuffed;
 use run_tables::BitWriter;
 use std::alloc::AllocError;
 
-/// How many bits may wait where an octet more has room.
+/// How many bits may wait and still leave room for one octet more.
 const ROOM: u32 = 22;
 
-/// The bits of a text between two flags that are not yet written, at most 32.
+/// The bits of a text between two flags that were not written yet, at most 32.
 #[derive(Clone, Copy)]
 pub struct BitBuffer {
     /// The bits as a number, the first the most significant.
@@ -36,8 +36,8 @@ impl BitBuffer {
         }
     }
 
-    /// The bits with those of an octet, the least significant first, and a 0 bit after each fifth 1
-    /// bit in a row.
+    /// The bits, followed by an octet's, the least significant first, with a 0 bit after each fifth 1 bit in
+    /// a row.
     pub fn with(self, octet: u8) -> Self
         requires { IsWaiting 22 self }
         ensures waits { IsWaiting 32 result }
@@ -52,7 +52,7 @@ impl BitBuffer {
         }
     }
 
-    /// Writes the bits, so that none waits.
+    /// Writes the waiting bits, so that none waits.
     pub fn write(self, writer: &mut BitWriter) -> Result<Self, AllocError>
         requires { IsWaiting 32 self }
         ensures keeps { Extends writer.old writer.new }
@@ -67,7 +67,7 @@ impl BitBuffer {
         })
     }
 
-    /// Writes the bits where an octet more has no room.
+    /// Writes the waiting bits if one octet more has no room.
     pub fn with_room(self, writer: &mut BitWriter) -> Result<Self, AllocError>
         requires { IsWaiting 32 self }
         ensures keeps { Extends writer.old writer.new }

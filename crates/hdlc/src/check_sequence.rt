@@ -6,14 +6,14 @@ ghost use Rattle.std.specs.Prelude.{◌≡◌};
 
 use crate::remainders::{REMAINDERS, TWICE_REMAINDERS};
 
-/// What registers whose high octet is 0 become with eight 0 bits more.
+/// For each register whose high octet is 0, the register after eight 0 bits more.
 fn remainders() -> &'static [u16]
     ensures { result.now ≡ remainders }
 {
     &REMAINDERS
 }
 
-/// A register of 16 bits takes the eight bits of an octet, the least significant first.
+/// Adds the eight bits of an octet to a register of 16 bits, the least significant first.
 fn crc_octet(register: u16, octet: u8) -> u16
     ensures { result ≡ crc_octet register octet }
 {
@@ -21,14 +21,14 @@ fn crc_octet(register: u16, octet: u8) -> u16
     (register >> 8) ^ remainders()[low as usize]
 }
 
-/// What registers whose high octet is 0 become with sixteen 0 bits more.
+/// For each register whose high octet is 0, the register after sixteen 0 bits more.
 fn twice_remainders() -> &'static [u16]
     ensures { result.now ≡ twice_remainders }
 {
     &TWICE_REMAINDERS
 }
 
-/// A register of 16 bits takes the bits of two octets, the least significant of each first.
+/// Adds the bits of two octets to a register of 16 bits, the least significant of each first.
 fn crc_two(register: u16, first: u8, second: u8) -> u16
     ensures { result ≡ crc_octet (crc_octet register first) second }
 {
@@ -36,9 +36,9 @@ fn crc_two(register: u16, first: u8, second: u8) -> u16
     twice_remainders()[(both % 256) as usize] ^ remainders()[(both / 256) as usize]
 }
 
-/// The frame check sequence of octets, the least significant bit of each first: what the division by
-/// x^16 + x^12 + x^5 + 1 leaves, preset to ones and complemented; its low octet is sent first
-/// (ISO/IEC 13239, 16-bit frame check sequence; ITU-T T.30, 5.3.7).
+/// Returns the frame check sequence of octets, the least significant bit of each first: the complemented
+/// remainder of the division by x^16 + x^12 + x^5 + 1, preset to ones. Its low octet is sent first (ISO/IEC
+/// 13239, 16-bit frame check sequence; ITU-T T.30, 5.3.7).
 pub fn fcs(octets: &[u8]) -> u16
     ensures { result ≡ fcs_of octets.now }
 {

@@ -5,26 +5,26 @@ ghost use Rattle.hdlc.specs.DeframerParts.{count_in};
 ghost use Rattle.hdlc.specs.declared.counts.Class.{Class as AnyClass};
 ghost use Rattle.std.specs.Prelude.{◌≡◌, ◌+◌, ◌≤◌, min, cond};
 
-/// What the bits between two neighbouring flags are, where they are eight or more: the first class
-/// below `Good` that fits, else `Good` (ISO/IEC 13239, invalid frames).
+/// The class of a gap: of eight or more bits between two neighbouring flags. It is the first class after
+/// `Good` that fits, else `Good` (ISO/IEC 13239, invalid frames).
 #[derive(Clone, Copy, Debug, PartialEq, Eq)]
 pub enum Class {
-    /// None of the others: the content is all octets but the last two.
+    /// A good frame: its content is all octets but the last two.
     Good,
     /// Six 1 bits in a row.
     Aborted,
-    /// Without the stuffed bits not a whole number of octets.
+    /// No whole number of octets without the stuffed bits.
     Ragged,
-    /// Fewer than 5 octets with the check sequence.
+    /// Fewer than 5 octets, the check sequence included.
     Short,
-    /// More than 302 octets with the check sequence.
+    /// More than 302 octets, the check sequence included.
     Long,
     /// The last two octets aren't the check sequence of the others.
     Damaged,
 }
 
 impl Class {
-    /// Whether this is a good frame.
+    /// Whether the class is `Good`.
     pub(crate) fn is_good(self) -> bool
         ensures { result ≡ is_class Class.Good self }
     {
@@ -32,7 +32,7 @@ impl Class {
     }
 }
 
-/// How many gaps there were of each class. A count stays at 2^64 - 1 once it is there.
+/// The number of gaps of each class. A count stays at 2^64 - 1 once it is there.
 #[derive(Clone, Copy, Debug, PartialEq, Eq)]
 pub struct Counts {
     /// Gaps of class `Good`.
@@ -64,7 +64,7 @@ impl Counts {
         }
     }
 
-    /// One gap more of a class.
+    /// Counts one gap more of a class.
     pub(crate) fn add(&mut self, class: Class)
         ensures { (each : AnyClass) → count_in self.old each ≤ u64.MAX
             → count_in self.new each ≡ min u64.MAX (count_in self.old each + cond (is_class each class) 1 0) }

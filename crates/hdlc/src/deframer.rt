@@ -1,4 +1,10 @@
 //! The deframer: bits in any pieces, and the contents of the good frames in them.
+//!
+//! A layer above holds `IsAfter deframer bits handed` across `feed` and `next`: the bits of all octets fed so far, and how many contents
+//! were taken. `counts` and `next` turn it into facts of `count_of` and `good`, which speak of the whole bit list alone;
+//! `laws::good_contents_stay` says that the contents taken are still the first ones when more bits have come. A layer that sends one frame
+//! at a time holds `IsIdle deframer` instead: it begins with `laws::new_is_idle`, and `laws::frame_is_heard` leads from one frame to the
+//! next.
 
 ghost use Rattle.raster.specs.Packed.{bits_of};
 ghost use Rattle.raster.specs.declared.packed.Order.TheVariants.{LsbFirst};
@@ -17,9 +23,9 @@ use std::alloc::{AllocError, Global};
 use std::collections::VecDeque;
 use std::marker::Model;
 
-/// Finds frames in bits that come in any pieces, and hands out the contents of the good ones, the
-/// oldest first (ISO/IEC 13239, frame structure). What it gives depends on all bits together alone,
-/// not on where the pieces are cut.
+/// Finds frames in bits that come in pieces, and hands out the contents of the good ones, the oldest first
+/// (ISO/IEC 13239, frame structure). The result depends only on all bits together, not on where the pieces
+/// are cut.
 #[derive(Debug, Drop)]
 pub struct Deframer {
     alloc: Global,
@@ -41,7 +47,7 @@ impl Model for Deframer {
 }
 
 impl Deframer {
-    /// A deframer that has taken no bits. Takes no memory; what it keeps later comes from `alloc`.
+    /// Makes a deframer that has taken no bits. Takes no memory; later memory comes from `alloc`.
     pub fn new(alloc: Global) -> Self
         ensures { IsAfter result [] 0 }
     {
@@ -54,7 +60,7 @@ impl Deframer {
         }
     }
 
-    /// Takes a piece that needs no memory, and answers whether it did; else nothing is changed.
+    /// Takes a piece that needs no memory, and returns whether it did; else nothing changed.
     fn take_in_place(&mut self, piece: &[u8]) -> bool
         ensures taken { result ≡ true → (bits : List Bool) (handed : ℕ) → IsAfter self.old bits handed
             → IsAfter self.new (bits ++ bits_of LsbFirst piece.now) handed }
@@ -93,21 +99,23 @@ impl Deframer {
         Ok(())
     }
 
-    /// Takes the next bits: those of the octets, the least significant of each first. Errs where
-    /// memory is refused for a content, which changes nothing.
+    /// Takes the next bits, the octets' with the least significant of each first. Errs if memory is refused
+    /// for a content, which changes nothing.
     pub fn feed(&mut self, piece: &[u8]) -> Result<(), AllocError>
         ensures ok { OnOk result ((bits : List Bool) (handed : ℕ) → IsAfter self.old bits handed
             → IsAfter self.new (bits ++ bits_of LsbFirst piece.now) handed) }
         ensures err { OnErr result (self.new ≡ self.old) }
     {
+        // a piece without a flag's end needs no copy; any other is taken on a copy of some 310 octets, so that a refusal leaves no trace
         if self.take_in_place(piece) {
             return Ok(());
         }
         self.take_all(piece)
     }
 
-    /// Hands out the oldest content that was not yet handed out: the octets of a good frame but its
-    /// check sequence, 3 to 300. Takes no memory; the content goes at the next call.
+    /// Hands out the oldest content that wasn't handed out yet, if there is one: the octets of a good frame
+    /// without its check sequence, 3 to 300. Takes no memory. The content is borrowed and lasts until the
+    /// next call.
     pub fn next(&mut self) -> Option<&[u8]>
         ensures* after { sem 𝓛 (Rests the_row self.entry (λ new. new ≡ record self.old { queue = drop 1 self.old.queue })) }
         ensures some { IfSome result (λ content. slice_get self.old.queue 0 ≡ Some content.now) }
@@ -120,8 +128,8 @@ impl Deframer {
         self.lent.as_deref()
     }
 
-    /// How many gaps of eight bits or more there were of each class; bits before the first flag and
-    /// after the last one are no gap. Each count stays at 2^64 - 1 once it is there.
+    /// Returns the number of gaps of eight bits or more by class; bits before the first flag and after the
+    /// last one are no gap. Each count stays at 2^64 - 1 once it is there.
     pub fn counts(&self) -> Counts
         ensures { (bits : List Bool) (handed : ℕ) → IsAfter self.now bits handed
             → (class : AnyClass) → count_in result class ≡ min u64.MAX (count_of class bits) }

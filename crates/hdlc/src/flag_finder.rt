@@ -19,7 +19,7 @@ use crate::octet_buffer::shifted;
 use std::alloc::{AllocError, Global};
 use std::collections::VecDeque;
 
-/// What is kept of the bits: the last eight, and what the open gap has of those before them.
+/// What is kept of the bits: the last eight, and what matters of the open gap's bits before them.
 #[derive(Debug, Drop)]
 pub struct FlagFinder {
     /// A flag has come.
@@ -43,10 +43,10 @@ fn held_after(begun: bool, held: u8) -> u8
     }
 }
 
-/// The last eight bits where flags alone came, by how many bits are after the last one.
+/// The last eight bits after flags alone, by how many bits came after the last flag.
 const REPEATED: [u8; 8] = [0x7E, 0x3F, 0x9F, 0xCF, 0xE7, 0xF3, 0xF9, 0xFC];
 
-/// The same as a slice.
+/// The same table as a slice.
 fn repeated() -> &'static [u8]
     ensures { result.now ≡ repeated }
 {
@@ -73,8 +73,8 @@ fn ends_no_flag(window: u8, octet: u8) -> bool
         & (both / 256 % 256 != 0x7E)
 }
 
-/// Whether seven octets from a place on, after these last eight bits, hold no six 1 bits in a row that
-/// end in them or directly before, so that none of their bits ends a flag; the octet after them is there.
+/// Whether seven octets from a place on, after these last eight bits, have no six 1 bits in a row that end in
+/// them or directly before, so that no flag ends in them; one more octet must follow them.
 fn have_no_flag(last: u8, octets: &[u8], at: usize) -> bool
     requires { at + 8 ≤ length octets.now }
     ensures { result ≡ true → end_no_flag last (take 7 (drop at octets.now)) ≡ true }
@@ -95,7 +95,8 @@ fn have_no_flag(last: u8, octets: &[u8], at: usize) -> bool
     fours & (pairs / 16) == 0
 }
 
-/// How many of the octets from a place on, seven, one or none, end no flag, after these last eight bits.
+/// The number of octets from a place on, seven, one or none, in which no flag ends, after these last eight
+/// bits.
 fn quiet_step(last: u8, octets: &[u8], at: usize) -> usize
     requires { at < length octets.now }
     ensures within { at + result ≤ length octets.now }
@@ -112,7 +113,7 @@ fn quiet_step(last: u8, octets: &[u8], at: usize) -> usize
     0
 }
 
-/// How many octets from the front end no flag, after these last eight bits.
+/// The number of octets from the front in which no flag ends, after these last eight bits.
 fn quiet_front(window: u8, octets: &[u8]) -> usize
     ensures within { result ≤ length octets.now }
     ensures quiet { end_no_flag window (take result octets.now) ≡ true }
@@ -131,7 +132,7 @@ fn quiet_front(window: u8, octets: &[u8]) -> usize
 }
 
 impl FlagFinder {
-    /// No bits yet.
+    /// A finder that has taken no bits.
     pub fn new() -> Self
         ensures { Cuts result [] }
     {
@@ -155,7 +156,7 @@ impl FlagFinder {
         }
     }
 
-    /// A bit comes into the window, and the oldest leaves it.
+    /// Moves a bit into the window; the oldest leaves it.
     fn shift(&mut self, bit: bool)
         ensures begun { self.new.begun ≡ self.old.begun }
         ensures held { self.new.held ≡ self.old.held }
@@ -170,7 +171,7 @@ impl FlagFinder {
         self.gap.push(oldest);
     }
 
-    /// Whether flags alone came, so that the last octet once more repeats them, which changes nothing.
+    /// Whether flags alone came, so that the last octet, if it comes again, repeats them and changes nothing.
     fn repeats_flags(&self) -> bool
         ensures { result ≡ true → (counts : AnyCounts) (queue : List (List ℕ)) (bits : List Bool) (handed : ℕ)
             → PartsAfter self.now counts queue bits handed
@@ -185,7 +186,7 @@ impl FlagFinder {
         self.window == repeated()[self.held as usize]
     }
 
-    /// How many octets from the front repeat flags, which changes nothing.
+    /// The number of octets from the front that repeat flags, which changes nothing.
     fn repeated_front(&self, octets: &[u8]) -> usize
         ensures within { result ≤ length octets.now }
         ensures same { (counts : AnyCounts) (queue : List (List ℕ)) (bits : List Bool) (handed : ℕ)
@@ -205,8 +206,7 @@ impl FlagFinder {
         count
     }
 
-    /// Takes octets none of whose bits ends a flag, where none or all of the last eight bits came after
-    /// the last flag.
+    /// Takes octets in which no flag ends, when none or all of the last eight bits came after the last flag.
     fn take_quiet(&mut self, octets: &[u8])
         requires whole { self.old.held % 8 ≡ 0 }
         requires quiet { end_no_flag self.old.window octets.now ≡ true }
@@ -231,8 +231,7 @@ impl FlagFinder {
         self.gap.push_octets(&octets[..count - 1]);
     }
 
-    /// Takes octets where none of their bits ends a flag. Answers whether they were taken; where they weren't, nothing
-    /// has changed.
+    /// Takes octets if no flag ends in them, and returns whether it did; else nothing changed.
     fn take_unless_flags(&mut self, octets: &[u8]) -> bool
         ensures taken { result ≡ true → (counts : AnyCounts) (queue : List (List ℕ)) (bits : List Bool) (handed : ℕ)
             → PartsAfter self.old counts queue bits handed
@@ -249,8 +248,8 @@ impl FlagFinder {
         true
     }
 
-    /// Takes a piece the short way, where that can be done: no count changes and no content comes. Answers whether the
-    /// piece was taken; where it wasn't, nothing has changed.
+    /// Takes a piece if it changes no count and brings no content, and returns whether it did; else nothing
+    /// changed.
     pub fn take_piece(&mut self, piece: &[u8]) -> bool
         ensures taken { result ≡ true → (counts : AnyCounts) (queue : List (List ℕ)) (bits : List Bool) (handed : ℕ)
             → PartsAfter self.old counts queue bits handed
@@ -263,7 +262,7 @@ impl FlagFinder {
         self.take_unless_flags(piece)
     }
 
-    /// Takes octets from the front that change no count and bring no content, and answers how many.
+    /// Takes octets from the front that change no count and bring no content, and returns how many.
     fn take_front(&mut self, octets: &[u8]) -> usize
         ensures within { result ≤ length octets.now }
         ensures taken { (counts : AnyCounts) (queue : List (List ℕ)) (bits : List Bool) (handed : ℕ)
@@ -283,7 +282,7 @@ impl FlagFinder {
     }
 }
 
-/// Counts a gap that a flag has ended, and keeps the content of a good one.
+/// Counts a gap that a flag ended, and keeps the content of a good one.
 fn close(
     gap: &Gap,
     counts: &mut Counts,
@@ -299,7 +298,7 @@ fn close(
     ensures keeps { Grows queue.old.items queue.new.items }
 {
     if gap.seen < 8 {
-        return Ok(()); // fill between flags
+        return Ok(()); // fill between flags; also flags that touch or share a 0
     }
     let class = gap.class();
     counts.add(class);
@@ -354,9 +353,9 @@ fn take_each(
     Ok(())
 }
 
-/// Takes the first of the octets, and those after it that come at once: none of their bits ends a flag,
-/// or flags alone come. Answers how many it took. An `Err` leaves the queue longer or as it was, and the
-/// rest in any state.
+/// Takes the first of the octets, and the ones after it that can be taken at once: no flag ends in them, or
+/// only flags come. Returns how many it took. An `Err` leaves the queue longer or as it was, and the rest in
+/// any state.
 pub fn take_octets(
     finder: &mut FlagFinder,
     counts: &mut Counts,

@@ -15,8 +15,8 @@ use byteorder::{ByteOrder, LittleEndian};
 use run_tables::BitWriter;
 use std::alloc::AllocError;
 
-/// Takes the bits of octets, the least significant of each first, with a 0 bit after each fifth 1 bit
-/// in a row, after those that wait, and answers what then waits.
+/// Writes the bits of octets, the least significant of each first, with a 0 bit after each fifth 1 bit in a
+/// row, after the bits that wait, and returns the bits that wait now.
 fn write_octets(
     writer: &mut BitWriter,
     before: BitBuffer,
@@ -45,7 +45,7 @@ fn write_flag(writer: &mut BitWriter) -> Result<(), AllocError>
     writer.push_bits(0x7E, 8)
 }
 
-/// Writes a frame. An `Err` may leave a part of it after the bits that were there.
+/// Writes a frame. An `Err` may leave a part of it after the old bits.
 fn write_all(writer: &mut BitWriter, content: &[u8]) -> Result<(), AllocError>
     requires least { 3 ≤ length content.now }
     requires most { length content.now ≤ 300 }
@@ -57,15 +57,14 @@ fn write_all(writer: &mut BitWriter, content: &[u8]) -> Result<(), AllocError>
     write_flag(writer)?;
     let first = write_octets(writer, BitBuffer::new(), content)?;
     let last = write_octets(writer, first, &sent)?;
-    let _none = last.write(writer)?;
+    let _none = last.write(writer)?; // with a 0 bit after five 1 bits that end the check sequence
     write_flag(writer)?;
     Ok(())
 }
 
-/// Appends the frame of a content of 3 to 300 octets: a flag, the bits of the content and of its
-/// check sequence, low octet first, with a 0 bit after each five 1 bits in a row, and a flag
-/// (ISO/IEC 13239, frame structure and transparency; ITU-T T.30, 5.3). Errs where memory is refused,
-/// which changes nothing.
+/// Appends the frame of a content of 3 to 300 octets: a flag, the bits of the content and of its check
+/// sequence, low octet first, with a 0 bit after each five 1 bits in a row, and a flag (ISO/IEC 13239, frame
+/// structure and transparency; ITU-T T.30, 5.3). Errs if memory is refused, which changes nothing.
 pub fn write_frame(content: &[u8], writer: &mut BitWriter) -> Result<(), AllocError>
     requires least { 3 ≤ length content.now }
     requires most { length content.now ≤ 300 }

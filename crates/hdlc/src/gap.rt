@@ -22,7 +22,7 @@ fn checked(octets: &[u8]) -> bool
     LittleEndian::read_u16(sent) == fcs(covered)
 }
 
-/// How many 1 bits in a row there are after one bit more, up to six.
+/// How many 1 bits in a row there are after one bit more, counted up to six.
 fn ones_after(ones: u8, bit: bool) -> u8
     ensures { ones ≤ 6 → result ≡ cond bit (min 6 (ones + 1)) 0 }
 {
@@ -41,7 +41,7 @@ pub fn bit_at(octet: u8, place: u32) -> bool
     (octet >> place) % 2 == 1
 }
 
-/// What is kept of the bits of a gap whose end has not come.
+/// What is kept of the bits of a gap that is still open.
 #[derive(Debug, Drop)]
 pub struct Gap {
     /// How many bits there are, up to eight.
@@ -55,7 +55,7 @@ pub struct Gap {
 }
 
 impl Gap {
-    /// No bits yet.
+    /// A gap without bits.
     pub fn new() -> Self
         ensures { Collects result [] }
     {
@@ -79,11 +79,11 @@ impl Gap {
         }
     }
 
-    /// One bit more: stuffed where it comes directly after five 1 bits in a row.
+    /// Takes one bit more, which is stuffed if it comes directly after five 1 bits in a row.
     pub fn push(&mut self, bit: bool)
         ensures { (gap : List Bool) → Collects self.old gap → Collects self.new (gap ++ bit ∷ []) }
     {
-        let stuffed = self.ones >= 5;
+        let stuffed = self.ones >= 5; // after five 1 bits or more: only an aborted gap has more
         self.seen = self.seen.saturating_add(1).min(8);
         self.ones = ones_after(self.ones, bit);
         self.aborted |= self.ones == 6;
@@ -93,7 +93,7 @@ impl Gap {
         self.unstuffed.push(bit);
     }
 
-    /// The bits of octets more, the least significant of each first.
+    /// Takes the bits of more octets, the least significant of each first.
     pub fn push_octets(&mut self, octets: &[u8])
         ensures { (gap : List Bool) → Collects self.old gap → Collects self.new (gap ++ bits_of LsbFirst octets.now) }
     {
@@ -140,7 +140,7 @@ impl Gap {
         Class::Good
     }
 
-    /// The octets but the check sequence.
+    /// The octets without the check sequence, borrowed.
     pub fn content(&self) -> &[u8]
         ensures { (gap : List Bool) → Collects self.now gap → class_of gap ≡ Good → result.now ≡ content gap }
     {

@@ -7,7 +7,7 @@ ghost use Rattle.std.specs.Prelude.{◌≡◌, ◌≤◌, ◌<◌, ◌+◌, ◌/
 
 use arrayvec::ArrayVec;
 
-/// A register of eight bits takes one more as its most significant, and its least significant goes.
+/// A register of eight bits with one bit more as its most significant; its least significant drops out.
 pub fn shifted(register: u8, bit: bool) -> u8
     ensures { result ≡ register / 2 + cond bit 128 0 }
 {
@@ -29,8 +29,8 @@ pub struct Pending {
     pub(crate) last: u8,
 }
 
-/// Puts bits together to octets, the least significant bit first, and keeps the first 302 of them:
-/// as many as a frame may have with its check sequence.
+/// Puts bits together to octets, the least significant bit first, and keeps the first 302 octets: as many as
+/// a frame may have with its check sequence.
 #[derive(Debug, Drop)]
 pub struct OctetBuffer {
     /// How many bits came after the last whole octet.
@@ -44,7 +44,7 @@ pub struct OctetBuffer {
 }
 
 impl OctetBuffer {
-    /// No bits yet.
+    /// A buffer without bits.
     #[tactic(auto, unfolding(raster::specs::Octets::octets_of))]
     pub fn new() -> Self
         ensures { Assembles result [] }
@@ -71,7 +71,7 @@ impl OctetBuffer {
         }
     }
 
-    /// One bit more.
+    /// Takes one bit more.
     pub fn push(&mut self, bit: bool)
         ensures { (bits : List Bool) → Assembles self.old bits → Assembles self.new (bits ++ bit ∷ []) }
     {
@@ -103,7 +103,7 @@ impl OctetBuffer {
         }
     }
 
-    /// Has these bits after the whole octets.
+    /// Sets the bits after the whole octets.
     pub fn end(&mut self, pending: Pending)
         requires { IsPending pending }
         ensures { self.new ≡ record self.old { part = pending.part; window = window_of pending } }
@@ -113,8 +113,8 @@ impl OctetBuffer {
         self.window = ((both >> pending.part) % 256) as u8;
     }
 
-    /// Takes up to eight bits more, after bits that are pending: the lowest `count` bits of a number, the least
-    /// significant first. Answers the bits that are then after the whole octets.
+    /// Takes up to eight bits more, after bits that are pending: the lowest `count` bits of a number, the
+    /// least significant first. Returns the bits after the whole octets.
     pub fn push_after(&mut self, pending: Pending, value: u8, count: u32) -> Pending
         requires pending { IsPending pending }
         requires few { count ≤ 8 }

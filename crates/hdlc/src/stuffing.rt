@@ -7,8 +7,8 @@ ghost use Rattle.raster.specs.declared.packed.Order.TheVariants.{LsbFirst};
 ghost use Rattle.std.specs.Int.{trailing_ones, w32};
 ghost use Rattle.std.specs.Prelude.{◌≡◌, ◌<◌, ◌≤◌, ◌^◌, ◌∷◌, []};
 
-/// How many bits an octet is with its stuffed ones, by how many 1 bits in a row came before it, none
-/// to four, and by the octet.
+/// The number of bits of an octet with its stuffed ones, by how many 1 bits in a row came before it, none to
+/// four, and by the octet.
 const LENGTHS: [u8; 1280] = [
     8, 8, 8, 8, 8, 8, 8, 8, 8, 8, 8, 8, 8, 8, 8, 8, 8, 8, 8, 8, 8, 8, 8, 8, 8, 8, 8, 8, 8, 8, 8, 9,
     8, 8, 8, 8, 8, 8, 8, 8, 8, 8, 8, 8, 8, 8, 8, 8, 8, 8, 8, 8, 8, 8, 8, 8, 8, 8, 8, 8, 8, 8, 9, 9,
@@ -170,8 +170,8 @@ fn stuffed_numbers() -> &'static [u16]
     &STUFFED
 }
 
-/// The bits of an octet with a 0 bit after each fifth 1 bit in a row, where `ones` of them came just before it: as a
-/// number, the first bit the most significant, and how many they are.
+/// The bits of an octet with a 0 bit after each fifth 1 bit in a row, if `ones` of them came just before it.
+/// Returns them as a number, the first bit the most significant, and their number.
 pub fn stuffed(ones: u8, octet: u8) -> (u32, u32)
     requires { ones ≤ 4 }
     ensures bits { number_bits result.1 result.0 ≡ stuffed_from ones (bits_of LsbFirst (octet ∷ [])) }

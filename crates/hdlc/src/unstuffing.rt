@@ -6,10 +6,10 @@ ghost use Rattle.raster.specs.Packed.{bits_of};
 ghost use Rattle.raster.specs.declared.packed.Order.TheVariants.{LsbFirst};
 ghost use Rattle.std.specs.Prelude.{◌≡◌, ◌≤◌, ◌*◌, ◌/◌, ◌%◌, ◌∷◌, [], length, min};
 
-/// Octets without their stuffed bits, by how many 1 bits in a row came before them, none to six, and by
-/// the octet: the bits that are left as a number, the first the least significant; from bit 8 on how
-/// many 1 bits in a row are then at the end, six where there are more; bit 11 where one of the octet's
-/// bits is the sixth 1 bit in a row; from bit 12 on how many bits are left.
+/// Octets without their stuffed bits, by how many 1 bits in a row came before them, none to six, and by the
+/// octet: the bits that are left as a number, the first the least significant; from bit 8 on how many 1 bits
+/// in a row end them, counted up to six; bit 11 if one of the octet's bits is the sixth 1 bit in a row; from
+/// bit 12 on the number of bits left.
 const ENTRIES: [u16; 1792] = [
     0x8000, 0x8001, 0x8002, 0x8003, 0x8004, 0x8005, 0x8006, 0x8007, 0x8008, 0x8009, 0x800A, 0x800B,
     0x800C, 0x800D, 0x800E, 0x800F, 0x8010, 0x8011, 0x8012, 0x8013, 0x8014, 0x8015, 0x8016, 0x8017,
@@ -170,7 +170,7 @@ fn unstuffed_entries() -> &'static [u16]
     &ENTRIES
 }
 
-/// What is left of an octet without its stuffed bits.
+/// The rest of an octet without its stuffed bits.
 #[derive(Clone, Copy)]
 pub struct UnstuffedBits {
     /// The bits that are left as a number, the first the least significant.
@@ -183,8 +183,7 @@ pub struct UnstuffedBits {
     pub(crate) sixth: bool,
 }
 
-/// An octet without its stuffed bits, by the table's row: 256 for each 1 bit in a row before it, up to
-/// six.
+/// An octet without its stuffed bits, by the table's row: 256 for each 1 bit in a row before it, up to six.
 pub fn unstuffed(row: usize, octet: u8) -> UnstuffedBits
     requires whole { row % 256 ≡ 0 }
     requires most { row ≤ 1536 }

@@ -14,8 +14,8 @@ use Rattle.page_code.specs.PageCodes.{ReadsPage, RefusesPage}
 use Rattle.page_code.specs.RowsSoFar.{AreRowsSoFar, IsReadTo}
 use Rattle.page_code.specs.TurnedCodes.{AreTurned}
 
--- the code, the order of bits, the page read so far, the place in the bits after its rows, how many whole rows were found, and the octets
--- that are kept turned
+-- A reader of a page that comes in pieces: the code, the order of bits, the page read so far, the place in the bits after its rows, the
+-- number of whole rows found, and the octets that are kept turned.
 pub record PageReading : Type 0 where
   pub coding : Coding
   pub order : Order
@@ -24,28 +24,28 @@ pub record PageReading : Type 0 where
   pub count : ℕ
   pub turned : List ℕ
 
--- the reader stands for these octets: their bits begin with the rows that it keeps, and spell the number of whole rows that it found; the
--- octets that it keeps turned are the first of them
+-- The reader has read these octets: their bits begin with the rows that it keeps, and spell the number of whole rows that it found; the
+-- octets that it keeps turned are the first of them.
 pub record StandsFor (reader : PageReading) (octets : List ℕ) : Type 0 where
   pub kept : IsReadTo reader.coding reader.page.width (bits_of reader.order octets) reader.page.rows reader.place
   pub counted : AreRowsSoFar reader.coding reader.page.width (bits_of reader.order octets) reader.count
   pub turned : AreTurned reader.turned octets
 
--- the octets begin with those that the reader stands for
+-- the octets begin with the ones that the reader has read
 pub record GoesOnTo (reader : PageReading) (all : List ℕ) : Type 0 where
   pub octets : List ℕ
   pub more : List ℕ
   pub stands : StandsFor reader octets
   pub begins : all ≡ octets ++ more
 
--- a reader of pages of the same code, order, width and lines
+-- the new reader reads pages of the same code, order, width and lines as the old one
 pub record IsLike (old new : PageReading) : Type 0 where
   pub coding : new.coding ≡ old.coding
   pub order : new.order ≡ old.order
   pub width : new.page.width ≡ old.page.width
   pub fine : new.page.fine ≡ old.page.fine
 
--- it stands for what it stood for
+-- the new reader has read the octets that the old one had read
 abbrev pub StandsAsBefore : PageReading → PageReading → Type 0
 StandsAsBefore old new = IsLike old new × ((octets : List ℕ) → StandsFor old octets → StandsFor new octets)
 
@@ -55,8 +55,8 @@ pub record IsPageRead (coding : Coding) (width : ℕ) (fine : Bool) (bits : List
   pub only : (rows : List (List Color)) (n : ℕ) → ReadsIn coding width bits rows n → (page.rows ≡ rows) × (used ≡ n)
   pub gives : read_rows coding width bits ≡ Ok (page.rows, used)
 
--- the bits read as no page, and reading gives this refusal, which isn't one of memory; before it the bits spell this number of whole rows,
--- which were read up to the bit `row_start`
+-- The bits read as no page, and reading gives this refusal, never NoMemory; before it the bits spell this number of whole rows, which
+-- were read up to the bit `row_start`.
 pub record IsPageRefused (coding : Coding) (width : ℕ) (bits : List Bool) (refused : RefusedCode) : Type 0 where
   pub refuses : RefusesPage (ReadsIn coding) (IsLongestIn coding) width bits refused.fault
   pub gives : read_rows coding width bits ≡ Err (refused.fault.place, refused.fault.kind)
@@ -64,12 +64,12 @@ pub record IsPageRefused (coding : Coding) (width : ℕ) (bits : List Bool) (ref
   pub counted : AreRowsSoFar coding width bits refused.rows
   pub row_start : (rows : List (List Color)) × (length rows ≡ refused.rows) × IsReadTo coding width bits rows refused.row_start
 
--- what bits are read as
+-- the result of reading bits: a page, or a refusal with the whole rows before it
 abbrev pub IsRead : Coding → ℕ → Bool → List Bool → PageRead → Type 0
 IsRead coding width fine bits (Page page used) = IsPageRead coding width fine bits page used
 IsRead coding width fine bits (Refused refused) = IsPageRefused coding width bits refused
 
--- after a page the reader stands for no octets, and after a refusal for what it stood for
+-- after a page the reader has read no octets, and after a refusal the ones that it had read before
 abbrev pub StandsAfter : PageReading → PageReading → PageRead → Type 0
 StandsAfter old new (Page page used) = StandsFor new []
 StandsAfter old new (Refused refused) = StandsAsBefore old new

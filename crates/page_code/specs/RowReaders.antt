@@ -21,12 +21,12 @@ use Rattle.page_code.specs.RowsSoFar.{IsReadTo}
 use Rattle.page_code.specs.TwoDimensions.Positions.{white_line}
 use Rattle.page_code.specs.TwoDimensions.Writing.{reference_at}
 
--- the most octets that are held
+-- the most octets that a reader holds: 65,536
 abbrev pub max_held : ℕ
 max_held = 65536
 
--- the code, the order of bits, the width in pixels, the number of rows that were given, the row before the next one (T.6 alone needs
--- it), the number of bits of the octets that were given up, the octets that are held, and the place in their bits
+-- A reader of a page row by row: the code, the order of bits, the width in pixels, the number of rows given, the row before the next one
+-- (T.6 alone needs it), the number of bits of the octets that it gave up, the octets that it holds, and the place in their bits.
 pub record RowReading : Type 0 where
   pub coding : Coding
   pub order : Order
@@ -42,7 +42,8 @@ abbrev pub IsBefore : Coding → ℕ → List (List Color) → List Color → Ty
 IsBefore OneDim width rows before = ⊤
 IsBefore T6 width rows before = (length before ≡ width) × (before ≡ reference_at (white_line width) rows (length rows))
 
--- the reader took these octets and gave these rows: they are the first of those that the octets' bits spell
+-- The reader took these octets, of which it gave up some and holds the others, and gave these rows: the first ones that the octets' bits
+-- spell, up to its place.
 pub record ReadsRows (reader : RowReading) (rows : List (List Color)) (octets : List ℕ) : Type 0 where
   pub counted : reader.count ≡ length rows
   pub up : List ℕ
@@ -51,20 +52,20 @@ pub record ReadsRows (reader : RowReading) (rows : List (List Color)) (octets : 
   pub read : IsReadTo reader.coding reader.width (bits_of reader.order octets) rows (reader.start + reader.at)
   pub before : IsBefore reader.coding reader.width rows reader.before
 
--- a reader of pages of the same code, order and width
+-- the new reader reads pages of the same code, order and width as the old one
 pub record IsSameReader (old new : RowReading) : Type 0 where
   pub coding : new.coding ≡ old.coding
   pub order : new.order ≡ old.order
   pub width : new.width ≡ old.width
 
--- the reader is new: it took no octets, and gave no rows
+-- the reader is new: it took no octets and gave no rows
 pub record BeginsReading (coding : Coding) (order : Order) (width : ℕ) (reader : RowReading) : Type 0 where
   pub coding_is : reader.coding ≡ coding
   pub order_is : reader.order ≡ order
   pub width_is : reader.width ≡ width
   pub none : ReadsRows reader [] []
 
--- the first of these octets are taken, all of them or as many as there is room for
+-- the first of these octets are taken: all of them, or as many as there is room for
 pub record TakesOctets (old : RowReading) (octets : List ℕ) (count : ℕ) (new : RowReading) : Type 0 where
   pub same : IsSameReader old new
   pub within : count ≤ length octets
@@ -72,7 +73,8 @@ pub record TakesOctets (old : RowReading) (octets : List ℕ) (count : ℕ) (new
   pub few : length new.held ≤ max_held
   pub stands : (rows : List (List Color)) (first : List ℕ) → ReadsRows old rows first → ReadsRows new rows (first ++ take count octets)
 
--- the next row is given; or all octets so far read as the rows that were given and the page's end, or are refused
+-- The next row is given; or reading all octets so far gives the rows that were given and the page's end, or a refusal at this bit and for
+-- this reason. An error changes nothing.
 abbrev pub ReadsNext : {E : Type 0} → RowReading → RowReading → Result NextRow E → Type 0
 ReadsNext old new (Ok (Row row)) = IsSameReader old new × ((rows : List (List Color)) (octets : List ℕ) → ReadsRows old rows octets
     → ReadsRows new (rows ++ row ∷ []) octets)
@@ -84,7 +86,8 @@ ReadsNext old new (Err error) = new ≡ old
 
 -- ---- parts of the reader
 
--- these rows were read from the beginning of bits of which the last are at hand, after `far` others; the next is looked for at this place
+-- these rows were read from the beginning of bits whose last part is at hand, after `far` bits that were given up; the next row is looked
+-- for at this place
 pub record GoesOnIn (coding : Coding) (to : RowPlace) (before : List Color) (held : List Bool) (rows : List (List Color)) (bits : List
     Bool) (far : ℕ) : Type 0 where
   pub counted : to.rows ≡ length rows
@@ -92,7 +95,7 @@ pub record GoesOnIn (coding : Coding) (to : RowPlace) (before : List Color) (hel
   pub read : IsReadTo coding to.width bits rows (far + to.at)
   pub before_is : IsBefore coding to.width rows before
 
--- what is found where a row is looked for, with places in the bits at hand
+-- what is found at a row's place, with places in the bits at hand
 abbrev pub FindsNext : {E : Type 0} → Coding → List Bool → RowPlace → RowPlace → List Color → List Color → Result NextRow E → Type 0
 FindsNext coding held old new before next (Ok (Row row)) =
     (old.rows < max_rows) × (new.width ≡ old.width) × (new.rows ≡ old.rows + 1) × (new.at ≤ length held)
@@ -108,27 +111,27 @@ FindsNext coding held old new before next (Ok (Refused fault)) =
     → read_rows coding old.width bits ≡ Err (far + fault.place, fault.kind))
 FindsNext coding held old new before next (Err error) = (new ≡ old) × (next ≡ before)
 
--- a refusal that isn't one of memory, or memory is refused
+-- a refusal other than NoMemory, or memory was refused
 abbrev pub IsRefusal : {E : Type 0} → CodeFault → Result NextRow E → Type 0
 IsRefusal fault (Ok (Row row)) = ⊥
 IsRefusal fault (Ok (End used)) = ⊥
 IsRefusal fault (Ok (Refused same)) = (same ≡ fault) × (fault.kind ≢ NoMemory)
 IsRefusal fault (Err error) = ⊤
 
--- what is found in one dimension, `far` bits further on
+-- what is found in one dimension, with its place `far` bits further on
 abbrev pub moved_start : ℕ → Start → Start
 moved_start far (start.Row at) = start.Row (far + at)
 moved_start far (start.End used) = start.End (far + used)
 moved_start far (start.Refused fault) = start.Refused (record { place = far + fault.place; kind = fault.kind })
 
--- what is found at a place after this number of rows, whatever they are and whichever bits come before
+-- what is found at a place after this number of rows, whatever the rows are and whatever bits come before
 abbrev pub FindsStart : List Bool → ℕ → ℕ → Start → Type 0
 FindsStart held place count found =
     (width : ℕ) (rows : List (List Color)) (bits : List Bool) (far : ℕ) → count ≡ length rows
     → drop (far + place) bits ≡ drop place held → far + place ≤ length bits
     → FindsRow bits width rows (far + place) (moved_start far found)
 
--- it is within the bits; a row is found at that place or after it, and where there is room for it
+-- what is found is within the bits; a row is found at that place or after it, and only if there is room for it
 abbrev pub IsStartWithin : ℕ → ℕ → ℕ → Start → Type 0
 IsStartWithin place limit count (start.Row at) = (place ≤ at) × (at ≤ limit) × (count < max_rows)
 IsStartWithin place limit count (start.End used) = used ≤ limit

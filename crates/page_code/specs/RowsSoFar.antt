@@ -27,24 +27,25 @@ BeginWith OneDim width bits rows = (lead : List Bool) × (front : List Bool) × 
 BeginWith T6 width bits rows = (front : List Bool) × (rest : List Bool) × SpellsT6 width (white_line width) rows front
     × (bits ≡ front ++ rest)
 
--- the bits spell `count` whole rows, one after the other, and no more; a page has at most 20,000
+-- The number of whole rows that the bits spell from the beginning, one after the other: so many rows begin them, and no more than these,
+-- of at most 20,000.
 pub record AreRowsSoFar (coding : Coding) (width : ℕ) (bits : List Bool) (count : ℕ) : Type 0 where
   pub few : count ≤ max_rows
   pub there : 0 < count → (rows : List (List Color)) × (length rows ≡ count) × BeginWith coding width bits rows
   pub no_more : (rows : List (List Color)) → length rows ≤ max_rows → BeginWith coding width bits rows → length rows ≤ count
 
--- these are the whole rows that the bits spell, one after the other, with none left out: of a page that can't be read, what is there
+-- all whole rows that the bits spell from the beginning, one after the other: the rows that there are of a page that can't be read
 pub record AreWholeRows (coding : Coding) (width : ℕ) (bits : List Bool) (rows : List (List Color)) : Type 0 where
   pub all : AreRowsSoFar coding width bits (length rows)
   pub begins : 0 < length rows → BeginWith coding width bits rows
 
--- rows that are whole stay whole when bits follow
+-- law: rows that are whole stay whole when bits follow
 abbrev pub RowsStay : Type 0
 RowsStay =
     (coding : Coding) (width : ℕ) (bits more : List Bool) (count later : ℕ) → AreRowsSoFar coding width bits count
     → AreRowsSoFar coding width (bits ++ more) later → count ≤ later
 
--- whole items at the beginning of bits lead from a state to another, with `place` bits
+-- whole items at the beginning of bits, `place` bits, lead from a state to another
 pub record LeadsTo {State Item : Type 0} (word : Item → List Bool) (Step : State → Item → State
     → Type 0) (from to : State) (bits : List Bool) (place : ℕ) : Type 0 where
   pub items : List Item
@@ -53,12 +54,12 @@ pub record LeadsTo {State Item : Type 0} (word : Item → List Bool) (Step : Sta
   pub spelled : bits ≡ spell word items ++ rest
   pub place_is : place ≡ length (spell word items)
 
--- where a page is after whole rows
+-- the state of a page after whole rows
 abbrev pub after_rows : List (List Color) → OneDimState
 after_rows [] = first
 after_rows (row ∷ rows) = row_end (row ∷ rows)
 
--- where the next row may begin, after these
+-- the state after these rows, at which the next one may begin
 abbrev pub between_rows : ℕ → List (List Color) → T6State
 between_rows width rows = between (record { rows = rows; reference = reference_at (white_line width) rows (length rows) })
 
@@ -67,14 +68,13 @@ unfoldable pub IsReadTo : Coding → ℕ → List Bool → List (List Color) →
 IsReadTo OneDim width bits rows place = LeadsTo one_dim_word (OneDimStep width) first (after_rows rows) bits place
 IsReadTo T6 width bits rows place = LeadsTo page_item_word (PageStep width) (page_begin width) (between_rows width rows) bits place
 
--- a page of this width and these lines was read on
+-- a page of the same width and lines, read further
 pub record IsFurther (coding : Coding) (bits : List Bool) (old new : Progress) : Type 0 where
   pub width : new.page.width ≡ old.page.width
   pub fine : new.page.fine ≡ old.page.fine
   pub read : IsReadTo coding new.page.width bits new.page.rows new.place
 
--- the whole rows that the bits spell were read, up to what the bits read as: the page's end, or the place and the kind of a refusal; or
--- memory was refused
+-- The whole rows that the bits spell were read, up to the page's end or the place and kind of a refusal; or memory was refused.
 abbrev pub ReadsOn : Coding → List Bool → Progress → Progress → Result ℕ CodeFault → Type 0
 ReadsOn coding bits old new (Ok used) =
     IsFurther coding bits old new × (read_rows coding new.page.width bits ≡ Ok (new.page.rows, used))

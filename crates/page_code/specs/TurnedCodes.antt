@@ -4,7 +4,7 @@ use Rattle.raster.specs.declared.packed.Order.{Order}
 use Rattle.raster.specs.declared.packed.Order.TheVariants.{LsbFirst, MsbFirst}
 use Rattle.raster.specs.Words.{turned_octet}
 
--- they are the first of these octets, each with its bits in the other order
+-- these octets are the first of the others, each with its bits in the other order
 abbrev pub AreTurned : List ℕ → List ℕ → Type 0
 AreTurned turned octets = turned ≡ map turned_octet (take (length turned) octets)
 
@@ -12,7 +12,7 @@ AreTurned turned octets = turned ≡ map turned_octet (take (length turned) octe
 abbrev pub most_turned : ℕ
 most_turned = 4194304
 
--- all octets with their bits in the other order, where the least significant bit is first and there aren't too many; else none
+-- all octets with their bits in the other order, if the least significant bit comes first and there are 4 MiB at most; else no octets
 abbrev pub IsTurnedCode : Order → List ℕ → List ℕ → Type 0
 IsTurnedCode MsbFirst octets code = code ≡ []
 IsTurnedCode LsbFirst octets code =

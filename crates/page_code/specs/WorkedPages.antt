@@ -10,19 +10,19 @@ use Rattle.page_code.specs.OneDimension.Fronts.{read_page as read_one_dim}
 use Rattle.page_code.specs.TwoDimensions.Code.{page_code}
 use Rattle.page_code.specs.TwoDimensions.Fronts.{read_page as read_t6}
 
--- ........
+-- a row of eight white pixels, ........
 abbrev pub blank : List Color
 blank = White ∷ White ∷ White ∷ White ∷ White ∷ White ∷ White ∷ White ∷ []
 
--- ..##....
+-- a row with two black pixels, ..##....
 abbrev pub stripe : List Color
 stripe = White ∷ White ∷ Black ∷ Black ∷ White ∷ White ∷ White ∷ White ∷ []
 
--- ...##...
+-- a row with them one pixel further right, ...##...
 abbrev pub stripe_right : List Color
 stripe_right = White ∷ White ∷ White ∷ Black ∷ Black ∷ White ∷ White ∷ White ∷ []
 
--- T.4 pages of one white row of 8, 10011, and their ends
+-- T.4 pages of one white row of 8 pixels, 10011, coded by hand, with each end of a page
 pub record AreOneDimPages : Type 0 where
   -- no EOL, and nothing or only 0 bits follow
   pub bare : read_one_dim 8 (text (codes "10011")) ≡ Ok (blank ∷ [], 5)
@@ -41,16 +41,16 @@ pub record AreOneDimPages : Type 0 where
   pub written : page_words (stripe ∷ []) ≡ text (codes "000000000001" ++ codes "0111" ++ codes "11" ++ codes "1011" ++
       codes "000000000001000000000001000000000001" ++ codes "000000000001000000000001000000000001")
 
--- T.6 pages of rows of 8
+-- T.6 pages of rows of 8 pixels, coded by hand: by vertical modes, pass mode and horizontal mode
 pub record AreT6Pages : Type 0 where
   -- a white row: V0; horizontal mode, white 2 and black 2, then V0
   pub blank_written : page_code 8 (blank ∷ []) ≡ text (codes "1" ++ codes "000000000001000000000001")
   pub stripe_written : page_code 8 (stripe ∷ []) ≡ text (codes "001" ++ codes "0111" ++ codes "11" ++ codes "1" ++
       codes "000000000001000000000001")
-  -- the same row again: three times V0; a white one after it: pass mode, V0
+  -- the stripe again after itself: three times V0; a white row after it: pass mode, V0
   pub again_written : page_code 8 (stripe ∷ stripe ∷ blank ∷ []) ≡ text (codes "0010111111" ++ codes "111" ++ codes "00011" ++
       codes "000000000001000000000001")
-  -- one pixel to the right: VR1, VR1, V0; and back: VL1, VL1, V0
+  -- the stripe one pixel to the right: VR1, VR1, V0; and back: VL1, VL1, V0
   pub right_written : page_code 8 (stripe ∷ stripe_right ∷ stripe ∷ []) ≡ text (codes "0010111111" ++ codes "0110111" ++
       codes "0100101" ++ codes "000000000001000000000001")
   -- what follows EOFB isn't of the page

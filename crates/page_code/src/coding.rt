@@ -22,8 +22,10 @@ use std::alloc::{AllocError, Global};
 
 /// Writing and reading of pages by the name of their code.
 pub trait CodesPages {
-    /// Appends the page's code, its last octet filled with 0 bits. Errs where memory is refused, which
-    /// changes nothing.
+    /// Appends the page's prescribed code to the octets, its last octet filled with 0 bits. In one dimension:
+    /// EOL, the rows by their own runs with one EOL between two, six EOLs (ITU-T T.4, 4.1); in T.6: the rows
+    /// by the prescribed modes, and EOFB (T.6, 2.2). The page must have a row. Errs if memory is refused,
+    /// which changes nothing.
     fn encode(
         self,
         alloc: Global,
@@ -33,9 +35,10 @@ pub trait CodesPages {
     ) -> Result<(), AllocError>
         requires { 0 < length page.now.rows };
 
-    /// The page of this width in pixels that the octets' bits begin with, and how many bits it uses;
-    /// what follows is ignored. Errs at the bit where no page's code can go on; and with `NoMemory`, at
-    /// bit 0.
+    /// Reads a page of this width in pixels from the beginning of the octets' bits, and returns it with the
+    /// number of bits used; what follows is ignored. Errs at the first bit that fits no page, with the kind
+    /// of the bits from there; and with `NoMemory` (9), at bit 0. If the least significant bit comes first,
+    /// up to 4 MiB are turned in a copy, which is freed when the page is read.
     fn decode(
         self,
         alloc: Global,
@@ -46,8 +49,9 @@ pub trait CodesPages {
     ) -> Result<(Page, u128), CodeFault>
         requires { IsWidth width };
 
-    /// What the octets are read as, by this width in pixels: the page that `decode` returns, or its refusal with
-    /// the whole rows before it. Errs where memory is refused.
+    /// Reads the octets as a page of this width in pixels: returns the page that `decode` returns, or the
+    /// refusal with the number of whole rows before it and the bit after them. Errs only if memory is
+    /// refused.
     fn page(
         self,
         alloc: Global,
@@ -58,9 +62,9 @@ pub trait CodesPages {
     ) -> Result<PageRead, AllocError>
         requires { IsWidth width };
 
-    /// The page of the whole rows at the beginning of the octets' bits, of this width in pixels: of a page that
-    /// can't be read, what is there before the refused bit. It has no rows if the first row isn't whole, and
-    /// 20,000 at most. Errs where memory is refused.
+    /// Returns the page of all whole rows, of this width in pixels, that the octets' bits spell from the
+    /// beginning: the rows before the refused bit of a page that can't be read, none if the first row isn't
+    /// whole, 20,000 at most. Errs only if memory is refused.
     fn salvage(
         self,
         alloc: Global,
@@ -169,7 +173,7 @@ fn write_page(
     }
 }
 
-/// Appends the page's code, as `PageCode::encode` of each code.
+/// Appends the page's code, as `PageCode::encode` of each code does.
 #[inline(always)]
 pub(crate) fn encode_in(
     coding: Coding,
@@ -193,7 +197,7 @@ pub(crate) fn encode_in(
     done
 }
 
-/// The page that the octets begin with and the bits used, as `PageCode::decode` of each code.
+/// Reads the page that the octets begin with, as `PageCode::decode` of each code does.
 #[inline(always)]
 pub(crate) fn decode_in(
     coding: Coding,
@@ -214,30 +218,31 @@ pub(crate) fn decode_in(
     }
 }
 
-/// Writing and reading of pages in one code.
+/// Writing and reading of pages in one code: `OneDim` (T.4) and `T6` implement it. A code has no state, so no function has a
+/// receiver.
 pub trait PageCode {
     // the prescribed code of rows of a width
     ghost code: { ℕ → List (List Color) → List Bool };
 
-    // bits read as rows of a width, and how many of them were used
+    // the bits read as rows of a width, with this number of bits used
     ghost Reads: { ℕ → List Bool → List (List Color) → ℕ → Type 0 };
 
-    // what bits read as: rows of a width and the bits used, or the place and the kind of a refusal
+    // the result of reading bits: rows of a width and the bits used, or the place and the kind of a refusal
     ghost outcome: { ℕ → List Bool → Result (List (List Color) × ℕ) (ℕ × Kind) };
 
-    // bits are refused at a place, after their longest front, and with the kind of the bits there
+    // bits are refused at a place, after their longest front, with the kind of the bits there
     ghost Longest: { ℕ → List Bool → ℕ → Kind → Type 0 };
 
-    /// Appends the page's code, its last octet filled with 0 bits. Errs where memory is refused, which
-    /// changes nothing.
+    /// Appends the page's prescribed code to the octets, its last octet filled with 0 bits. The page must
+    /// have a row. Errs if memory is refused, which changes nothing.
     fn encode(alloc: Global, page: &Page, order: Order, out: &mut Vec<u8>) -> Result<(), AllocError>
         requires { 0 < length page.now.rows }
         ensures ok { OnOk result (AppendsCode order (code page.now.width page.now.rows) out.old.items out.new.items) }
         ensures err { OnErr result (out.new.items ≡ out.old.items) };
 
-    /// The page of this width in pixels that the octets' bits begin with, and how many bits it uses;
-    /// what follows is ignored. Errs at the bit where no page's code can go on; and with `NoMemory`, at
-    /// bit 0.
+    /// Reads a page of this width in pixels from the beginning of the octets' bits, and returns it with the
+    /// number of bits used; what follows is ignored. Errs at the first bit that fits no page, with the kind
+    /// of the bits from there; and with `NoMemory` (9), at bit 0.
     fn decode(
         alloc: Global,
         octets: &[u8],
@@ -254,6 +259,7 @@ pub trait PageCode {
 
     /// The law of the code: the code of a page, followed by any bits, reads as the page with the code's
     /// length. Nothing runs.
+    // the contract of a function with an empty body: as one of the trait's ghost members its proof would have to be in specs/
     fn reads_its_code()
         ensures { ReadsItsCode code Reads };
 }

@@ -7,7 +7,7 @@ ghost use Rattle.page_code.specs.WorkedPages.{AreOneDimPages, AreT6Pages};
 pub mod one_dim;
 pub mod t6;
 
-/// A page is read exactly where the bits read as it.
+/// A page is read exactly if the bits read as it.
 pub fn reads_exactly()
     ensures { ReadsExactly }
 {}
@@ -17,19 +17,19 @@ pub fn refuses_no_page()
     ensures { RefusesNoPage }
 {}
 
-/// A refusal has the length of the longest front as its place, and the kind of what is there.
+/// The place of a refusal is the length of the longest front, and its kind is that of the bits after it.
 pub fn refuses_at_longest()
     ensures { RefusesAtLongest }
 {}
 
-/// What reading gives is a refusal exactly where, and for the reason that, a relation over the grammar says;
-/// bits read as a page or have one refusal, and not both.
+/// Reading is refused exactly where whole items of a page begin the bits and the page goes no further, for
+/// the reason that a relation over the grammar gives; bits read as a page or have one refusal, and not both.
 pub fn refuses_exactly()
     ensures { RefusesExactly }
 {}
 
-/// The code of a page, followed by any bits, reads as the page, and reading it gives the page and the
-/// code's length.
+/// The code of a page, followed by any bits, reads as the page, and reading it gives the page and the code's
+/// length.
 pub fn round_trip()
     ensures reads { ReadsCode }
     ensures gives { GivesCodedRows }
@@ -40,7 +40,7 @@ pub fn rows_stay()
     ensures { RowsStay }
 {}
 
-/// Pages that were coded by hand from the tables: each end of a T.4 page, and modes of T.6.
+/// Pages that were coded by hand from the tables: each end of a T.4 page, and the modes of T.6.
 pub fn worked_pages()
     ensures one_dim { AreOneDimPages }
     ensures t6 { AreT6Pages }

@@ -24,19 +24,20 @@ use raster::{Coding, MAX_ROWS, Page, Row};
 use run_tables::{BitReader, BitWriter, CodeFault, CodeFaultKind};
 use std::alloc::{AllocError, Global};
 
-/// The one-dimensional code of ITU-T T.4, 4.1. A page is written as EOL, the rows by their own runs
-/// with one EOL between two, and six EOLs; and read as no EOL or one, rows with one EOL between two,
-/// and an end. Refusals are `NoRows`, `Truncated`, `BadCode`, `RunTooLong` and `TooManyCodedRows`.
+/// The one-dimensional code of ITU-T T.4, 4.1. A page is written as EOL, the rows by their own runs with one
+/// EOL between two, and six EOLs. It is read as no EOL or one, rows with one EOL between two, any EOL with
+/// fill before it, and an end. Refusals are `NoRows`, `Truncated`, `BadCode`, `RunTooLong` and
+/// `TooManyCodedRows`.
 #[derive(Clone, Copy, Debug, PartialEq, Eq)]
 pub struct OneDim;
 
-/// What is found where a row may begin.
+/// What is found at a place where a row may begin.
 enum Start {
     /// A row, at this place.
     Row(u128),
     /// The page's end, and the number of bits used.
     End(u128),
-    /// Nothing that is valid there.
+    /// Nothing valid.
     Refused(CodeFault),
 }
 
@@ -45,6 +46,7 @@ fn start_at(octets: &[u8], order: Order, place: u128, rows: usize) -> Start
     requires { place ≤ 8 * length octets.now }
     ensures { SeesStart (bits_of order octets.now) place rows result }
 {
+    // other software ends a page with no EOL or one (then only 0 bits may follow) or with two to six; a seventh is left unread
     match eol_at(octets, order, place) {
         Eol::Absent => {
             if rows < MAX_ROWS {
@@ -54,6 +56,7 @@ fn start_at(octets: &[u8], order: Order, place: u128, rows: usize) -> Start
             }
         }
         Eol::OnlyZeros => {
+            // `NoRows` only before the first row: inside it the bits are `Truncated` or `BadCode`
             if rows == 0 {
                 Start::Refused(CodeFault::new(place, CodeFaultKind::NoRows))
             } else {
@@ -70,8 +73,8 @@ fn start_at(octets: &[u8], order: Order, place: u128, rows: usize) -> Start
     }
 }
 
-/// What is found after the rows read so far: the next row begins at the page's beginning or after one
-/// EOL, and each later one after one EOL.
+/// What is found after the rows read so far: the first row begins at the page's beginning or after one EOL,
+/// each later one after one EOL.
 fn next_row(octets: &[u8], order: Order, to: &Progress) -> Start
     requires { to.now.place ≤ 8 * length octets.now }
     ensures finds { FindsRow (bits_of order octets.now) to.now.page.width to.now.page.rows to.now.place result }
@@ -145,8 +148,8 @@ fn read_in_order(
     }
 }
 
-/// Reads on from the rows read so far to the page's end, and answers how many bits the page uses. After
-/// an error the rows before it were read. Where the least significant bit is first, the octets are turned once,
+/// Reads on from the rows read so far to the page's end, and returns how many bits the page uses. After an
+/// error the rows before it were read. If the least significant bit comes first, the octets are turned once,
 /// so that no word of them is.
 pub(crate) fn read_on(
     alloc: Global,

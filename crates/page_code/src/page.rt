@@ -13,7 +13,7 @@ pub(crate) fn are_octets(octets: &[u8])
     ensures { AreOctets octets.now }
 {}
 
-/// A page that is read: its whole rows so far, and the place in the bits after them.
+/// A page that is being read: its whole rows so far, and the place in the bits after them.
 #[derive(Debug, Drop)]
 pub(crate) struct Progress {
     pub(crate) page: Page,
@@ -33,7 +33,7 @@ impl Progress {
     }
 }
 
-/// Appends a row of the page's width, where there is room for it. Errs where memory is refused.
+/// Appends a row of the page's width, if there is room for it. Errs only if memory is refused.
 #[inline(always)]
 pub(crate) fn push_row(page: &mut Page, row: Row) -> Result<(), AllocError>
     requires wide { length row ≡ page.old.width }

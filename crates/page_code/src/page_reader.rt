@@ -20,7 +20,7 @@ use std::alloc::{AllocError, Global};
 use std::marker::Model;
 use std::mem;
 
-/// Reads on from the rows read so far to the page's end, and answers how many bits the page uses.
+/// Reads on from the rows read so far to the page's end, and returns how many bits the page uses.
 #[inline(always)]
 fn read_rows_on(
     alloc: Global,
@@ -39,29 +39,29 @@ fn read_rows_on(
     }
 }
 
-/// Why octets can't be read as a page, and how far they can.
+/// Why octets can't be read as a page, and how many of its rows can.
 #[derive(Clone, Copy, Debug, PartialEq, Eq)]
 pub struct RefusedCode {
-    /// The bit that is refused, from 0, and why: never for want of memory.
+    /// The bit that is refused, from 0, and why; never `NoMemory`.
     pub fault: CodeFault,
-    /// How many whole rows are before it: 0 to 20,000.
+    /// The number of whole rows before it: 0 to 20,000.
     pub rows: u32,
-    /// The bit after them, where the next row would begin, with its EOL in the one-dimensional code.
+    /// The bit after these rows, at which the next row would begin, with its EOL in the one-dimensional code.
     pub row_start: u128,
 }
 
-/// What octets are read as.
+/// The result of reading octets as a page.
 #[derive(Debug, Drop)]
 pub enum PageRead {
-    /// A page, and how many bits it uses.
+    /// A page, and the number of bits that it uses.
     Page(Page, u128),
-    /// No page.
+    /// No page: the refusal.
     Refused(RefusedCode),
 }
 
-/// Reads a page whose octets come in pieces: each call is given all octets so far, and reads on after
-/// the whole rows that were read before. It keeps the rows. Of octets whose least significant bit is first, 4 MiB at most, it keeps
-/// a copy with the most significant first, from which it reads.
+/// Reads a page whose octets come in pieces. Each call gets all octets so far, and reads on after the whole
+/// rows that were read before, which the reader keeps. If the least significant bit comes first, it keeps a
+/// turned copy of the octets, 4 MiB at most, until the page ends or is refused.
 #[derive(Debug, Drop)]
 pub struct PageReader {
     alloc: Global,
@@ -90,7 +90,7 @@ impl Model for PageReader {
     ghost invariant = { λ reader. IsWidth reader.progress.page.width };
 }
 
-/// Reads on, up to the page's end or a refusal. Errs where memory is refused.
+/// Reads on, up to the page's end or a refusal. Errs only if memory is refused.
 pub(crate) fn read_further(
     alloc: Global,
     coding: Coding,
@@ -133,7 +133,7 @@ pub(crate) fn read_to_end(
     Ok((to.page, used))
 }
 
-/// Reads on to the page's end or to a refusal. Errs where memory is refused.
+/// Reads on to the page's end or to a refusal. Errs only if memory is refused.
 pub(crate) fn read_whole(
     alloc: Global,
     coding: Coding,
@@ -161,7 +161,8 @@ pub(crate) fn read_whole(
     }
 }
 
-/// Reads on as `read_further`, from octets of which the first are kept turned; and answers those that are turned then.
+/// As `read_further`, from octets whose first ones are kept turned. Returns the octets that are turned
+/// afterwards.
 fn read_further_turned(
     alloc: Global,
     coding: Coding,
@@ -183,7 +184,7 @@ fn read_further_turned(
     Ok(turned)
 }
 
-/// Reads on as `read_to_end`, from octets of which the first are kept turned.
+/// As `read_to_end`, from octets whose first ones are kept turned.
 #[inline(always)]
 fn read_to_end_turned(
     alloc: Global,
@@ -203,7 +204,7 @@ fn read_to_end_turned(
     read_to_end(alloc, coding, code, first, progress)
 }
 
-/// Reads on as `read_whole`, from octets of which the first are kept turned.
+/// As `read_whole`, from octets whose first ones are kept turned.
 fn read_whole_turned(
     alloc: Global,
     coding: Coding,
@@ -225,7 +226,7 @@ fn read_whole_turned(
 impl PageReader {
     ghost use Rattle.page_code.specs.Codings.{IsLongestIn, ReadsIn};
 
-    /// A reader of pages of this code, order of bits and width in pixels, 1 to 2,432, that stands for no
+    /// Makes a reader of pages in this code, order of bits and width in pixels, 1 to 2,432, that has read no
     /// octets. Takes no memory.
     pub fn new(alloc: Global, coding: Coding, order: Order, width: u32, fine: bool) -> PageReader
         requires { IsWidth width }
@@ -245,9 +246,9 @@ impl PageReader {
         }
     }
 
-    /// Reads the whole rows of octets that begin with those that the reader stands for; it stands for all of them then,
-    /// and keeps those rows. A fault of the code isn't reported here. Errs where memory is refused; the reader stands
-    /// for what it stood for then.
+    /// Reads on in `all`, which must begin with the octets read before, and keeps the whole rows. A fault of
+    /// the code isn't reported here. Errs if memory is refused, which leaves the reader at the octets that it
+    /// had read.
     pub fn read_on(&mut self, all: &[u8]) -> Result<(), AllocError>
         requires { GoesOnTo self.old all.now }
         ensures like { IsLike self.old self.new }
@@ -275,9 +276,9 @@ impl PageReader {
         Ok(())
     }
 
-    /// The page of octets that begin with those that the reader stands for, and how many bits it uses:
-    /// what `Coding::decode` answers for them. The reader stands for no octets then, and after an error
-    /// for what it stood for.
+    /// Returns what `Coding::decode` returns for `all`, which must begin with the octets read before: the
+    /// page and the number of bits used, or a refusal. After a page the reader begins anew; after an error it
+    /// is at the octets that it had read.
     pub fn finish(&mut self, all: &[u8]) -> Result<(Page, u128), CodeFault>
         requires { GoesOnTo self.old all.now }
         ensures like { IsLike self.old self.new }
@@ -306,9 +307,9 @@ impl PageReader {
         }
     }
 
-    /// What octets are read as that begin with those that the reader stands for: the page that `finish` answers, or its refusal
-    /// with the whole rows before it. After a page the reader stands for no octets; after a refusal for what it stood for. Errs
-    /// where memory is refused; the reader stands for what it stood for then.
+    /// Returns the page that `finish` returns for `all`, which must begin with the octets read before, or its
+    /// refusal with the number of whole rows before it. After a page the reader begins anew; after a refusal
+    /// it is at the octets that it had read, also if memory is refused, which is the only error.
     pub fn page(&mut self, all: &[u8]) -> Result<PageRead, AllocError>
         requires { GoesOnTo self.old all.now }
         ensures like { IsLike self.old self.new }
@@ -331,8 +332,8 @@ impl PageReader {
         }
     }
 
-    /// How many whole rows the bits of the octets spell that the reader stands for, one after the other
-    /// from the beginning: 0 to 20,000. Takes no memory.
+    /// The number of whole rows that the octets read so far spell from their beginning: 0 to 20,000. Takes no
+    /// memory.
     pub fn rows(&self) -> u32
         ensures { (octets : List ℕ) → StandsFor self.now octets
             → AreRowsSoFar self.now.coding self.now.page.width (bits_of self.now.order octets) result }

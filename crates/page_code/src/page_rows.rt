@@ -14,7 +14,8 @@ use run_tables::CodeFault;
 use std::alloc::{AllocError, Global};
 use std::marker::Model;
 
-/// The most octets that a `RowReader` holds: 65,536. No row of T.6 is longer, and at 33,600 bit/s it is 15 seconds of fill.
+/// The most octets that a `RowReader` holds: 65,536. A row of T.6 has 5,800 or so at most; in one dimension
+/// fill before an EOL and runs of 0 pixels have no end. At 33,600 bit/s 65,536 octets are 15 seconds of fill.
 pub const MAX_HELD: usize = 65_536;
 
 /// What the octets of a page so far give after the rows that were given.
@@ -24,11 +25,13 @@ pub enum NextRow {
     Row(Row),
     /// The page's end, and the number of bits that the page uses.
     End(u128),
-    /// No whole row and no end: the bit, from 0 at the page's beginning, where the octets so far are refused, and why.
+    /// No whole row and no end: the bit, from 0 at the page's beginning, at which the octets so far are
+    /// refused, and why.
     Refused(CodeFault),
 }
 
-/// Where a row is looked for: the rows' width in pixels, the number of rows before it, and the place in the bits at hand.
+/// A place where a row is looked for: the rows' width in pixels, the number of rows before it, and the place
+/// in the bits at hand.
 #[derive(Clone, Copy, Debug, PartialEq, Eq)]
 pub(crate) struct RowPlace {
     pub(crate) width: u32,
@@ -36,7 +39,7 @@ pub(crate) struct RowPlace {
     pub(crate) at: u128,
 }
 
-/// What is answered where a row is refused, or memory is.
+/// The result for a refused row, or for refused memory.
 pub(crate) fn refused(fault: CodeFault) -> Result<NextRow, AllocError>
     ensures { IsRefusal fault result }
 {
@@ -47,7 +50,7 @@ pub(crate) fn refused(fault: CodeFault) -> Result<NextRow, AllocError>
     }
 }
 
-/// The lists in which a row is read: one dimension's runs, and T.6's lines.
+/// The lists in which a row is read: the runs of one dimension, and the lines of T.6.
 #[derive(Drop)]
 struct Lists {
     runs: Vec<u32>,
@@ -74,8 +77,8 @@ fn find_next(
     }
 }
 
-/// Reads a page whose octets come in pieces, row by row. It holds the row before the next one, and the octets that were not
-/// read: 65,536 at most.
+/// Reads a page row by row from octets that come in pieces. It holds the row before the next one and the
+/// octets that weren't read yet, 65,536 at most, whatever the page has.
 #[derive(Drop)]
 pub struct RowReader {
     alloc: Global,
@@ -116,8 +119,8 @@ impl Model for RowReader {
 }
 
 impl RowReader {
-    /// A reader of a page in this code, order of bits and width in pixels, 1 to 2,432, that took no octets so far. Errs where
-    /// memory is refused.
+    /// Makes a reader of a page in this code, order of bits and width in pixels, 1 to 2,432, that has taken
+    /// no octets. Errs if memory is refused.
     pub fn new(
         alloc: Global,
         coding: Coding,
@@ -155,14 +158,14 @@ impl RowReader {
         self.place.width
     }
 
-    /// The number of rows that were given so far, 20,000 at most.
+    /// The number of rows given so far, 20,000 at most.
     pub fn rows(&self) -> usize
         ensures { result ≡ self.now.count }
     {
         self.place.rows // so far
     }
 
-    /// The number of octets that are held, 65,536 at most.
+    /// The number of octets held, 65,536 at most.
     pub fn held(&self) -> usize
         ensures held { result ≡ length self.now.held }
         ensures few { result ≤ max_held }
@@ -170,8 +173,8 @@ impl RowReader {
         self.held.len()
     }
 
-    /// Takes the next octets of the page, as many as there is room for, and answers how many. Octets whose bits were read are
-    /// given up first. Errs where memory is refused, which changes nothing.
+    /// Takes the next octets of the page, as many as there is room for, and returns how many. Octets whose
+    /// bits were read are dropped first. Errs if memory is refused, which changes nothing.
     pub fn push_octets(&mut self, octets: &[u8]) -> Result<usize, AllocError>
         ensures takes { IfOk result (λ count. TakesOctets self.old octets.now count self.new) }
         ensures same { OnErr result (self.new ≡ self.old) }
@@ -193,10 +196,10 @@ impl RowReader {
         Ok(count)
     }
 
-    /// The next row that is whole in the octets so far; or, where there is none, what they read as: the page's end, or a
-    /// refusal, as `Coding::decode` answers for all of them. More octets may change these two, and nothing is left out by
-    /// asking again. A row that isn't whole in 65,536 octets is refused so, and `push_octets` takes none then. Errs where
-    /// memory is refused, which changes nothing.
+    /// Returns the next row that is whole in the octets so far; if there is none, the page's end or a
+    /// refusal, as `Coding::decode` returns for all octets so far. More octets may change these two, and
+    /// asking again loses nothing. A row that isn't whole in 65,536 octets is refused, and `push_octets`
+    /// takes no more. Errs if memory is refused, which changes nothing.
     pub fn next_row(&mut self) -> Result<NextRow, AllocError>
         ensures { ReadsNext self.old self.new result }
     {

@@ -65,8 +65,8 @@ fn write_end(coding: Coding, writer: &mut BitWriter) -> Result<(), AllocError>
     }
 }
 
-/// Codes a page whose rows come one by one. The octets of its code can be taken out as they come: then it holds no more
-/// than the row before the next one, and one row's code.
+/// Codes a page whose rows come one by one. If the octets of its code are moved out after each row, it holds
+/// only the row before the next one, and one row's code.
 #[derive(Debug, Drop)]
 pub struct RowCoder {
     coding: Coding,
@@ -98,7 +98,7 @@ impl Model for RowCoder {
 }
 
 impl RowCoder {
-    /// A coder of a page in this code, order of bits and width in pixels, 1 to 2,432, that has no rows so far.
+    /// Makes a coder of a page in this code, order of bits and width in pixels, 1 to 2,432, without rows.
     pub fn new(
         alloc: Global,
         coding: Coding,
@@ -132,8 +132,8 @@ impl RowCoder {
         self.rows // so far
     }
 
-    /// Appends a row at the page's bottom. Errs with `WrongRowWidth`, with `TooManyRows` after 20,000 rows, and with
-    /// `NoMemory`; then the coder is as it was.
+    /// Appends a row at the page's bottom. Errs with `WrongRowWidth` (2), with `TooManyRows` (3) after 20,000
+    /// rows, and with `NoMemory` (9), which changes nothing.
     pub fn push_row(&mut self, row: &Row) -> Result<(), RasterFault>
         ensures { PushesRow self.old row.now self.new result }
     {
@@ -152,8 +152,8 @@ impl RowCoder {
         Ok(())
     }
 
-    /// Moves the octets that are whole so far to the end of a list: the next octets of the page's code. Errs where memory is
-    /// refused, which changes nothing.
+    /// Moves the octets that are whole so far, the next ones of the page's code, to the end of a list. Errs
+    /// if memory is refused, which changes nothing.
     pub fn move_octets(&mut self, out: &mut Vec<u8>) -> Result<(), AllocError>
         ensures ok { OnOk result (HandsOut self.old out.old.items out.new.items self.new) }
         ensures err { OnErr result (out.new.items ≡ out.old.items) }
@@ -162,8 +162,9 @@ impl RowCoder {
         self.pending.move_octets(out)
     }
 
-    /// Appends the last octets of the page's code: RTC or EOFB is its end, and 0 bits fill the last octet. Errs with `NoRows`
-    /// where no row was pushed, and with `NoMemory`; then the list is as it was.
+    /// Appends the last octets of the page's code: its end is RTC or EOFB, and 0 bits fill the last octet.
+    /// All octets handed out are then the ones that `Coding::encode` appends for the page. Errs with `NoRows`
+    /// (4) if no row was pushed, and with `NoMemory` (9), which leaves the list as it was.
     pub fn finish(self, out: &mut Vec<u8>) -> Result<(), RasterFault>
         ensures { FinishesPage self out.old.items out.new.items result }
     {
@@ -182,8 +183,8 @@ impl RowCoder {
         Ok(())
     }
 
-    /// The last octets of the page's code, as `finish` appends them: the coder has done its work then. Errs with `NoRows`
-    /// where no row was pushed, and with `NoMemory`; then the coder is as it was.
+    /// Returns the last octets of the page's code, as `finish` appends them; after them the coder has done
+    /// its work. Errs with `NoRows` (4) if no row was pushed, and with `NoMemory` (9), which changes nothing.
     pub fn end(&mut self, alloc: Global) -> Result<Vec<u8>, RasterFault>
         ensures ends { IfOk result (λ octets. EndsPage self.old [] octets.items) }
         ensures some { OnOk result (0 < self.old.count) }

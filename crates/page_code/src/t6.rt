@@ -18,10 +18,11 @@ use raster::{Coding, Page};
 use run_tables::CodeFault;
 use std::alloc::{AllocError, Global};
 
-/// The two-dimensional code of ITU-T T.6, 2.2. A page is written as its rows by the prescribed modes,
-/// the first after a white row, and EOFB; and read as rows by any modes that move to the right and not
-/// past the width, and EOFB. Refusals are `NoRows`, `Truncated`, `BadCode`, `Backwards`, `PastEnd`,
-/// `EmptyHorizontal`, `Extension`, `MissingEofb` and `TooManyCodedRows`.
+/// The two-dimensional code of ITU-T T.6, 2.2. A page is written as its rows by the prescribed modes, the
+/// first after a white row, and EOFB. It is read as rows by any modes that each move a0 to the right and not
+/// past the width, since other software chooses modes differently, and EOFB. Refusals are `NoRows`,
+/// `Truncated`, `BadCode`, `Backwards`, `PastEnd`, `EmptyHorizontal`, `Extension`, `MissingEofb` and
+/// `TooManyCodedRows`.
 #[derive(Clone, Copy, Debug, PartialEq, Eq)]
 pub struct T6;
 

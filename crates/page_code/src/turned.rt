@@ -8,8 +8,8 @@ ghost use Rattle.std.specs.Prelude.{◌≡◌, ◌≤◌, ◌++◌, IfOk, drop, 
 use raster::packed::Order;
 use std::alloc::{AllocError, Global};
 
-/// How many octets of a code are turned at most. Of more the copy would take more memory than the page, so that the words of a
-/// longer code are turned as they are read.
+/// The most octets of a code that are turned. A copy of more would take more memory than the page, so the
+/// words of a longer code are turned as they are read.
 const MOST_TURNED: usize = 4_194_304;
 
 /// The octet with its bits in the other order: its least significant bit is the most significant.
@@ -41,7 +41,8 @@ fn turn_from(octets: &mut [u8], from: usize)
     turn(&mut octets[from..]);
 }
 
-/// All octets turned, where some from the first on are already: only those after them are turned. Errs where memory is refused.
+/// Turns all octets, if the first ones are turned already: only the ones after them. Errs only if memory is
+/// refused.
 fn turned_on(octets: &[u8], kept: Vec<u8>) -> Result<Vec<u8>, AllocError>
     requires { AreTurned kept.items octets.now }
     ensures { IfOk result (λ all. all.items ≡ map turned_octet octets.now) }
@@ -53,8 +54,8 @@ fn turned_on(octets: &[u8], kept: Vec<u8>) -> Result<Vec<u8>, AllocError>
     Ok(all)
 }
 
-/// The code of a page turned, where the least significant bit is first and the octets are 4 MiB at most; else no octets. Of octets whose
-/// first are kept turned only those after them are turned. Errs where memory is refused.
+/// The code of a page turned, if the least significant bit comes first and there are 4 MiB at most; else no
+/// octets. Octets that are kept turned already aren't turned again. Errs only if memory is refused.
 pub(crate) fn turned_code(
     alloc: Global,
     octets: &[u8],
@@ -75,7 +76,7 @@ pub(crate) fn turned_code(
     }
 }
 
-/// The octets from which a page is read, and their order of bits: those that are turned, where they are.
+/// The octets from which a page is read, and their order of bits: the turned ones, if there are any.
 #[inline(always)]
 pub(crate) fn code_of<'a>(octets: &'a [u8], order: Order, turned: &'a [u8]) -> (&'a [u8], Order)
     requires { IsTurnedCode order octets.now turned.now }

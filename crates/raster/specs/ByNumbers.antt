@@ -9,25 +9,25 @@ use Rattle.raster.specs.Pages.{max_rows}
 use Rattle.raster.specs.Pbm.{is_white, ends_line, IsHeight, read_images}
 use Rattle.raster.specs.Pixels.{IsWidth}
 
--- the faults by their numbers in the list of all faults
+-- the faults by their numbers in the list of all faults, 1 to 9
 abbrev pub fault_list : List (ℕ × RasterFault)
 fault_list =
     (1, BadWidth) ∷ (2, WrongRowWidth) ∷ (3, TooManyRows) ∷ (4, NoRows) ∷ (5, BadHeader) ∷ (6, ShortData) ∷ (7, NoPages) ∷ (8, Io) ∷
     (9, NoMemory) ∷ []
 
--- a fault has the number that the list gives it, and no other
+-- law: a fault has the number 1 to 9 that the list gives it, and no other
 abbrev pub FaultsHaveNumbers : Type 0
 FaultsHaveNumbers = (n : ℕ) (fault : RasterFault) → (number_of fault ≡ n) ↔ Contains fault_list (n, fault)
 
--- the limits of a page: below 2,433 pixels a row, and below 20,001 rows
+-- law: widths are the numbers above 0 and below 2,433, heights those above 0 and below 20,001; a page has at most 20,000 rows
 pub record LimitsByNumber : Type 0 where
   pub widths : (n : ℕ) → IsWidth n ↔ ((0 < n) × (n < 2433))
   pub heights : (n : ℕ) → IsHeight n ↔ ((0 < n) × (n < 20001))
   pub rows : max_rows ≡ 20000
 
--- octets of the PBM format by number, and files that were written by hand
+-- law: octets of the PBM format by number, and three files that were written by hand, with their pages
 pub record PbmByOctets : Type 0 where
-  -- TAB, LF, VT, FF, CR and space are whitespace, and no other octet is; LF and CR end a comment
+  -- TAB, LF, VT, FF, CR (9 to 13) and space (32) are whitespace, and no other octet is; LF (10) and CR (13) end a comment
   pub white : (octet : ℕ) → (is_white octet ≡ true) ↔
       ((octet ≡ 9) ⊎ (octet ≡ 10) ⊎ (octet ≡ 11) ⊎ (octet ≡ 12) ⊎ (octet ≡ 13) ⊎ (octet ≡ 32))
   pub line_ends : (octet : ℕ) → (ends_line octet ≡ true) ↔ ((octet ≡ 10) ⊎ (octet ≡ 13))

@@ -5,7 +5,7 @@ use Rattle.raster.specs.declared.packed.Order.TheVariants.{LsbFirst}
 use Rattle.raster.specs.Octets.{AreOctets, fill_of, packed}
 use Rattle.raster.specs.Packed.{bits_of, FillsOctets}
 
--- the bits of octets and then of others are those of all the octets, in either order
+-- the bits of octets followed by others are the bits of all the octets, in either order
 abbrev pub BitsJoin : Type 0
 BitsJoin = (order : Order) (front rest : List ℕ) → bits_of order (front ++ rest) ≡ bits_of order front ++ bits_of order rest
 

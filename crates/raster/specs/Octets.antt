@@ -11,11 +11,11 @@ number (b ∷ bs) = cond b 1 0 + 2 * number bs
 abbrev pub octet_at : List Bool → ℕ → ℕ
 octet_at bits place = number (take 8 (drop (8 * place) bits))
 
--- the whole octets of bits; up to seven bits more at the end are in none
+-- the whole octets of bits, the least significant first; up to seven bits more at the end are dropped
 unfoldable pub octets_of : List Bool → List ℕ
 octets_of bits = map (octet_at bits) (range_with_len 0 (length bits / 8))
 
--- numbers that are octets
+-- each number is an octet, below 256
 abbrev pub AreOctets : List ℕ → Type 0
 AreOctets [] = Unit {0}
 AreOctets (x ∷ xs) = (x < 256) × AreOctets xs
@@ -24,6 +24,6 @@ AreOctets (x ∷ xs) = (x < 256) × AreOctets xs
 abbrev pub fill_of : ℕ → ℕ
 fill_of count = (8 - count % 8) % 8
 
--- the octets that hold bits, the last one filled with 0 bits
+-- the octets that hold bits, the least significant first, the last octet filled with 0 bits
 unfoldable pub packed : List Bool → List ℕ
 packed bits = octets_of (bits ++ replicate (fill_of (length bits)) false)

@@ -7,16 +7,16 @@ use Rattle.raster.specs.declared.packed.Order.TheVariants.{MsbFirst}
 use Rattle.raster.specs.Packed.{bit_in}
 use Rattle.raster.specs.Words.{bit_of_word}
 
--- the bit at a place, where the bits from another one on are those of a word, and after the word all as its last one
+-- the bit at a place: from one place on the bits are a word's, and after the word all are equal to its last bit
 abbrev pub drawn_bit : List ℕ → ℕ → ℕ → ℕ → Bool
 drawn_bit octets from word k = if nat_lt k from then bit_in MsbFirst octets k else bit_of_word word (k - from)
 
--- the bit at a place, where the bits are 0 at first and turn at each of the places
+-- the bit at a place, if the bits are 0 at first and turn at each of the places
 abbrev pub bit_of_turns : List ℕ → ℕ → Bool
 bit_of_turns [] k = false
 bit_of_turns (place ∷ places) k = if nat_lt k place then bit_of_turns places k else not (bit_of_turns places k)
 
--- the places where runs end that begin at a place
+-- the places at which runs end, if they begin at a place
 abbrev pub ends_of : ℕ → List ℕ → List ℕ
 ends_of from [] = []
 ends_of from (run ∷ runs) = (from + run) ∷ ends_of (from + run) runs
@@ -28,7 +28,8 @@ pub record IsStored (old : List ℕ) (from word : ℕ) (new : List ℕ) : Type 0
   pub inside : (k : ℕ) → k < 64 → bit_in MsbFirst new (from + k) ≡ bit_of_word word k
   pub after : (k : ℕ) → from + 64 ≤ k → bit_in MsbFirst new k ≡ bit_in MsbFirst old k
 
--- a painter of a row: its word is the one that its place is in, and its octets are 0 from that word on
+-- A painter of a row: its width is a row's width and its place is within it; its word of 64 bits begins at or before its place, and its
+-- octets are 0 from that word on.
 pub record FitsPainter (painter : Painter) : Type 0 where
   pub wide : IsWidth painter.width
   pub within : painter.place ≤ painter.width
@@ -38,7 +39,7 @@ pub record FitsPainter (painter : Painter) : Type 0 where
   pub low : painter.end ≤ painter.place + 64
   pub clear : (k : ℕ) → painter.end ≤ k + 64 → bit_in MsbFirst painter.octets.items k ≡ false
 
--- these runs are painted: whatever runs follow, with the turns that are left the bits become those of all the runs
+-- These runs, white first, are painted: whatever runs follow, with the turns that are left the bits become those of all the runs.
 pub record Paints (runs : List ℕ) (painter : Painter) : Type 0 where
   pub total : sum runs ≡ painter.place
   pub drawn : (tail : List ℕ) (k : ℕ)

@@ -12,7 +12,7 @@ use Rattle.raster.specs.Pixels.{IsWidth}
 
 -- ---- a header, as far as it goes
 
--- no octet of this kind comes next: another one, or the end
+-- the next octet isn't of this kind, or there is none
 abbrev pub NoneNext : (ℕ → Bool) → List ℕ → Type 0
 NoneNext kind [] = Unit {0}
 NoneNext kind (octet ∷ octets) = kind octet ≡ false
@@ -40,8 +40,8 @@ HasHeight width height octets rest = (after : List ℕ) × HasWidth width octets
 
 -- ---- the image that breaks off
 
--- a header that isn't whole, with no number to blame: no P4; no whitespace and number after it, or after a width that an image may have;
--- or no whitespace octet after such a height
+-- A header that isn't whole, with no number to blame: there are octets, and they don't begin with P4; no whitespace and number follow P4,
+-- or a width that an image may have; or no whitespace octet follows a height that an image may have.
 pub data HasBadHeader (octets : List ℕ) : Type 0 where
   no_magic : 0 < length octets → ((after : List ℕ) → octets ≢ codes "P4" ++ after) → HasBadHeader octets
   no_width : (after : List ℕ) → octets ≡ codes "P4" ++ after → NoSpacedNumber after → HasBadHeader octets
@@ -50,15 +50,15 @@ pub data HasBadHeader (octets : List ℕ) : Type 0 where
       (width height : ℕ) (after : List ℕ) → HasHeight width height octets after → IsHeight height → NoneNext is_white after
       → HasBadHeader octets
 
--- the image that begins here has this fault
+-- The image that begins here has this fault. A number is checked where its digits end, with no digit after them.
 abbrev pub BreaksOff : RasterFault → List ℕ → Type 0
--- its width is 0 or above the limit
+-- after P4 and whitespace, its width is 0 or above 2,432
 BreaksOff BadWidth octets = (width : ℕ) × (rest : List ℕ) × HasWidth width octets rest × (¬ IsWidth width)
--- its height is 0
+-- after a width that an image may have, its height is 0
 BreaksOff NoRows octets = (width : ℕ) × (rest : List ℕ) × HasHeight width 0 octets rest
--- its height is above the limit
+-- after a width that an image may have, its height is above 20,000
 BreaksOff TooManyRows octets = (width : ℕ) × (height : ℕ) × (rest : List ℕ) × HasHeight width height octets rest × (max_rows < height)
--- its header is whole, and what follows is shorter than its rows
+-- its header is whole, and fewer octets follow than its rows have
 BreaksOff ShortData octets = (width : ℕ) × (height : ℕ) × (white : ℕ) × (raster : List ℕ) × HasHeight width height octets (white ∷ raster)
     × IsHeight height × (is_white white ≡ true) × (length raster < height * stride width)
 BreaksOff BadHeader octets = HasBadHeader octets
@@ -78,32 +78,32 @@ pub record AfterImages (fault : RasterFault) (octets : List ℕ) : Type 0 where
   pub each : AllByRecursion IsOneImage images
   pub breaks : BreaksOff fault rest
 
--- the first fault of octets: that there are none, or that of the image after the whole ones
+-- the first fault of octets: NoPages if there are none, else the fault of the image that breaks off after whole images, none or more
 abbrev pub IsFirstFault : RasterFault → List ℕ → Type 0
 IsFirstFault NoPages octets = octets ≡ []
 IsFirstFault fault octets = AfterImages fault octets
 
--- what reading answers, the reader's own errors and memory aside: an answer for octets that have no fault, or their first fault
+-- A result of reading octets, apart from Io and NoMemory: Ok only if the octets have no fault, else their first fault.
 abbrev pub AnswersFirstFault : {X : Type 0} → List ℕ → Result X RasterFault → Type 0
 AnswersFirstFault octets (Ok found) = (fault : RasterFault) → ¬ IsFirstFault fault octets
 AnswersFirstFault octets (Err Io) = Unit {0}
 AnswersFirstFault octets (Err NoMemory) = Unit {0}
 AnswersFirstFault octets (Err fault) = IsFirstFault fault octets
 
--- the law of faults
+-- the law of faults: octets are images or have one first fault, and reading names it
 pub record NamesFirstFault : Type 0 where
-  -- reading answers a fault exactly where it is the first one
+  -- reading returns a fault exactly if it is the first one
   pub named : (fine : Bool) (octets : List ℕ) (fault : RasterFault) → (read_images fine octets ≡ Err fault) ↔ IsFirstFault fault octets
   -- octets are images or have a first fault
   pub some : (fine : Bool) (octets : List ℕ)
       → ((pages : List PagePixels) × AreImages fine octets pages) ⊎ ((fault : RasterFault) × IsFirstFault fault octets)
-  -- images have none
+  -- images have no fault
   pub none : (fine : Bool) (octets : List ℕ) (pages : List PagePixels) (fault : RasterFault) → AreImages fine octets pages
       → ¬ IsFirstFault fault octets
-  -- there is one first fault alone
+  -- octets don't have two first faults
   pub one : (octets : List ℕ) (a b : RasterFault) → IsFirstFault a octets → IsFirstFault b octets → a ≡ b
 
--- written-out octets and their first faults
+-- nineteen written-out files and the first fault of each
 pub record AreFaultExamples : Type 0 where
   pub nothing : IsFirstFault NoPages []
   pub other_magic : IsFirstFault BadHeader (codes "P5")

@@ -7,7 +7,7 @@ ghost use Rattle.std.specs.Simd.Lanes.{mask_l};
 use crate::row::Color;
 use std::simd::prelude::*;
 
-/// Which of 32 octets differ from an octet: the first by the least significant bit.
+/// Which of 32 octets differ from an octet; the least significant bit of the result is for the first one.
 fn differing(octets: &[u8; 32], same: u8) -> u64
     ensures { result ≡ mask_l (map (λ octet. not (nat_eq octet same)) octets.now) }
 {
@@ -16,9 +16,9 @@ fn differing(octets: &[u8; 32], same: u8) -> u64
         .to_bitmask()
 }
 
-/// The least place of 256 pixels whose pixel differs from the one before it, or 256 where there is
-/// none; before place 0 is the pixel that is given. The pixels are bits of the octets, leftmost in
-/// the highest bit of each, 1 for black (ITU-T T.6, 2.2.1). Takes no memory.
+/// Returns the least of 256 pixels in 32 octets that differs from the pixel before it, or 256 if there is
+/// none; `before` is the pixel before the first. The leftmost pixel is the highest bit of the first octet, a
+/// 1 is black (ITU-T T.6, 2.2.1). Takes no memory.
 pub fn block_change(octets: &[u8; 32], before: Color) -> u32
     ensures { IsBlockChange octets.now before result }
 {

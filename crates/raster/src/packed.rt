@@ -21,13 +21,13 @@ use std::marker::Model;
 /// Which bit of an octet comes first.
 #[derive(Clone, Copy, Debug, PartialEq, Eq)]
 pub enum Order {
-    /// The least significant bit first, as a call sends them.
+    /// The least significant bit first, as on the telephone line.
     LsbFirst,
-    /// The most significant bit first, as a PBM row holds them.
+    /// The most significant bit first, as in a row of a PBM file.
     MsbFirst,
 }
 
-/// How far the bit at a place lies above its octet's lowest bit.
+/// How far the bit at a place is above its octet's lowest bit.
 fn shift_of(order: Order, place: u128) -> u32
     ensures value { result ≡ place_in order place }
     ensures below { result < 8 }
@@ -39,7 +39,7 @@ fn shift_of(order: Order, place: u128) -> u32
     }
 }
 
-/// The bit at a place of the octets; places count from 0, eight an octet.
+/// Returns the bit at a place of the octets. Places count bits from 0, eight an octet.
 pub fn bit_of(order: Order, octets: &[u8], place: u128) -> bool
     requires { place < 8 * length octets.now }
     ensures { result ≡ bit_in order octets.now place }
@@ -47,8 +47,8 @@ pub fn bit_of(order: Order, octets: &[u8], place: u128) -> bool
     (octets[(place / 8) as usize] >> shift_of(order, place)) & 1 == 1
 }
 
-/// The 64 bits of the octets from a place on, the first of them the most significant; places count
-/// from 0, eight an octet. Bits past the octets are 0.
+/// Returns the 64 bits of the octets from a place on, the first of them the most significant. Places count
+/// bits from 0, eight an octet; bits past the octets are 0.
 #[inline(always)]
 pub fn word_at(order: Order, octets: &[u8], place: u128) -> u64
     ensures { IsWordAt order octets.now place result }
@@ -59,7 +59,7 @@ pub fn word_at(order: Order, octets: &[u8], place: u128) -> u64
     shifted_word(order, octets, (place / 8) as usize, (place % 8) as u32)
 }
 
-/// The eight octets that hold the bits of a word, its most significant bit as the first.
+/// Returns the eight octets that hold the bits of a word, its most significant bit first.
 #[inline(always)]
 pub fn word_octets(order: Order, word: u64) -> [u8; 8]
     ensures { (k : ℕ) → k < 64 → bit_in order result k ≡ bit_of_word word k }
@@ -67,7 +67,7 @@ pub fn word_octets(order: Order, word: u64) -> [u8; 8]
     octets_of(in_order(order, word))
 }
 
-/// The bits of eight octets from a bit within the first of them on, the first of them the most
+/// Returns the bits of eight octets from bit `within` of octet `at` on, the first of them the most
 /// significant: 57 to 64 bits.
 #[inline(always)]
 pub fn word_of_eight(order: Order, octets: &[u8], at: usize, within: u32) -> u64
@@ -78,7 +78,7 @@ pub fn word_of_eight(order: Order, octets: &[u8], at: usize, within: u32) -> u64
     moved_word(order, octets, at, within)
 }
 
-/// The first bits of an octet, and 0 bits after them.
+/// Returns the first `count` bits of an octet, followed by 0 bits.
 fn first_of_octet(order: Order, octet: u8, count: u32) -> u8
     requires some { 0 < count }
     requires few { count < 8 }
@@ -94,14 +94,14 @@ fn first_of_octet(order: Order, octet: u8, count: u32) -> u8
 /// The octets of the widest row of 0 bits, and of 1 bits.
 const ALIKE: [[u8; 304]; 2] = [[0; 304], [0xFF; 304]];
 
-/// The octets of the widest row whose bits all are this one.
+/// The octets of the widest row whose bits are all equal to `bit`.
 fn octets_alike(bit: bool) -> &'static [u8]
     ensures { result.now ≡ replicate 304 (if bit then 255 else 0) }
 {
     if bit { &ALIKE[1] } else { &ALIKE[0] }
 }
 
-/// A number of octets, all 0.
+/// Returns `count` octets, all 0.
 fn zeros(alloc: Global, count: usize) -> Result<Vec<u8>, AllocError>
     ensures { IfOk result (λ octets. octets.items ≡ replicate count 0) }
 {
@@ -117,7 +117,7 @@ fn octets_for(count: u32) -> usize
     (count as usize + 7) / 8
 }
 
-/// Clears the bits of the last octet that come after the first `count` bits.
+/// Clears the bits of the last octet after the first `count` bits.
 fn clear_after(order: Order, octets: &mut Vec<u8>, count: u32)
     requires { length octets.old.items ≡ (count + 7) / 8 }
     ensures packed { IsPacked order octets.new.items count }
@@ -130,7 +130,8 @@ fn clear_after(order: Order, octets: &mut Vec<u8>, count: u32)
     octets[last] = first_of_octet(order, octets[last], count % 8);
 }
 
-/// A list of bits, kept eight an octet in the order of a row; where they all are alike, as one bit and with no octets.
+/// A list of bits, kept eight an octet in the order of a row; or, if all are alike, as one bit without
+/// octets.
 #[derive(Debug, Drop)]
 pub(crate) struct PackedBits {
     octets: Vec<u8>,
@@ -151,7 +152,7 @@ impl Model for PackedBits {
 }
 
 impl PackedBits {
-    /// A row's bits, `count` of them, all equal to `bit`. Takes no memory.
+    /// `count` bits of a row, all equal to `bit`. Takes no memory.
     #[inline(always)]
     fn of_one(alloc: Global, bit: bool, count: u32) -> Self
         requires { AreAlike bit count }
@@ -164,8 +165,8 @@ impl PackedBits {
         }
     }
 
-    /// The bits of alternating runs, 0 bits first, where they are one run that a row may be kept as. Takes
-    /// no memory.
+    /// The bits of alternating runs, 0 bits first, if they are one run that can be kept as a single bit.
+    /// Takes no memory.
     #[inline(always)]
     #[tactic(auto, using(crate::proofs::PackedLemmas::views))]
     pub(crate) fn of_one_run(alloc: Global, runs: &[u32]) -> Option<Self>
@@ -220,8 +221,8 @@ impl PackedBits {
         }
     }
 
-    /// The bits up to a width that turn at rising places, a 0 bit first, where they are one run that a row
-    /// may be kept as. Takes no memory.
+    /// The bits up to a width that turn at rising places, a 0 bit first, if they are one run that can be kept
+    /// as a single bit. Takes no memory.
     #[inline(always)]
     #[tactic(auto, using(crate::proofs::PackedLemmas::views))]
     pub(crate) fn of_no_turn(alloc: Global, places: &[u32], width: u32) -> Option<Self>
@@ -256,7 +257,7 @@ impl PackedBits {
         })
     }
 
-    /// The first bits of octets, in the order of a row.
+    /// The first `count` bits of octets, in the order of a row.
     #[tactic(auto, using(crate::proofs::PackedLemmas::views))]
     pub(crate) fn copied(alloc: Global, octets: &[u8], count: u32) -> Result<Self, AllocError>
         requires some { 0 < count }
@@ -298,7 +299,7 @@ impl PackedBits {
         }
     }
 
-    /// The first place from a place on whose bit is another, or the number of bits.
+    /// The first place at or after `from` whose bit isn't `bit`, or the number of bits.
     #[tactic(auto, using(crate::proofs::PackedLemmas::views))]
     pub(crate) fn first_other(&self, from: u32, bit: bool) -> u32
         requires from { from ≤ length self.now }
@@ -330,8 +331,8 @@ impl PackedBits {
         Ok(())
     }
 
-    /// Writes all changing positions of the bits as a row over the first places of a list, and answers how
-    /// many they are.
+    /// Writes all changing positions of the bits as a row over the first places of a list, and returns their
+    /// number.
     #[inline(always)]
     #[tactic(auto, using(crate::proofs::PackedLemmas::views))]
     pub(crate) fn put_changes(&self, out: &mut Vec<u32>) -> usize
@@ -352,7 +353,7 @@ impl PackedBits {
         0
     }
 
-    /// The octets that hold the bits, lent, the last one filled with 0 bits.
+    /// The octets that hold the bits, borrowed; the last one is filled with 0 bits.
     pub(crate) fn octets(&self) -> &[u8]
         ensures { FillsOctets Order.MsbFirst self.now result.now }
     {

@@ -12,15 +12,15 @@ use crate::packed::Order;
 use crate::words::{first_bits, octets_of, put_octets};
 use std::alloc::{AllocError, Global};
 
-/// How far a row is painted: the 64 bits before a place are those of a word, which no octet has yet, and
-/// all bits from there on are as its last one.
+/// How far a row is painted: the 64 bits before `end` are in the word and not yet in the octets, and all bits
+/// from `end` on are equal to the word's last one.
 #[derive(Clone, Copy)]
 struct Brush {
     end: u32,
     word: u64,
 }
 
-/// Writes a word over the eight octets from a bit on, which is the first of an octet.
+/// Writes a word over eight octets, from a bit on that is the first of an octet.
 #[inline(always)]
 fn store(octets: &mut [u8], from: u32, word: u64)
     requires aligned { from % 8 ≡ 0 }
@@ -30,7 +30,7 @@ fn store(octets: &mut [u8], from: u32, word: u64)
     put_octets(octets, (from / 8) as usize, octets_of(word));
 }
 
-/// Sets all bits from one up to another, both at the beginning of a word.
+/// Sets all bits from one up to another, each the first of a word.
 #[inline(never)]
 fn blacken_words(octets: &mut [u8], from: u32, end: u32)
     requires order { from ≤ end }
@@ -49,7 +49,7 @@ fn blacken_words(octets: &mut [u8], from: u32, end: u32)
     }
 }
 
-/// Sets all bits from one up to another, both at the beginning of a word: mostly there are none.
+/// Sets all bits from one up to another, each the first of a word; mostly the two are the same.
 #[inline(always)]
 fn blacken(octets: &mut [u8], from: u32, end: u32)
     requires order { from ≤ end }
@@ -67,7 +67,7 @@ fn blacken(octets: &mut [u8], from: u32, end: u32)
     blacken_words(octets, from, end);
 }
 
-/// Paints on to the word of a place that is past the brush's word, over octets of 0 bits.
+/// Paints on to the word that holds a place past the brush's word, over octets of 0 bits.
 #[inline(always)]
 fn next_word(octets: &mut [u8], brush: Brush, place: u32) -> Brush
     requires begun { 64 ≤ brush.end }
@@ -122,7 +122,7 @@ fn reach(octets: &mut [u8], brush: Brush, place: u32) -> Brush
     next_word(octets, brush, place)
 }
 
-/// Turns the color from a place on.
+/// Turns the color at a place and after it.
 #[inline(always)]
 fn turn(octets: &mut [u8], brush: Brush, place: u32) -> Brush
     requires begun { 64 ≤ brush.end }
@@ -202,8 +202,8 @@ pub(crate) fn paint_turns(octets: &mut [u8], places: &[u32], width: u32)
     finish(octets, brush, width);
 }
 
-/// A row that is painted from its beginning on, run by run, white first. Who reads a coded row passes it each run as it is read, and
-/// keeps no list of them; `Row::of_painter` makes the row.
+/// A row that is painted run by run from its left, white first. A reader of coded rows passes each run on as
+/// it reads it, and keeps no list of runs; `Row::of_painter` makes the row.
 #[derive(Drop)]
 pub struct Painter {
     octets: Vec<u8>,
@@ -214,7 +214,7 @@ pub struct Painter {
 }
 
 impl Painter {
-    /// A painter of a row of this width in pixels, with no run painted. Errs where memory is refused.
+    /// Makes a painter of a row of this width in pixels, without a run. Errs only if memory is refused.
     #[inline(always)]
     pub fn begin(alloc: Global, width: u32) -> Result<Painter, AllocError>
         requires { IsWidth width }

@@ -16,7 +16,7 @@ use crate::painting::Painter;
 use std::alloc::{AllocError, Global};
 use std::marker::Model;
 
-/// The color of a pixel.
+/// The color of a pixel (ITU-T T.4, 4.1).
 #[derive(Clone, Copy, Debug, PartialEq, Eq)]
 pub enum Color {
     White,
@@ -24,21 +24,21 @@ pub enum Color {
 }
 
 impl Color {
-    /// Whether it is this color.
+    /// Whether the color is this one.
     pub(crate) fn is(self, color: Color) -> bool
         ensures { IsTrue result ↔ (self ≡ color) }
     {
         self == color
     }
 
-    /// Black for a 1 bit.
+    /// Black for a 1 bit, white for a 0 bit.
     pub(crate) fn of_bit(bit: bool) -> Color
         ensures { result ≡ color_of bit }
     {
         if bit { Color::Black } else { Color::White }
     }
 
-    /// The other color.
+    /// Returns the other color.
     pub fn other(self) -> Color
         ensures { result ≡ other self }
     {
@@ -52,7 +52,7 @@ impl Color {
 /// The greatest width of a row, in pixels.
 pub const MAX_WIDTH: u32 = 2432;
 
-/// The sum of the runs, where it is a width.
+/// The sum of the runs, if it is a width.
 fn total_width(runs: &[u32]) -> Option<u32>
     ensures { SomeIff result (IsWidth (sum runs.now)) (sum runs.now) }
 {
@@ -66,9 +66,8 @@ fn total_width(runs: &[u32]) -> Option<u32>
     Some(width as u32)
 }
 
-/// A row of 1 to 2,432 pixels, seen as their list, leftmost first. It is kept packed, eight pixels
-/// an octet, the leftmost in the highest bit; a white row, and a black one that fills its octets,
-/// takes no memory of its own.
+/// A row of 1 to 2,432 pixels, leftmost first. It is kept packed, eight pixels an octet, the leftmost in the
+/// highest bit; a white row, and a black one that fills its octets, takes no memory of its own.
 #[derive(Debug, Drop)]
 pub struct Row {
     pixels: PackedBits,
@@ -87,8 +86,8 @@ impl Model for Row {
 }
 
 impl Row {
-    /// The row of alternating runs, white first; runs of 0 are allowed. Errs with `BadWidth` where
-    /// the runs don't add up to 1 to 2,432 pixels, and with `NoMemory`.
+    /// Makes a row from alternating runs in pixels, white first; runs of 0 are allowed. Errs with `BadWidth`
+    /// if the runs don't add up to 1 to 2,432 pixels, and with `NoMemory`.
     #[inline(never)]
     #[tactic(auto, using(crate::proofs::RowLemmas::lengths))]
     pub fn from_runs(alloc: Global, runs: &[u32]) -> Result<Row, RasterFault>
@@ -100,8 +99,8 @@ impl Row {
         }
     }
 
-    /// The row of alternating runs, white first, which add up to a width; runs of 0 are allowed. Errs where memory
-    /// is refused.
+    /// Makes a row from alternating runs in pixels, white first, that add up to a width; runs of 0 are
+    /// allowed. Errs only if memory is refused.
     #[inline(always)]
     pub fn from_valid_runs(alloc: Global, runs: &[u32]) -> Result<Row, AllocError>
         requires { IsWidth (sum runs.now) }
@@ -114,7 +113,7 @@ impl Row {
         }
     }
 
-    /// The row of alternating runs, white first, painted.
+    /// The row of alternating runs, white first, painted run by run.
     #[inline(never)]
     #[tactic(auto, using(crate::proofs::RowLemmas::lengths))]
     fn painted(alloc: Global, runs: &[u32]) -> Result<Row, RasterFault>
@@ -127,8 +126,8 @@ impl Row {
         Ok(Row { pixels })
     }
 
-    /// The row of a width, in pixels, whose changing positions are these, in rising order (ITU-T T.6,
-    /// 2.2.1). Errs where memory is refused.
+    /// Makes the row of a width in pixels that has these changing positions, in rising order (ITU-T T.6,
+    /// 2.2.1). Errs only if memory is refused.
     #[inline(always)]
     #[tactic(auto, using(crate::proofs::RowLemmas::lengths))]
     pub fn from_changes(alloc: Global, places: &[u32], width: u32) -> Result<Row, AllocError>
@@ -144,7 +143,7 @@ impl Row {
         }
     }
 
-    /// The row of changing positions, painted.
+    /// The row with these changing positions, painted.
     #[inline(never)]
     #[tactic(auto, using(crate::proofs::RowLemmas::lengths))]
     fn painted_turns(alloc: Global, places: &[u32], width: u32) -> Result<Row, AllocError>
@@ -158,7 +157,7 @@ impl Row {
         Ok(Row { pixels })
     }
 
-    /// The row of a painter whose runs fill its width. Takes no memory.
+    /// Makes the row of a painter whose runs fill its width. Takes no memory.
     #[inline(always)]
     #[tactic(auto, using(crate::proofs::RowLemmas::lengths))]
     pub fn of_painter(painter: Painter) -> Row
@@ -171,8 +170,8 @@ impl Row {
         }
     }
 
-    /// The row of the first bits of octets: in each octet the highest bit is leftmost, and a 1 is
-    /// black. Later bits are ignored. Errs with `NoMemory`.
+    /// Makes a row of `width` pixels from the first bits of octets: in each octet the highest bit is
+    /// leftmost, and a 1 is black. Later bits are ignored. Errs only with `NoMemory`.
     #[tactic(auto, using(crate::proofs::RowLemmas::lengths, crate::proofs::PackedLemmas::views))]
     pub fn from_octets(alloc: Global, octets: &[u8], width: u32) -> Result<Row, RasterFault>
         requires width { IsWidth width }
@@ -184,7 +183,7 @@ impl Row {
         Ok(Row { pixels })
     }
 
-    /// The width in pixels, 1 to 2,432.
+    /// The row's width in pixels, 1 to 2,432.
     #[tactic(auto, using(crate::proofs::RowLemmas::lengths))]
     pub fn width(&self) -> u32
         ensures width { result ≡ length self.now }
@@ -202,7 +201,7 @@ impl Row {
         Color::of_bit(self.pixels.bit(at as u128))
     }
 
-    /// The row's octets as Netpbm's raw PBM format has them: eight pixels an octet, the leftmost in the
+    /// The row's octets, borrowed, as in Netpbm's raw PBM format: eight pixels an octet, the leftmost in the
     /// highest bit, 1 for black, and the last octet filled with 0 bits.
     pub fn octets(&self) -> &[u8]
         ensures { HoldsRow self.now result.now }
@@ -211,8 +210,7 @@ impl Row {
         octets
     }
 
-    /// The least changing position at or above `from`, or the width where there is none
-    /// (ITU-T T.6, 2.2.1).
+    /// The least changing position at or after `from`, or the width if there is none (ITU-T T.6, 2.2.1).
     #[tactic(auto, using(crate::proofs::RowLemmas::lengths))]
     pub fn next_change(&self, from: u32) -> u32
         ensures { IsNextChange self.now from result }
@@ -226,7 +224,7 @@ impl Row {
     }
 
     /// Writes all changing positions of the row, in rising order (ITU-T T.6, 2.2.1), over the first places of
-    /// a list that has room for one a pixel and 64 more, and answers how many they are.
+    /// a list, and returns their number. The list must have a place for each pixel and 64 more.
     #[inline(always)]
     #[tactic(auto, using(crate::proofs::RowLemmas::lengths))]
     pub fn put_changes(&self, out: &mut Vec<u32>) -> usize
@@ -235,33 +233,33 @@ impl Row {
         ensures few { result ≤ length out.new.items }
         ensures changes { AreChanges self.now (take result out.new.items) }
     {
-        let _width = self.width(); // tells the proof that it is a width
+        let _width = self.width(); // shows the proof that it is a width
         self.pixels.put_changes(out)
     }
 
-    /// Appends all changing positions of the row, in rising order (ITU-T T.6, 2.2.1). Errs where memory
-    /// is refused, which changes nothing.
+    /// Appends all changing positions of the row, in rising order (ITU-T T.6, 2.2.1). Errs if memory is
+    /// refused, which changes nothing.
     #[inline(always)]
     #[tactic(auto, using(crate::proofs::RowLemmas::lengths))]
     pub fn changes(&self, alloc: Global, out: &mut Vec<u32>) -> Result<(), AllocError>
         ensures ok { OnOk result (AppendsChanges self.now out.old.items out.new.items) }
         ensures err { OnErr result (out.new.items ≡ out.old.items) }
     {
-        let _width = self.width(); // tells the proof that it is a width
+        let _width = self.width(); // shows the proof that it is a width
         self.pixels.changes(out)
     }
 
-    /// The end of the run of a color that goes on at a place: the first place from there on with the
-    /// other color, or the width.
+    /// The end of a run of this color: the first place at or after `from` with the other color, or the width.
     #[tactic(auto, using(crate::proofs::RowLemmas::lengths))]
     fn end_of_run(&self, from: u32, color: Color) -> u32
         requires { from ≤ length self.now }
         ensures { EndsRun self.now from color result }
     {
-        let _width = self.width(); // tells the proof that it is a width
+        let _width = self.width(); // shows the proof that it is a width
         self.pixels.first_other(from, color.is(Color::Black))
     }
 
+    /// The row's own runs in pixels, white first, in a list of their own.
     fn collected_runs(&self, alloc: Global) -> Result<Vec<u32>, AllocError>
         ensures { IfOk result (λ runs. AreOwnRuns self.now runs.items) }
     {
@@ -278,8 +276,8 @@ impl Row {
         Ok(runs)
     }
 
-    /// Appends the row's own runs in pixels: white first, and the later ones above 0. Errs with
-    /// `NoMemory`, which changes nothing.
+    /// Appends the row's own runs in pixels: white first (0 if the row begins with black), each later run
+    /// above 0. Errs only with `NoMemory`, which changes nothing.
     pub fn runs(&self, alloc: Global, out: &mut Vec<u32>) -> Result<(), RasterFault>
         ensures ok { OnOk result (AppendsRuns self.now out.old.items out.new.items) }
         ensures err { OnErr result (out.new.items ≡ out.old.items) }

@@ -30,7 +30,7 @@ fn turned_octets() -> &'static [u8]
     &TURNED
 }
 
-/// The octet with its bits in the other order: its least significant bit is the most significant.
+/// The octet with its bits in the other order: its least significant bit becomes the most significant.
 pub(crate) fn turned(octet: u8) -> u8
     ensures { result ≡ turned_octet octet }
 {

@@ -20,7 +20,7 @@ fn first_highest(order: Order, octet: u8) -> u8
     }
 }
 
-/// The 64 bits of eight octets, the most significant bit of each first.
+/// The 64 bits of eight octets, the most significant bit of each octet first.
 #[inline(always)]
 pub(crate) fn whole_word(octets: &[u8], at: usize) -> u64
     requires { at + 8 ≤ length octets.now }
@@ -38,7 +38,7 @@ pub(crate) fn whole_word(octets: &[u8], at: usize) -> u64
     ])
 }
 
-/// The word with each two bits in the other order.
+/// The word with the two bits of each pair in the other order.
 #[inline(always)]
 fn bits_exchanged(word: u64) -> u64
     ensures { (k : ℕ) → k < 64 → bit_of_word result k ≡ bit_of_word word (2 * (k / 2) + (k + 1) % 2) }
@@ -46,7 +46,7 @@ fn bits_exchanged(word: u64) -> u64
     word >> 1 & 0x5555_5555_5555_5555 | (word & 0x5555_5555_5555_5555) << 1
 }
 
-/// The word with each two pairs of bits in the other order.
+/// The word with the two pairs of bits of each half octet in the other order.
 #[inline(always)]
 fn pairs_exchanged(word: u64) -> u64
     ensures { (k : ℕ) → k < 64 → bit_of_word result k ≡ bit_of_word word (4 * (k / 4) + (k + 2) % 4) }
@@ -54,7 +54,7 @@ fn pairs_exchanged(word: u64) -> u64
     word >> 2 & 0x3333_3333_3333_3333 | (word & 0x3333_3333_3333_3333) << 2
 }
 
-/// The word with each two halves of an octet in the other order.
+/// The word with the two halves of each octet in the other order.
 #[inline(always)]
 fn halves_exchanged(word: u64) -> u64
     ensures { (k : ℕ) → k < 64 → bit_of_word result k ≡ bit_of_word word (8 * (k / 8) + (k + 4) % 8) }
@@ -70,8 +70,8 @@ fn turned_word(word: u64) -> u64
     halves_exchanged(pairs_exchanged(bits_exchanged(word)))
 }
 
-/// The word with each of its eight octets in an order of bits: turned where its least significant bit is
-/// to be the first.
+/// The word with each of its eight octets in an order of bits: turned if the least significant bit comes
+/// first.
 #[inline(always)]
 pub(crate) fn in_order(order: Order, word: u64) -> u64
     ensures { (k : ℕ) → k < 64 → bit_of_word result k ≡ bit_of_word word (8 * (k / 8) + (7 - place_in order k)) }
@@ -118,7 +118,7 @@ pub(crate) fn octet_word(order: Order, octets: &[u8], at: usize) -> u64
     in_order(order, whole_word(octets, at))
 }
 
-/// The 64 bits that begin within an octet, where fewer than nine octets are left.
+/// The 64 bits that begin within an octet, if fewer than nine octets are left.
 #[cold]
 fn last_shifted_word(order: Order, octets: &[u8], at: usize, within: u32) -> u64
     requires at { at ≤ length octets.now }
@@ -145,7 +145,7 @@ pub(crate) fn shifted_word(order: Order, octets: &[u8], at: usize, within: u32) 
     word << within | next as u64 >> (8 - within)
 }
 
-/// The bits of eight octets from a bit of the first of them on, 57 to 64.
+/// The bits of eight octets from a bit of the first octet on, 57 to 64 bits.
 #[inline(always)]
 pub(crate) fn moved_word(order: Order, octets: &[u8], at: usize, within: u32) -> u64
     requires at { at + 8 ≤ length octets.now }
@@ -155,7 +155,7 @@ pub(crate) fn moved_word(order: Order, octets: &[u8], at: usize, within: u32) ->
     in_order(order, whole_word(octets, at)) << within
 }
 
-/// Writes eight octets over those from a place on.
+/// Writes eight octets over the ones from a place on.
 #[inline(always)]
 pub(crate) fn put_octets(octets: &mut [u8], at: usize, eight: [u8; 8])
     requires { at + 8 ≤ length octets.old }
@@ -175,7 +175,7 @@ pub(crate) fn octets_of(word: u64) -> [u8; 8]
     word.swap_bytes().to_le_bytes()
 }
 
-/// The first bits of a word, and then 0 bits.
+/// The first `count` bits of a word, followed by 0 bits.
 #[inline(always)]
 pub(crate) fn first_bits(word: u64, count: u32) -> u64
     ensures inside { (k : ℕ) → k < count → bit_of_word result k ≡ bit_of_word word k }
@@ -187,7 +187,7 @@ pub(crate) fn first_bits(word: u64, count: u32) -> u64
     word & !(u64::MAX >> count)
 }
 
-/// The first place of a word from a place on whose bit is another, or 64.
+/// The first place of a word at or after `from` whose bit isn't `bit`, or 64.
 #[inline(always)]
 pub(crate) fn first_in_word(word: u64, from: u32, bit: bool) -> u32
     requires { from < 64 }
@@ -197,7 +197,7 @@ pub(crate) fn first_in_word(word: u64, from: u32, bit: bool) -> u32
     (turned & (u64::MAX >> from)).leading_zeros()
 }
 
-/// The first place of 32 octets from one of them on whose bit is another, or 256.
+/// The first place of 32 octets, from octet `at` on, whose bit isn't `bit`, or 256.
 #[inline(always)]
 fn first_in_block(octets: &[u8], at: usize, bit: bool) -> u32
     requires { at + 32 ≤ length octets.now }
@@ -209,8 +209,8 @@ fn first_in_block(octets: &[u8], at: usize, bit: bool) -> u32
     }
 }
 
-/// The first place of eight octets from one of them on whose bit is another, or 64; past the octets
-/// the bits are 0.
+/// The first place of eight octets, from octet `at` on, whose bit isn't `bit`, or 64; past the octets the
+/// bits are 0.
 #[inline(always)]
 fn first_in_eight(octets: &[u8], at: usize, bit: bool) -> u32
     requires { at ≤ length octets.now }
@@ -220,8 +220,8 @@ fn first_in_eight(octets: &[u8], at: usize, bit: bool) -> u32
     first_in_word(word, 0, bit)
 }
 
-/// Looks through the whole blocks of 32 octets for the first place from an octet on whose bit is another. Answers that
-/// place or the end; or, as `Err`, the octet after the blocks, where all their bits are alike.
+/// Looks through whole blocks of 32 octets, from an octet on, for the first place whose bit isn't `bit`.
+/// Returns that place or the end; or, as `Err`, the octet after the blocks, if all their bits are `bit`.
 #[inline(always)]
 fn other_in_blocks(octets: &[u8], from: u32, end: u32, bit: bool) -> Result<u32, u32>
     requires order { 8 * from ≤ end }
@@ -243,7 +243,7 @@ fn other_in_blocks(octets: &[u8], from: u32, end: u32, bit: bool) -> Result<u32,
     Err(at)
 }
 
-/// The first place of octets from an octet on whose bit is another, or the end, eight octets at a time.
+/// The first place of octets, from an octet on, whose bit isn't `bit`, or the end; eight octets at a time.
 #[inline(always)]
 fn other_in_words(octets: &[u8], from: u32, end: u32, bit: bool) -> u32
     requires order { 8 * from ≤ end }
@@ -262,7 +262,7 @@ fn other_in_words(octets: &[u8], from: u32, end: u32, bit: bool) -> u32
     end
 }
 
-/// The first place of octets from an octet on whose bit is another, or the end.
+/// The first place of octets, from an octet on, whose bit isn't `bit`, or the end.
 #[inline(always)]
 fn other_after(octets: &[u8], from: u32, end: u32, bit: bool) -> u32
     requires order { 8 * from ≤ end }
@@ -276,7 +276,7 @@ fn other_after(octets: &[u8], from: u32, end: u32, bit: bool) -> u32
     }
 }
 
-/// The first place of octets from an octet on whose bit is another, or the end: a loop for each bit.
+/// The first place of octets, from an octet on, whose bit isn't `bit`, or the end; with a loop for each bit.
 pub(crate) fn first_other_after(octets: &[u8], from: u32, end: u32, bit: bool) -> u32
     requires order { 8 * from ≤ end }
     requires within { end ≤ 8 * length octets.now }
@@ -289,7 +289,7 @@ pub(crate) fn first_other_after(octets: &[u8], from: u32, end: u32, bit: bool) -
     other_after(octets, from, end, false)
 }
 
-/// The first place of octets from a place on whose bit is another, or the end.
+/// The first place of octets, from a place on, whose bit isn't `bit`, or the end.
 pub(crate) fn first_other(octets: &[u8], from: u32, end: u32, bit: bool) -> u32
     requires order { from ≤ end }
     requires within { end ≤ 8 * length octets.now }
@@ -308,7 +308,7 @@ pub(crate) fn first_other(octets: &[u8], from: u32, end: u32, bit: bool) -> u32
     first_other_after(octets, from / 8 + 8, end, bit)
 }
 
-/// The word whose bits all are this one.
+/// The word whose bits are all equal to `bit`.
 #[inline(always)]
 fn word_alike(bit: bool) -> u64
     ensures { (k : ℕ) → k < 64 → bit_of_word result k ≡ bit }
@@ -316,7 +316,7 @@ fn word_alike(bit: bool) -> u64
     if bit { u64::MAX } else { 0 }
 }
 
-/// Whether all bits of eight octets from one of them on are this one.
+/// Whether all bits of eight octets, from octet `at` on, are equal to `bit`.
 #[inline(always)]
 pub(crate) fn eight_are(octets: &[u8], at: usize, bit: bool) -> bool
     requires { at + 8 ≤ length octets.now }
@@ -325,7 +325,7 @@ pub(crate) fn eight_are(octets: &[u8], at: usize, bit: bool) -> bool
     whole_word(octets, at) == word_alike(bit)
 }
 
-/// Whether all bits of 64 octets from one of them on are this one.
+/// Whether all bits of 64 octets, from octet `at` on, are equal to `bit`.
 #[inline(always)]
 fn block_is(octets: &[u8], at: usize, bit: bool) -> bool
     requires { at + 64 ≤ length octets.now }
@@ -340,8 +340,8 @@ fn block_is(octets: &[u8], at: usize, bit: bool) -> bool
     all
 }
 
-/// Whether the first bits of octets all are this one: whole blocks of 64 octets, the last of them
-/// ending with the last whole octet.
+/// Whether the first bits of octets are all equal to `bit`: by whole blocks of 64 octets, the last of which
+/// ends with the last whole octet.
 #[inline(always)]
 fn are_bits(octets: &[u8], count: u32, bit: bool) -> bool
     requires within { count ≤ 8 * length octets.now }
@@ -363,8 +363,8 @@ fn are_bits(octets: &[u8], count: u32, bit: bool) -> bool
         && (count % 8 == 0 || first_other(octets, count - count % 8, count, bit) == count)
 }
 
-/// The bit that the first bits of octets all are, unless it is 1 and the last octet is filled in part.
-/// None where they differ.
+/// Returns `Some(b)` if the first `count` bits all equal b, except if b is 1 and the last octet is filled in
+/// part.
 pub(crate) fn bit_of_all(octets: &[u8], count: u32) -> Option<bool>
     requires some { 0 < count }
     requires within { count ≤ 8 * length octets.now }

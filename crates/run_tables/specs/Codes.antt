@@ -4,11 +4,11 @@ use Rattle.std.specs.Prelude.{slice_index_or}
 use Rattle.raster.specs.declared.row.Color.{Color}
 use Rattle.raster.specs.declared.row.Color.TheVariants.{White, Black}
 
--- the bits that a text of digits writes
+-- the bits that a text of the digits 0 and 1 writes
 abbrev pub text : List ℕ → List Bool
 text digits = map (λ digit. nat_eq digit 49) digits
 
--- white: terminating codes of 0 to 63, and make-up codes of the multiples of 64 up to 2560
+-- white: the terminating codes of 0 to 63 pixels, and the make-up codes of the multiples of 64 up to 2,560 (T.4, tables 2 and 3)
 abbrev pub white_codes : List (ℕ × List Bool)
 white_codes =
     (0, text (codes "00110101")) ∷ (1, text (codes "000111")) ∷ (2, text (codes "0111")) ∷
@@ -53,7 +53,7 @@ white_codes =
     (2432, text (codes "000000011101")) ∷ (2496, text (codes "000000011110")) ∷
     (2560, text (codes "000000011111")) ∷ []
 
--- black: the same runs
+-- black: the codes of the same runs (T.4, tables 2 and 3)
 abbrev pub black_codes : List (ℕ × List Bool)
 black_codes =
     (0, text (codes "0000110111")) ∷ (1, text (codes "010")) ∷ (2, text (codes "11")) ∷
@@ -107,7 +107,7 @@ black_codes =
     (2432, text (codes "000000011101")) ∷ (2496, text (codes "000000011110")) ∷
     (2560, text (codes "000000011111")) ∷ []
 
--- the codes of a color
+-- the 104 codes of a color: each run with its code word (T.4, 4.1.1, tables 2 and 3)
 abbrev pub codes_of : Color → List (ℕ × List Bool)
 codes_of White = white_codes
 codes_of Black = black_codes
@@ -116,18 +116,19 @@ codes_of Black = black_codes
 abbrev pub InTable : Color → ℕ → List Bool → Type 0
 InTable color run bits = Contains (codes_of color) (run, bits)
 
--- the run of the code at a place of a color's table
+-- the run of the code at a place of a color's table: 0 to 63, then the multiples of 64
 abbrev pub run_at : ℕ → ℕ
 run_at place = if nat_lt place 64 then place else 64 * (place - 63)
 
--- the place of a run's code, where it has one
+-- the place of a run's code in the table, if the run has one
 abbrev pub place_of : ℕ → ℕ
 place_of run = if nat_lt run 64 then run else 63 + run / 64
 
--- the code word of a run's code, where it has one
+-- the code word of a run's code, if the run has one
 unfoldable pub code_word : Color → ℕ → List Bool
 code_word color run = slice_index_or (map (λ (code : ℕ × List Bool). code.1) (codes_of color)) (place_of run) []
 
--- the code words of a run: its terminating code, or a make-up code and the terminating code of the rest
+-- the code words of a run: its terminating code; or the make-up code of the largest multiple of 64 not above it, and the terminating code
+-- of the rest
 abbrev pub run_words : Color → ℕ → List Bool
 run_words color run = if nat_lt run 64 then code_word color run else code_word color (64 * (run / 64)) ++ code_word color (run % 64)

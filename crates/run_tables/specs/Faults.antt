@@ -1,11 +1,11 @@
--- Refusals of coded bits: the numbers of their kinds, and where one of memory is.
+-- Refusals of coded bits: the numbers of their kinds, and the bit at which NoMemory is put.
 use Rattle.std.specs.Prelude.{ℕ, ◌≡◌, ◌≢◌, ◌⊎◌}
 use Rattle.run_tables.specs.declared.fault.CodeFault.{CodeFault}
 use Rattle.run_tables.specs.declared.fault.CodeFaultKind.{CodeFaultKind}
 use Rattle.run_tables.specs.declared.fault.CodeFaultKind.TheVariants.{NoRows, NoMemory, BadCode, Truncated, RunTooLong, Backwards, PastEnd}
 use Rattle.run_tables.specs.declared.fault.CodeFaultKind.TheVariants.{EmptyHorizontal, Extension, MissingEofb, TooManyCodedRows}
 
--- the number of a kind in the list of all faults
+-- the number of a kind in the list of all faults, docs/FAULTS.md
 abbrev pub number_of : CodeFaultKind → ℕ
 number_of NoRows = 4
 number_of NoMemory = 9
@@ -19,7 +19,7 @@ number_of Extension = 16
 number_of MissingEofb = 17
 number_of TooManyCodedRows = 18
 
--- a refusal as a call answers it that began at this bit: one of memory is there, any other stays
+-- the refusal that a call returns which began at bit `start`: NoMemory is put there, any other stays where it is
 abbrev pub BegunAt : ℕ → CodeFault → CodeFault → Type 0
 BegunAt start fault answer = ((fault.kind ≡ NoMemory) × (answer ≡ record { place = start; kind = NoMemory })) ⊎ ((fault.kind ≢ NoMemory)
     × (answer ≡ fault))

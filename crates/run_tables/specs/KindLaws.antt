@@ -16,14 +16,14 @@ use Rattle.run_tables.specs.RowFronts.{read_row}
 use Rattle.run_tables.specs.RowLaws.{ReadsAsRow}
 use Rattle.run_tables.specs.RunWords.{SpellsRow}
 
--- one place has one kind
+-- law: one place has one kind of refusal
 pub record OneKind : Type 0 where
   pub codes : (color : Color) (among : Among) (x : List Bool) (a b : CodeFaultKind) → CodeKind color among x a → CodeKind color among x b
       → a ≡ b
   pub rows : (width so_far : ℕ) (color : Color) (among : Among) (x : List Bool) (a b : CodeFaultKind)
       → RowKind width so_far color among x a → RowKind width so_far color among x b → a ≡ b
 
--- what is answered of codes and runs is a refusal exactly where no code is, at its place and for its reason
+-- law: reading a code or a run is refused exactly if no code is there, at its place and for the reason of the bits there
 pub record RefusesCodesExactly : Type 0 where
   pub codes : (color : Color) (among : Among) (old new : Reading) (result : Result ℕ CodeFault) (fault : CodeFault)
       → ReadsCode color among old new result → (result ≡ Err fault) ↔ IsRefusedCode color among old fault
@@ -32,18 +32,18 @@ pub record RefusesCodesExactly : Type 0 where
   pub runs : (color : Color) (old new : Reading) (result : Result ℕ CodeFault) (fault : CodeFault) → ReadsRun color old new result
       → (result ≡ Err fault) ↔ IsRefusedRun color old fault
 
--- where rows are refused
+-- law of the refusals of rows: exactly where a row goes no further, and why
 pub record RefusesRowsExactly : Type 0 where
-  -- reading refuses exactly where the row goes no further after whole codes, and for that reason
+  -- reading is refused exactly where the row goes no further after whole codes, and for that reason
   pub named : (width : ℕ) (x : List Bool) (place : ℕ) (kind : CodeFaultKind) → IsWidth width
       → (read_row width x ≡ Err (place, kind)) ↔ IsRefusedRow width x place kind
-  -- bits begin with a row, or are refused
+  -- bits begin with a row, or have a refusal
   pub some : (width : ℕ) (x : List Bool) → IsWidth width → ((row : List Color) × (used : ℕ) × ReadsAsRow width x row used)
       ⊎ ((place : ℕ) × (kind : CodeFaultKind) × IsRefusedRow width x place kind)
-  -- bits that begin with a row aren't refused
+  -- bits that begin with a row have no refusal
   pub none : (width : ℕ) (x : List Bool) (row : List Color) (used place : ℕ) (kind : CodeFaultKind) → IsWidth width
       → ReadsAsRow width x row used → ¬ IsRefusedRow width x place kind
-  -- there is one refusal alone
+  -- bits don't have two refusals
   pub one : (width : ℕ) (x : List Bool) (p q : ℕ) (a b : CodeFaultKind) → IsWidth width → IsRefusedRow width x p a
       → IsRefusedRow width x q b → (p ≡ q) × (a ≡ b)
   -- no more bits are whole codes of a row
@@ -51,17 +51,17 @@ pub record RefusesRowsExactly : Type 0 where
       : Among) → IsWidth width → IsRefusedRow width x place kind → IsRowPart width front so_far color among → x ≡ front ++ rest
       → length front ≤ place
 
--- whole codes of a row go on, and what is refused doesn't
+-- law: whole codes of a row can go on, and what is refused can't
 pub record FrontsGoOn : Type 0 where
   -- after whole codes are bits with which they spell a row of the width
   pub goes_on : (width : ℕ) (front : List Bool) (so_far : ℕ) (color : Color) (among : Among) → IsWidth width
       → IsRowPart width front so_far color among → (row : List Color) × (more : List Bool) × SpellsRow row (front ++ more)
       × (length row ≡ width)
-  -- with a code after them that passes the width no bits begin with a row, whatever follows
+  -- if a code that passes the width comes after them, the bits begin with no row, whatever follows
   pub too_long : (width : ℕ) (front : List Bool) (so_far : ℕ) (color : Color) (among : Among) (run : ℕ) (word : List Bool) → IsWidth width
       → IsRowPart width front so_far color among → MayCome color among run word → width < so_far + run → (more : List Bool) (row
       : List Color) (used : ℕ) → ¬ ReadsAsRow width (front ++ (word ++ more)) row used
-  -- nor do bits that are refused as no code's
+  -- bits that are refused as BadCode begin with no row, whatever follows
   pub no_code : (width : ℕ) (x : List Bool) (place : ℕ) → IsWidth width → IsRefusedRow width x place BadCode → (more : List Bool) (row
       : List Color) (used : ℕ) → ¬ ReadsAsRow width (x ++ more) row used
 

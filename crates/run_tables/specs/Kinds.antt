@@ -1,4 +1,4 @@
--- Why bits are refused where a run code has to be (ITU-T T.4, 4.1.1): one sentence for each kind, over the tables of codes alone.
+-- Why bits are refused at a place that needs a run code (ITU-T T.4, 4.1.1): one sentence for each kind, over the tables of codes alone.
 -- How bits are read doesn't matter here.
 use Rattle.std.specs.Prelude.{ℕ, ◌≡◌, ◌+◌, ◌<◌, ◌≤◌, ◌⊎◌, Bool, List, [], ◌∷◌, ◌++◌, length, sum}
 use Rattle.raster.specs.declared.row.Color.{Color}
@@ -15,21 +15,22 @@ use Rattle.run_tables.specs.RunWords.{runs_words}
 
 -- ---- one code
 
--- the code may come: any of the color's; after a make-up code a terminating one, whose run is below 64
+-- a valid code: any code of the color; after a make-up code only a terminating one, whose run is below 64
 abbrev pub MayCome : Color → Among → ℕ → List Bool → Type 0
 MayCome color AllCodes run word = InTable color run word
 MayCome color TerminatingCodes run word = InTable color run word × (run < 64)
 
--- a code that may come begins the bits, and has this run
+-- a valid code begins the bits, and has this run
 abbrev pub BeginsWithCode : Color → Among → List Bool → ℕ → Type 0
 BeginsWithCode color among x run = (word : List Bool) × (rest : List Bool) × MayCome color among run word × (x ≡ word ++ rest)
 
--- the bits end inside a code that may come, or before one: a bit or more of its code word is missing
+-- the bits are the beginning of a valid code word, and a bit or more of it is missing
 abbrev pub EndsInCode : Color → Among → List Bool → Type 0
 EndsInCode color among x =
     (run : ℕ) × (word : List Bool) × (bit : Bool) × (more : List Bool) × MayCome color among run word × (word ≡ x ++ bit ∷ more)
 
--- why no code is there
+-- Why no code is there. Truncated: the bits are the beginning of a valid code word, and a bit or more of it is missing. BadCode: no valid
+-- code begins the bits, and they aren't such a beginning.
 abbrev pub CodeKind : Color → Among → List Bool → CodeFaultKind → Type 0
 CodeKind color among x Truncated = EndsInCode color among x
 CodeKind color among x BadCode = ((run : ℕ) → ¬ BeginsWithCode color among x run) × (¬ EndsInCode color among x)
@@ -37,11 +38,12 @@ CodeKind color among x kind = ⊥
 
 -- ---- a code of a row
 
--- a code that may come begins the bits, and takes a row of `so_far` pixels past the width
+-- a valid code begins the bits, and takes a row of `so_far` pixels past the width
 abbrev pub PassesWidth : ℕ → ℕ → Color → Among → List Bool → Type 0
 PassesWidth width so_far color among x = (run : ℕ) × BeginsWithCode color among x run × (width < so_far + run)
 
--- why the row goes no further, which has `so_far` pixels, with those of a make-up code just before
+-- Why a row of `so_far` pixels, with those of a make-up code just before, goes no further. RunTooLong: a valid code begins the bits and
+-- takes the row past the width. Else why no code is there.
 abbrev pub RowKind : ℕ → ℕ → Color → Among → List Bool → CodeFaultKind → Type 0
 RowKind width so_far color among x RunTooLong = PassesWidth width so_far color among x
 RowKind width so_far color among x kind = CodeKind color among x kind
@@ -61,7 +63,7 @@ pub record AreRuns (width : ℕ) (front : List Bool) (so_far : ℕ) (color : Col
   pub color_is : color ≡ color_after White runs
   pub short : so_far < width
 
--- such runs, and after them a make-up code within the width
+-- whole runs that don't fill the width, and after them a make-up code within the width
 pub record EndsWithMakeUp (width : ℕ) (front : List Bool) (so_far : ℕ) (color : Color) : Type 0 where
   pub before : List Bool
   pub pixels : ℕ
@@ -74,14 +76,15 @@ pub record EndsWithMakeUp (width : ℕ) (front : List Bool) (so_far : ℕ) (colo
   pub sum_is : so_far ≡ pixels + makeup
   pub within : so_far ≤ width
 
--- whole codes of a row that isn't full yet: its pixels so far, the color of the next code, and which codes may come
+-- whole codes of a row that isn't full yet: runs, white first, and perhaps a make-up code; the pixels so far, the color of the next code,
+-- and which codes are valid
 abbrev pub IsRowPart : ℕ → List Bool → ℕ → Color → Among → Type 0
 IsRowPart width front so_far color AllCodes = AreRuns width front so_far color
 IsRowPart width front so_far color TerminatingCodes = EndsWithMakeUp width front so_far color
 
 -- ---- refusals
 
--- whole codes of a row of the width, `place` bits, begin the bits, and for this reason the row goes no further
+-- the refusal of a row: whole codes of a row of the width, `place` bits, begin the bits, and for this reason the row goes no further
 pub record IsRefusedRow (width : ℕ) (x : List Bool) (place : ℕ) (kind : CodeFaultKind) : Type 0 where
   pub front : List Bool
   pub rest : List Bool
@@ -97,7 +100,7 @@ pub record IsRefusedRow (width : ℕ) (x : List Bool) (place : ℕ) (kind : Code
 abbrev pub IsRefusedCode : Color → Among → Reading → CodeFault → Type 0
 IsRefusedCode color among reader fault = (fault.place ≡ reader.place) × CodeKind color among (rest_of reader) fault.kind
 
--- no code is at the reader's place, or no terminating code after the make-up code that is there
+-- no code is at the reader's place, or no terminating code after the make-up code that is there, for this reason
 abbrev pub IsRefusedRun : Color → Reading → CodeFault → Type 0
 IsRefusedRun color reader fault = IsRefusedCode color AllCodes reader fault ⊎ ((makeup : ℕ) × (word : List Bool) × (rest : List Bool)
     × InTable color makeup word × (64 ≤ makeup) × (rest_of reader ≡ word ++ rest) × (fault.place ≡ reader.place + length word)

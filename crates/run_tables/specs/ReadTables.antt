@@ -17,17 +17,17 @@ entry_of ((run, word) ∷ codes) bits = if begins word bits then (run, length wo
 unfoldable pub entries : List (ℕ × List Bool) → ℕ → ℕ → List (ℕ × ℕ)
 entries codes zeros count = map (λ key. entry_of codes (replicate zeros false ++ number_text count key)) (range_with_len 0 (2 ^ count))
 
--- the bits by which the short table of a color is read
+-- how many bits index the short table of a color
 abbrev pub short_bits : Color → ℕ
 short_bits White = 9
 short_bits Black = 6
 
--- the 0 bits that begin each text of the long table of a color
+-- how many 0 bits begin each text of the long table of a color
 abbrev pub long_zeros : Color → ℕ
 long_zeros White = 7
 long_zeros Black = 4
 
--- the long table of a color, and then its short one
+-- the long table of a color, followed by its short one
 abbrev pub held_entries : Color → List (ℕ × ℕ)
 held_entries color = entries (codes_of color) (long_zeros color) (13 - long_zeros color) ++ entries (codes_of color) 0 (short_bits color)
 

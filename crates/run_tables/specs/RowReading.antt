@@ -1,4 +1,4 @@
--- What reading a one-dimensional row answers, and what it leaves (ITU-T T.4, 4.1.1).
+-- The results of reading a one-dimensional row, and the reader after it (ITU-T T.4, 4.1.1).
 use Rattle.std.specs.Prelude.{ℕ, ◌≡◌, ◌≢◌, ◌+◌, ◌<◌, ◌≤◌, ◌++◌, List, length, replicate, None, Some, Option, Result, Ok, Err, sum, ◌⊎◌}
 use Rattle.raster.specs.declared.row.Color.{Color}
 use Rattle.raster.specs.declared.row.Color.TheVariants.{White}
@@ -12,14 +12,14 @@ use Rattle.run_tables.specs.RowFronts.{run_ended, reading, row_begin}
 use Rattle.run_tables.specs.RowFronts.RowState.{inside, whole}
 use Rattle.run_tables.specs.RowLaws.{ReadsAsRow, IsLongestFront}
 
--- the bits that are left begin with the row's code words, and the reader went past them
+-- a row was read: the bits that were left begin with its code words, and the reader went past them
 pub record ReadsRow (width : ℕ) (old new : Reading) (row : List Color) : Type 0 where
   pub used : ℕ
   pub reads : ReadsAsRow width (rest_of old) row used
   pub after : new ≡ record old { place = old.place + used }
 
--- a refusal that isn't one of memory: the bits that are left begin with no row's code words, the place is after their longest front, and
--- the kind is that of the bits from there; so the row goes no further after these whole codes, for that reason
+-- A refusal other than NoMemory: the bits that are left begin with no row's code words, the place is after their longest front, and the
+-- row goes no further after these whole codes, for the reason that the bits from there give.
 pub record RefusesRow (width : ℕ) (old : Reading) (fault : CodeFault) : Type 0 where
   pub front : ℕ
   pub place : fault.place ≡ old.place + front
@@ -27,7 +27,8 @@ pub record RefusesRow (width : ℕ) (old : Reading) (fault : CodeFault) : Type 0
   pub refused : IsRefusedRow width (rest_of old) front fault.kind
   pub none : (row : List Color) (used : ℕ) → ¬ ReadsAsRow width (rest_of old) row used
 
--- one run of a row was read, at most `room` pixels: reading the row from before it is reading on after it; or it is refused there
+-- one run of a row was read, at most `room` pixels, and reading the row from before it is reading on after it; or the row is refused
+-- there
 abbrev pub RunWithin : Color → ℕ → Reading → Reading → Result ℕ CodeFault → Type 0
 RunWithin color room old new (Ok run) =
     (run ≤ room) × (new.bits ≡ old.bits) × (old.place < new.place) × (new.place ≤ length new.bits) × ((pixels : List Color)
@@ -39,7 +40,7 @@ RunWithin color room old new (Err fault) =
       fault.kind,
     )
 
--- runs of a row were read, `room` pixels are left, and a run of this color is next: reading the row is reading on after them
+-- some runs of a row were read, `room` pixels are left, and a run of this color is next: reading the row is reading on after them
 pub record IsInRow (width : ℕ) (old new : Reading) (runs : List ℕ) (color : Color) (room : ℕ) : Type 0 where
   pub bits : new.bits ≡ old.bits
   pub within : new.place ≤ length new.bits
@@ -48,7 +49,7 @@ pub record IsInRow (width : ℕ) (old new : Reading) (runs : List ℕ) (color : 
   pub reads : reading width row_begin old.place (rest_of old) ≡ reading width (run_ended whole inside width (colored White runs) color)
       new.place (rest_of new)
 
--- the runs of a row were read; or memory was refused, or the row is refused where reading it is
+-- the runs of a row were read; or NoMemory; or the refusal of reading the row
 abbrev pub RowRuns : ℕ → Reading → Reading → List ℕ → Result (Unit {0}) CodeFault → Type 0
 RowRuns width old new runs (Ok done) = (new.bits ≡ old.bits) × (new.place ≤ length new.bits) × (sum runs ≡ width)
     × (reading width row_begin old.place (rest_of old) ≡ Ok (colored White runs, new.place))
@@ -57,12 +58,12 @@ RowRuns width old new runs (Err fault) = (fault.kind ≡ NoMemory) ⊎ (reading 
   fault.kind,
 ))
 
--- a whole row was read, or it is refused unless memory was
+-- a whole row was read, or the row is refused; NoMemory says nothing of the row
 abbrev pub WholeRow : ℕ → Reading → Reading → Result (List Color) CodeFault → Type 0
 WholeRow width old new (Ok row) = ReadsRow width old new row
 WholeRow width old new (Err fault) = fault.kind ≢ NoMemory → RefusesRow width old fault
 
--- a row was read, as its runs were, or nothing changed
+-- a row was read by its runs, or nothing changed
 abbrev pub IsQuickRow : ℕ → Reading → Reading → Option (List Color) → Type 0
 IsQuickRow width old new None = new ≡ old
 IsQuickRow width old new (Some row) = (runs : List ℕ) × RowRuns width old new runs (Ok tt) × (row ≡ colored White runs)

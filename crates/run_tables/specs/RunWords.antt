@@ -11,8 +11,8 @@ abbrev pub runs_words : Color → List ℕ → List Bool
 runs_words color [] = []
 runs_words color (run ∷ runs) = run_words color run ++ runs_words (other color) runs
 
--- runs of at most 2,623 pixels, as far as the code words go, white first and alternating, the last of them above 0, are the row's pixels,
--- and their code words in order are the bits
+-- Bits spell a row: runs of at most 2,623 pixels (as far as the code words go), white first and alternating, the last of them above 0,
+-- are the row's pixels, and their code words in order are the bits.
 pub record SpellsRow (row : List Color) (bits : List Bool) : Type 0 where
   pub before : List ℕ
   pub last : ℕ

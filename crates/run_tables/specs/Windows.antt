@@ -7,7 +7,7 @@ use Rattle.run_tables.specs.Reading.{Reading, rest_of}
 abbrev pub passed : Reading → ℕ → Reading
 passed reader used = record reader { place = reader.place + used }
 
--- of a reader's next 57 bits `used` are used, and the others are the first bits of a word
+-- `used` of a reader's next 57 bits are used, and the others are the first bits of a word
 pub record IsWindow (reader : Reading) (used word : ℕ) : Type 0 where
   pub enough : 57 ≤ length (rest_of reader)
   pub few : used ≤ 57

@@ -2,7 +2,7 @@
 use Rattle.std.specs.Prelude.{ℕ, ◌^◌, Bool, List, map, nat_lt}
 use Rattle.run_tables.specs.Numbers.{number_text}
 
--- the code words of numbers and lengths
+-- the code words that pairs of a number and a length write
 abbrev pub as_words : List (ℕ × ℕ) → List (List Bool)
 as_words held = map (λ (word : ℕ × ℕ). number_text word.1 word.0) held
 

@@ -3,40 +3,40 @@
 use std::alloc::{AllocError, AllocFailed};
 use thiserror::Error;
 
-/// Why coded bits were refused.
+/// Why coded bits were refused, or memory.
 #[derive(Clone, Copy, Debug, PartialEq, Eq, Error)]
 pub enum CodeFaultKind {
-    /// No row comes before the page's end.
+    /// No row comes before the page's end (fault 4).
     #[error("no row before the page's end")]
     NoRows,
-    /// Memory was refused.
+    /// Memory was refused (fault 9).
     #[error("no memory")]
     NoMemory,
-    /// No valid code begins here.
+    /// No valid code begins at the bit (fault 10).
     #[error("no code that may stand there")]
     BadCode,
-    /// The bits end inside a valid code, or before one.
+    /// The bits end inside a valid code, or before one (fault 11).
     #[error("the bits end inside a code")]
     Truncated,
-    /// A run code that takes a one-dimensional row past its width.
+    /// A run code takes a one-dimensional row past its width (fault 12).
     #[error("the run passes the row's width")]
     RunTooLong,
-    /// A vertical mode that doesn't move to the right.
+    /// A vertical mode doesn't move a0 to the right (fault 13; ITU-T T.6, 2.2).
     #[error("the mode doesn't move to the right")]
     Backwards,
-    /// A mode or a run code that moves past the width.
+    /// A mode or a run code moves past the width (fault 14).
     #[error("the mode passes the row's width")]
     PastEnd,
-    /// A horizontal mode with two runs of 0.
+    /// A horizontal mode has two runs of 0 pixels (fault 15).
     #[error("the horizontal mode has no pixel")]
     EmptyHorizontal,
-    /// An extension code.
+    /// An extension code, 0000001 (fault 16; ITU-T T.6, table 1).
     #[error("an extension code")]
     Extension,
-    /// The bits end before the end of the facsimile block.
+    /// The bits end before EOFB, the end of the facsimile block (fault 17; ITU-T T.6, 2.4).
     #[error("the end of the facsimile block is missing")]
     MissingEofb,
-    /// A 20,001st row.
+    /// A 20,001st row begins (fault 18).
     #[error("more than 20000 coded rows")]
     TooManyCodedRows,
 }
@@ -45,7 +45,7 @@ impl CodeFaultKind {
     ghost use Rattle.std.specs.Prelude.{◌≡◌};
     ghost use Rattle.run_tables.specs.Faults.{number_of};
 
-    /// The number of the fault: 4, 9, or 10 to 18.
+    /// The fault's number in the list of all faults: 4, 9, or 10 to 18.
     pub fn number(self) -> u8
         ensures { result ≡ number_of self }
     {
@@ -65,11 +65,11 @@ impl CodeFaultKind {
     }
 }
 
-/// Where coded bits were refused, and why.
+/// A refusal of coded bits: at which bit, and why.
 #[derive(Clone, Copy, Debug, PartialEq, Eq, Error)]
 #[error("{kind} at bit {place}")]
 pub struct CodeFault {
-    /// The bit, from 0, where the refused item begins.
+    /// The bit, from 0, at which the refused code begins.
     pub place: u128,
     /// Why it was refused.
     pub kind: CodeFaultKind,
@@ -93,8 +93,8 @@ impl CodeFault {
         self.kind == CodeFaultKind::NoMemory
     }
 
-    /// The refusal that a call answers which began to read at `start`. It is the same, but where memory was refused its
-    /// bit is `start`.
+    /// The refusal that a call returns which began to read at bit `start`: `NoMemory` is put at that bit, any
+    /// other refusal stays where it is.
     pub fn begun_at(self, start: u128) -> Self
         ensures { BegunAt start self result }
     {

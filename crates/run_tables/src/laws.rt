@@ -16,12 +16,12 @@ pub fn codes_cover()
     ensures { CodesCover }
 {}
 
-/// A triple is in the table exactly where it is the code at one of the 104 places of its color.
+/// A run and a code word are in a color's table exactly if they are at one of its 104 places.
 pub fn table_words()
     ensures { TableWords }
 {}
 
-/// A row is read exactly where the bits begin with code words that spell it.
+/// A row is read exactly if the bits begin with code words that spell it.
 pub fn reads_exactly()
     ensures { ReadsExactly }
 {}
@@ -31,12 +31,12 @@ pub fn refuses_no_row()
     ensures { RefusesNoRow }
 {}
 
-/// A refusal has the length of the longest front as its place, and the kind of what is there.
+/// The place of a refusal is the length of the longest front, and its kind is that of the bits after it.
 pub fn refuses_at_longest()
     ensures { RefusesAtLongest }
 {}
 
-/// Of two fronts of the same bits one begins the other.
+/// Of two fronts of the same bits, one begins the other.
 pub fn one_front()
     ensures { OneFront }
 {}
@@ -51,25 +51,25 @@ pub fn one_kind()
     ensures { OneKind }
 {}
 
-/// What is answered of codes and of runs is a refusal exactly where no code is, for the reason that
-/// the bits there give by the table.
+/// Reading a code or a run is refused exactly if no code is there, for the reason that the bits there give by
+/// the table.
 pub fn refuses_codes_exactly()
     ensures { RefusesCodesExactly }
 {}
 
-/// A row is refused exactly where it goes no further after whole codes, for the reason that the bits
-/// there give by the table: bits begin with a row or have one refusal, and not both.
+/// A row is refused exactly where it goes no further after whole codes, for the reason that the bits there
+/// give by the table: bits begin with a row or have one refusal, and not both.
 pub fn refuses_rows_exactly()
     ensures { RefusesRowsExactly }
 {}
 
-/// After whole codes of a row are bits with which they spell a row; with a code that passes the width,
-/// or with bits that are no code's, none does.
+/// After whole codes of a row some bits complete a row of the width; after a code that passes the width, or
+/// bits that begin no code, no bits do.
 pub fn fronts_go_on()
     ensures { FrontsGoOn }
 {}
 
-/// Refused rows that were coded by hand.
+/// Refused rows that were coded by hand from the tables.
 pub fn refused_rows()
     ensures { AreRefusedRows }
 {}

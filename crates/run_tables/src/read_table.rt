@@ -14,7 +14,8 @@ macro_rules! entries {
     };
 }
 
-/// White: by the 6 bits after seven 0 bits, and then by the first 9 bits, where the first seven aren't all 0.
+/// White: by the 6 bits after seven 0 bits, followed by the entries by the first 9 bits, if the first seven
+/// aren't all 0.
 const WHITE_ENTRIES: [(u16, u8); 576] = entries![
     0 0, 0 0, 0 0, 0 0, 0 0, 0 0, 0 0, 0 0, 0 0, 0 0, 0 0, 0 0, 0 0, 0 0, 0 0, 0 0, 0 0, 0 0, 0 0,
     0 0, 0 0, 0 0, 0 0, 0 0, 0 0, 0 0, 0 0, 0 0, 0 0, 0 0, 0 0, 0 0, 1792 11, 1792 11, 1792 11,
@@ -54,7 +55,8 @@ const WHITE_ENTRIES: [(u16, u8); 576] = entries![
     7 4, 7 4, 7 4, 7 4, 7 4, 7 4, 7 4, 7 4, 7 4, 7 4, 7 4, 7 4,
 ];
 
-/// Black: by the 9 bits after four 0 bits, and then by the first 6 bits, where the first four aren't all 0.
+/// Black: by the 9 bits after four 0 bits, followed by the entries by the first 6 bits, if the first four
+/// aren't all 0.
 const BLACK_ENTRIES: [(u16, u8); 576] = entries![
     0 0, 0 0, 0 0, 0 0, 0 0, 0 0, 0 0, 0 0, 0 0, 0 0, 0 0, 0 0, 0 0, 0 0, 0 0, 0 0, 0 0, 0 0, 0 0,
     0 0, 0 0, 0 0, 0 0, 0 0, 0 0, 0 0, 0 0, 0 0, 0 0, 0 0, 0 0, 0 0, 1792 11, 1792 11, 1792 11,
@@ -97,7 +99,7 @@ const BLACK_ENTRIES: [(u16, u8); 576] = entries![
     2 2, 2 2, 2 2, 2 2, 2 2, 2 2, 2 2, 2 2, 2 2, 2 2, 2 2, 2 2, 2 2, 2 2, 2 2,
 ];
 
-/// The entries of a color: by 13 bits that begin with 0 bits, seven for white, four for black, and then
+/// The entries of a color: first by 13 bits that begin with 0 bits, seven for white, four for black, and then
 /// by the first bits, nine for white, six for black.
 fn entries(color: Color) -> &'static [(u16, u8)]
     ensures { result.now ≡ held_entries color }
@@ -108,8 +110,8 @@ fn entries(color: Color) -> &'static [(u16, u8)]
     }
 }
 
-/// The run and the length of the code word of a color that begins 13 bits of which seven 0 bits for white, or
-/// four for black, are the first, or 0 and 0. Most code words begin otherwise.
+/// The run and the length of the code word of a color that begins 13 bits whose first seven (white) or four
+/// (black) are 0; or 0 and 0. Most code words begin otherwise.
 #[cold]
 #[inline(never)]
 fn long_entry(color: Color, next: u32) -> (u16, u8)

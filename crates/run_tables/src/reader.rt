@@ -21,17 +21,17 @@ use raster::Color;
 use raster::packed::{Order, bit_of, word_at, word_of_eight};
 use std::marker::Model;
 
-/// Which codes of a color may be at a place.
+/// Which codes of a color are valid at a place.
 #[derive(Clone, Copy, Debug, PartialEq, Eq)]
 pub enum Among {
-    /// All 104.
+    /// All 104 codes.
     AllCodes,
-    /// The 64 terminating codes alone, as after a make-up code.
+    /// Only the 64 terminating codes, as after a make-up code.
     TerminatingCodes,
 }
 
 impl Among {
-    /// How many codes: the first ones of a color's table.
+    /// How many codes these are: the first ones of a color's table.
     fn count(self) -> usize
         ensures count { result ≡ count_among self }
         ensures within { result ≤ 104 }
@@ -63,7 +63,7 @@ pub(crate) fn code_in(color: Color, word: u64) -> (u32, u32)
     (run as u32, length as u32)
 }
 
-/// Reads the bits of octets one after the other.
+/// Reads the bits of octets one after the other, in either order.
 #[derive(Debug, Drop)]
 pub struct BitReader<'a> {
     octets: &'a [u8],
@@ -89,7 +89,7 @@ impl<'a> Model for BitReader<'a> {
 }
 
 impl<'a> BitReader<'a> {
-    /// A reader of the octets' bits, eight an octet, that is at a place from 0.
+    /// Makes a reader of the octets' bits, eight an octet, at a place from 0.
     pub fn at(octets: &'a [u8], order: Order, place: u128) -> Self
         requires { place ≤ 8 * length octets.now }
         ensures { result ≡ record { bits = bits_of order octets.now; place = place } }
@@ -111,7 +111,7 @@ impl<'a> BitReader<'a> {
         8 * self.at as u128 + self.within as u128
     }
 
-    /// A second reader of the same bits, at the same place, to look ahead by.
+    /// A second reader of the same bits, at the same place, to look ahead.
     pub fn look_ahead(&self) -> BitReader<'a>
         ensures { result ≡ self.now }
     {
@@ -123,7 +123,7 @@ impl<'a> BitReader<'a> {
         }
     }
 
-    /// The bit `by` places ahead, or none where the bits end.
+    /// The bit `by` places ahead; none past the end.
     #[tactic(auto, using(raster::proofs::PackedLemmas::views))]
     pub fn ahead(&self, by: usize) -> Option<bool>
         ensures bit { result ≡ slice_get self.now.bits (self.now.place + by) }
@@ -140,7 +140,7 @@ impl<'a> BitReader<'a> {
         }
     }
 
-    /// The next bit, or none where the bits end.
+    /// Reads the next bit; none at the end.
     #[tactic(auto, using(raster::proofs::PackedLemmas::views))]
     pub fn bit(&mut self) -> Option<bool>
         ensures bit { result ≡ slice_get self.old.bits self.old.place }
@@ -162,8 +162,7 @@ impl<'a> BitReader<'a> {
         self.within = bit % 8;
     }
 
-    /// Whether the bits that are left are a beginning of what the digits `0` and `1` write, or all of
-    /// it.
+    /// Whether the bits that are left are the beginning of what the digits `0` and `1` write, or all of it.
     pub fn is_cut_of(&self, digits: &[u8]) -> bool
         ensures { result ≡ begins (rest_of self.now) (text digits.now) }
     {
@@ -188,7 +187,7 @@ impl<'a> BitReader<'a> {
         ((self.within + count + 7) / 8) as usize <= self.octets.len() - self.at
     }
 
-    /// Whether the next 57 bits are left: where eight octets are, that of the next bit included.
+    /// Whether 57 bits are left: true if eight octets are, the next bit's octet included.
     #[inline(always)]
     #[tactic(auto, using(raster::proofs::PackedLemmas::views))]
     pub fn has_57(&self) -> bool
@@ -211,7 +210,7 @@ impl<'a> BitReader<'a> {
         self.within = bit % 8;
     }
 
-    /// The next 64 bits as a number, the first of them the most significant; past the end they are 0.
+    /// The next 64 bits as a number, the first the most significant; past the end they are 0.
     #[cold]
     fn peek(&self) -> u64
         ensures { IsFirst64 (rest_of self.now) result }
@@ -220,8 +219,8 @@ impl<'a> BitReader<'a> {
         word_at(self.order, self.octets, place)
     }
 
-    /// The next bits as a number, the first of them the most significant. They are the first 57 of its
-    /// 64 bits; past the end they are 0.
+    /// The next 57 bits as the first bits of a number of 64, the first the most significant; past the end
+    /// they are 0.
     #[inline(always)]
     pub fn peek_57(&self) -> u64
         ensures { AreFirst 57 (rest_of self.now) result }
@@ -232,8 +231,8 @@ impl<'a> BitReader<'a> {
         word_of_eight(self.order, self.octets, self.at, self.within)
     }
 
-    /// Whether the lowest `count` bits of a number, the most significant of them first, begin the bits that are left: 1
-    /// to 32 bits, and the number has no others.
+    /// Whether the lowest `count` bits of a number, 1 to 32, the most significant of them first, begin the
+    /// bits that are left. The number must have no other bits.
     pub fn starts_with(&self, value: u32, count: u32) -> bool
         requires some { 0 < count }
         requires most { count ≤ 32 }
@@ -274,11 +273,13 @@ impl<'a> BitReader<'a> {
         let code = (run as u32, length as usize);
         match among {
             Among::AllCodes => Some(code),
+            // after a make-up code only a terminating code is valid: seven 0 bits there are `BadCode`, at a run's
+            // beginning they are `Truncated`, the beginning of a make-up code
             Among::TerminatingCodes => { if run >= 64 { None } else { Some(code) } }
         }
     }
 
-    /// Whether the bits that are left are a beginning of one of the first codes of a color's table.
+    /// Whether the bits that are left are the beginning of one of the first `count` codes of a color's table.
     fn is_cut_code(&self, color: Color, count: usize) -> bool
         requires { count ≤ 104 }
         ensures { result ≡ is_cut (code_word color) (first_runs count) (rest_of self.now) }
@@ -292,11 +293,12 @@ impl<'a> BitReader<'a> {
         false
     }
 
-    /// The refusal where no valid code begins the bits that are left.
+    /// The refusal if no valid code begins the bits that are left.
     #[cold]
     fn refusal(&self, color: Color, among: Among) -> CodeFault
         ensures { result ≡ record { place = self.now.place; kind = kind_among color among (rest_of self.now) } }
     {
+        // by the valid codes alone, whatever the width: the width is checked once a whole code is there
         let kind = if self.is_cut_code(color, among.count()) {
             CodeFaultKind::Truncated
         } else {
@@ -305,9 +307,9 @@ impl<'a> BitReader<'a> {
         CodeFault::new(self.place(), kind)
     }
 
-    /// The run of the next code, one of those that are valid here (ITU-T T.4, 4.1.1). Errs where none of them begins
-    /// the bits that are left: with `Truncated` where these are a beginning of one, none left included, and else with
-    /// `BadCode`. An error changes nothing.
+    /// Reads the next code among the valid ones (ITU-T T.4, 4.1.1) and returns its run in pixels. Errs if no
+    /// valid code begins the bits that are left: with `Truncated` if they are the beginning of one, also if
+    /// no bit is left, else with `BadCode`. An error changes nothing.
     #[inline(always)]
     pub(crate) fn next_code(&mut self, color: Color, among: Among) -> Result<u32, CodeFault>
         ensures reads { ReadsCode color among self.old self.new result }
@@ -320,9 +322,9 @@ impl<'a> BitReader<'a> {
         Ok(run)
     }
 
-    /// The next run code of a color (ITU-T T.4, 4.1.1). Errs at the reader's place where none of the
-    /// 104 codes begins the bits that are left: with `Truncated` where these are a beginning of one,
-    /// none left included, and else with `BadCode`. An error changes nothing.
+    /// Reads the next run code of a color (ITU-T T.4, 4.1.1). Errs at the reader's place if none of the 104
+    /// codes begins the bits that are left: with `Truncated` (11) if they are the beginning of one, also if
+    /// no bit is left, else with `BadCode` (10). An error changes nothing.
     pub fn read_code(&mut self, color: Color) -> Result<RunCode, CodeFault>
         ensures { ReadsRunCode color self.old self.new result }
     {
@@ -334,11 +336,11 @@ impl<'a> BitReader<'a> {
         }
     }
 
-    /// The next run of a color, 0 to 2,623 pixels: one terminating code, or one make-up code and then
-    /// a terminating code (ITU-T T.4, 4.1.1). Errs where no code is, as `read_code` does, and
-    /// after a make-up code where no terminating code is: there with `Truncated` where the bits
-    /// that are left are a beginning of a terminating code, none left included, and else with
-    /// `BadCode`. An error changes nothing.
+    /// Reads the next run of a color and returns its pixels, 0 to 2,623: one terminating code, or one make-up
+    /// code and a terminating code (ITU-T T.4, 4.1.1). Errs as `read_code` does if no code is there; and
+    /// after a make-up code, at the bit after it, if no terminating code is there: with `Truncated` (11) if
+    /// the bits that are left are the beginning of one, also if no bit is left, else with `BadCode` (10). An
+    /// error changes nothing.
     pub fn read_run(&mut self, color: Color) -> Result<u32, CodeFault>
         ensures { ReadsRun color self.old self.new result }
     {
@@ -353,7 +355,7 @@ impl<'a> BitReader<'a> {
         Ok(high + low)
     }
 
-    /// A run of a color, of at most `room` pixels, where the next 57 bits hold it whole. Else none, and nothing
+    /// A run of a color, of at most `room` pixels, if the next 57 bits hold it whole. Else none, and nothing
     /// changed.
     #[inline(always)]
     fn quick_run(&mut self, color: Color, room: u32) -> Option<u32>
@@ -367,9 +369,9 @@ impl<'a> BitReader<'a> {
         Some(run)
     }
 
-    /// Two runs, the first of a color and the second of the other one, together of at most `room` pixels, where the
-    /// next 57 bits hold both whole after `flag` bits, at most 7, that are passed over (ITU-T T.6, 2.2.2). Else none,
-    /// and nothing changed.
+    /// Reads two runs, the first of a color and the second of the other one, together of at most `room`
+    /// pixels, if the next 57 bits hold both whole after `flag` bits, at most 7, which are skipped (ITU-T T.6,
+    /// 2.2.2). Else none, and nothing changed. Flag and runs come from one word.
     #[inline(always)]
     pub fn quick_two_runs_after(&mut self, flag: u32, color: Color, room: u32) -> Option<(u32, u32)>
         requires { flag ≤ 7 }
@@ -412,8 +414,9 @@ impl<'a> BitReader<'a> {
         Ok(high + low)
     }
 
-    /// The next run of a color, of at most `room` pixels: as `read_run` reads it, but a code that takes it past them is
-    /// refused there, with the kind `past`. After an error the reader is somewhere in the run.
+    /// Reads the next run of a color, of at most `room` pixels, as `read_run` does; a code that takes the run
+    /// past the room is refused where it begins, with the kind `past`. After an error the reader is somewhere
+    /// in the run.
     #[inline(always)]
     pub fn read_run_within(
         &mut self,

@@ -1,4 +1,5 @@
-//! Reading of rows in one dimension (ITU-T T.4, 4.1.1).
+//! Reading of rows in one dimension (ITU-T T.4, 4.1.1). A reader's contract says that reading the whole from before a call is reading on
+//! after it, or is the refusal that the call returns; so a loop's invariant is one equation, and the public clauses follow from the laws.
 
 ghost use Rattle.raster.specs.Pixels.{IsWidth};
 ghost use Rattle.run_tables.specs.RowReading.{IsInRow, IsQuickRow, ReadsRow, RefusesRow, RowRuns, WholeRow};
@@ -12,13 +13,13 @@ use raster::{Color, Painter, Row};
 use std::alloc::{AllocError, Global};
 
 impl<'a> BitReader<'a> {
-    /// The first runs of a row, as many as can be read quickly. Answers the color of the next one, and how many pixels
-    /// are left.
+    /// Reads the first runs of a row, as many as can be read quickly. Returns the color of the next run, and
+    /// how many pixels are left.
     fn quick_runs(&mut self, width: u32, runs: &mut Vec<u32>) -> Result<(Color, u32), AllocError>
         requires { IsWidth width }
         ensures { IfOk result (λ next. IsInRow width self.old self.new runs.new.items next.0 next.1) }
     {
-        let _place = self.place(); // tells the proof that it is within the bits
+        let _place = self.place(); // shows the proof that it is within the bits
         runs.clear();
         let mut color = Color::White;
         let mut room = width;
@@ -46,14 +47,14 @@ impl<'a> BitReader<'a> {
         Ok((color, room))
     }
 
-    /// The next row, painted while it is read, where all of it can be read quickly. Else none, and nothing is changed. A row of one
-    /// color takes no memory of its own.
+    /// The next row, painted while it is read, if all of it can be read quickly. Else none, and nothing
+    /// changed. A row of one color takes no memory of its own.
     #[inline(always)]
     fn quick_row(&mut self, alloc: Global, width: u32) -> Result<Option<Row>, AllocError>
         requires { IsWidth width }
         ensures { IfOk result (IsQuickRow width self.old self.new) }
     {
-        let _place = self.place(); // tells the proof that it is within the bits
+        let _place = self.place(); // shows the proof that it is within the bits
         let Some(mut window) = Window::at(self.look_ahead()) else {
             return Ok(None);
         };
@@ -97,7 +98,8 @@ impl<'a> BitReader<'a> {
         Ok(Some(Row::of_painter(painter)))
     }
 
-    /// The other runs of a row, code by code: `next` is the color of the next one, and `left` pixels are left.
+    /// Reads the other runs of a row, code by code: `next` is the color of the next one, and `left` pixels
+    /// are left.
     #[cold]
     #[inline(never)]
     fn other_runs(&mut self, next: Color, left: u32, runs: &mut Vec<u32>) -> Result<(), CodeFault>
@@ -106,6 +108,7 @@ impl<'a> BitReader<'a> {
     {
         let mut color = next;
         let mut room = left;
+        // a run of 0 pixels is accepted anywhere, though only a row that begins with black needs one
         while room > 0 {
             let run = self.read_run_by_codes(color, room, CodeFaultKind::RunTooLong)?;
             runs.push(run)?;
@@ -115,7 +118,7 @@ impl<'a> BitReader<'a> {
         Ok(())
     }
 
-    /// The runs of a row of this width. After an error the reader is somewhere in the row.
+    /// Reads the runs of a row of this width. After an error the reader is somewhere in the row.
     fn row_runs(&mut self, width: u32, runs: &mut Vec<u32>) -> Result<(), CodeFault>
         requires { IsWidth width }
         ensures { RowRuns width self.old self.new runs.new.items result }
@@ -130,8 +133,8 @@ impl<'a> BitReader<'a> {
         Ok(())
     }
 
-    /// The row of this width, which leaves its runs in the list. After an error the reader is somewhere
-    /// in the row.
+    /// Reads a row of this width, and leaves its runs in the list. After an error the reader is somewhere in
+    /// the row.
     fn whole_row(
         &mut self,
         alloc: Global,
@@ -148,10 +151,10 @@ impl<'a> BitReader<'a> {
         Ok(Row::from_valid_runs(alloc, list)?)
     }
 
-    /// The next row in one dimension, 1 to 2,432 pixels wide: its run codes, white first (ITU-T T.4, 4.1.1). Errs at
-    /// the run code that is refused, with `RunTooLong` where it takes the row past the width, with `Truncated` where
-    /// the bits end inside a valid code, and else with `BadCode`; and with `NoMemory`, at the reader's place. An error
-    /// changes nothing.
+    /// Reads the next row in one dimension, `width` pixels wide: its run codes, white first (ITU-T T.4,
+    /// 4.1.1). Errs at the run code that is refused: with `RunTooLong` (12) if it takes the row past the
+    /// width, with `Truncated` (11) if the bits end inside a valid code or before one, else with `BadCode`
+    /// (10); and with `NoMemory` (9), at the reader's place. An error changes nothing.
     pub fn read_row_1d(&mut self, alloc: Global, width: u32) -> Result<Row, CodeFault>
         requires { IsWidth width }
         ensures reads { IfOk result (ReadsRow width self.old self.new) }
@@ -163,8 +166,8 @@ impl<'a> BitReader<'a> {
         self.read_row_1d_in(alloc, width, &mut list)
     }
 
-    /// As `read_row_1d`, in the memory of a list, for rows one after the other. What the list holds
-    /// before is forgotten, and what it holds after is no matter.
+    /// As `read_row_1d`, in the memory of a list, to read many rows one after the other. What is in the list
+    /// doesn't matter, before or after.
     pub fn read_row_1d_in(
         &mut self,
         alloc: Global,

@@ -10,7 +10,7 @@ use raster::Color;
 #[derive(Clone, Copy, Debug)]
 pub struct Code(pub u32, pub &'static [u8]);
 
-/// The codes of white runs (ITU-T T.4, tables 2 and 3): the terminating codes of 0 to 63, then the
+/// The codes of white runs (ITU-T T.4, tables 2 and 3): the terminating codes of 0 to 63 pixels, then the
 /// make-up codes of the multiples of 64 up to 2,560.
 pub const WHITE: [Code; 104] = [
     Code(0, b"00110101"),
@@ -227,7 +227,7 @@ pub const BLACK: [Code; 104] = [
     Code(2560, b"000000011111"),
 ];
 
-/// The codes of a color, in the order of their runs (ITU-T T.4, tables 2 and 3).
+/// Returns the 104 codes of a color, in the order of their runs (ITU-T T.4, tables 2 and 3).
 pub fn codes(color: Color) -> &'static [Code]
     ensures { as_pairs result.now ≡ codes_of color }
 {
@@ -237,8 +237,8 @@ pub fn codes(color: Color) -> &'static [Code]
     }
 }
 
-/// The code at a place of a color's table, from 0: places 0 to 63 hold the terminating codes, the
-/// 40 places from 64 on the make-up codes.
+/// The code at a place of a color's table, from 0: the terminating codes are at 0 to 63, the 40 make-up codes
+/// after them.
 pub(crate) fn code_at(color: Color, place: usize) -> Code
     requires { place < 104 }
     ensures { pair_of result ≡ (run_at place, code_word color (run_at place)) }

@@ -10,7 +10,8 @@ ghost use Rattle.std.specs.Prelude.{◌≡◌, ◌≤◌, ◌+◌, IfNone, IfSom
 use crate::reader::{BitReader, code_in};
 use raster::Color;
 
-/// The next 57 bits of a reader: how many of them are used, and the others as the first bits of a word.
+/// The next 57 bits of a reader: the number of them that are used, and the others as the first bits of a
+/// word.
 #[derive(Drop)]
 pub(crate) struct Window<'a> {
     reader: BitReader<'a>,
@@ -19,7 +20,7 @@ pub(crate) struct Window<'a> {
 }
 
 impl<'a> Window<'a> {
-    /// The window at a reader's place, or none where fewer than 57 bits are left.
+    /// The window at a reader's place; none if fewer than 57 bits are left.
     #[inline(always)]
     pub(crate) fn at(reader: BitReader<'a>) -> Option<Self>
         ensures window { IfSome result (λ window. IsWindow window.reader window.used window.word) }
@@ -38,7 +39,7 @@ impl<'a> Window<'a> {
         })
     }
 
-    /// The reader after the bits that are used.
+    /// The reader after the used bits.
     #[inline(always)]
     pub(crate) fn into_reader(self) -> BitReader<'a>
         requires { IsWindow self.reader self.used self.word }
@@ -49,7 +50,7 @@ impl<'a> Window<'a> {
         reader
     }
 
-    /// Whether the window holds `count` bits; where it doesn't, it is moved on first.
+    /// Whether the window holds `count` bits; if it doesn't, it is moved on first.
     #[inline(always)]
     fn holds(&mut self, count: u32) -> bool
         requires window { IsWindow self.old.reader self.old.used self.old.word }
@@ -85,8 +86,8 @@ impl<'a> Window<'a> {
         self.used += count;
     }
 
-    /// The next run of a color, of at most `room` pixels, where 57 bits hold it whole. Else none, and the window is at
-    /// the same place.
+    /// The next run of a color, of at most `room` pixels, if 57 bits hold it whole. Else none, and the window
+    /// is at the same place.
     #[inline(always)]
     pub(crate) fn run(&mut self, color: Color, room: u32) -> Option<u32>
         requires { IsWindow self.old.reader self.old.used self.old.word }

@@ -10,7 +10,7 @@ ghost use Rattle.std.specs.Prelude.{true, ◌≡◌, ◌<◌, ◌≤◌, ◌^◌
 
 use raster::Color;
 
-/// White, in the order of the code table.
+/// The white code words, in the order of the code table.
 const WHITE_WORDS: [(u16, u8); 104] = [
     (0b00110101, 8),
     (0b000111, 6),
@@ -118,7 +118,7 @@ const WHITE_WORDS: [(u16, u8); 104] = [
     (0b000000011111, 12),
 ];
 
-/// Black, in the order of the code table.
+/// The black code words, in the order of the code table.
 const BLACK_WORDS: [(u16, u8); 104] = [
     (0b0000110111, 10),
     (0b010, 3),

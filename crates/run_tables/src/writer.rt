@@ -18,7 +18,7 @@ use std::alloc::{AllocError, Global};
 use std::marker::Model;
 use std::mem;
 
-/// The place at an index, or the width where there is none.
+/// The place at an index, or the width if there is none.
 fn place_at(places: &[u32], index: usize, width: u32) -> u32
     ensures { result ≡ slice_index_or places.now index width }
 {
@@ -66,7 +66,7 @@ fn make_room(octets: &mut Vec<u8>, at: usize) -> Result<(), AllocError>
     Ok(())
 }
 
-/// Writes the bits of a word over those of eight octets from one of them on.
+/// Writes the bits of a word over eight octets, from octet `at` on.
 #[inline(always)]
 fn put_word(order: Order, octets: &mut Vec<u8>, at: usize, word: u64)
     requires { at + 8 ≤ length octets.old.items }
@@ -75,7 +75,7 @@ fn put_word(order: Order, octets: &mut Vec<u8>, at: usize, word: u64)
     octets[at..at + 8].copy_from_slice(&word_octets(order, word));
 }
 
-/// The word's first bits, and else 0.
+/// The word's first `count` bits, followed by 0 bits.
 fn first_of(word: u64, count: u32) -> u64
     requires { count < 64 }
     ensures same { (k : ℕ) → k < count → bit_of_word result k ≡ bit_of_word word k }
@@ -84,8 +84,8 @@ fn first_of(word: u64, count: u32) -> u64
     word >> 1 >> (63 - count) << (63 - count) << 1
 }
 
-/// Where the word of a writer of `bits` bits begins, at the octet `at` or before it, and how many bits the word then
-/// holds.
+/// Where the word of a writer of `bits` bits begins, at octet `at` or before it, and how many bits the word
+/// then holds.
 fn last_place(at: usize, bits: u128) -> (usize, u32)
     requires { bits < 8 * at + 64 }
     ensures place { 8 * result.0 + result.1 ≡ bits }
@@ -96,8 +96,8 @@ fn last_place(at: usize, bits: u128) -> (usize, u32)
     (first, (bits - 8 * first as u128) as u32)
 }
 
-/// A list of bits that grows at its end, and the order in which octets are to hold them. The last bits
-/// wait in a word until they are 64.
+/// A list of bits that grows at its end, and the order in which octets will hold them. The last bits wait in
+/// a word until there are 64.
 #[derive(Debug, Drop)]
 pub struct BitWriter {
     octets: Vec<u8>,
@@ -120,7 +120,7 @@ impl Model for BitWriter {
 }
 
 impl BitWriter {
-    /// No bits yet.
+    /// Makes a writer without bits.
     #[tactic(auto, using(crate::proofs::PendingLemmas::views))]
     pub fn new(alloc: Global, order: Order) -> Self
         ensures { result ≡ record { order = order; bits = [] } }
@@ -135,8 +135,8 @@ impl BitWriter {
         }
     }
 
-    /// Takes over the octets of a list and goes on after their bits; the list then has none. Errs where
-    /// memory is refused, which changes nothing.
+    /// Takes over the octets of a list, which then has none, and goes on after their bits. Errs if memory is
+    /// refused, which changes nothing.
     pub fn after(alloc: Global, octets: &mut Vec<u8>, order: Order) -> Result<BitWriter, AllocError>
         ensures ok { IfOk result (λ writer. writer ≡ record { order = order; bits = bits_of order octets.old.items }) }
         ensures taken { OnOk result (octets.new.items ≡ []) }
@@ -162,7 +162,7 @@ impl BitWriter {
         8 * self.at as u128 + self.filled as u128
     }
 
-    /// Appends the first bits of a word that the pending word may have no room for.
+    /// Appends the first bits of a word for which the pending word may have no room.
     #[inline(never)]
     fn push_full(&mut self, all: u64, count: u32) -> Result<(), AllocError>
         requires few { count ≤ 32 }
@@ -186,7 +186,7 @@ impl BitWriter {
         Ok(())
     }
 
-    /// Appends a bit. Errs where memory is refused, which changes nothing.
+    /// Appends a bit. Errs if memory is refused, which changes nothing.
     pub fn push(&mut self, bit: bool) -> Result<(), AllocError>
         ensures ok { OnOk result (Appends (bit ∷ []) self.old self.new) }
         ensures err { OnErr result (self.new ≡ self.old) }
@@ -194,8 +194,8 @@ impl BitWriter {
         self.push_bits(bit as u32, 1)
     }
 
-    /// Appends the lowest `count` bits of a number, at most 32, the most significant of them first. Errs where memory
-    /// is refused, which changes nothing.
+    /// Appends the lowest `count` bits of a number, at most 32, the most significant of them first. Errs if
+    /// memory is refused, which changes nothing.
     #[inline(always)]
     pub fn push_bits(&mut self, value: u32, count: u32) -> Result<(), AllocError>
         requires { count ≤ 32 }
@@ -212,7 +212,7 @@ impl BitWriter {
         Ok(())
     }
 
-    /// Keeps the first `bits` bits and forgets the others.
+    /// Keeps the first `bits` bits and drops the others.
     pub fn truncate(&mut self, bits: u128)
         requires { bits ≤ length self.old.bits }
         ensures { self.new ≡ record self.old { bits = take bits self.old.bits } }
@@ -228,8 +228,8 @@ impl BitWriter {
         self.filled = filled;
     }
 
-    /// Moves the octets that are whole to the end of a list. The last bits, fewer than eight, stay, and the writer goes
-    /// on after them in the memory that it has. Errs where memory is refused, which changes nothing.
+    /// Moves the whole octets to the end of a list. The last bits, fewer than eight, stay, and the writer
+    /// goes on after them in the memory that it has. Errs if memory is refused, which changes nothing.
     pub fn move_octets(&mut self, out: &mut Vec<u8>) -> Result<(), AllocError>
         ensures ok { OnOk result (MovesOctets out.old.items out.new.items self.old self.new) }
         ensures err { OnErr result (out.new.items ≡ out.old.items) }
@@ -248,7 +248,7 @@ impl BitWriter {
         Ok(())
     }
 
-    /// The octets that hold the bits, eight an octet, the last octet filled with 0 bits.
+    /// Returns the octets that hold the bits, eight an octet, the last octet filled with 0 bits.
     pub fn into_octets(self) -> Vec<u8>
         ensures { FillsOctets self.order self.bits result.items }
     {
@@ -269,8 +269,7 @@ impl BitWriter {
         octets
     }
 
-    /// Appends the bits that the digits `0` and `1` write. Errs where memory is refused, which changes
-    /// nothing.
+    /// Appends the bits that the digits `0` and `1` write. Errs if memory is refused, which changes nothing.
     pub fn push_digits(&mut self, digits: &[u8]) -> Result<(), AllocError>
         ensures ok { OnOk result (Appends (text digits.now) self.old self.new) }
         ensures err { OnErr result (self.new ≡ self.old) }
@@ -285,9 +284,9 @@ impl BitWriter {
         Ok(())
     }
 
-    /// Appends the code words of a run of up to 2,623 pixels: the terminating code of a run up to 63,
-    /// else a make-up code and the terminating code of the rest (ITU-T T.4, 4.1.1). Errs where memory
-    /// is refused, which changes nothing.
+    /// Appends the code words of a run of up to 2,623 pixels: the terminating code of a run up to 63, else a
+    /// make-up code and the terminating code of the rest (ITU-T T.4, 4.1.1). Errs if memory is refused, which
+    /// changes nothing.
     pub fn write_run(&mut self, color: Color, run: u32) -> Result<(), AllocError>
         requires { run ≤ 2623 }
         ensures ok { OnOk result (Appends (run_words color run) self.old self.new) }
@@ -297,8 +296,8 @@ impl BitWriter {
         self.push_bits(value, count)
     }
 
-    /// Appends the end of a line: eleven 0 bits and a 1 (ITU-T T.4, 4.1.2). Errs where memory is
-    /// refused, which changes nothing.
+    /// Appends an EOL: eleven 0 bits and a 1 (ITU-T T.4, 4.1.2). Errs if memory is refused, which changes
+    /// nothing.
     pub fn write_eol(&mut self) -> Result<(), AllocError>
         ensures ok { OnOk result (Appends eol self.old self.new) }
         ensures err { OnErr result (self.new ≡ self.old) }
@@ -306,8 +305,8 @@ impl BitWriter {
         self.push_bits(1, 12)
     }
 
-    /// Appends the code words of the runs that end at a row's changing positions and at its width, white first. After an
-    /// error some of them are appended.
+    /// Appends the code words of the runs that end at a row's changing positions and at its width, white
+    /// first. After an error some of them are appended.
     #[inline(always)]
     fn write_runs(&mut self, places: &[u32], width: u32) -> Result<(), AllocError>
         requires wide { IsWidth width }
@@ -337,8 +336,8 @@ impl BitWriter {
         Ok(())
     }
 
-    /// Appends the code words of the row's own runs, white first (ITU-T T.4, 4.1.1). Errs where memory
-    /// is refused, which changes nothing.
+    /// Appends the code words of the row's own runs, white first (ITU-T T.4, 4.1.1). Errs if memory is
+    /// refused, which changes nothing.
     pub fn write_row_1d(&mut self, alloc: Global, row: &Row) -> Result<(), AllocError>
         ensures ok { OnOk result (AppendsRow row.now self.old self.new) }
         ensures err { OnErr result (self.new ≡ self.old) }
@@ -347,8 +346,8 @@ impl BitWriter {
         self.write_row_1d_in(row, &mut changes)
     }
 
-    /// As `write_row_1d`, in the memory of a list, for rows one after the other. What the list holds
-    /// before is forgotten, and what it holds after is no matter.
+    /// As `write_row_1d`, in the memory of a list, to write many rows one after the other. What is in the
+    /// list doesn't matter, before or after.
     pub fn write_row_1d_in(&mut self, row: &Row, changes: &mut Vec<u32>) -> Result<(), AllocError>
         ensures ok { OnOk result (AppendsRow row.now self.old self.new) }
         ensures err { OnErr result (self.new ≡ self.old) }

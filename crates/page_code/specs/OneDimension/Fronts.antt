@@ -1,4 +1,4 @@
--- A page in the one-dimensional code, item by item (ITU-T T.4, 4.1): where a reader of it is, which items may be there, and
+-- A page in the one-dimensional code, item by item (ITU-T T.4, 4.1): where a reader of it is, which items are valid there, and
 -- what is seen in the bits.
 use Rattle.std.specs.Prelude.{ℕ, zero, suc, ◌≡◌, ◌+◌, ◌<◌, ◌≤◌, Bool, true, false, List, [], ◌∷◌, ◌++◌, length, drop, if◌then◌else◌, nat_lt}
 use Rattle.std.specs.Prelude.{Option, Some, None, Result}
@@ -15,7 +15,7 @@ use Rattle.run_tables.specs.RowFronts.RowState.{inside, whole}
 use Rattle.run_tables.specs.RowFronts.{item_word as code_bits}
 use Rattle.page_code.specs.OneDimension.Pages.{eol_word}
 
--- an EOL with the number of its 0 bits, or a run code
+-- an item of a page: an EOL with the number of its 0 bits, or a run code
 pub data PageItem : Type 0 where
   eol : ℕ → PageItem
   coded : RunItem → PageItem
@@ -25,25 +25,25 @@ abbrev pub item_word : PageItem → List Bool
 item_word (eol count) = eol_word count
 item_word (coded code) = code_bits code
 
--- before the page; after an EOL, where a row may begin; inside a row, perhaps after a make-up code; after a whole row. The rows
--- before it are those of the page so far
+-- The state of a reader of a page: before the page; after an EOL, at which a row may begin; inside a row, perhaps after a make-up code;
+-- after a whole row. It has the rows so far.
 pub data PageState : Type 0 where
   first : PageState
   row_start : List (List Color) → PageState
   in_row : List (List Color) → List Color → Color → Option ℕ → PageState
   row_end : List (List Color) → PageState
 
--- a state of a row, after the rows before it
+-- a state inside a row, after the rows before it
 abbrev pub put : List (List Color) → RowState → PageState
 put rows (inside pixels color makeup) = in_row rows pixels color makeup
 put rows (whole row) = row_end (rows ++ row ∷ [])
 
--- the run code may come in the row after these rows, and leads on
+-- the run code is valid in the row after these rows, and leads on to the state
 abbrev pub CodeThere : ℕ → List (List Color) → List Color → Color → Option ℕ → RunItem → PageState → Type 0
 CodeThere width rows pixels color makeup code state = CodeStep (λ row. put rows (whole row)) (λ more next high. put rows (inside more next
     high)) width pixels color makeup code state
 
--- the item may be there, and leads on
+-- the item is valid in the state, and leads on to the next one
 abbrev pub Step : ℕ → PageState → PageItem → PageState → Type 0
 Step width first (eol count) state = (11 ≤ count) × (row_start [] ≡ state)
 Step width first (coded code) state = CodeThere width [] [] White None code state
@@ -54,27 +54,27 @@ Step width (in_row rows pixels color makeup) (coded code) state = CodeThere widt
 Step width (row_end rows) (eol count) state = (11 ≤ count) × (row_start rows ≡ state)
 Step width (row_end rows) (coded code) state = ⊥
 
--- what is seen of a page
+-- the type of what is seen of a page
 abbrev pub PageLook : Type 0
 PageLook = Look PageState PageItem (List (List Color)) CodeFaultKind
 
--- the 0 bits before the first 1, or none where there is no 1
+-- the number of 0 bits before the first 1, if there is a 1
 abbrev pub zeros_before : List Bool → Option ℕ
 zeros_before [] = None
 zeros_before (true ∷ x) = Some 0
 zeros_before (false ∷ x) = option_map suc (zeros_before x)
 
--- where an EOL may come: what is seen where only 0 bits are left, where an EOL is, and where something else does
+-- what is seen at a place where an EOL may come, for each of: only 0 bits are left, an EOL is there, something else is there
 abbrev pub by_eol : Option ℕ → PageLook → (ℕ → PageLook) → PageLook → PageLook
 by_eol None none there other = none
 by_eol (Some count) none there other = if nat_lt count 11 then other else there count
 
--- the bits of an EOL and of what is counted after it, where one is
+-- the bits of an EOL, if there is one, and of what is counted after it
 abbrev pub eol_bits : Option ℕ → (ℕ → ℕ) → ℕ
 eol_bits None after = 0
 eol_bits (Some count) after = if nat_lt count 11 then 0 else after count
 
--- the bits of all EOLs that are there, or of the first `most` of them
+-- the bits of all EOLs that come, or of the first `most` of them
 abbrev pub bits_of_eols : ℕ → List Bool → ℕ
 bits_of_eols zero x = 0
 bits_of_eols (suc most) x = eol_bits (zeros_before x) (λ count. count + 1 + bits_of_eols most (drop (count + 1) x))
@@ -83,18 +83,20 @@ bits_of_eols (suc most) x = eol_bits (zeros_before x) (λ count. count + 1 + bit
 unfoldable pub bits_of_five : List Bool → ℕ
 bits_of_five x = bits_of_eols 5 x
 
--- the page ends, with `more` bits more
+-- the page ends, and `more` bits belong to its end
 abbrev pub ends_with : List (List Color) → ℕ → PageLook
 ends_with [] more = refuse NoRows
 ends_with (row ∷ rows) more = stop (row ∷ rows) more
 
--- a run code has to be there
+-- what is seen at a place that needs a run code
 abbrev pub look_in_row : ℕ → List (List Color) → List Color → Color → Option ℕ → List Bool → PageLook
 look_in_row width rows pixels color makeup x = look_code coded (λ row. put rows (whole row)) (λ more next high. put rows (inside more next
     high)) width pixels color makeup x
 
--- what is seen. Before the page: an EOL or the first row. After an EOL: the end of the page or a row. After a row: the end of the page
--- or an EOL
+-- What is seen. Before the page: an EOL or the first row; NoRows if only 0 bits or nothing is left. After an EOL: the page's end or a
+-- row; NoRows after the first EOL before another or before only 0 bits; TooManyCodedRows before a 20,001st row. In a row: the kinds of a
+-- row. After a row: the page's end or an EOL, else BadCode. Kinds says which pages are refused where and why, without this reader;
+-- RefusesPagesExactly joins the two, so that no refusal rests on it.
 abbrev pub look : ℕ → PageState → List Bool → PageLook
 look width first x = by_eol (zeros_before x) (refuse NoRows) (λ count. go (eol count) (row_start [])) (look_in_row width [] [] White None x)
 look width (row_start rows) x =
@@ -103,7 +105,7 @@ look width (row_start rows) x =
 look width (in_row rows pixels color makeup) x = look_in_row width rows pixels color makeup x
 look width (row_end rows) x = by_eol (zeros_before x) (stop rows 0) (λ count. go (eol count) (row_start rows)) (refuse BadCode)
 
--- reading of a page, item by item, from a place on: the page and the place after it, or the place and the kind of a refusal
+-- reading of a page from a place on, item by item: the page and the place after it, or the place and the kind of a refusal
 unfoldable pub reading : ℕ → PageState → ℕ → List Bool → Result (List (List Color) × ℕ) (ℕ × CodeFaultKind)
 reading width state place x = read_from item_word (look width) BadCode (suc (length x)) state place x
 
@@ -118,6 +120,6 @@ MayBegin (row_start before) rows = (length before < max_rows) × (before ≡ row
 MayBegin (in_row before pixels color makeup) rows = ⊥
 MayBegin (row_end before) rows = ⊥
 
--- neither an EOL nor only 0 bits: a 1 after fewer than 11 bits of 0
+-- neither an EOL nor only 0 bits come: a 1 after fewer than 11 bits of 0
 abbrev pub CodeBegins : List Bool → Type 0
 CodeBegins x = (count : ℕ) × (zeros_before x ≡ Some count) × (count < 11)

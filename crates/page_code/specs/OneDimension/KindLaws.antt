@@ -12,42 +12,42 @@ use Rattle.page_code.specs.OneDimension.Kinds.{PagePlace, IsPagePart, IsBeforeCo
 use Rattle.page_code.specs.OneDimension.Kinds.PagePlace.{line_begin}
 use Rattle.page_code.specs.OneDimension.Pages.{eol_word, ReadsAs}
 
--- where pages are refused
+-- law of the refusals of pages: exactly where a page goes no further, and why
 pub record RefusesPagesExactly : Type 0 where
-  -- reading refuses exactly where the page goes no further after whole items, and for that reason
+  -- reading is refused exactly where the page goes no further after whole items, and for that reason
   pub named : (width : ℕ) (x : List Bool) (place : ℕ) (kind : CodeFaultKind) → IsWidth width
       → (read_page width x ≡ Err (place, kind)) ↔ IsRefusedPage width x place kind
-  -- bits read as a page, or are refused
+  -- bits read as a page, or have a refusal
   pub some : (width : ℕ) (x : List Bool) → IsWidth width → ((page : List (List Color)) × (used : ℕ) × ReadsAs width x page used)
       ⊎ ((place : ℕ) × (kind : CodeFaultKind) × IsRefusedPage width x place kind)
-  -- bits that read as a page aren't refused
+  -- bits that read as a page have no refusal
   pub none : (width : ℕ) (x : List Bool) (page : List (List Color)) (used place : ℕ) (kind : CodeFaultKind) → IsWidth width
       → ReadsAs width x page used → ¬ IsRefusedPage width x place kind
-  -- there is one refusal alone
+  -- bits don't have two refusals
   pub one : (width : ℕ) (x : List Bool) (p q : ℕ) (a b : CodeFaultKind) → IsWidth width → IsRefusedPage width x p a
       → IsRefusedPage width x q b → (p ≡ q) × (a ≡ b)
   -- no more bits are whole items of a page
   pub longest : (width : ℕ) (x : List Bool) (place : ℕ) (kind : CodeFaultKind) (front rest : List Bool) (at : PagePlace) → IsWidth width
       → IsRefusedPage width x place kind → IsPagePart width front at → x ≡ front ++ rest → length front ≤ place
 
--- one place of a page has one kind
+-- law: one place of a page has one kind of refusal
 abbrev pub OneKind : Type 0
 OneKind = (width : ℕ) (at : PagePlace) (x : List Bool) (a b : CodeFaultKind) → PageKind width at x a → PageKind width at x b → a ≡ b
 
--- whole items of a page go on, and what is refused after them doesn't
+-- law: whole items of a page can go on, and what is refused after them can't
 pub record FrontsGoOn : Type 0 where
   -- after whole items are bits with which they read as a page
   pub goes_on : (width : ℕ) (front : List Bool) (at : PagePlace) → IsWidth width → IsPagePart width front at
       → (page : List (List Color)) × (more : List Bool) × (used : ℕ) × ReadsAs width (front ++ more) page used
-  -- with a run code after them that passes the width no bits read as a page, whatever follows
+  -- if a run code that passes the width comes after them, the bits read as no page, whatever follows
   pub too_long : (width : ℕ) (front : List Bool) (at : PagePlace) (so_far : ℕ) (color : Color) (among : Among) (run : ℕ) (word : List Bool)
       → IsWidth width → IsPagePart width front at → IsBeforeCode at so_far color among → MayCome color among run word
       → width < so_far + run → (more : List Bool) (page : List (List Color)) (used : ℕ)
       → ¬ ReadsAs width (front ++ (word ++ more)) page used
-  -- nor with a second EOL after the first
+  -- if a second EOL comes after the first, before any row, the bits read as no page
   pub second_eol : (width : ℕ) (front : List Bool) (count : ℕ) → IsWidth width → IsPagePart width front (line_begin 0) → 11 ≤ count
       → (more : List Bool) (page : List (List Color)) (used : ℕ) → ¬ ReadsAs width (front ++ (eol_word count ++ more)) page used
-  -- nor do bits that are refused as no code's, or where a 20,001st row would begin
+  -- bits that are refused as BadCode, or before a 20,001st row, read as no page, whatever follows
   pub no_item : (width : ℕ) (x : List Bool) (place : ℕ) (kind : CodeFaultKind) → IsWidth width
       → (kind ≡ BadCode) ⊎ (kind ≡ TooManyCodedRows) → IsRefusedPage width x place kind → (more : List Bool) (page : List (List Color))
       (used : ℕ) → ¬ ReadsAs width (x ++ more) page used

@@ -1,4 +1,4 @@
--- What the parts of a one-dimensional page's reader and writer answer (ITU-T T.4, 4.1).
+-- The results of the parts of a one-dimensional page's reader and writer (ITU-T T.4, 4.1).
 use Rattle.std.specs.Prelude.{ℕ, ◌≡◌, ◌+◌, ◌<◌, ◌≤◌, Bool, List, length, drop, None, Some, Result, Ok, Err, [], ◌∷◌, ◌++◌, ◌⊎◌}
 use Rattle.raster.specs.declared.row.Color.{Color}
 use Rattle.raster.specs.Pages.{max_rows}
@@ -17,13 +17,13 @@ use Rattle.page_code.specs.OneDimension.Fronts.{zeros_before, CodeBegins, MayBeg
 use Rattle.page_code.specs.OneDimension.Fronts.PageState.{first, row_start, in_row, row_end}
 use Rattle.page_code.specs.RowsSoFar.{after_rows}
 
--- what is found where an EOL may come
+-- what is found at a place where an EOL may come
 abbrev pub SeesEol : List Bool → Eol → Type 0
 SeesEol x (Present bits) = (count : ℕ) × (zeros_before x ≡ Some count) × (11 ≤ count) × (bits ≡ count + 1) × (bits ≤ length x)
 SeesEol x Absent = CodeBegins x
 SeesEol x OnlyZeros = zeros_before x ≡ None
 
--- what is found after an EOL, after `count` rows: a row's first code, or the page's end or a refusal, whatever the rows are
+-- what is found after an EOL, after `count` rows: a row's first code, the page's end or a refusal, whatever the rows are
 abbrev pub SeesStart : List Bool → ℕ → ℕ → Start → Type 0
 SeesStart bits place count (Row at) = (at ≡ place) × CodeBegins (drop place bits) × (count < max_rows)
 SeesStart bits place count (End used) =
@@ -40,13 +40,13 @@ rows_of (row_start rows) = rows
 rows_of (in_row rows pixels color makeup) = rows
 rows_of (row_end rows) = rows
 
--- from a place after these rows whole items lead to the state at another place
+-- whole items lead from a place after these rows to the state at another place
 abbrev pub Passes : List Bool → ℕ → List (List Color) → ℕ → PageState → ℕ → Type 0
 Passes bits width rows place state at =
     (items : List PageItem) × (rest : List Bool) × Walk (Step width) (after_rows rows) items state
     × (drop place bits ≡ spell item_word items ++ rest) × (at ≡ place + length (spell item_word items)) × (at ≤ length bits)
 
--- what is found after these rows: the next row's first code, or the page's end or a refusal
+-- what is found after these rows: the next row's first code, the page's end or a refusal
 abbrev pub FindsRow : List Bool → ℕ → List (List Color) → ℕ → Start → Type 0
 FindsRow bits width rows place (Row at) = (state : PageState) × MayBegin state rows × CodeBegins (drop at bits)
     × Passes bits width rows place state at
@@ -57,7 +57,7 @@ FindsRow bits width rows place (Refused fault) =
     (state : PageState) × Passes bits width rows place state fault.place × (rows_of state ≡ rows)
     × (look width state (drop fault.place bits) ≡ refuse fault.kind)
 
--- a row was read, or it is refused, or memory is
+-- a row was read, or it is refused, or memory was refused
 abbrev pub ReadsRowOfPage : List Bool → ℕ → Progress → Progress → Result (Unit {0}) CodeFault → Type 0
 ReadsRowOfPage bits place old new (Ok done) =
     (row : List Color) × (used : ℕ) × ReadsAsRow old.page.width (drop place bits) row used

@@ -1,4 +1,4 @@
--- What the parts of a page's repair answer.
+-- The results of the parts of a page's repair.
 use Rattle.std.specs.Prelude.{ℕ, ◌≡◌, ◌+◌, ◌≤◌, ◌⊎◌, Bool, List, [], ◌∷◌, ◌++◌, length, drop, Option, None, Some, Result, Ok, Err}
 use Rattle.raster.specs.declared.row.Color.{Color}
 use Rattle.run_tables.specs.declared.fault.CodeFault.{CodeFault}
@@ -10,23 +10,23 @@ use Rattle.page_code.specs.declared.one_dim.repair.RepairedPage.{RepairedPage}
 use Rattle.page_code.specs.OneDimension.Repairs.{EndsLine, EndsRow, HasMoreLines, IsLine, IsReadFor, IsRepair, Line, given, last_row, listed}
 use Rattle.page_code.specs.OneDimension.Repairs.Line.{spelled}
 
--- a line's end at a place, and the place after it
+-- the place after a line's end at a place, if a line ends there
 abbrev pub FindsEnd : List Bool → ℕ → Option ℕ → Type 0
 FindsEnd bits place (Some next) = (more : ℕ) × EndsLine (drop place bits) more × (next ≡ place + more) × (next ≤ length bits)
 FindsEnd bits place None = (used : ℕ) → ¬ EndsLine (drop place bits) used
 
--- a line's end after this row at a place, and the place after it
+-- the place after a line's end at a place after this row, if a line ends there
 abbrev pub FindsRowEnd : List Color → List Bool → ℕ → Option ℕ → Type 0
 FindsRowEnd row bits place (Some next) =
     (more : ℕ) × EndsRow row (drop place bits) more × (next ≡ place + more) × (next ≤ length bits)
 FindsRowEnd row bits place None = (used : ℕ) → ¬ EndsRow row (drop place bits) used
 
--- what the line at a place has
+-- what was found of the line at a place
 abbrev pub FindsLine : ℕ → List Bool → ℕ → Found → Type 0
 FindsLine width bits place (Read row next) = IsLine width bits place (spelled row) next × (next ≤ length bits)
 FindsLine width bits place (Broken bit) = (count : ℕ) × IsReadFor width (drop place bits) count × (bit ≡ place + count)
 
--- a row is given for one line more
+-- a row was given for one line more
 pub record GivesLine (bits : List Bool) (old new : Lines) : Type 0 where
   pub line : Line
   pub there : IsLine old.page.width bits old.place line new.place
@@ -34,7 +34,7 @@ pub record GivesLine (bits : List Bool) (old new : Lines) : Type 0 where
   pub page_is : new.page ≡ record old.page { rows = old.page.rows ++ given (last_row old.page.width old.page.rows) line ∷ [] }
   pub repaired_is : new.repaired.items ≡ old.repaired.items ++ listed (length old.page.rows + 1) line
 
--- the bits give the page, with these rows repaired; or there are too many lines, or memory was refused
+-- the result of a repair: the page that the bits give, with these rows repaired; or too many lines; or memory was refused
 abbrev pub RepairsLines : ℕ → Bool → List Bool → Result RepairedPage CodeFault → Type 0
 RepairsLines width fine bits (Ok answer) =
     (answer.page.width ≡ width) × (answer.page.fine ≡ fine) × IsRepair width bits answer.page.rows answer.repaired.items

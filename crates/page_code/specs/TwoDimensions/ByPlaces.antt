@@ -9,7 +9,7 @@ use Rattle.page_code.specs.TwoDimensions.Modes.{Mode, vertical_word, pass_word, 
 use Rattle.page_code.specs.TwoDimensions.Modes.Mode.{pass, vertical, horizontal}
 use Rattle.page_code.specs.TwoDimensions.Positions.{CodingLine, b1_of, b2_of}
 
--- the changing elements that a mode goes by
+-- the changing elements that decide a mode: a0, a1, a2, b1 and b2, each by its place
 pub record Elements : Type 0 where
   pub a0 : ℕ
   pub a1 : ℕ
@@ -17,7 +17,7 @@ pub record Elements : Type 0 where
   pub b1 : ℕ
   pub b2 : ℕ
 
--- how far a1 is from b1 in each vertical mode
+-- how far a1 is from b1 in each vertical mode, to the right or to the left
 abbrev pub IsShift : Shift → ℕ → ℕ → Type 0
 IsShift V0 b1 a1 = a1 ≡ b1
 IsShift VR1 b1 a1 = a1 ≡ b1 + 1
@@ -27,8 +27,8 @@ IsShift VL1 b1 a1 = a1 + 1 ≡ b1
 IsShift VL2 b1 a1 = a1 + 2 ≡ b1
 IsShift VL3 b1 a1 = a1 + 3 ≡ b1
 
--- the mode is the one for the elements: pass mode where b2 is to the left of a1; else a vertical mode where a1 is at most three places
--- from b1; else horizontal mode
+-- The mode for the elements: pass mode if b2 is to the left of a1; else the vertical mode of a1's distance from b1, if that is at most
+-- three; else horizontal mode with the runs from a0 to a1 and from a1 to a2.
 abbrev pub IsModeFor : Elements → Mode → Type 0
 IsModeFor e pass = e.b2 < e.a1
 IsModeFor e (vertical shift) = (e.a1 ≤ e.b2) × IsShift shift e.b1 e.a1
@@ -45,12 +45,12 @@ elements_of reference row line = record {
   b2 = b2_of reference line;
 }
 
--- each prescribed mode is the one for its elements
+-- law: each prescribed mode is the one for its changing elements
 abbrev pub PrescribesByPlaces : Type 0
 PrescribesByPlaces =
     (reference row : List Color) (line : CodingLine) → IsModeFor (elements_of reference row line) (prescribed reference row line)
 
--- the mode codes: the number of their bits, and their value
+-- law: each mode code by the number of its bits and by its value
 pub record ModesByValue : Type 0 where
   pub v0 : vertical_word V0 ≡ number_text 1 1
   pub horizontal_flag : horizontal_word ≡ number_text 3 1

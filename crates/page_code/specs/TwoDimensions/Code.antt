@@ -13,7 +13,7 @@ use Rattle.page_code.specs.TwoDimensions.Modes.Mode.{pass, vertical, horizontal}
 abbrev pub verticals : List Shift
 verticals = V0 ∷ VR1 ∷ VR2 ∷ VR3 ∷ VL1 ∷ VL2 ∷ VL3 ∷ []
 
--- the vertical mode of the list that leads from b1 to a1
+-- the vertical mode of the list that leads from b1 to a1, if there is one
 abbrev pub vertical_to : ℕ → ℕ → List Shift → Option Shift
 vertical_to b1 a1 [] = None
 vertical_to b1 a1 (shift ∷ others) = if nat_eq (a1 + to_left shift) (b1 + to_right shift) then Some shift else vertical_to b1 a1 others
@@ -31,7 +31,8 @@ a1_of row line = change_from row (right_of_a0 line)
 abbrev pub a2_of : List Color → CodingLine → ℕ
 a2_of row line = change_from row (a1_of row line + 1)
 
--- the prescribed mode: pass mode if b2 is to the left of a1, else a vertical mode if a1 is at most 3 from b1, else horizontal mode
+-- the prescribed mode (T.6, 2.2.3): pass mode if b2 is to the left of a1; else a vertical mode if a1 is at most 3 pixels from b1; else
+-- horizontal mode
 abbrev pub prescribed : List Color → List Color → CodingLine → Mode
 prescribed reference row line =
     if nat_lt (b2_of reference line) (a1_of row line) then pass else
@@ -61,6 +62,6 @@ abbrev pub rows_code : List Color → List (List Color) → List Bool
 rows_code reference [] = []
 rows_code reference (row ∷ rows) = row_code reference row ++ rows_code row rows
 
--- the code of a page: its rows, the first after an imaginary white line, and EOFB
+-- the prescribed code of a page: its rows by their prescribed modes, the first after an imaginary white line, and EOFB
 unfoldable pub page_code : ℕ → List (List Color) → List Bool
 page_code width rows = rows_code (white_line width) rows ++ eofb

@@ -1,6 +1,5 @@
--- Why bits of a T.6 page are refused (ITU-T T.6, 2.2 and 2.4): where a page is after whole codes, which codes may come there, and one
--- sentence
--- for each kind, over the tables and the modes alone. How bits are read doesn't matter here.
+-- Why bits of a T.6 page are refused (ITU-T T.6, 2.2 and 2.4): where a page is after whole codes, which codes are valid there, and one
+-- sentence for each kind, over the tables and the modes alone. How bits are read doesn't matter here.
 use Rattle.std.specs.Prelude.{ℕ, ◌≡◌, ◌+◌, ◌<◌, ◌≤◌, ◌⊎◌, Bool, true, false, List, [], ◌∷◌, ◌++◌, length, replicate, Option, Some, None}
 use Rattle.raster.specs.declared.row.Color.{Color}
 use Rattle.raster.specs.Pixels.{other}
@@ -24,7 +23,7 @@ use Rattle.page_code.specs.TwoDimensions.Writing.{reference_at}
 
 -- ---- where a page is after whole codes
 
--- the bits spell the rows, at most 20,000, and the last of them is the next one's reference line
+-- the bits spell the rows, at most 20,000, and the last row is the next one's reference line
 pub record AreRows (width : ℕ) (front : List Bool) (page : PageSoFar) : Type 0 where
   pub few : length page.rows ≤ max_rows
   pub spells : SpellsRows width (white_line width) page.rows front
@@ -37,7 +36,7 @@ SpellsModes width reference line (mode ∷ modes) next bits =
     (moved : CodingLine) × (rest : List Bool) × IsStep width reference line mode moved × (bits ≡ mode_words line.color mode ++ rest)
     × SpellsModes width reference moved modes next rest
 
--- the bits are rows, and modes of the next, which isn't whole yet
+-- the bits are rows, and modes of the next row, which isn't whole yet
 pub record AreModes (width : ℕ) (front : List Bool) (page : PageSoFar) (line : CodingLine) : Type 0 where
   pub before : List Bool
   pub later : List Bool
@@ -58,7 +57,8 @@ abbrev pub IsMakeup : Color → Option ℕ → List Bool → Type 0
 IsMakeup color None bits = bits ≡ []
 IsMakeup color (Some run) bits = InTable color run bits × (64 ≤ run)
 
--- the bits are the same, and after them horizontal mode's flag, perhaps its first run, and perhaps a make-up code, within the width
+-- the bits are rows and modes of the next one, horizontal mode's flag, perhaps its first run, and perhaps a make-up code, within the
+-- width
 pub record AreRuns (width : ℕ) (front : List Bool) (page : PageSoFar) (line : CodingLine) (first makeup : Option ℕ) : Type 0 where
   pub before : List Bool
   pub later : List Bool
@@ -67,7 +67,8 @@ pub record AreRuns (width : ℕ) (front : List Bool) (page : PageSoFar) (line : 
   pub within : length line.pixels + amount first + amount makeup ≤ width
   pub split : front ≡ before ++ (horizontal_word ++ (first_words line.color first ++ later))
 
--- whole codes of a page without its end: a row or the end may come; or modes of a row were there; or horizontal mode's flag was
+-- Whole codes of a page without its end: rows; or rows and modes of the next row; or after these horizontal mode's flag, perhaps its
+-- first run, and perhaps a make-up code, within the width.
 abbrev pub IsPagePart : ℕ → List Bool → PageState → Type 0
 IsPagePart width front (between page) = AreRows width front page
 IsPagePart width front (inside page line) = AreModes width front page line × (line.begun ≡ true)
@@ -75,27 +76,27 @@ IsPagePart width front (running page line first makeup) = AreRuns width front pa
 
 -- ---- which codes may come
 
--- which run codes may come: any, after a make-up code the terminating ones
+-- which run codes are valid: any, but after a make-up code only the terminating ones
 abbrev pub among_after : Option ℕ → Among
 among_after None = AllCodes
 among_after (Some makeup) = TerminatingCodes
 
--- the code word may come: EOFB or a mode code between rows, where a page of 20,000 rows takes no mode code; a mode code in a row; a run
--- code
+-- A valid code word: between rows EOFB, or a mode code if the page has fewer than 20,000 rows; in a row a mode code; after horizontal
+-- mode's flag a run code of the run's color, after a make-up code a terminating one.
 abbrev pub MayCome : PageState → List Bool → Type 0
 MayCome (between page) word = (word ≡ eofb) ⊎ ((length page.rows < max_rows) × (code : ModeCode) × (word ≡ mode_word code))
 MayCome (inside page line) word = (code : ModeCode) × (word ≡ mode_word code)
 MayCome (running page line first makeup) word = (run : ℕ) × RunMayCome (run_color line first) (among_after makeup) run word
 
--- a code that may come begins the bits
+-- a valid code word begins the bits
 abbrev pub BeginsWithCode : PageState → List Bool → Type 0
 BeginsWithCode state x = (word : List Bool) × (rest : List Bool) × MayCome state word × (x ≡ word ++ rest)
 
--- the bits end inside a code that may come, or before one: a bit or more of its code word is missing
+-- the bits are the beginning of a valid code word, and a bit or more of it is missing
 abbrev pub EndsInCode : PageState → List Bool → Type 0
 EndsInCode state x = (word : List Bool) × (bit : Bool) × (more : List Bool) × MayCome state word × (word ≡ x ++ bit ∷ more)
 
--- a mode code may come, on this line after this reference line
+-- a mode code is valid, on this line after this reference line
 abbrev pub TakesMode : PageState → List Color → CodingLine → Type 0
 TakesMode (between page) reference line = (length page.rows < max_rows) × (reference ≡ page.reference) × (line ≡ line_begin)
 TakesMode (inside page current) reference line = (reference ≡ page.reference) × (line ≡ current)
@@ -103,43 +104,43 @@ TakesMode (running page current first makeup) reference line = ⊥
 
 -- ---- code words that are refused
 
--- EOFB, before any row
+-- NoRows: EOFB, before any row
 abbrev pub EndsNoRow : PageState → List Bool → Type 0
 EndsNoRow (between page) word = (page.rows ≡ []) × (word ≡ eofb)
 EndsNoRow state word = ⊥
 
--- an extension, where a mode code may come
+-- Extension: 0000001, where a mode code is valid
 abbrev pub IsExtension : PageState → List Bool → Type 0
 IsExtension state word = (reference : List Color) × (line : CodingLine) × TakesMode state reference line × (word ≡ extension_word)
 
--- a vertical mode may come that has b1 here
+-- a vertical mode with its b1 at this place is valid
 abbrev pub TakesVertical : PageState → List Bool → CodingLine → Shift → ℕ → Type 0
 TakesVertical state word line shift b1 =
     (reference : List Color) × TakesMode state reference line × (word ≡ vertical_word shift) × IsB1 reference line b1
 
--- a vertical mode whose a1 isn't to the right of a0
+-- Backwards: a vertical mode whose a1 isn't to the right of a0
 abbrev pub LeadsBack : PageState → List Bool → Type 0
 LeadsBack state word = (line : CodingLine) × (shift : Shift) × (b1 : ℕ) × TakesVertical state word line shift b1
     × (b1 + to_right shift < right_of_a0 line + to_left shift)
 
--- a vertical mode whose a1 is past the width
+-- PastEnd: a vertical mode whose a1 is past the width
 abbrev pub LeadsPast : ℕ → PageState → List Bool → Type 0
 LeadsPast width state word = (line : CodingLine) × (shift : Shift) × (b1 : ℕ) × TakesVertical state word line shift b1
     × (width + to_left shift < b1 + to_right shift)
 
--- a run code that passes the width
+-- PastEnd: a run code that passes the width
 abbrev pub RunsPast : ℕ → PageState → List Bool → Type 0
 RunsPast width (running page line first makeup) word =
     (run : ℕ) × RunMayCome (run_color line first) (among_after makeup) run word
     × (width < length line.pixels + amount first + (amount makeup + run))
 RunsPast width state word = ⊥
 
--- a second run of 0 after a first of 0
+-- EmptyHorizontal: a second run of 0 pixels after a first run of 0
 abbrev pub EndsEmpty : PageState → List Bool → Type 0
 EndsEmpty (running page line (Some a0a1) None) word = (a0a1 ≡ 0) × InTable (other line.color) 0 word
 EndsEmpty state word = ⊥
 
--- the code word is refused, whatever follows it
+-- the code word is refused with this kind, whatever follows it
 abbrev pub IsRefusedWord : ℕ → PageState → List Bool → CodeFaultKind → Type 0
 IsRefusedWord width state word NoRows = EndsNoRow state word
 IsRefusedWord width state word Extension = IsExtension state word
@@ -150,32 +151,32 @@ IsRefusedWord width state word kind = ⊥
 
 -- ---- the kinds
 
--- only 0 bits are left, or none, where a row or the end may come
+-- MissingEofb: between rows only 0 bits are left, or nothing
 abbrev pub MissesEnd : PageState → List Bool → Type 0
 MissesEnd (between page) x = x ≡ replicate (length x) false
 MissesEnd state x = ⊥
 
--- the page has 20,000 rows, and neither EOFB nor a beginning of it is there
+-- TooManyCodedRows: the page has 20,000 rows, and what is left is neither EOFB, nor a beginning of it, nor only 0 bits
 abbrev pub HasTooMany : PageState → List Bool → Type 0
 HasTooMany (between page) x = (max_rows ≤ length page.rows) × (¬ BeginsWithCode (between page) x) × (¬ EndsInCode (between page) x)
     × (¬ MissesEnd (between page) x)
 HasTooMany state x = ⊥
 
--- a kind that has a sentence of its own
+-- the kinds that have a sentence of their own
 abbrev pub IsNamed : ℕ → PageState → List Bool → CodeFaultKind → Type 0
 IsNamed width state x MissingEofb = MissesEnd state x
 IsNamed width state x TooManyCodedRows = HasTooMany state x
 IsNamed width state x kind = (word : List Bool) × (rest : List Bool) × IsRefusedWord width state word kind × (x ≡ word ++ rest)
 
--- why the page goes no further: for what one of the sentences says; else since the bits end in a code that may come; else since none is
--- there
+-- Why the page goes no further: a kind that has a sentence of its own; else Truncated, if the bits are the beginning of a valid code
+-- word; else BadCode, as no valid code begins the bits.
 abbrev pub PageKind : ℕ → PageState → List Bool → CodeFaultKind → Type 0
 PageKind width state x Truncated = EndsInCode state x × ((kind : CodeFaultKind) → ¬ IsNamed width state x kind)
 PageKind width state x BadCode = (¬ BeginsWithCode state x) × (¬ EndsInCode state x) × ((kind : CodeFaultKind) → ¬ IsNamed width state x
     kind)
 PageKind width state x kind = IsNamed width state x kind
 
--- whole codes of a page, `place` bits, begin the bits, and for this reason the page goes no further
+-- the refusal of a page: whole codes of a page, `place` bits, begin the bits, and for this reason the page goes no further
 pub record IsRefusedPage (width : ℕ) (x : List Bool) (place : ℕ) (kind : CodeFaultKind) : Type 0 where
   pub front : List Bool
   pub rest : List Bool

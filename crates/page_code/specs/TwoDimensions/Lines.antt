@@ -22,11 +22,11 @@ pub record BothLines : Type 0 where
   pub reference : List Color
   pub line : CodingLine
 
--- the coding line that changes its color at these places, up to an a0 whose least place to its right this is
+-- the coding line that changes its color at these places, up to an a0 with this least place to its right
 abbrev pub line_before : List ℕ → ℕ → CodingLine
 line_before places from = record { pixels = turning White 0 places (from - 1); begun = nat_lt 0 from; color = turned White places }
 
--- the coding line of a front: its places are the first ones of a list
+-- the coding line of a front: its changing places are the first ones of a list
 abbrev pub line_of : List ℕ → Front → CodingLine
 line_of list front = line_before (take front.turns list) front.from
 
@@ -41,17 +41,18 @@ pub record EndsWith (held : List ℕ) (width : ℕ) : Type 0 where
   pub rising : (i j : ℕ) → i ≤ j → j < length held → slice_index_or held i 0 ≤ slice_index_or held j 0
   pub ends : (k : ℕ) → length held ≤ k + 3 → k < length held → slice_index_or held k 0 ≡ width
 
--- of each second place up to an index, the one before it is to the left of a place
+-- among every second place up to an index, the one before the index is to the left of a place
 abbrev pub IsSoughtFrom : List ℕ → ℕ → ℕ → Type 0
 IsSoughtFrom held from at = 2 ≤ at → slice_index_or held (at - 2) 0 < from
 
--- of each second place, the first that isn't to the left of a place
+-- among every second place, the first that isn't to the left of a place
 pub record IsFoundAt (held : List ℕ) (from at : ℕ) : Type 0 where
   pub within : at + 1 < length held
   pub left : IsSoughtFrom held from at
   pub reached : from ≤ slice_index_or held at 0
 
--- a front that fits the reference line's places, a list of the coding line's, and their width: b1's color is the other one than a0's
+-- a front that fits the reference line's places, a list of the coding line's places, and their width: b1's color is the other one than
+-- a0's
 pub record FitsLists (held list : List ℕ) (width : ℕ) (front : Front) : Type 0 where
   pub wide : IsWidth width
   pub ended : EndsWith held width
@@ -63,7 +64,7 @@ pub record FitsLists (held list : List ℕ) (width : ℕ) (front : Front) : Type
   pub sought : IsSoughtFrom held front.from front.at
   pub even : (front.at + front.turns) % 2 ≡ 0
 
--- a mode code leads on, whatever row the reference line's places are those of
+-- a mode code leads on, whatever row has these places as its reference line's
 abbrev pub Leads : List ℕ → CodingLine → CodingLine → ModeCode → Type 0
 Leads held line next code = (reference : List Color) → AreHeld reference held → LeadsOn reference line next code
 
@@ -73,20 +74,20 @@ Refuses held line code kind =
     (reference : List Color) → AreHeld reference held → (page : PageSoFar) → page.reference ≡ reference
     → after_mode (length reference) page line code ≡ Err kind
 
--- why there is no a1 for b1: it would not be to the right of a0, or past the width
+-- why there is no a1 for b1: it would not be to the right of a0 (Backwards), or past the width (PastEnd)
 abbrev pub RefusesA1 : ℕ → Shift → ℕ → ℕ → CodeFaultKind → Type 0
 RefusesA1 b1 shift from width kind =
     ((b1 + to_right shift < from + to_left shift) × (kind ≡ Backwards)) ⊎
     ((from + to_left shift ≤ b1 + to_right shift) × (width + to_left shift < b1 + to_right shift) × (kind ≡ PastEnd))
 
--- a mode code that begins what begins with a number's first seven bits leads on, and has `count` bits
+-- a mode code that begins with a number's first seven bits leads on, and has `count` bits
 pub record StepsBy (held : List ℕ) (word : ℕ) (line next : CodingLine) (count : ℕ) : Type 0 where
   pub code : ModeCode
   pub begun : (x : List Bool) → AreFirst 7 x word → 7 ≤ length x → begins (mode_word code) x ≡ true
   pub count_is : count ≡ length (mode_word code)
   pub leads : Leads held line next code
 
--- the color turns at a place once more: there is one place more in the list, or one less where it was there
+-- the color turns at a place once more: the list has one place more, or one less if the place was in it
 pub record TurnsAt (old new : List ℕ) (place : ℕ) : Type 0 where
   pub rising : IsRising new
   pub below : All (λ p. p ≤ place) new

@@ -11,7 +11,7 @@ use Rattle.raster.specs.Changes.{color_at, color_before, IsChanging, IsNextChang
 abbrev pub white_line : ℕ → List Color
 white_line width = replicate width White
 
--- a coding line up to a0: its pixels before a0, whether a0 is on the line yet, and a0's color
+-- a coding line up to a0: its pixels before a0, whether a0 is on the line yet, and a0's color (T.6, 2.2.1)
 pub record CodingLine : Type 0 where
   pub pixels : List Color
   pub begun : Bool
@@ -33,7 +33,7 @@ a0_of line = record { place = length line.pixels; begun = line.begun; color = li
 abbrev pub right_of : A0 → ℕ
 right_of a0 = a0.place + (if a0.begun then 1 else 0)
 
--- the line up to a place, a0's color from a0 on
+-- the line up to a place, with a0's color from a0 on
 abbrev pub filled_to : CodingLine → ℕ → List Color
 filled_to line place = line.pixels ++ replicate (place - length line.pixels) line.color
 
@@ -41,52 +41,52 @@ filled_to line place = line.pixels ++ replicate (place - length line.pixels) lin
 abbrev pub IsChangingTo : List Color → Color → ℕ → Type 0
 IsChangingTo row color place = IsChanging row place × (color_at row place ≡ color)
 
--- the first changing element of this color at or above a place, or the row's end where there is none
+-- the first changing element of this color at or after a place, or the row's end if there is none
 pub record IsFirstTo (row : List Color) (color : Color) (from place : ℕ) : Type 0 where
   pub bound : place ≤ length row
   pub changing : place < length row → (from ≤ place) × IsChangingTo row color place
   pub least : (k : ℕ) → from ≤ k → k < place → ¬ IsChangingTo row color k
 
--- b1: the first changing element of the reference line to the right of a0 and of opposite color to a0, or the line's end where there is
--- none
+-- b1: the first changing element of the reference line to the right of a0 and of the other color than a0's, or the line's end if there is
+-- none (T.6, 2.2.1)
 abbrev pub IsB1 : List Color → CodingLine → ℕ → Type 0
 IsB1 reference line b1 = IsFirstTo reference (other line.color) (right_of_a0 line) b1
 
--- b2: the next changing element of the reference line to the right of b1, or the line's end where there is none
+-- b2: the next changing element of the reference line to the right of b1, or the line's end if there is none (T.6, 2.2.1)
 abbrev pub IsB2 : List Color → ℕ → ℕ → Type 0
 IsB2 reference b1 b2 = IsNextChange reference (b1 + 1) b2
 
 -- Their search
 
--- the first place at or above `at` where the test holds, among a number of places
+-- the first place at or after `at` that passes the test, among a number of places
 abbrev pub first_place : (ℕ → Bool) → ℕ → ℕ → ℕ
 first_place test zero at = at
 first_place test (suc count) at = if test at then at else first_place test count (at + 1)
 
--- the two colors are the same
+-- whether two colors are the same
 abbrev pub same_color : Color → Color → Bool
 same_color White White = true
 same_color White Black = false
 same_color Black White = false
 same_color Black Black = true
 
--- the pixel differs from the one before
+-- whether the pixel differs from the one before it
 abbrev pub changes : List Color → ℕ → Bool
 changes row place = not (same_color (color_at row place) (color_before row place))
 
--- the pixel differs from the one before, and has this color
+-- whether the pixel differs from the one before it and has this color
 abbrev pub changes_to : List Color → Color → ℕ → Bool
 changes_to row color place = same_color (color_at row place) color && changes row place
 
--- the next changing element of a row at or above a place, or the row's end
+-- the next changing element of a row at or after a place, or the row's end
 unfoldable pub change_from : List Color → ℕ → ℕ
 change_from row from = min (length row) (first_place (changes row) (length row - from) from)
 
--- b1 of a coding line
+-- b1 of a coding line, by search
 unfoldable pub b1_of : List Color → CodingLine → ℕ
 b1_of reference line = min (length reference) (first_place (changes_to reference (other line.color)) (length reference - right_of_a0 line)
     (right_of_a0 line))
 
--- b2 of a coding line
+-- b2 of a coding line, by search
 abbrev pub b2_of : List Color → CodingLine → ℕ
 b2_of reference line = change_from reference (b1_of reference line + 1)

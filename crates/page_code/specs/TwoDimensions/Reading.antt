@@ -1,4 +1,4 @@
--- What the parts of a T.6 page's reader answer (ITU-T T.6, 2.2).
+-- The results of the parts of a T.6 page's reader (ITU-T T.6, 2.2).
 use Rattle.std.specs.Prelude.{ℕ, suc, ◌≡◌, ◌+◌, ◌<◌, ◌≤◌, ◌⊎◌, Bool, true, false, List, [], ◌∷◌, ◌++◌, length, if◌then◌else◌, Option, None}
 use Rattle.std.specs.Prelude.{Some, Result, Ok, Err, ◌-◌, replicate}
 use Rattle.raster.specs.declared.row.Color.{Color}
@@ -26,13 +26,13 @@ use Rattle.page_code.specs.TwoDimensions.Fronts.{mode_ended, after_mode, run_col
 use Rattle.page_code.specs.TwoDimensions.Fronts.{page_look}
 use Rattle.page_code.specs.TwoDimensions.Fronts.PageState.{between, inside, running}
 
--- what is seen in the bits of a row: what is seen in those of a page, until the row is whole
+-- what is seen in the bits of a row: what is seen in a page's, until the row is whole
 abbrev pub row_look : ℕ → PageState → List Bool → PageLook
 row_look width (between page) x = stop page.rows 0
 row_look width (inside page line) x = look_mode width page line x
 row_look width (running page line first makeup) x = look_run width page line first makeup x
 
--- the item may be there in a row, and leads to the state
+-- the item is valid in a row, and leads to the state
 abbrev pub RowStep : ℕ → PageState → PageItem → PageState → Type 0
 RowStep width (between page) item state = ⊥
 RowStep width (inside page line) item state = PageStep width (inside page line) item state
@@ -51,22 +51,22 @@ GoesOnWith runs color = (tail : List ℕ) → colored White (runs ++ tail) ≡ c
 abbrev pub missing_mode : List Bool → CodeFaultKind
 missing_mode x = if begins extension_word x then Extension else if is_cut mode_word mode_codes x then Truncated else BadCode
 
--- a mode code was read, or none begins the bits that are left
+-- a mode code was read, or no mode code begins the bits that are left
 abbrev pub ReadsMode : Reading → Reading → Result ModeCode CodeFault → Type 0
 ReadsMode old new (Ok code) = (begins (mode_word code) (rest_of old) ≡ true) × (new ≡ after (mode_word code) old)
 ReadsMode old new (Err fault) = (fault ≡ record { place = old.place; kind = missing_mode (rest_of old) }) × ((code : ModeCode)
     → begins (mode_word code) (rest_of old) ≡ false)
 
--- a mode code was read, or none begins the bits that are left and the reader stays
+-- a mode code was read; or no mode code begins the bits that are left, and the reader didn't move
 abbrev pub FindsMode : Reading → Reading → Option ModeCode → Type 0
 FindsMode old new (Some code) = (begins (mode_word code) (rest_of old) ≡ true) × (new ≡ after (mode_word code) old)
 FindsMode old new None = (new ≡ old) × ((code : ModeCode) → begins (mode_word code) (rest_of old) ≡ false)
 
--- a run of this color has to be there, with room for `room` pixels
+-- a run of this color is needed, with room for `room` pixels
 abbrev pub HasRoom : ℕ → CodingLine → Option ℕ → Color → ℕ → Type 0
 HasRoom width line first color room = (run_color line first ≡ color) × (length line.pixels + amount first + room ≡ width)
 
--- one run of horizontal mode was read, at most `room` pixels; or it is refused where reading the page is
+-- one run of horizontal mode was read, at most `room` pixels; or it is refused where reading the page is refused
 abbrev pub ReadsRun : Color → ℕ → Reading → Reading → Result ℕ CodeFault → Type 0
 ReadsRun color room old new (Ok run) =
     (run ≤ room) × (new.bits ≡ old.bits) × (old.place < new.place) × (new.place ≤ length new.bits) ×
@@ -85,7 +85,7 @@ LeadsOn reference line next code =
     (length next.pixels ≤ length reference) × ((page : PageSoFar) → page.reference ≡ reference
     → after_mode (length reference) page line code ≡ Ok (mode_ended (length reference) page next))
 
--- a1 of a vertical mode, to which the line leads on; or the mode is refused
+-- a1 of a vertical mode, which the line leads to; or the mode is refused
 abbrev pub FindsA1 : List Color → CodingLine → Shift → Result ℕ CodeFaultKind → Type 0
 FindsA1 reference line shift (Ok a1) = (length line.pixels ≤ a1) × (a1 ≤ length reference) × ((next : CodingLine)
     → next ≡ record { pixels = line.pixels ++ replicate (a1 - length line.pixels) line.color; begun = true; color = other line.color }
@@ -93,14 +93,14 @@ FindsA1 reference line shift (Ok a1) = (length line.pixels ≤ a1) × (a1 ≤ le
 FindsA1 reference line shift (Err kind) = (page : PageSoFar) → page.reference ≡ reference
     → after_mode (length reference) page line (Vertical shift) ≡ Err kind
 
--- the mode code at a place leads on, or is refused there, or memory is
+-- the mode code at a place leads on, or is refused there, or memory was refused
 abbrev pub MovesTo : List Color → ℕ → CodingLine → CodingLine → ModeCode → Result (Unit {0}) CodeFault → Type 0
 MovesTo reference place line next code (Ok done) = LeadsOn reference line next code
 MovesTo reference place line next code (Err fault) =
     (fault.kind ≡ NoMemory) ⊎ ((fault.place ≡ place) × ((page : PageSoFar) → page.reference ≡ reference
     → after_mode (length reference) page line code ≡ Err fault.kind))
 
--- the two runs of horizontal mode were read; or they are refused, or memory is
+-- the two runs of horizontal mode were read; or one is refused, or memory was refused
 abbrev pub ReadsHorizontal : ℕ → Reading → Reading → CodingLine → CodingLine → Result (Unit {0}) CodeFault → Type 0
 ReadsHorizontal width old new line next (Ok done) =
     (new.bits ≡ old.bits) × (old.place < new.place) × (new.place ≤ length new.bits) × (length next.pixels ≤ width) ×
@@ -111,7 +111,7 @@ ReadsHorizontal width old new line next (Err fault) =
     (fault.kind ≡ NoMemory) ⊎ ((page : PageSoFar)
     → row_reading width (running page line None None) old.place (rest_of old) ≡ Err (fault.place, fault.kind))
 
--- one mode was read: reading the page from before it is reading on after it; or it is refused there, or memory is
+-- one mode was read, and reading the page from before it is reading on after it; or it is refused there, or memory was refused
 abbrev pub StepsOn : List Color → Reading → Reading → CodingLine → CodingLine → Result (Unit {0}) CodeFault → Type 0
 StepsOn reference old new line next (Ok done) =
     (new.bits ≡ old.bits) × (old.place < new.place) × (new.place ≤ length new.bits) × (length next.pixels ≤ length reference) ×
@@ -123,7 +123,7 @@ StepsOn reference old new line next (Err fault) =
     (fault.kind ≡ NoMemory) ⊎ ((page : PageSoFar) → page.reference ≡ reference
     → row_reading (length reference) (inside page line) old.place (rest_of old) ≡ Err (fault.place, fault.kind))
 
--- modes were read, or none: reading the page from before them is reading on after them
+-- modes were read, perhaps none: reading the page from before them is reading on after them
 abbrev pub StepsAlong : List Color → Reading → Reading → CodingLine → CodingLine → Type 0
 StepsAlong reference old new line next =
     (new.bits ≡ old.bits) × (old.place ≤ new.place) × (new.place ≤ length new.bits) × (length next.pixels ≤ length reference) ×
@@ -131,12 +131,12 @@ StepsAlong reference old new line next =
     → row_reading (length reference) (mode_ended (length reference) page line) old.place (rest_of old) ≡ row_reading (length reference)
     (mode_ended (length reference) page next) new.place (rest_of new))
 
--- one mode was read, or it wasn't, and nothing changed
+-- one mode was read, or nothing changed
 abbrev pub StepsQuickly : List Color → Reading → Reading → CodingLine → CodingLine → Bool → Type 0
 StepsQuickly reference old new line next true = StepsOn reference old new line next (Ok tt)
 StepsQuickly reference old new line next false = (new ≡ old) × (next ≡ line)
 
--- one row was read, or it is refused, or memory is
+-- one row was read, or it is refused, or memory was refused
 abbrev pub ReadsRow : List Color → Reading → Reading → Result (List Color) CodeFault → Type 0
 ReadsRow reference old new (Ok row) =
     (length row ≡ length reference) × (new.bits ≡ old.bits) × (new.place ≤ length new.bits) ×
@@ -146,7 +146,7 @@ ReadsRow reference old new (Err fault) =
     (fault.kind ≡ NoMemory) ⊎ ((page : PageSoFar) → page.reference ≡ reference
     → row_reading (length reference) (inside page line_begin) old.place (rest_of old) ≡ Err (fault.place, fault.kind))
 
--- what is found where a row may begin, after `count` rows
+-- what is found at a place where a row may begin, after `count` rows
 abbrev pub SeesStart : List Bool → ℕ → Start → Type 0
 SeesStart x count Row = (begins eofb x ≡ false) × (all_zero x ≡ false) × (begins x eofb ≡ false) × (count < max_rows)
 SeesStart x count End = (begins eofb x ≡ true) × (0 < count)

@@ -19,7 +19,7 @@ pub record IsUpTo (row : List Color) (line : CodingLine) : Type 0 where
 abbrev pub line_to : List Color → A0 → CodingLine
 line_to row to = record { pixels = take to.place row; begun = to.begun; color = to.color }
 
--- the row was coded up to a place of its
+-- the row was coded up to one of its places
 pub record IsCodedTo (row : List Color) (to : A0) : Type 0 where
   pub within : to.place ≤ length row
   pub stands : IsUpTo row (line_to row to)
@@ -30,10 +30,10 @@ pub record WritesMode (reference row : List Color) (old new : A0) (before after 
   pub moves : line_to row new ≡ moved reference row (line_to row old) (prescribed reference row (line_to row old))
   pub within : new.place ≤ length row
 
--- one of the rows
+-- the row at an index
 abbrev pub row_at : List (List Color) → ℕ → List Color
 row_at rows at = slice_index_or rows at []
 
--- the reference line of one of the rows: the row before it, or the white line
+-- the reference line of the row at an index: the row before it, or the white line
 abbrev pub reference_at : List Color → List (List Color) → ℕ → List Color
 reference_at white rows at = row_at (white ∷ rows) at

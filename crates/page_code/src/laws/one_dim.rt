@@ -6,7 +6,7 @@ ghost use Rattle.page_code.specs.OneDimension.OwnRuns.{OwnRunsOwn, OwnRunsOnly};
 ghost use Rattle.page_code.specs.OneDimension.Repairs.{OneRepair, RepairsNothing};
 ghost use Rattle.page_code.specs.OneDimension.Laws.{ReadsExactly, RefusesNoPage, RefusesAtLongest, OneFront, ReadsCode};
 
-/// A page is read exactly where the bits read as it.
+/// A page is read exactly if the bits read as it.
 pub fn reads_exactly()
     ensures { ReadsExactly }
 {}
@@ -16,12 +16,12 @@ pub fn refuses_no_page()
     ensures { RefusesNoPage }
 {}
 
-/// A refusal has the length of the longest front as its place, and the kind of what is there.
+/// The place of a refusal is the length of the longest front, and its kind is that of the bits after it.
 pub fn refuses_at_longest()
     ensures { RefusesAtLongest }
 {}
 
-/// Of two fronts of the same bits one begins the other.
+/// Of two fronts of the same bits, one begins the other.
 pub fn one_front()
     ensures { OneFront }
 {}
@@ -31,7 +31,7 @@ pub fn round_trip()
     ensures { ReadsCode }
 {}
 
-/// The own runs of a row are its own runs.
+/// The own runs that the function gives are the row's own runs.
 pub fn own_runs_own()
     ensures { OwnRunsOwn }
 {}
@@ -41,7 +41,7 @@ pub fn own_runs_only()
     ensures { OwnRunsOnly }
 {}
 
-/// A page that can be read is given as it is, with nothing repaired.
+/// A page that can be read is given as it is, with no row repaired.
 pub fn repair_of_a_whole_page()
     ensures { RepairsNothing }
 {}
@@ -51,9 +51,10 @@ pub fn one_repair()
     ensures { OneRepair }
 {}
 
-/// Of a page that is repaired: a line ends with an EOL, also with one of which any one of the first eleven bits is wrong; after a row
-/// that ends in black also with a white run of 0 pixels and an EOL; after a line
-/// that can't be read, reading goes on after the next EOL and nowhere else; the first line begins after an EOL, or at once.
+/// When a line of a repaired page ends, by bits: with an EOL, also one with a single wrong bit among its
+/// first eleven; after a row that ends in black also with a white run of 0 pixels and an EOL. After a line
+/// that can't be read, reading goes on after the next EOL and nowhere else. The first line begins after an
+/// EOL, or at once.
 pub fn lines_mean()
     ensures ends { LineEndsMean }
     ensures rows { RowLinesEndMean }
@@ -66,19 +67,19 @@ pub fn one_kind()
     ensures { OneKind }
 {}
 
-/// A page is refused exactly where it goes no further after whole items, for the reason that the
-/// bits there give: bits read as a page or have one refusal, and not both.
+/// A page is refused exactly where it goes no further after whole items, for the reason that the bits there
+/// give: bits read as a page or have one refusal, and not both.
 pub fn refuses_pages_exactly()
     ensures { RefusesPagesExactly }
 {}
 
-/// After whole items of a page are bits with which they read as a page; with a run code that passes
-/// the width, a second EOL before any row, or bits that are no code's, none does.
+/// After whole items of a page some bits complete a page; after a run code that passes the width, a second
+/// EOL before any row, bits that begin no code, or a 20,001st row's beginning, no bits do.
 pub fn fronts_go_on()
     ensures { FrontsGoOn }
 {}
 
-/// Refused pages that were coded by hand.
+/// Refused pages that were coded by hand from the tables.
 pub fn refused_pages()
     ensures { AreRefusedPages }
 {}

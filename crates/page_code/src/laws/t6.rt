@@ -6,12 +6,13 @@ ghost use Rattle.page_code.specs.TwoDimensions.PageEnds.{PageEndsMean};
 ghost use Rattle.page_code.specs.TwoDimensions.Laws.{FindsPositions, OneFront, PassLeadsOn, ReadsExactly};
 ghost use Rattle.page_code.specs.TwoDimensions.Laws.{RefusesAtLongest, RefusesNoPage, RoundTrip};
 
-/// Where no row begins, the codes of no row are; EOFB, a part of it and nothing are such ends of a page, and an extension is none.
+/// If no row begins, no row's code is there; EOFB, a part of it and nothing are such ends of a page, and an
+/// extension isn't.
 pub fn page_ends_mean()
     ensures { PageEndsMean }
 {}
 
-/// The places that the search finds are b1, b2 and the next changing element, and no others are.
+/// The search finds exactly b1, b2 and the next changing element of a row.
 pub fn finds_positions()
     ensures { FindsPositions }
 {}
@@ -21,7 +22,7 @@ pub fn pass_leads_on()
     ensures { PassLeadsOn }
 {}
 
-/// A page is read exactly where the bits read as it.
+/// A page is read exactly if the bits read as it.
 pub fn reads_exactly()
     ensures { ReadsExactly }
 {}
@@ -31,33 +32,34 @@ pub fn refuses_no_page()
     ensures { RefusesNoPage }
 {}
 
-/// A refusal has the length of the longest front as its place, and the kind of what is there.
+/// The place of a refusal is the length of the longest front, and its kind is that of the bits after it.
 pub fn refuses_at_longest()
     ensures { RefusesAtLongest }
 {}
 
-/// Of two fronts of the same bits one begins the other.
+/// Of two fronts of the same bits, one begins the other.
 pub fn one_front()
     ensures { OneFront }
 {}
 
-/// Pages are refused exactly where they go no further after whole codes, and each for the reason that is
-/// there.
+/// A page is refused exactly where it goes no further after whole codes, for the reason that the bits there
+/// give: bits read as a page or have one refusal, and not both.
 pub fn refuses_pages_exactly()
     ensures { RefusesPagesExactly }
 {}
 
-/// One place has one kind.
+/// One place of a page has one kind of refusal.
 pub fn one_kind()
     ensures { OneKind }
 {}
 
-/// The fronts that a reader goes over are whole codes of a page, and no others are.
+/// The fronts that a reader goes over are exactly the whole codes of a page.
 pub fn fronts_are_parts()
     ensures { FrontsAreParts }
 {}
 
-/// After whole codes some bits complete a page, and after what is refused none do.
+/// After whole codes some bits complete a page, whose first rows are the ones before; after what is refused
+/// no bits do.
 pub fn fronts_go_on()
     ensures { FrontsGoOn }
 {}
@@ -72,9 +74,9 @@ pub fn round_trip()
     ensures { RoundTrip }
 {}
 
-/// The prescribed mode by the places of the changing elements: pass mode where b2 is to the left of a1, else a
-/// vertical mode where a1 is at most three places from b1, else horizontal mode; and the mode codes by length
-/// and value. ITU-T T.6, 2.2.
+/// The prescribed mode by the places of the changing elements: pass mode if b2 is to the left of a1, else a
+/// vertical mode if a1 is at most three places from b1, else horizontal mode; and the mode codes by length
+/// and value (ITU-T T.6, 2.2).
 pub fn prescribes_by_places()
     ensures modes { PrescribesByPlaces }
     ensures codes { ModesByValue }

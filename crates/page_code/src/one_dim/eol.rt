@@ -9,12 +9,12 @@ ghost use Rattle.std.specs.Prelude.{◌≡◌, ◌≤◌, ◌<◌, ◌+◌, ◌*
 use raster::packed::{Order, word_at};
 use run_tables::BitReader;
 
-/// What is found where an end of line may come (ITU-T T.4, 4.1.2).
+/// What is found at a place where an EOL may come (ITU-T T.4, 4.1.2).
 #[derive(Clone, Copy, Debug, PartialEq, Eq)]
 pub(crate) enum Eol {
     /// An EOL, 11 or more 0 bits and a 1, and the number of its bits.
     Present(u128),
-    /// A 1 after fewer than 11 bits of 0.
+    /// A 1 after fewer than 11 bits of 0: no EOL.
     Absent,
     /// Only 0 bits, or nothing.
     OnlyZeros,
@@ -28,7 +28,7 @@ fn zeros_of(word: u64) -> u32
     word.leading_zeros()
 }
 
-/// The number of 0 bits before the first 1 from a place on, or none where there is no 1.
+/// The number of 0 bits before the first 1 from a place on; none if there is no 1.
 pub(crate) fn zeros_from(octets: &[u8], order: Order, place: u128) -> Option<u128>
     requires { place ≤ 8 * length octets.now }
     ensures zeros { result ≡ zeros_before (drop place (bits_of order octets.now)) }
@@ -46,8 +46,8 @@ pub(crate) fn zeros_from(octets: &[u8], order: Order, place: u128) -> Option<u12
     None
 }
 
-/// How many bits the EOL at a place has, where the next 57 bits show that one is there and that a row's code follows
-/// it.
+/// The number of bits of the EOL at a place, if the next 57 bits show that one is there and that a row's code
+/// follows it.
 #[inline(always)]
 pub(crate) fn quick_eol(octets: &[u8], order: Order, place: u128) -> Option<u32>
     requires { place ≤ 8 * length octets.now }
@@ -88,7 +88,7 @@ pub(crate) fn eol_at(octets: &[u8], order: Order, place: u128) -> Eol
     }
 }
 
-/// The place after the EOLs at a place, six at most in a row with the one before it.
+/// The place after the EOLs at a place, six at most together with the one before it.
 pub(crate) fn after_five_eols(octets: &[u8], order: Order, place: u128) -> u128
     requires { place ≤ 8 * length octets.now }
     ensures { result ≡ place + bits_of_five (drop place (bits_of order octets.now)) }

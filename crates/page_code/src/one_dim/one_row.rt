@@ -15,7 +15,8 @@ use raster::{Coding, MAX_ROWS};
 use run_tables::{BitReader, CodeFault, CodeFaultKind};
 use std::alloc::{AllocError, Global};
 
-/// What is found at a place after this number of rows: the next row's first code, or the page's end or a refusal.
+/// What is found at a place after this number of rows: the next row's first code, the page's end or a
+/// refusal.
 fn start_after(octets: &[u8], order: Order, place: u128, rows: usize) -> Start
     requires within { place ≤ 8 * length octets.now }
     requires few { rows ≤ max_rows }
@@ -46,7 +47,7 @@ fn start_after(octets: &[u8], order: Order, place: u128, rows: usize) -> Start
     }
 }
 
-/// The row whose first code is at a place, in the memory of a list.
+/// Reads the row whose first code is at a place, in the memory of a list.
 fn read_row_there(
     alloc: Global,
     octets: &[u8],

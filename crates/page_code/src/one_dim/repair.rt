@@ -22,16 +22,16 @@ use std::alloc::{AllocError, Global};
 /// The code of a white run of 0 pixels (T.4, table 2): 8 bits.
 const WHITE_0: u32 = 0b0011_0101;
 
-/// A row that can't be read, for which the one before it is given.
+/// A row that can't be read, in place of which the one before it is given.
 #[derive(Clone, Copy, Debug, PartialEq, Eq)]
 pub struct RepairedRow {
     /// The row's number, from 1 at the top.
     pub row: usize,
-    /// The bit, from 0, where it can't be read.
+    /// The bit, from 0, at which it can't be read.
     pub bit: u128,
 }
 
-/// A page, and the rows of it that are repaired.
+/// A page, and which of its rows are repaired.
 #[derive(Debug, Drop)]
 pub struct RepairedPage {
     /// The page.
@@ -40,16 +40,16 @@ pub struct RepairedPage {
     pub repaired: Vec<RepairedRow>,
 }
 
-/// What a line has.
+/// What was found of a line.
 #[derive(Drop)]
 enum Found {
     /// A row, and the place of the next line.
     Read(Row, u128),
-    /// The bit where its row can't be read.
+    /// The bit at which its row can't be read.
     Broken(u128),
 }
 
-/// The rows that are given so far, and the place of the next line.
+/// The rows given so far, and the place of the next line.
 #[derive(Drop)]
 struct Lines {
     page: Page,
@@ -57,7 +57,7 @@ struct Lines {
     place: u128,
 }
 
-/// The place after a line's end at a place after its row, where the line ends there.
+/// The place after a line's end, at a place after its row, if the line ends there.
 fn line_end(octets: &[u8], order: Order, place: u128) -> Option<u128>
     requires { place ≤ 8 * length octets.now }
     ensures { FindsEnd (bits_of order octets.now) place result }
@@ -86,8 +86,8 @@ fn ends_in_black(row: &Row) -> bool
     row.pixel(row.width() - 1) == Color::Black
 }
 
-/// The place after a line's end at a place after this row, where the line ends there: at once, or after a white run of 0
-/// pixels, which some programs write after a row whose last pixel is black.
+/// The place after a line's end, at a place after this row, if the line ends there: at once, or after a white
+/// run of 0 pixels, which some programs write after a row that ends in black.
 fn row_end(octets: &[u8], order: Order, row: &Row, place: u128) -> Option<u128>
     requires { place ≤ 8 * length octets.now }
     ensures { FindsRowEnd row.now (bits_of order octets.now) place result }
@@ -103,7 +103,7 @@ fn row_end(octets: &[u8], order: Order, row: &Row, place: u128) -> Option<u128>
     }
 }
 
-/// The place after the first EOL from a place on, or after all bits where there is none.
+/// The place after the first EOL from a place on, or after all bits if there is no EOL.
 fn after_eol(octets: &[u8], order: Order, place: u128) -> u128
     requires { place ≤ 8 * length octets.now }
     ensures skipped { (more : ℕ) × IsSkipped (drop place (bits_of order octets.now)) more × (result ≡ place + more) }
@@ -134,7 +134,7 @@ fn first_line(octets: &[u8], order: Order) -> u128
     }
 }
 
-/// Whether a line begins at a place, so that the page doesn't end there.
+/// Whether a line begins at a place: the page doesn't end there.
 fn line_begins(octets: &[u8], order: Order, place: u128) -> bool
     requires { place ≤ 8 * length octets.now }
     ensures begins { IsTrue result → ¬ EndsPage (drop place (bits_of order octets.now)) }
@@ -146,7 +146,7 @@ fn line_begins(octets: &[u8], order: Order, place: u128) -> bool
     }
 }
 
-/// What the line at a place has.
+/// Reads the line at a place.
 fn find_line(
     alloc: Global,
     octets: &[u8],
@@ -177,12 +177,12 @@ fn find_line(
     }
 }
 
-/// A row like another. Errs where memory is refused.
+/// A copy of a row. Errs only if memory is refused.
 #[tactic(auto, using(crate::proofs::OneDimension::LineEnds::lengths))]
 fn copied(alloc: Global, row: &Row) -> Result<Row, AllocError>
     ensures { IfOk result (λ copy. copy ≡ row.now) }
 {
-    let _width = row.width(); // tells the proof that it is a page's width
+    let _width = row.width(); // shows the proof that it is a page's width
     let mut runs = Vec::new(alloc);
     if row.runs(alloc, &mut runs).is_err() {
         return Err(AllocError);
@@ -190,7 +190,7 @@ fn copied(alloc: Global, row: &Row) -> Result<Row, AllocError>
     Row::from_valid_runs(alloc, &runs)
 }
 
-/// The row before the next one: the last row, or a white one.
+/// The row before the next one: the last row, or a white one before the first.
 fn row_before(alloc: Global, page: &Page) -> Result<Row, AllocError>
     ensures { IfOk result (λ row. (row ≡ last_row page.now.width page.now.rows) × (length row ≡ page.now.width)) }
 {
@@ -200,7 +200,7 @@ fn row_before(alloc: Global, page: &Page) -> Result<Row, AllocError>
     }
 }
 
-/// Gives a row for the line that the rows so far end at. Errs where memory is refused.
+/// Gives a row for the line after the rows so far. Errs only if memory is refused.
 fn give_line(alloc: Global, octets: &[u8], order: Order, to: &mut Lines) -> Result<(), AllocError>
     requires within { to.old.place ≤ 8 * length octets.now }
     requires line { ¬ EndsPage (drop to.old.place (bits_of order octets.now)) }
@@ -256,9 +256,12 @@ impl OneDim {
     ghost use Rattle.page_code.specs.OneDimension.Pages.{ReadsAs};
     ghost use Rattle.page_code.specs.OneDimension.Repairs.{HasMoreLines, HasNoRow, IsRepair};
 
-    /// The page of this width in pixels whose lines the octets' bits begin with, as a receiver without error correction
-    /// gives it: a row that can't be read is the one before it, a white one for the first, and reading goes on after the
-    /// next EOL. Errs where no row can be read, as `decode` does; at a 20,001st line; and with `NoMemory`, at bit 0.
+    /// Reads a page of this width in pixels from the lines that the octets' bits begin with, as a receiver
+    /// without error correction does: a row that can't be read is given as the one before it, white for the
+    /// first, and reading goes on after the next EOL. Returns the page and its repaired rows, each with its
+    /// number and the bit at which it can't be read. A page that can be read is returned with no row
+    /// repaired. Errs if no row can be read, at the bit and with the kind of `decode`; with
+    /// `TooManyCodedRows` (18) at a 20,001st line; and with `NoMemory` (9), at bit 0.
     pub fn repair(
         alloc: Global,
         octets: &[u8],

@@ -20,7 +20,7 @@ use std::alloc::{AllocError, Global};
 use std::marker::Model;
 use std::mem;
 
-/// The width three times after the first places of a list that has room for it.
+/// Writes the width three times after the first places of a list that has room for it.
 #[inline(always)]
 pub(crate) fn end_list(list: &mut Vec<u32>, count: usize, width: u32)
     requires { count + 3 ≤ length list.old.items }
@@ -32,9 +32,9 @@ pub(crate) fn end_list(list: &mut Vec<u32>, count: usize, width: u32)
     list[count + 2] = width;
 }
 
-/// The lines of a row that is read, as lists of the places where they change their color. After the places
-/// of the reference line its width is held three times, so that no search passes them. When the row is
-/// whole the coding line's list becomes the next row's reference line.
+/// The lines of a row that is being read, as lists of the places where they change their color. After the
+/// places of the reference line comes its width three times, so that no search passes them. When the row is
+/// whole, the coding line's list becomes the next row's reference line.
 #[derive(Drop)]
 pub(crate) struct Lines {
     width: u32,
@@ -113,8 +113,8 @@ impl Lines {
         self.front.from <= self.width
     }
 
-    /// Reads the vertical and pass modes that the next 57 bits hold whole, up to another mode, and answers how many
-    /// bits they have.
+    /// Reads the vertical and pass modes that the next 57 bits hold whole, up to another mode, and returns
+    /// how many bits they have.
     #[inline(always)]
     pub(crate) fn quick_modes(&mut self, reader: &mut BitReader) -> u32
         requires { 57 ≤ length (rest_of reader.old) }
@@ -139,7 +139,7 @@ impl Lines {
         self.front = under_b2(held, &self.list, self.width, self.front);
     }
 
-    /// A vertical mode: a0 goes to a1. Errs where the mode is refused, which changes nothing.
+    /// A vertical mode: a0 goes to a1. Errs if the mode is refused, which changes nothing.
     pub(crate) fn vertical(&mut self, shift: Shift) -> Result<(), CodeFaultKind>
         requires { length self.old.line.pixels < length self.old.reference }
         ensures leads { OnOk result (LeadsOn self.old.reference self.old.line self.new.line (ModeCode.Vertical shift)) }

@@ -12,15 +12,15 @@ use raster::packed::Order;
 use raster::{Coding, Page};
 use std::alloc::{AllocError, Global};
 
-/// The whole rows of a page, and whether its end is after them.
+/// The whole rows of a page, and whether the page ends after them.
 #[derive(Debug, Drop)]
 pub struct RowsToEnd {
     /// The page of the whole rows.
     pub page: Page,
     /// The bit after the last of them.
     pub bit: u128,
-    /// Whether no row begins there: nothing is left, or only 0 bits; or seven 0 bits come, with which EOFB begins, and
-    /// the code of no mode.
+    /// Whether no row begins there: nothing is left, or only 0 bits; or seven 0 bits come, with which EOFB
+    /// begins and no mode code does.
     pub at_end: bool,
 }
 
@@ -45,9 +45,9 @@ impl T6 {
     ghost use Rattle.raster.specs.declared.coding.Coding.TheVariants.{T6 as InT6};
     ghost use Rattle.raster.specs.Pixels.{IsWidth};
 
-    /// The whole rows at the beginning of the octets' bits, of this width in pixels, as `Coding::salvage` gives them, and
-    /// the bit after them; and whether the page ends there, if not by EOFB, so that no row of it is lost. Errs where memory is
-    /// refused.
+    /// Returns the whole rows at the beginning of the octets' bits, of this width in pixels, as
+    /// `Coding::salvage` does, the bit after them, and whether no row begins there: then only EOFB is missing
+    /// or broken, and no row of the page is lost. Errs only if memory is refused.
     pub fn rows_to_end(
         alloc: Global,
         octets: &[u8],

@@ -43,13 +43,13 @@ const MODE_CODES: [ModeCode; 9] = [
     ModeCode::Vertical(Shift::VL3),
 ];
 
-/// What is found where a row may begin.
+/// What is found at a place where a row may begin.
 enum Start {
     /// A row.
     Row,
     /// EOFB after a row.
     End,
-    /// Nothing that may be there.
+    /// Nothing valid.
     Refused(CodeFaultKind),
 }
 
@@ -60,7 +60,7 @@ fn is_at_eofb(reader: &BitReader) -> bool
     reader.starts_with(EOFB_NUMBER, 24)
 }
 
-/// Whether the bits that are left are only 0 bits, or none.
+/// Whether the bits that are left are only 0 bits, or there are no bits.
 fn only_zeros(reader: &BitReader) -> bool
     ensures { result ≡ all_zero (rest_of reader.now) }
 {
@@ -77,8 +77,8 @@ fn only_zeros(reader: &BitReader) -> bool
     true
 }
 
-/// Whether 57 bits or more are left, and the first eleven of them aren't all 0 bits: then a row begins here,
-/// and no EOFB nor a part of it.
+/// Whether 57 bits or more are left, and the first eleven of them aren't all 0: then a row begins here, and
+/// neither EOFB nor a part of it.
 #[inline(always)]
 fn begins_row(reader: &BitReader) -> bool
     ensures eofb { OnTrue result (begins eofb (rest_of reader.now) ≡ false) }
@@ -96,12 +96,14 @@ fn begins_row(reader: &BitReader) -> bool
     true
 }
 
-/// What is found where a row may begin, after `rows` rows, looked for in all ways.
+/// What is found at a place where a row may begin, after `rows` rows, looked for in all ways.
 #[cold]
 #[inline(never)]
 fn start_anyhow(reader: &BitReader, rows: usize) -> Start
     ensures { SeesStart (rest_of reader.now) rows result }
 {
+    // in this order: EOFB, only 0 bits or nothing, the beginning of EOFB, a row. So no octets at all are `MissingEofb`, and 20,000 rows
+    // are read before a 20,001st is refused
     if is_at_eofb(reader) {
         if rows == 0 {
             return Start::Refused(CodeFaultKind::NoRows);
@@ -120,7 +122,7 @@ fn start_anyhow(reader: &BitReader, rows: usize) -> Start
     Start::Row
 }
 
-/// What is found where a row may begin, after `rows` rows.
+/// What is found at a place where a row may begin, after `rows` rows.
 #[inline(always)]
 fn start_at(reader: &BitReader, rows: usize) -> Start
     ensures { SeesStart (rest_of reader.now) rows result }
@@ -133,7 +135,7 @@ fn start_at(reader: &BitReader, rows: usize) -> Start
     start_anyhow(&ahead, rows)
 }
 
-/// Whether the bits that are left are a beginning of a mode code.
+/// Whether the bits that are left are the beginning of a mode code.
 fn is_cut_mode(reader: &BitReader) -> bool
     ensures { result ≡ is_cut mode_word mode_codes (rest_of reader.now) }
 {
@@ -145,11 +147,12 @@ fn is_cut_mode(reader: &BitReader) -> bool
     false
 }
 
-/// The refusal where no mode code begins the bits that are left.
+/// The refusal if no mode code begins the bits that are left.
 #[cold]
 fn no_mode(reader: &BitReader) -> CodeFault
     ensures { result ≡ record { place = reader.now.place; kind = missing_mode (rest_of reader.now) } }
 {
+    // six 0 bits inside a row are `BadCode`: the extension is no code of a page; 000001 is the beginning of a mode code
     let kind = if reader.starts_with(1, 7) {
         CodeFaultKind::Extension
     } else if is_cut_mode(reader) {
@@ -160,11 +163,11 @@ fn no_mode(reader: &BitReader) -> CodeFault
     CodeFault::new(reader.place(), kind)
 }
 
-/// The next mode code (ITU-T T.6, 2.2.2), or none where none begins the bits that are left.
+/// Reads the next mode code (ITU-T T.6, 2.2.2); none if no mode code begins the bits that are left.
 fn next_mode(reader: &mut BitReader) -> Option<ModeCode>
     ensures { FindsMode reader.old reader.new result }
 {
-    let _start = reader.place(); // tells the proof that it is within the bits
+    let _start = reader.place(); // shows the proof that it is within the bits
     let (mode, count) = mode_of((reader.peek_57() >> 57) as u32);
     let length = count as usize % 8;
     let Some(code) = mode else {
@@ -177,8 +180,8 @@ fn next_mode(reader: &mut BitReader) -> Option<ModeCode>
     Some(code)
 }
 
-/// One vertical or pass mode that begins the first seven bits of a word. Answers the front after it and
-/// how many bits it has, or none where there is no such mode or it is refused.
+/// One vertical or pass mode that begins the first seven bits of a word. Returns the front after it and how
+/// many bits it has; none if there is no such mode or it is refused.
 #[inline(always)]
 fn quick_step(
     word: u64,
@@ -218,8 +221,8 @@ fn quick_step(
     }
 }
 
-/// The vertical and pass modes of a row that the next 57 bits hold whole, up to another mode. Answers the front after
-/// them, and how many bits they have.
+/// The vertical and pass modes of a row that the next 57 bits hold whole, up to another mode. Returns the
+/// front after them, and how many bits they have.
 #[inline(always)]
 pub(crate) fn quick_modes(
     reader: &mut BitReader,
@@ -270,8 +273,8 @@ fn horizontal(reader: &mut BitReader, lines: &mut Lines) -> Result<(), CodeFault
     Ok(())
 }
 
-/// Horizontal mode, whose flag begins the bits, where its two runs can be read quickly and aren't refused. Answers
-/// whether it was read; else nothing changed.
+/// Horizontal mode, whose flag begins the bits, if its two runs can be read quickly and aren't refused.
+/// Returns whether it was read; else nothing changed.
 #[inline(always)]
 fn quick_horizontal(reader: &mut BitReader, lines: &mut Lines) -> bool
     requires short { length lines.old.line.pixels < length lines.old.reference }
@@ -294,7 +297,7 @@ fn quick_horizontal(reader: &mut BitReader, lines: &mut Lines) -> bool
     true
 }
 
-/// Some modes of a row, where they can be read quickly. Answers whether there are any; else nothing changed.
+/// Some modes of a row, if they can be read quickly. Returns whether there are any; else nothing changed.
 #[inline(always)]
 fn quick_part(reader: &mut BitReader, lines: &mut Lines) -> bool
     requires { length lines.old.line.pixels < length lines.old.reference }
@@ -303,7 +306,7 @@ fn quick_part(reader: &mut BitReader, lines: &mut Lines) -> bool
     ensures more { OnTrue result (reader.old.place < reader.new.place) }
     ensures none { OnFalse result ((reader.new ≡ reader.old) × (lines.new.line ≡ lines.old.line)) }
 {
-    let _start = reader.place(); // tells the proof that it is within the bits
+    let _start = reader.place(); // shows the proof that it is within the bits
     let enough = reader.has_57();
     if !enough {
         return false;
@@ -345,8 +348,8 @@ fn read_row(alloc: Global, reader: &mut BitReader, lines: &mut Lines) -> Result<
     ensures next { IfOk result (λ row. lines.new.reference ≡ row) }
     ensures same { OnErr result (lines.new.reference ≡ lines.old.reference) }
 {
-    let _start = reader.place(); // tells the proof that it is within the bits
-    let _width = lines.width(); // tells the proof that there are pixels to read
+    let _start = reader.place(); // shows the proof that it is within the bits
+    let _width = lines.width(); // shows the proof that there are pixels to read
     lines.begin();
     while lines.is_short() {
         let done = quick_part(reader, lines);
@@ -395,8 +398,8 @@ fn read_in_order(
     }
 }
 
-/// Reads on from the rows read so far to the page's end, and answers how many bits the page uses. After
-/// an error the rows before it were read. Where the least significant bit is first, the octets are turned once,
+/// Reads on from the rows read so far to the page's end, and returns how many bits the page uses. After an
+/// error the rows before it were read. If the least significant bit comes first, the octets are turned once,
 /// so that no word of them is.
 pub(crate) fn read_on(
     alloc: Global,

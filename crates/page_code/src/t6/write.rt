@@ -19,7 +19,7 @@ use run_tables::BitWriter;
 use std::alloc::{AllocError, Global};
 use std::mem;
 
-/// The vertical mode that leads from b1 to a1, where there is one (ITU-T T.6, 2.2.3).
+/// The vertical mode that leads from b1 to a1, if there is one (ITU-T T.6, 2.2.3).
 #[inline(always)]
 fn shift_to(b1: u32, a1: u32) -> Option<Shift>
     requires b1 { b1 ≤ max_width }
@@ -51,8 +51,8 @@ fn push_mode(writer: &mut BitWriter, code: ModeCode) -> Result<(), AllocError>
     writer.push_bits(value, count)
 }
 
-/// How many places of two lists, from an index of each on, are the same: at most 32, and none after one that is
-/// the width.
+/// The number of places that two lists, from an index of each on, have the same: at most 32, and none after
+/// one that is the width.
 #[inline(always)]
 fn same_places(reference: &[u32], at: usize, row: &[u32], turns: usize, width: u32) -> u32
     requires above { IsListed reference.now width }
@@ -96,7 +96,7 @@ fn push_horizontal(
     writer.write_run(color.other(), a1a2)
 }
 
-/// Appends the next prescribed mode, or as many V0 as there are next up to 32, and answers the front after them.
+/// Appends the next prescribed mode, or as many V0 as come next, up to 32. Returns the front after them.
 #[inline(always)]
 fn write_modes(
     writer: &mut BitWriter,
@@ -195,7 +195,7 @@ pub(crate) struct Lines {
 }
 
 impl Lines {
-    /// Lists with no room, of no line.
+    /// Lists without room, of no line.
     pub(crate) fn none(alloc: Global) -> Lines {
         Lines {
             reference: Vec::new(alloc),
@@ -204,7 +204,7 @@ impl Lines {
         }
     }
 
-    /// Lists for rows as wide as a line, the first of which comes after it.
+    /// Lists for rows as wide as a line, the first of them after it.
     pub(crate) fn after(alloc: Global, line: &Row) -> Result<Lines, AllocError>
         ensures fits { IfOk result (λ lines. FitsLines (length line.now) lines.reference.items lines.row.items lines.known) }
         ensures held { IfOk result (λ lines. AreHeld line.now (take lines.known lines.reference.items)) }
@@ -219,7 +219,7 @@ impl Lines {
         })
     }
 
-    /// Appends the code of a row after the reference line. The row is the next one's reference line then.
+    /// Appends the code of a row after the reference line. The row becomes the next one's reference line.
     #[inline(always)]
     pub(crate) fn write_row(&mut self, writer: &mut BitWriter, row: &Row) -> Result<(), AllocError>
         requires { FitsLines (length row.now) self.old.reference.items self.old.row.items self.old.known }
