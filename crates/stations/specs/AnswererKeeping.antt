@@ -62,7 +62,7 @@ pub record TakesBlock (s : Answerer) (input : AnswererInput) (next : Answerer) :
   pub stores :
       ends ≢ Null → (next.octets ≡ []) × ((stored : PagePixels) × IsPageOf s.params octets stored × (next.pages ≡ s.pages ++ stored ∷ []))
 
--- what a step may change, and where
+-- what a step of an answerer may change, field by field, and when
 pub record AnswererKeeps (s : Answerer) (input : AnswererInput) (next : Answerer) : Type 0 where
   -- the capabilities nowhere
   pub caps : next.caps ≡ s.caps
@@ -82,7 +82,8 @@ pub record AnswererKeeps (s : Answerer) (input : AnswererInput) (next : Answerer
   -- whether the memory for frames is taken at an FCD and at a DCS that is allowed
   pub ready : (next.ready ≡ s.ready) ⊎ MeetsFrame s input ⊎ MeetsDcs s input
 
--- each step of any answerer
+-- law: a step of any answerer never changes its capabilities; it changes whether it is busy at the input that says so, the parameters at a
+-- DCS that is allowed, and what is accepted, open and stored only when a whole new block is taken
 abbrev pub AnswerersKeep : Type 0
 AnswerersKeep = (s : Answerer) (input : AnswererInput) → AnswererKeeps s input (answerer_step s input).next
 
@@ -117,11 +118,12 @@ pub record AnswererTakes (s : Answerer) (input : AnswererInput) (answer : Answer
       (¬ IsBad s ends (s.octets ++ joined_frames s.frames (counted + 1))) →
       (answer.next.accepted ≡ Some (record { mark = mark; ends = ends })) × (answer.next.ending ≡ None)
 
--- each answerer that runs
+-- law: an answerer that runs takes the parameters of a DCS, the data of an FCD under its number, the mark and the map of a PPR, and the
+-- mark of a block that it accepts
 abbrev pub AnswerersTake : Type 0
 AnswerersTake = (s : Answerer) (input : AnswererInput) → s.ending ≡ None → AnswererTakes s input (answerer_step s input)
 
--- the last frame of a block that counts: the PPS's, or a greater one that was asked for under the same mark
+-- law: the last frame of a block that counts is the PPS's, or a greater one that was asked for under the same mark
 pub record CountsLast : Type 0 where
   pub unasked : (mark : Mark) (last : ℕ) → last_counted None mark last ≡ last
   pub other : (asked : Asked) (mark : Mark) (last : ℕ) → mark ≢ asked.mark → last_counted (Some asked) mark last ≡ last

@@ -68,7 +68,7 @@ CallerEndsBy c input BadPage = ⊥
 CallerEndsBy c input PageTooLong =
     ((c.state ≡ WaitCfr) × (input ≡ hears cfr) × (slice_get (blocks_of c) c.place ≡ None)) ⊎ MeetsLongPage c input
 
--- a caller that runs ends exactly so
+-- law: a caller that runs ends exactly by the cause of the end, one line for each end
 abbrev pub CallersEndsMean : Type 0
 CallersEndsMean =
     (c : Caller) (input : CallerInput) (why : End) → c.ending ≡ None →
@@ -109,7 +109,7 @@ AnswererEndsBy s input BadPage = TakesBadBlock s input
 -- the other ends are those of callers
 AnswererEndsBy s input _ = ⊥
 
--- an answerer that runs ends exactly so
+-- law: an answerer that runs ends exactly by the cause of the end, one line for each end
 abbrev pub AnswerersEndsMean : Type 0
 AnswerersEndsMean =
     (s : Answerer) (input : AnswererInput) (why : End) → s.ending ≡ None →

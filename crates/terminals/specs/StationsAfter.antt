@@ -25,13 +25,13 @@ abbrev pub caller_led : List PlainInput → Caller → Caller
 caller_led [] c = c
 caller_led (input ∷ inputs) c = caller_led inputs (caller_given c input).next
 
--- an answerer that has taken inputs is the answerer after what it takes of them
+-- law: an answerer that has taken inputs is the answerer after what it takes of them
 abbrev pub AnswererIsAfter : Type 0
 AnswererIsAfter =
     (old new : Speaking Answerer) (inputs : List PlainInput) → TakesAll AnswererSteps old inputs new →
     new.station ≡ answerer_after (answerer_inputs inputs) old.station
 
--- a caller that has taken inputs is the caller after them
+-- law: a caller that has taken inputs is the caller after what it takes of them
 abbrev pub CallerIsAfter : Type 0
 CallerIsAfter =
     (old new : Speaking CallerFields) (inputs : List PlainInput) (c : Caller) → TakesAll CallerSteps old inputs new →
