@@ -105,7 +105,8 @@ pub record MapsByOctets : Type 0 where
 
 -- ---- what a frame changes
 
--- the store has taken the frame: it is at its number, each other number has what it had, and so has all else
+-- the store has taken the frame: it is at its number, each other number has what it had, and all else is as it was but that the memory is
+-- taken
 pub record HasTaken (old : StoredFrames) (n : ℕ) (octets : List ℕ) (new : StoredFrames) : Type 0 where
   pub fits : length octets ≤ octets_a_frame old.small
   pub size : new.small ≡ old.small

@@ -26,7 +26,7 @@ use Rattle.signals.specs.declared.signal.PageEnd.TheVariants.{Null, Mps, Eom, Eo
 use Rattle.signals.specs.declared.signal.Side.{Side}
 use Rattle.signals.specs.declared.signal.Side.TheVariants.{Caller, Answerer}
 
--- the bits of a text in order of sending, x where the text has an X
+-- the bits of a text in order of sending, with x for an X
 abbrev pub text_bits : Bool → List ℕ → List Bool
 text_bits x letters = map (λ letter. cond (nat_eq letter 88) x (nat_eq letter 49)) letters
 
@@ -100,7 +100,7 @@ dcs_table params =
     ∷ (31, is_t6 params.coding ∷ [])
     ∷ []
 
--- the bit of a number, from 1 in order of sending, in a table; 0 where no row has it
+-- the bit with a number, from 1 in order of sending, in a table; 0 if no row has it
 abbrev pub numbered_bit : List (ℕ × List Bool) → ℕ → Bool
 numbered_bit [] number = false
 numbered_bit (row ∷ rows) number = (nat_le row.0 number && slice_index_or row.1 (number - row.0) false) || numbered_bit rows number
@@ -116,7 +116,7 @@ page_end_text Mps = codes "X1110010"
 page_end_text Eom = codes "X1110001"
 page_end_text Eop = codes "X1110100"
 
--- the facsimile control field of a signal; another signal has none of these
+-- the facsimile control field of a signal; `other` has none of these
 abbrev pub control_for : PlainSignal → Option Control
 control_for (dis _) = Some Dis
 control_for (dcs _) = Some Dcs

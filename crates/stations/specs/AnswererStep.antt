@@ -143,7 +143,7 @@ answers_pps s ends mark last =
 abbrev pub answers_repeated : Answerer → Mark → AnswererAnswer
 answers_repeated s mark = cond (is_repeated s.accepted mark) (record { next = s; turn = confirms s }) (answerer_silent s)
 
--- an RR: answered where a block was accepted and no frame is open
+-- an RR: it is answered if a block was accepted and no frame is open
 abbrev pub answers_rr : Answerer → AnswererAnswer
 answers_rr s =
     cond (is_some s.accepted && is_clear s.frames)

@@ -51,7 +51,7 @@ pub record PlainBurst : Type 0 where
   pub carrier : Carrier
   pub items : List PlainItem
 
--- an item before bursts: in the first one where that has its carrier, else alone
+-- an item before bursts: in the first one if that has its carrier, else alone
 abbrev pub put_before : Carrier → PlainItem → List PlainBurst → List PlainBurst
 put_before carrier item [] = record { carrier = carrier; items = item ∷ [] } ∷ []
 put_before carrier item (burst ∷ bursts) =

@@ -146,12 +146,12 @@ block_of_fields v blocks =
       frames = slice_index_or blocks v.block [];
     }
 
--- the page's blocks are there with the present one among them; none where there are too few
+-- the page's blocks are there with the present one among them; None if there are too few
 abbrev pub HasBlock : CallerFields → Option (Bor (List (List (List ℕ)))) → Type 0
 HasBlock v None = (blocks : List (List (List ℕ))) → v.encoded ≡ Some blocks → length blocks ≤ v.block
 HasBlock v (Some blocks) = (v.encoded ≡ Some blocks.now) × (v.block < length blocks.now)
 
--- the block that a caller is sending is the fields' block among these; none where it is sending no page
+-- the block that a caller is sending is the fields' block among these; None if it is sending no page
 abbrev pub GivesPresent : CallerFields → Option (Bor (List (List (List ℕ)))) → Type 0
 GivesPresent v None = (t : Caller) → Represents v t → present_block t ≡ None
 GivesPresent v (Some blocks) =

@@ -86,7 +86,7 @@ answers_ftt c (Some params) =
 abbrev pub first_burst : Caller → CallerAnswer
 first_burst c = record { next = record c { state = WaitBlock; try = 1; pprs = 0 }; turn = Burst all_frames }
 
--- after a block with this end, where the next one would start: it goes out; or the document is through; or the next page's code is too long
+-- after a block with this end: the next block goes out; or the document is through; or the next page's code is too long
 abbrev pub goes_on : Caller → PageEnd → Option Block → CallerAnswer
 goes_on c ends (Some next) = first_burst c
 goes_on c Eop None = caller_gives_up c Normal

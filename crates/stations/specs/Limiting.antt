@@ -51,7 +51,7 @@ is_kept_out s (listens (fcd number octets)) = true
 is_kept_out s (listens (pps ends page block last)) = not (is_repeated s.accepted (record { page = page; block = block }))
 is_kept_out s _ = false
 
--- a full answerer stays busy, whatever it is told
+-- a full answerer stays busy, whatever the program says
 abbrev pub busy_while : Bool → AnswererInput → AnswererInput
 busy_while full (is_busy busy) = is_busy (busy || full)
 busy_while full input = input

@@ -32,7 +32,7 @@ unless_through (Some why) listening = V21
 abbrev pub answerer_listens : Answerer → Listening
 answerer_listens s = unless_through s.ending (listens_for s.state s.params.speed)
 
--- a training check does something exactly where the answerer listens for one, at the speed agreed; and an FCD that does something finds it
+-- a training check does something exactly if the answerer listens for one, at the speed agreed; and an FCD that does something finds it
 -- listening for a page at that speed
 pub record AnswererHears (s : Answerer) : Type 0 where
   pub check :

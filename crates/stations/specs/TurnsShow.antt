@@ -23,7 +23,7 @@ abbrev pub IsItemOf : Answerer → PlainItem → Turn → Type 0
 IsItemOf s (framed signal) turn = IsSentBy s signal turn
 IsItemOf s (checked octets) turn = ⊥
 
--- a turn has one item at most, and an item is in it exactly where the turn is the one that sends it
+-- a turn has one item at most, and an item is in it exactly if the turn is the one that sends it
 pub record AnswererShows (s : Answerer) (turn : Turn) : Type 0 where
   pub one : length (answerer_items s turn) ≤ 1
   pub shown : (item : PlainItem) → Contains (answerer_items s turn) item ↔ IsItemOf s item turn
