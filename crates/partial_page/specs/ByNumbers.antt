@@ -100,7 +100,7 @@ pub record MapsByOctets : Type 0 where
   pub octets : (frames : List (Option (List ℕ))) (last : ℕ) → IsMissingMap frames last (map_octets frames last)
   pub alone : (frames : List (Option (List ℕ))) (last : ℕ) (octets : List ℕ) → ((k : ℕ) → slice_index octets k < 256) →
       IsMissingMap frames last octets → octets ≡ map_octets frames last
-  -- the frames up to the last are all there exactly where none of them is asked for
+  -- the frames up to the last are all there exactly if none of them is asked for
   pub whole : (frames : List (Option (List ℕ))) (last : ℕ) → IsWhole frames last ↔ ((n : ℕ) → n ≤ last → asked frames last n ≡ 0)
 
 -- ---- what a frame changes

@@ -1,4 +1,4 @@
--- The frames of a block that were received: at each number 0 to 255 its frame's data, where there is one.
+-- The frames of a block that have come: at each number 0 to 255 its frame's data, if there is one.
 use Rattle.std.specs.Prelude.{ℕ, ◌≡◌, ◌≢◌, ◌≤◌, ◌<◌, ◌*◌, ◌||◌, ◌↔◌, Bool, true, false, cond, not, List, length, map, take, drop, replicate}
 use Rattle.std.specs.Prelude.{slice_index, slice_index_or, slice_set, nat_lt, Option, None, Some, is_some, unwrap_or, Result, Ok, Err, []}
 use Rattle.std.specs.List.{flat_map, range_with_len}

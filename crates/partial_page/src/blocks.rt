@@ -10,7 +10,7 @@ use std::marker::Model;
 /// The greatest number of octets of a coded page.
 pub const MAX_PAGE_OCTETS: usize = 8_388_608;
 
-/// The octets of a frame: 64 where `small`, else 256.
+/// The octets of a frame: 64 if `small`, else 256.
 pub(crate) fn frame_octets(small: bool) -> usize
     ensures size { result ≡ frame_size small }
     ensures some { 0 < result }

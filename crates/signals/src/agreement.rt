@@ -23,7 +23,7 @@ impl NotCompatible {
     }
 }
 
-/// The order of the speeds where both stations have V.17.
+/// The order of the speeds if both stations have V.17.
 const V17_ORDER: [Speed; 6] = [
     Speed::V17At14400,
     Speed::V17At12000,
@@ -33,7 +33,7 @@ const V17_ORDER: [Speed; 6] = [
     Speed::V27At2400,
 ];
 
-/// The order of the speeds where a station has no V.17.
+/// The order of the speeds if a station has no V.17.
 const OTHER_ORDER: [Speed; 4] = [
     Speed::V29At9600,
     Speed::V29At7200,

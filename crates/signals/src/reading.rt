@@ -23,7 +23,7 @@ fn bit(fields: &[u8], number: usize) -> bool
     }
 }
 
-/// A bit of the fourth octet, which is read where bit 24 is 1.
+/// A bit of the fourth octet, which is read only if bit 24 is 1.
 fn late(fields: &[u8], number: usize) -> bool
     requires { 1 ≤ number }
     ensures { result ≡ late_bit fields.now number }

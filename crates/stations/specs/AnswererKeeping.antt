@@ -70,13 +70,13 @@ pub record AnswererKeeps (s : Answerer) (input : AnswererInput) (next : Answerer
   pub busy : ((b : Bool) → input ≢ is_busy b) → next.busy ≡ s.busy
   -- the parameters at a DCS that is allowed
   pub params : (¬ MeetsDcs s input) → next.params ≡ s.params
-  -- the last accepted block, the octets of the open page and the pages together, where a block is taken
+  -- the last accepted block, the octets of the open page and the pages together, when a block is taken
   pub block :
       ((next.accepted ≡ s.accepted) × (next.octets ≡ s.octets) × (next.pages ≡ s.pages)) ⊎ TakesBlock s input next
-  -- the open frames at an FCD, at a DCS past phase B and where a block is taken
+  -- the open frames at an FCD, at a DCS past phase B and when a block is taken
   pub frames :
       (next.frames ≡ s.frames) ⊎ MeetsFrame s input ⊎ (MeetsDcs s input × (s.state ≢ PhaseB)) ⊎ TakesBlock s input next
-  -- what was asked for by a PPR at a PPS with a frame missing, at a DCS past phase B and where a block is taken
+  -- what a PPR asked for at a PPS with a frame missing, at a DCS past phase B and when a block is taken
   pub asked :
       (next.asked ≡ s.asked) ⊎ MeetsGap s input ⊎ (MeetsDcs s input × (s.state ≢ PhaseB)) ⊎ TakesBlock s input next
   -- whether the memory for frames is taken at an FCD and at a DCS that is allowed

@@ -28,7 +28,7 @@ pub record Caller : Type 0 where
   pub document : Document
   pub wish : Wish
   pub caps : Caps
-  -- the parameters of the groups that are through, and those of the present group where it is begun
+  -- the parameters of the groups that are through, and those of the present group if it is begun
   pub finished : List Params
   pub present : List Params
   pub params : Params

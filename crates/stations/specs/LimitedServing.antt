@@ -33,7 +33,7 @@ let_through limits told (given input ∷ more) s =
     given_first (heard_as limits s input) (let_through limits (told_by told input) more (limited_step limits s input).next)
 let_through limits told (taken ∷ more) s = taken ∷ given (is_busy told) ∷ let_through limits told more (freed s.ending told s)
 
--- whatever happens to an answerer with limits, it is where one without is after what the limits let through, with the same pages taken;
+-- whatever happens to an answerer with limits, it is where one without them is after what the limits let through, with the same pages taken;
 -- and at most one page is above a limit
 pub record LimitedServed (limits : Limits) (told : Bool) (happens : List Served) (s : Answerer) : Type 0 where
   pub plain : limited_served limits told happens s ≡ served (let_through limits told happens s) s

@@ -86,7 +86,7 @@ pub record AlwaysAnswers (s : Answerer) : Type 0 where
   pub repeated :
       (ends : PageEnd) (page block last : ℕ) → IsAccepted s page block →
       Confirms s (answerer_step s (listens (pps ends page block last)))
-  -- RR, where a block was accepted and no frame is open
+  -- RR, if a block was accepted and no frame is open
   pub asked : IsSome s.accepted → (¬ HasOpen s) → Confirms s (answerer_step s (listens rr))
   -- the end of the wait for a command, but in the message
   pub waited : s.state ≢ Message → (answerer_step s t2).turn ≡ SendDis

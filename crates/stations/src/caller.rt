@@ -610,7 +610,7 @@ impl Caller {
         }
     }
 
-    /// The blocks of the present page, where the present one is among them.
+    /// The blocks of the present page, if the present one is among them.
     fn coded_blocks(&self) -> Option<&Blocks>
         ensures { HasBlock self.now result }
     {

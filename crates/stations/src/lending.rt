@@ -265,7 +265,7 @@ fn take_marked<'a>(marked: &mut Option<Marked<'a>>) -> Option<Signal<'a>>
     }
 }
 
-/// The first marked number from one on, or the count where there is none below it.
+/// The first marked number from one on, or the count if there is none below it.
 fn next_marked(map: &[u8; 32], from: u16, count: u16) -> u16
     requires order { from ≤ count }
     requires few { count ≤ 256 }

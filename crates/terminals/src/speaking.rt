@@ -115,7 +115,7 @@ impl<S: Stoppable> Speaker<S> {
         }
     }
 
-    /// The program stops the call, and DCN takes the place of the turn that is kept, also where the call has ended.
+    /// The program stops the call, and DCN takes the place of the turn that is kept, also if the call has ended.
     pub(crate) fn hang_up(&mut self)
         ensures { self.new ≡ hung_up S.cut_off self.old }
     {

@@ -34,7 +34,7 @@ pub trait Stoppable: Station {
     // The station after this cut its call off: one that has ended stays as it ended.
     ghost cut_off: { Cut → Self → Self };
 
-    // What it says where the program stops its call.
+    // What it sends when the program stops its call.
     ghost stop_says: { Self → Turn };
 
     // What it shows.
