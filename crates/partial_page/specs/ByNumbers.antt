@@ -90,7 +90,7 @@ map_octet frames last k =
     16 * asked frames last (8 * k + 4) + 32 * asked frames last (8 * k + 5) + 64 * asked frames last (8 * k + 6) +
     128 * asked frames last (8 * k + 7)
 
--- the map's 32 octets
+-- the map of a PPR as its 32 octets
 abbrev pub map_octets : List (Option (List ℕ)) → ℕ → List ℕ
 map_octets frames last = map (map_octet frames last) (range_with_len 0 32)
 

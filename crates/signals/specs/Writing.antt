@@ -48,7 +48,7 @@ width_octet W1728 = 0xF8
 width_octet W2048 = 0xF9
 width_octet W2432 = 0xFA
 
--- the octet of T.6
+-- bit 31 of a DCS in its place: 1 for the code of T.6
 abbrev pub coding_octet : Coding → ℕ
 coding_octet OneDim = 0
 coding_octet T6 = 0x40

@@ -38,7 +38,7 @@ pub record MeetsBlock (s : Answerer) (input : AnswererInput) (ends : PageEnd) (m
   pub is_new : ¬ IsAccepted s mark.page mark.block
   pub counted_is : counted ≡ last_counted s.asked mark last
 
--- such a block has a frame missing
+-- the PPS of a new block comes in the message, and a frame of the block is missing
 abbrev pub MeetsGap : Answerer → AnswererInput → Type 0
 MeetsGap s input =
     (ends : PageEnd) × (mark : Mark) × (counted : ℕ) × MeetsBlock s input ends mark counted ×

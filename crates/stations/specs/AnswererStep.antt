@@ -25,7 +25,7 @@ use Rattle.stations.specs.declared.turn.Turn.{Turn}
 use Rattle.stations.specs.declared.turn.Turn.TheVariants.{Silent, Dis as SendDis, Cfr as SendCfr, Ftt as SendFtt, Mcf as SendMcf}
 use Rattle.stations.specs.declared.turn.Turn.TheVariants.{Ppr as SendPpr, Rnr as SendRnr, Dcn as SendDcn}
 
--- no frame is open
+-- no frame of a block is open
 unfoldable pub is_clear : Frames → Bool
 is_clear frames = list_all (λ frame. not (is_some frame)) frames
 
@@ -75,7 +75,7 @@ later_dcs s params =
     (record { next = record s { state = WaitTraining; params = params; frames = no_frames; ready = false; asked = None }; turn = Silent })
     (answerer_silent s)
 
--- a training check
+-- a training check after a DCS: CFR if it is good, else FTT and phase B
 abbrev pub judges_training : Answerer → List ℕ → AnswererAnswer
 judges_training s octets =
     cond (is_good_training octets s.params)
@@ -132,7 +132,7 @@ judges_block s ends mark last =
     (takes_block s ends mark (s.octets ++ joined_frames s.frames (last + 1)))
     (record { next = record s { asked = Some (record { mark = mark; last = last }) }; turn = SendPpr (ppr_map s.frames last) })
 
--- a PPS in Message
+-- a PPS in the message: of the last accepted block it is confirmed; a whole block is taken; else PPR asks for what is missing
 abbrev pub answers_pps : Answerer → PageEnd → Mark → ℕ → AnswererAnswer
 answers_pps s ends mark last =
     cond (is_repeated s.accepted mark)
@@ -155,7 +155,7 @@ abbrev pub end_after : PageEnd → End
 end_after Eop = Normal
 end_after _ = PeerLeft
 
--- the same from the last accepted block, if there is one
+-- why the call ends when the caller leaves, from the last accepted block, if there is one
 abbrev pub leaves : Option Accepted → End
 leaves None = PeerLeft
 leaves (Some accepted) = end_after accepted.ends

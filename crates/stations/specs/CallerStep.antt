@@ -185,7 +185,7 @@ abbrev pub burst_of : List ℕ → Option Block → List PlainItem
 burst_of map None = []
 burst_of map (Some block) = fcds map 0 block.frames ++ framed rcp ∷ framed rcp ∷ framed rcp ∷ pps_of block ∷ []
 
--- a PPS alone
+-- the PPS of a block alone, if there is a block
 abbrev pub pps_items : Option Block → List PlainItem
 pps_items None = []
 pps_items (Some block) = pps_of block ∷ []

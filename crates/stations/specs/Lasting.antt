@@ -18,17 +18,17 @@ use Rattle.stations.specs.declared.turn.End.{End}
 use Rattle.stations.specs.declared.turn.Turn.{Turn}
 use Rattle.stations.specs.declared.turn.Turn.TheVariants.{Silent}
 
--- 1 for a turn that transmits
+-- 1 for a turn that transmits, 0 for silence
 abbrev pub sends : Turn → ℕ
 sends Silent = 0
 sends _ = 1
 
--- 1 for the end of a wait
+-- 1 for the end of a wait, 0 for any other input
 abbrev pub is_wait : CallerInput → ℕ
 is_wait timeout = 1
 is_wait _ = 0
 
--- 1 for an RNR
+-- 1 for an RNR, 0 for any other input
 abbrev pub is_busy_signal : CallerInput → ℕ
 is_busy_signal (hears rnr) = 1
 is_busy_signal _ = 0
@@ -38,7 +38,7 @@ abbrev pub goes_on_by : Option End → ℕ
 goes_on_by None = 1
 goes_on_by (Some why) = 0
 
--- how many turns transmit
+-- how many of the turns transmit
 abbrev pub transmissions : List Turn → ℕ
 transmissions [] = 0
 transmissions (turn ∷ turns) = sends turn + transmissions turns
@@ -60,7 +60,7 @@ groups_in WaitCfr c = suc (length c.finished)
 groups_in WaitBlock c = suc (length c.finished)
 groups_in WaitReady c = suc (length c.finished)
 
--- with a block at its place, one more than come before it
+-- how many blocks are begun: the present one too, if there is a block at its place
 abbrev pub counted_to : ℕ → Option Block → ℕ
 counted_to place None = place
 counted_to place (Some block) = suc place

@@ -20,7 +20,7 @@ limited_taken limits told [] s = []
 limited_taken limits told (given input ∷ more) s = limited_taken limits (told_by told input) more (limited_step limits s input).next
 limited_taken limits told (taken ∷ more) s = s.pages ++ limited_taken limits told more (freed s.ending told s)
 
--- inputs come first
+-- some inputs, then what else happens
 abbrev pub given_first : List AnswererInput → List Served → List Served
 given_first [] more = more
 given_first (input ∷ inputs) more = given input ∷ given_first inputs more

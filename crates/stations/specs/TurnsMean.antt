@@ -56,7 +56,7 @@ listens_in t1 = PhaseB ∷ WaitTraining ∷ Message ∷ []
 listens_in (is_busy busy) = PhaseB ∷ WaitTraining ∷ Message ∷ []
 listens_in _ = []
 
--- a frame is open
+-- a frame of a block is open
 abbrev pub HasOpen : Answerer → Type 0
 HasOpen s = (number : ℕ) × (has_frame s.frames number ≡ true)
 

@@ -239,9 +239,9 @@ impl Answerer {
     }
 }
 
-// The table: what each state answers to an input.
+// The table: what each state does at an input.
 impl Answerer {
-    /// Answers an input; an ended call answers silently.
+    /// Takes an input and returns the turn; after the end every turn is silent.
     fn advance(&mut self, input: AnswererIn<'_>) -> Result<Turn, AllocError>
         ensures answers { StepsOrRefuses self.old self.new result (answerer_step self.old (answerer_input input.entry)) }
         ensures lasts { (self.old.ending ≢ None) ⊎ AnswererTakesNoMemory self.old.state (answerer_input input.entry) self.old →
@@ -258,7 +258,7 @@ impl Answerer {
         }
     }
 
-    /// Answers an input in `PhaseB`.
+    /// Takes an input in `PhaseB`.
     fn in_phase_b_step(&mut self, input: AnswererIn<'_>) -> Turn
         requires state { self.old.state ≡ PhaseB }
         ensures { Steps self.old self.new result (answerer_table PhaseB (answerer_input input.entry) self.old) }
@@ -277,7 +277,7 @@ impl Answerer {
         }
     }
 
-    /// Answers an input in `WaitTraining`.
+    /// Takes an input in `WaitTraining`.
     fn in_wait_training(&mut self, input: AnswererIn<'_>) -> Turn
         requires state { self.old.state ≡ WaitTraining }
         ensures { Steps self.old self.new result (answerer_table WaitTraining (answerer_input input.entry) self.old) }
@@ -297,7 +297,7 @@ impl Answerer {
         }
     }
 
-    /// Answers an input in `Message`. `AllocError` if memory is refused; nothing changes.
+    /// Takes an input in `Message`. `AllocError` if memory is refused; nothing changes.
     fn in_message(&mut self, input: AnswererIn<'_>) -> Result<Turn, AllocError>
         requires state { self.old.state ≡ Message }
         ensures answers { StepsOrRefuses self.old self.new result (answerer_table Message (answerer_input input.entry) self.old) }
@@ -343,7 +343,7 @@ impl Answerer {
         Turn::Silent
     }
 
-    /// Answers a training check in `WaitTraining`.
+    /// Takes a training check in `WaitTraining`.
     #[tactic(auto, unfolding(crate::specs::Layers::is_good_training))]
     fn hear_training(&mut self, octets: &[u8]) -> Turn
         requires state { self.old.state ≡ WaitTraining }
@@ -396,7 +396,7 @@ impl Answerer {
         }
     }
 
-    /// Answers a DCN.
+    /// Takes a DCN.
     fn hear_dcn(&mut self) -> Turn
         ensures { Steps self.old self.new result (answerer_ends self.old (leaves self.old.accepted)) }
     {
@@ -466,7 +466,7 @@ impl Answerer {
 
 // A PPS while blocks are taken: the block is accepted, or its missing frames are asked for.
 impl Answerer {
-    /// Answers a PPS in `Message`. `AllocError` if memory is refused; nothing changes.
+    /// Takes a PPS in `Message`. `AllocError` if memory is refused; nothing changes.
     fn hear_pps(&mut self, pps: Pps) -> Result<Turn, AllocError>
         requires state { self.old.state ≡ Message }
         ensures answers { StepsOrRefuses self.old self.new result (answers_pps self.old pps.ends pps.mark pps.last) }

@@ -221,9 +221,9 @@ impl Caller {
     }
 }
 
-// The table: what each state answers to an input.
+// The table: what each state does at an input.
 impl Caller {
-    /// Answers an input; an ended call answers silently.
+    /// Takes an input and returns the turn; after the end every turn is silent.
     fn advance(&mut self, input: CallerIn<'_>) -> Result<Turn, AllocError>
         ensures answers { AnswersOrRefuses self.old self.new result (λ t. caller_step t (caller_input input.entry)) }
         ensures lasts { (self.old.ending ≢ None) ⊎ CallerTakesNoMemory self.old.state (caller_input input.entry) self.old → IsOk result }
@@ -240,7 +240,7 @@ impl Caller {
         }
     }
 
-    /// Answers an input in `WaitDis`.
+    /// Takes an input in `WaitDis`.
     fn in_wait_dis(&mut self, input: CallerIn<'_>) -> Turn
         requires state { self.old.state ≡ WaitDis }
         requires goes_on { self.old.ending ≡ None }
@@ -254,7 +254,7 @@ impl Caller {
         }
     }
 
-    /// Answers an input in `WaitCfr`.
+    /// Takes an input in `WaitCfr`.
     fn in_wait_cfr(&mut self, input: CallerIn<'_>) -> Result<Turn, AllocError>
         requires state { self.old.state ≡ WaitCfr }
         requires goes_on { self.old.ending ≡ None }
@@ -272,7 +272,7 @@ impl Caller {
         }
     }
 
-    /// Answers an input in `WaitBlock`.
+    /// Takes an input in `WaitBlock`.
     fn in_wait_block(&mut self, input: CallerIn<'_>) -> Result<Turn, AllocError>
         requires state { self.old.state ≡ WaitBlock }
         requires goes_on { self.old.ending ≡ None }
@@ -289,7 +289,7 @@ impl Caller {
         }
     }
 
-    /// Answers an input in `WaitReady`.
+    /// Takes an input in `WaitReady`.
     fn in_wait_ready(&mut self, input: CallerIn<'_>) -> Result<Turn, AllocError>
         requires state { self.old.state ≡ WaitReady }
         requires goes_on { self.old.ending ≡ None }
@@ -310,7 +310,7 @@ impl Caller {
 
 // The rows of the table but that of an MCF.
 impl Caller {
-    /// Answers a DIS in `WaitDis`.
+    /// Takes a DIS in `WaitDis`.
     fn hear_dis(&mut self, caps: Caps) -> Turn
         requires state { self.old.state ≡ WaitDis }
         requires goes_on { self.old.ending ≡ None }
@@ -336,7 +336,7 @@ impl Caller {
         agree(caps, &self.wish, width, page.fine()).ok()
     }
 
-    /// Answers a CFR in `WaitCfr`. `AllocError` if memory is refused; nothing changes.
+    /// Takes a CFR in `WaitCfr`. `AllocError` if memory is refused; nothing changes.
     fn hear_cfr(&mut self) -> Result<Turn, AllocError>
         requires state { self.old.state ≡ WaitCfr }
         requires goes_on { self.old.ending ≡ None }
@@ -350,7 +350,7 @@ impl Caller {
         Ok(self.send_page(number, blocks))
     }
 
-    /// Answers an FTT in `WaitCfr`.
+    /// Takes an FTT in `WaitCfr`.
     fn hear_ftt(&mut self) -> Turn
         requires state { self.old.state ≡ WaitCfr }
         requires goes_on { self.old.ending ≡ None }
@@ -376,7 +376,7 @@ impl Caller {
         })
     }
 
-    /// Answers a PPR.
+    /// Takes a PPR.
     fn hear_ppr(&mut self, map: [u8; 32]) -> Turn
         requires state { IsSending self.old.state }
         requires goes_on { self.old.ending ≡ None }
@@ -391,7 +391,7 @@ impl Caller {
         Turn::Burst(map)
     }
 
-    /// Answers an RNR.
+    /// Takes an RNR.
     fn hear_rnr(&mut self) -> Turn
         requires state { IsSending self.old.state }
         requires goes_on { self.old.ending ≡ None }
@@ -402,7 +402,7 @@ impl Caller {
         Turn::Rr
     }
 
-    /// Answers a DCN.
+    /// Takes a DCN.
     fn hear_dcn(&mut self) -> Turn
         ensures { Answers self.old self.new result (λ t. record { next = record t { ending = Some PeerLeft }; turn = Silent }) }
     {
@@ -434,7 +434,7 @@ impl Caller {
 
 // An MCF: the block is confirmed, and the next one goes out, or a group or the document is through.
 impl Caller {
-    /// Answers an MCF. `AllocError` if memory is refused; nothing changes.
+    /// Takes an MCF. `AllocError` if memory is refused; nothing changes.
     fn hear_mcf(&mut self) -> Result<Turn, AllocError>
         requires state { IsSending self.old.state }
         requires goes_on { self.old.ending ≡ None }

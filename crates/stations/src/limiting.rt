@@ -84,7 +84,7 @@ impl LimitedAnswerer {
         }
     }
 
-    /// Answers an input of a call that wasn't cut off.
+    /// Takes an input of a call that wasn't cut off.
     fn advance(&mut self, input: AnswererIn<'_>) -> Result<Turn, AllocError>
         ensures steps { LimitedSteps self.old (answerer_input input.entry) self.new result }
         ensures within { IsWithin self.new.limits self.new.station.pages }

@@ -20,7 +20,7 @@ abbrev pub answerer_inputs : List PlainInput → List AnswererInput
 answerer_inputs [] = []
 answerer_inputs (input ∷ inputs) = put_taken (answerer_takes input) (answerer_inputs inputs)
 
--- a caller after inputs
+-- a caller after what it takes of inputs
 abbrev pub caller_led : List PlainInput → Caller → Caller
 caller_led [] c = c
 caller_led (input ∷ inputs) c = caller_led inputs (caller_given c input).next
