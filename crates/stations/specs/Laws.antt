@@ -55,7 +55,7 @@ abbrev pub ReadsByGrammar : Type 0
 ReadsByGrammar =
     (params : Params) (octets : List ℕ) (page : PagePixels) → (page_read params octets ≡ Some page) ↔ IsPageOf params octets page
 
--- each page of a group that is begun is readable, if its code is within the limit
+-- each page of a group that is begun is readable, if its code is within the limit; the layer above holds this, by LayersHold
 abbrev pub AreReadable : List Params → List PagePixels → Type 0
 AreReadable groups [] = Unit {0}
 AreReadable [] (page ∷ pages) = Unit {0}
