@@ -9,7 +9,7 @@ use Rattle.signals.specs.declared.params.Params.{Params}
 use Rattle.partial_page.specs.Frames.{frame_size}
 use Rattle.partial_page.specs.Store.{has_frame, is_marked}
 
--- the open frames: at each number 0 to 255 the data of its frame, where it is open
+-- the open frames: at each number 0 to 255 the data of its frame, if it is open
 abbrev pub Frames : Type 0
 Frames = List (Option (List ℕ))
 
@@ -18,11 +18,11 @@ abbrev pub is_whole : Frames → ℕ → Bool
 is_whole frames zero = true
 is_whole frames (suc count) = is_whole frames count && has_frame frames count
 
--- the frames up to the last one are all there
+-- the frames from 0 up to the last one are all there
 unfoldable pub all_there : Frames → ℕ → Bool
 all_there frames last = is_whole frames (suc last)
 
--- the map of a PPR: the missing frames up to the last one, and all above it
+-- the map of a PPR: each missing frame up to the last one, and all numbers above it
 unfoldable pub ppr_map : Frames → ℕ → List ℕ
 ppr_map frames last = packed (map (λ n. is_marked frames last n) (range_with_len 0 256))
 
@@ -31,7 +31,7 @@ pub record Asked : Type 0 where
   pub mark : Mark
   pub last : ℕ
 
--- the last frame that counts: of a mark that was asked for, the greater of the two
+-- the last frame that counts for a PPS; if frames of the same mark were asked for, the greater of the two counts
 abbrev pub last_counted : Option Asked → Mark → ℕ → ℕ
 last_counted None mark last = last
 last_counted (Some asked) mark last = cond (same_mark asked.mark mark) (max asked.last last) last
@@ -40,10 +40,10 @@ last_counted (Some asked) mark last = cond (same_mark asked.mark mark) (max aske
 unfoldable pub within_frame_size : Params → List ℕ → Bool
 within_frame_size params octets = nat_le (length octets) (frame_size params.small)
 
--- the most data octets of a frame
+-- the data of a frame are more than 64 octets with small frames, else more than 256
 abbrev pub IsTooLong : Params → List ℕ → Type 0
 IsTooLong params octets = ((params.small ≡ true) × (64 < length octets)) ⊎ ((params.small ≡ false) × (256 < length octets))
 
--- its mark and its last frame
+-- what is remembered of a PPS that was answered by PPR: its mark and its last frame
 abbrev pub asked_by : Pps → Asked
 asked_by pps = record { mark = pps.mark; last = pps.last }

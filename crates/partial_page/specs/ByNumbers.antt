@@ -14,23 +14,23 @@ use Rattle.partial_page.specs.declared.fault.BlockFault.TheVariants.{NoMemory, T
 abbrev pub fault_list : List (ℕ × BlockFault)
 fault_list = (9, NoMemory) ∷ (23, TooLong) ∷ (24, PageTooLong) ∷ []
 
--- a fault has the number that the list gives it, and no other
+-- law: a fault has its number in the list, 9, 23 or 24, and no other
 abbrev pub FaultsHaveNumbers : Type 0
 FaultsHaveNumbers = (n : ℕ) (fault : BlockFault) → (number_of fault ≡ n) ↔ Contains fault_list (n, fault)
 
 -- ---- where a page's blocks and frames begin and end
 
--- the octets of a frame
+-- the octets of a frame, if frames are small and if not
 abbrev pub octets_a_frame : Bool → ℕ
 octets_a_frame true = 64
 octets_a_frame false = 256
 
--- the octets of a block of 256 frames
+-- the octets of a block of 256 frames, if frames are small and if not
 abbrev pub octets_a_block : Bool → ℕ
 octets_a_block true = 16384
 octets_a_block false = 65536
 
--- the most blocks of a page
+-- the most blocks of a page, if frames are small and if not
 abbrev pub most_blocks : Bool → ℕ
 most_blocks true = 512
 most_blocks false = 128
@@ -55,11 +55,12 @@ pub record IsCutByPlaces (small : Bool) (octets : List ℕ) (blocks : List (List
       slice_index (slice_index_or (slice_index_or blocks k []) n []) i ≡
       slice_index octets (k * octets_a_block small + n * octets_a_frame small + i)
 
--- what octets are cut into are such blocks
+-- law: each block begins 65,536 octets after the one before (16,384 with small frames) and each frame 256 (64), inside the page; it has the
+-- page's octets from there, and after the page's end 00
 abbrev pub CutsByPlaces : Type 0
 CutsByPlaces = (small : Bool) (octets : List ℕ) → IsCutByPlaces small octets (cut small octets)
 
--- a page of up to 128 blocks of 65,536 octets, or 512 of 16,384, is cut or memory is refused; one octet more makes it too long
+-- law: a page of up to 128 blocks of 65,536 octets, or 512 of 16,384, is cut unless memory is refused; one octet more is too long
 pub record LimitsByBlocks : Type 0 where
   pub taken : (small : Bool) (coded : List ℕ) (blocks : List (List (List ℕ))) → CutsPage small coded (Ok blocks) ↔
       ((length coded ≤ most_blocks small * octets_a_block small) × (blocks ≡ cut small coded))
@@ -73,12 +74,12 @@ pub record LimitsByBlocks : Type 0 where
 
 -- ---- which frames a PPR asks for
 
--- 1 where there is no frame, 0 where there is one
+-- 1 without a frame, 0 with one
 abbrev pub if_none : Option (List ℕ) → ℕ
 if_none None = 1
 if_none (Some octets) = 0
 
--- 1 where a number up to the last has no frame, and at each number above the last; else 0
+-- 1 for a number up to the last without a frame, and for each number above the last; else 0
 abbrev pub asked : List (Option (List ℕ)) → ℕ → ℕ → ℕ
 asked frames last n = cond (nat_le n last) (if_none (slice_index_or frames n None)) 1
 
@@ -89,21 +90,23 @@ map_octet frames last k =
     16 * asked frames last (8 * k + 4) + 32 * asked frames last (8 * k + 5) + 64 * asked frames last (8 * k + 6) +
     128 * asked frames last (8 * k + 7)
 
--- the map's 32 octets
+-- the map of a PPR as its 32 octets
 abbrev pub map_octets : List (Option (List ℕ)) → ℕ → List ℕ
 map_octets frames last = map (map_octet frames last) (range_with_len 0 32)
 
--- the map of a PPR by its octets, and no other octets are the map
+-- law: octet k of the map is the sum of the weights 1, 2, 4 to 128 of frames 8 k to 8 k + 7, each counted if it is missing or above the
+-- last; no other octets are the map; frames are whole if none up to the last is asked for
 pub record MapsByOctets : Type 0 where
   pub octets : (frames : List (Option (List ℕ))) (last : ℕ) → IsMissingMap frames last (map_octets frames last)
   pub alone : (frames : List (Option (List ℕ))) (last : ℕ) (octets : List ℕ) → ((k : ℕ) → slice_index octets k < 256) →
       IsMissingMap frames last octets → octets ≡ map_octets frames last
-  -- the frames up to the last are all there exactly where none of them is asked for
+  -- the frames up to the last are all there exactly if none of them is asked for
   pub whole : (frames : List (Option (List ℕ))) (last : ℕ) → IsWhole frames last ↔ ((n : ℕ) → n ≤ last → asked frames last n ≡ 0)
 
 -- ---- what a frame changes
 
--- the store has taken the frame: it is at its number, each other number has what it had, and so has all else
+-- the store has taken the frame: it is at its number, each other number has what it had, and all else is as it was but that the memory is
+-- taken
 pub record HasTaken (old : StoredFrames) (n : ℕ) (octets : List ℕ) (new : StoredFrames) : Type 0 where
   pub fits : length octets ≤ octets_a_frame old.small
   pub size : new.small ≡ old.small
@@ -112,7 +115,8 @@ pub record HasTaken (old : StoredFrames) (n : ℕ) (octets : List ℕ) (new : St
   pub here : slice_index_or new.frames n None ≡ Some octets
   pub others : (k : ℕ) → k ≢ n → slice_index_or new.frames k None ≡ slice_index_or old.frames k None
 
--- a frame is taken exactly so, and refused exactly so; a frame that comes again takes nothing else's place
+-- law: a frame that is taken is at its number, each other number has what it had, and the memory is taken; a frame is refused exactly for
+-- too many octets, or for memory as long as none is taken. A frame that comes again takes no other frame's place
 pub record PutsByPlaces : Type 0 where
   pub taken : (old new : StoredFrames) (n : ℕ) (octets : List ℕ) → n < length old.frames →
       PutsFrame old n octets new (Ok tt) ↔ HasTaken old n octets new

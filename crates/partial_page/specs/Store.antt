@@ -1,4 +1,4 @@
--- The frames of a block that were received: at each number 0 to 255 its frame's data, where there is one.
+-- The frames of a block that have come: at each number 0 to 255 its frame's data, if there is one.
 use Rattle.std.specs.Prelude.{ℕ, ◌≡◌, ◌≢◌, ◌≤◌, ◌<◌, ◌*◌, ◌||◌, ◌↔◌, Bool, true, false, cond, not, List, length, map, take, drop, replicate}
 use Rattle.std.specs.Prelude.{slice_index, slice_index_or, slice_set, nat_lt, Option, None, Some, is_some, unwrap_or, Result, Ok, Err, []}
 use Rattle.std.specs.List.{flat_map, range_with_len}
@@ -8,8 +8,8 @@ use Rattle.partial_page.specs.Frames.{frame_size, joined_block}
 use Rattle.partial_page.specs.declared.fault.BlockFault.{BlockFault}
 use Rattle.partial_page.specs.declared.fault.BlockFault.TheVariants.{NoMemory, TooLong}
 
--- a store: whether the small frames are agreed, at each number 0 to 255 its frame's data, where there is one, and whether its memory
--- is taken
+-- a store: whether small frames are agreed, at each number 0 to 255 its frame's data, if there are any, and whether the store's memory is
+-- taken
 pub record StoredFrames : Type 0 where
   pub small : Bool
   pub frames : List (Option (List ℕ))
@@ -19,7 +19,7 @@ pub record StoredFrames : Type 0 where
 unfoldable pub no_frames : List (Option (List ℕ))
 no_frames = replicate 256 None
 
--- the data at a number, where there is any
+-- the data at a number, if there are any
 abbrev pub frame_of : List (Option (List ℕ)) → ℕ → Option (List ℕ)
 frame_of frames n = slice_index_or frames n None
 
@@ -44,7 +44,7 @@ is_marked frames last n = nat_lt last n || is_missing frames n
 abbrev pub bit_of : List ℕ → ℕ → Bool
 bit_of octets n = bit_in LsbFirst octets n
 
--- the map of 256 bits that says the missing numbers up to the last, and marks those above it
+-- the map of 256 bits, the least significant bit of an octet first: 1 if a number has no frame or is above the last
 pub record IsMissingMap (frames : List (Option (List ℕ))) (last : ℕ) (octets : List ℕ) : Type 0 where
   pub size : length octets ≡ 32
   pub bits : (n : ℕ) → n < 256 → bit_of octets n ≡ is_marked frames last n
@@ -57,7 +57,8 @@ IsWhole frames last = (n : ℕ) → n ≤ last → has_frame frames n ≡ true
 unfoldable pub joined_frames : List (Option (List ℕ)) → ℕ → List ℕ
 joined_frames frames count = flat_map (λ n. unwrap_or (frame_of frames n) []) (range_with_len 0 count)
 
--- what storing a frame leaves, and when it is refused: for want of memory only where the store's memory isn't taken yet
+-- storing a frame sets the data at its number and leaves a store that is ready; it is refused if the data are longer than a frame, and for
+-- memory only if the store isn't ready yet; then nothing changes
 abbrev pub PutsFrame : StoredFrames → ℕ → List ℕ → StoredFrames → Result (Unit {0}) BlockFault → Type 0
 PutsFrame old n octets new (Ok done) =
     (length octets ≤ frame_size old.small) × (new ≡ record old { frames = slice_set old.frames n (Some octets); ready = true })
@@ -65,34 +66,34 @@ PutsFrame old n octets new (Err TooLong) = (frame_size old.small < length octets
 PutsFrame old n octets new (Err NoMemory) = (length octets ≤ frame_size old.small) × (old.ready ≡ false) × (new ≡ old)
 PutsFrame old n octets new (Err fault) = ⊥
 
--- the data are those at their number, and each other number has what it had
+-- the data are at their number, and each other number has what it had
 pub record IsKept (old : List (Option (List ℕ))) (n : ℕ) (octets : List ℕ) (new : List (Option (List ℕ))) : Type 0 where
   pub here : frame_of new n ≡ Some octets
   pub others : (k : ℕ) → k ≢ n → frame_of new k ≡ frame_of old k
 
--- a store in memory: one buffer of 256 places of a frame's size, a map of the numbers that have a frame, and how long each frame's data are
--- the data at a number, from the front of its place
+-- a store lies in memory as one buffer of 256 places of a frame's size, a map of the numbers that have a frame, and the length of each
+-- frame's data. These are the data at a number, from the front of its place
 abbrev pub data_at : Bool → List ℕ → List ℕ → ℕ → List ℕ
 data_at small buffer lengths n = take (slice_index lengths n) (drop (n * frame_size small) buffer)
 
--- the frames that lie so in memory
+-- the frames of a store that lies so in memory
 unfoldable pub frames_in : Bool → List ℕ → List ℕ → List ℕ → List (Option (List ℕ))
 frames_in small buffer there lengths = map (λ n. cond (bit_of there n) (Some (data_at small buffer lengths n)) None) (range_with_len 0 256)
 
--- the buffer, where it is taken, has all its places; no frame is there before; no data are longer than a place
+-- the buffer, once taken, has all 256 places; before, no bit of the map is set; no length is above a place
 pub record IsLaidOut (small : Bool) (buffer there lengths : List ℕ) : Type 0 where
   pub room : 0 < length buffer → length buffer ≡ 256 * frame_size small
   pub held : (n : ℕ) → bit_of there n ≡ true → 0 < length buffer
   pub short : (n : ℕ) → slice_index lengths n ≤ frame_size small
 
--- a store that has each frame of a block joins to the block's octets
+-- law: a store that has each frame of a block under its number joins to the block's octets
 abbrev pub StoreJoinsToBlock : Type 0
 StoreJoinsToBlock =
     (frames : List (Option (List ℕ))) (block : List (List ℕ)) →
     ((k : ℕ) → k < length block → frame_of frames k ≡ Some (slice_index_or block k [])) →
     joined_frames frames (length block) ≡ joined_block block
 
--- of 256 places none has a frame exactly if they are those of no frame
+-- law: 256 places are those of an empty store exactly if none of them has a frame
 abbrev pub NoFramesHaveNone : Type 0
 NoFramesHaveNone =
     (frames : List (Option (List ℕ))) → length frames ≡ 256 → (((n : ℕ) → n < 256 → has_frame frames n ≡ false) ↔ (frames ≡ no_frames))

@@ -8,17 +8,17 @@ use crate::store::BlockStore;
 use signals::Pps;
 use std::alloc::{AllocError, Global};
 
-/// A block under way: its frames so far, and its last PPS where frames were missing then.
+/// A block under way: its frames so far, and its last PPS if frames were missing then.
 #[derive(Debug, Drop)]
 pub struct BlockAssembler {
-    /// The frames that are there.
+    /// The frames that have come.
     pub frames: BlockStore,
-    /// The last PPS of the block, with the last frame that counts, where frames were missing.
+    /// The last PPS of the block, with the last frame that counts, if frames were missing.
     pub asked: Option<Pps>,
 }
 
 impl BlockAssembler {
-    /// No frame is there, and none is asked for. The frames have at most 64 octets where `small`, else at most 256. Takes no memory.
+    /// A block without frames, none asked for. A frame has at most 64 octets if `small`, else 256. Takes no memory.
     pub fn new(alloc: Global, small: bool) -> BlockAssembler
         ensures { result ≡ record { frames = record { small = small; frames = no_frames; ready = false }; asked = None } }
     {
@@ -28,10 +28,12 @@ impl BlockAssembler {
         }
     }
 
-    /// A PPS with the last frame that counts: where frames were asked for after a PPS of the same mark, the greater of the two.
+    /// Returns a PPS with the last frame that counts: if frames were asked for after a PPS of the same mark, the
+    /// greater of the two counts.
     pub fn counted(&self, pps: Pps) -> Pps
         ensures { result ≡ record pps { last = last_counted (option_map asked_by self.now.asked) pps.mark pps.last } }
     {
+        // A PPS counts the whole block's frames, but after a resend some callers count only the frames sent again.
         match self.asked {
             Some(asked) => {
                 if asked.mark.is_same(pps.mark) {
@@ -55,7 +57,7 @@ impl BlockAssembler {
         self.frames.whole(last)
     }
 
-    /// The map of a PPR: the frames 0 to `last` that are missing, and all above.
+    /// Returns the map of a PPR: a 1 for each of the frames 0 to `last` that is missing, and for all numbers above.
     pub fn missing(&self, last: u8) -> [u8; 32]
         ensures { result ≡ ppr_map self.now.frames.frames last }
     {
@@ -64,8 +66,8 @@ impl BlockAssembler {
         map
     }
 
-    /// Appends the frames 0 to `last`, which are all there, one after the other. Errs where memory is refused; then the list is
-    /// as it was.
+    /// Appends the frames 0 to `last`, which are all there, one after the other. `AllocError` if memory is refused; the
+    /// list stays as it was.
     pub fn append_to(&self, last: u8, octets: &mut Vec<u8>) -> Result<(), AllocError>
         requires whole { all_there self.now.frames.frames last ≡ true }
         ensures ok { OnOk result (octets.new.items ≡ octets.old.items ++ joined_frames self.now.frames.frames (last + 1)) }
@@ -74,7 +76,7 @@ impl BlockAssembler {
         self.frames.append_joined(last, octets)
     }
 
-    /// No frame is there any more, and none is asked for. Takes no memory.
+    /// Forgets all frames, and that any were asked for. Takes no memory.
     pub fn clear(&mut self)
         ensures { self.new ≡ record { frames = record self.old.frames { frames = no_frames }; asked = None } }
     {

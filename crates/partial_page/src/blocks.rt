@@ -10,7 +10,7 @@ use std::marker::Model;
 /// The greatest number of octets of a coded page.
 pub const MAX_PAGE_OCTETS: usize = 8_388_608;
 
-/// The octets of a frame: 64 where `small`, else 256.
+/// The octets of a frame: 64 if `small`, else 256.
 pub(crate) fn frame_octets(small: bool) -> usize
     ensures size { result ≡ frame_size small }
     ensures some { 0 < result }
@@ -29,10 +29,11 @@ pub(crate) fn frame_at(octets: &[u8], place: usize, small: bool) -> &[u8]
     &octets[place * size..(place + 1) * size]
 }
 
-/// A coded page, cut into the frames of ITU-T T.30 Annex A: blocks of 256 frames, the last block with
-/// the rest, and each frame of the agreed size.
+/// A coded page, cut into the frames of ITU-T T.30, Annex A: blocks of 256 frames, the last block with the rest, and
+/// each frame of the agreed size.
 #[derive(Debug, Drop)]
 pub struct Blocks {
+    // the filled page as one list, from which frames are lent
     octets: Vec<u8>,
     frames: usize,
     small: bool,
@@ -50,9 +51,9 @@ impl Model for Blocks {
 }
 
 impl Blocks {
-    /// Cuts a coded page into frames of 64 octets where `small`, else of 256, and fills the last frame
-    /// with octets 00. No octets give no block. Errs with `PageTooLong` where there are more than
-    /// 8,388,608 octets, and with `NoMemory`. The frames stay in the memory of `coded`, which grows.
+    /// Cuts a coded page into frames of 64 octets if `small`, else of 256, and fills the last frame with octets 00;
+    /// without octets there is no block. The frames stay in the memory of `coded`, which grows. `PageTooLong` (24)
+    /// exactly for more than 8,388,608 octets, `NoMemory` (9) if memory is refused.
     pub fn cut(_alloc: Global, coded: Vec<u8>, small: bool) -> Result<Blocks, BlockFault>
         ensures cuts { CutsPage small coded.items result }
         ensures full { IfOk result (λ blocks. IsCut (frame_size small) coded.items blocks) }
@@ -71,7 +72,7 @@ impl Blocks {
         })
     }
 
-    /// How many blocks there are.
+    /// Returns the number of blocks.
     #[tactic(auto, using(crate::proofs::BlockLemmas::views))]
     pub fn count(&self) -> usize
         ensures { result ≡ length self.now }
@@ -79,7 +80,7 @@ impl Blocks {
         self.frames.div_ceil(256)
     }
 
-    /// The frames of a block less 1: the number of its last frame.
+    /// Returns the number of the last frame of a block that is there, from 0: its frames less 1.
     #[tactic(auto, using(crate::proofs::BlockLemmas::views))]
     pub fn last(&self, block: usize) -> u8
         requires { block < length self.now }
@@ -89,7 +90,7 @@ impl Blocks {
         if rest > 256 { 255 } else { (rest - 1) as u8 }
     }
 
-    /// The octets of a frame of a block; both are counted from 0.
+    /// Returns the octets of a frame of a block, both counted from 0; the block must have the frame.
     #[tactic(auto, using(crate::proofs::BlockLemmas::views))]
     pub fn frame(&self, block: usize, n: u8) -> &[u8]
         requires block { block < length self.now }

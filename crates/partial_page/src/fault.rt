@@ -3,16 +3,16 @@
 use std::alloc::AllocError;
 use thiserror::Error;
 
-/// Why a page was not cut, or a frame was not stored or joined.
+/// Why a page was not cut, or a frame was not stored.
 #[derive(Clone, Copy, Debug, PartialEq, Eq, Error)]
 pub enum BlockFault {
-    /// Memory was refused.
+    /// Memory was refused (fault 9).
     #[error("no memory")]
     NoMemory,
-    /// Data that is longer than a frame.
+    /// The data are longer than a frame (fault 23).
     #[error("the data is longer than a frame")]
     TooLong,
-    /// A coded page of more than 8,388,608 octets.
+    /// The coded page has more than 8,388,608 octets (fault 24).
     #[error("the coded page has more than 8388608 octets")]
     PageTooLong,
 }
@@ -21,7 +21,7 @@ impl BlockFault {
     ghost use Rattle.std.specs.Prelude.{◌≡◌};
     ghost use Rattle.partial_page.specs.Faults.{number_of};
 
-    /// The number of the fault: 9, 23 or 24.
+    /// Returns the number of the fault among all faults: 9, 23 or 24.
     pub fn number(self) -> u8
         ensures { result ≡ number_of self }
     {

@@ -1,5 +1,5 @@
-//! The partial pages of ITU-T T.30 Annex A: a coded page cut into blocks of frames, and a store that
-//! gathers the frames of a block. It uses `raster`.
+//! The partial pages of ITU-T T.30, Annex A: a coded page cut into blocks of frames, and a store that gathers the
+//! frames of a block. It uses `raster` and `signals`.
 #![tactic(auto)]
 
 mod assembler;

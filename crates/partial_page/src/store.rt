@@ -32,8 +32,8 @@ fn write_from(buffer: &mut Vec<u8>, place: usize, octets: &[u8])
     buffer[place..place + octets.len()].copy_from_slice(octets);
 }
 
-/// The frames of a block that were received, by their numbers. All lie in one buffer of 256 places of
-/// the agreed size, which the first frame takes and the store then keeps.
+/// The frames of a block that have come, by their numbers. All lie in one buffer of 256 places of the agreed size,
+/// which the first frame takes and the store then keeps.
 #[derive(Debug, Drop)]
 pub struct BlockStore {
     buffer: Vec<u8>,
@@ -58,8 +58,7 @@ impl Model for BlockStore {
 }
 
 impl BlockStore {
-    /// A store with no frame, for frames of at most 64 octets where `small`, else of at most 256.
-    /// Takes no memory.
+    /// An empty store for frames of at most 64 octets if `small`, else of at most 256. Takes no memory.
     pub fn new(alloc: Global, small: bool) -> BlockStore
         ensures store { IsStore result }
         ensures empty { result ≡ record { small = small; frames = no_frames; ready = false } }
@@ -72,7 +71,7 @@ impl BlockStore {
         }
     }
 
-    /// Whether the buffer is taken; it then stays.
+    /// Whether the buffer is taken. From then on it stays, and `put` takes no memory.
     pub fn ready(&self) -> bool
         ensures store { IsStore self.now }
         ensures ready { result ≡ self.now.ready }
@@ -80,8 +79,7 @@ impl BlockStore {
         !self.buffer.is_empty()
     }
 
-    /// Takes the buffer, where it isn't taken yet. Errs where memory is refused; then the store is as it
-    /// was.
+    /// Takes the buffer if it isn't taken yet. `AllocError` if memory is refused; the store stays as it was.
     fn make_ready(&mut self) -> Result<(), AllocError>
         ensures ok { OnOk result (self.new ≡ record self.old { ready = true }) }
         ensures err { OnErr result (self.new ≡ self.old) }
@@ -110,9 +108,9 @@ impl BlockStore {
         mark(&mut self.there, n, true);
     }
 
-    /// Stores the data of frame `n`; a later frame of the same number replaces the earlier one. Errs
-    /// with `TooLong` where the data is longer than a frame, and with `NoMemory`, which a store that is
-    /// ready never does; then the store is as it was.
+    /// Stores the data of frame `n`, which may be shorter than a frame; a later frame of the same number replaces the
+    /// earlier one. `TooLong` (23) if the data are longer than a frame, `NoMemory` (9) if memory is refused, never of a
+    /// store that is ready; then the store is as it was.
     pub fn put(&mut self, n: u8, octets: &[u8]) -> Result<(), BlockFault>
         ensures store { IsStore self.new }
         ensures puts { PutsFrame self.old n octets.now self.new result }
@@ -127,7 +125,7 @@ impl BlockStore {
         Ok(())
     }
 
-    /// The data of frame `n`, where there is any.
+    /// Returns the data of frame `n`; None if it isn't there.
     pub fn frame(&self, n: u8) -> Option<&[u8]>
         ensures store { IsStore self.now }
         ensures data { option_map (λ octets. octets.now) result ≡ frame_of self.now.frames n }
@@ -154,8 +152,8 @@ impl BlockStore {
         n > last || !self.has(n)
     }
 
-    /// The map of the missing frames: bit n mod 8 of octet n div 8, the least significant bit 0, is 1
-    /// where frame n is missing or n is above `last`. Takes no memory.
+    /// Returns the map of the missing frames: bit n mod 8 of octet n div 8, the least significant being bit 0, is 1 if
+    /// frame n is missing or n is above `last`. Takes no memory.
     pub fn missing(&self, last: u8) -> [u8; 32]
         ensures store { IsStore self.now }
         ensures map { IsMissingMap self.now.frames last result }
@@ -197,7 +195,7 @@ impl BlockStore {
         true
     }
 
-    /// Appends the data of frame `n`, where there is any.
+    /// Appends the data of frame `n`, if there are any.
     fn append_frame(&self, n: u8, octets: &mut Vec<u8>) -> Result<(), AllocError>
         ensures ok { OnOk result (octets.new.items ≡ octets.old.items ++ unwrap_or (frame_of self.now.frames n) []) }
         ensures err { OnErr result (octets.new.items ≡ octets.old.items) }
@@ -208,8 +206,8 @@ impl BlockStore {
         Ok(())
     }
 
-    /// Appends the frames 0 to `last`, which are all there, one after the other. Errs where memory is
-    /// refused; then the list is as it was.
+    /// Appends the frames 0 to `last`, which must all be there, one after the other. `AllocError` if memory is refused;
+    /// the list stays as it was.
     pub fn append_joined(&self, last: u8, octets: &mut Vec<u8>) -> Result<(), AllocError>
         requires { IsWhole self.now.frames last }
         ensures store { IsStore self.now }
@@ -227,7 +225,7 @@ impl BlockStore {
         Ok(())
     }
 
-    /// Removes all frames, and keeps the buffer. Takes no memory.
+    /// Removes all frames and keeps the buffer. Takes no memory.
     pub fn clear(&mut self)
         ensures store { IsStore self.new }
         ensures empty { self.new ≡ record self.old { frames = no_frames } }

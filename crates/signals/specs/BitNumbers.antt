@@ -23,11 +23,11 @@ use Rattle.signals.specs.declared.params.PageWidth.TheVariants.{W1728, W2048, W2
 use Rattle.signals.specs.declared.params.Params.{Params}
 use Rattle.signals.specs.declared.signal.PageEnd.{PageEnd}
 
--- the bit of a number as it was sent: 1 is the first of the information field, and past its last each is 0
+-- the bit with a number as it was sent: 1 is the first of the information field in order of sending; past its last bit each is 0
 unfoldable pub sent_bit : List ℕ → ℕ → Bool
 sent_bit fields number = slice_index_or (bits_of LsbFirst fields) (number - 1) false
 
--- the bit of a number as it is read: bits 25 and up are 0 where bit 24 is 0
+-- the bit with a number as it is read: as it was sent, but bits 25 and up are 0 if bit 24 is 0 (T.30, 5.3.6.2)
 unfoldable pub numbered : List ℕ → ℕ → Bool
 numbered fields number = sent_bit fields number && (nat_le number 24 || sent_bit fields 24)
 
@@ -35,18 +35,18 @@ numbered fields number = sent_bit fields number && (nat_le number 24 || sent_bit
 abbrev pub numbered_from : List ℕ → ℕ → ℕ → List Bool
 numbered_from fields number count = map (numbered fields) (range_with_len number count)
 
--- bits 11 to 14 of a DIS show the modems whose text they are, and the fallback where they are the text of no others
+-- bits 11 to 14 of a DIS show the modems whose text they are, and the fallback if they are the text of no others (T.30, 5.3.6.2)
 abbrev pub ModemsShown : List Bool → Modems → Type 0
 ModemsShown bits Fallback = (others : Modems) → others ≢ Fallback → bits ≢ digits (modems_text others)
 ModemsShown bits modems = bits ≡ digits (modems_text modems)
 
--- bits 17 and 18 of a DIS: the texts that show a widest page
+-- bits 17 and 18 of a DIS for each widest page: 00 for 1,728 pixels, 10 for 2,048, 01 and 11 for 2,432
 abbrev pub widest_texts : PageWidth → List (List Bool)
 widest_texts W1728 = digits (codes "00") ∷ []
 widest_texts W2048 = digits (codes "10") ∷ []
 widest_texts W2432 = digits (codes "01") ∷ digits (codes "11") ∷ []
 
--- what the bits of a DIS show, each by its number
+-- what the bits of a DIS show, a line for each field, under the numbers of its bits
 pub record DisShows (fields : List ℕ) (caps : Caps) : Type 0 where
   pub bit_10_receiver : numbered fields 10 ≡ caps.receiver
   pub bits_11_to_14_modems : ModemsShown (numbered_from fields 11 4) caps.modems
@@ -55,7 +55,7 @@ pub record DisShows (fields : List ℕ) (caps : Caps) : Type 0 where
   pub bit_27_error_correction : numbered fields 27 ≡ caps.ecm
   pub bit_31_t6 : numbered fields 31 ≡ caps.t6
 
--- what the bits of a DCS show, each by its number: it has error correction, and bit 16 only beside T.6
+-- what the bits of a DCS show, a line for each field, under the numbers of its bits; it has error correction, and bit 16 only beside T.6
 pub record DcsShows (fields : List ℕ) (params : Params) : Type 0 where
   pub bits_11_to_14_speed : numbered_from fields 11 4 ≡ digits (speed_text params.speed)
   pub bit_15_fine : numbered fields 15 ≡ params.fine
@@ -65,12 +65,12 @@ pub record DcsShows (fields : List ℕ) (params : Params) : Type 0 where
   pub bit_28_small : numbered fields 28 ≡ params.small
   pub bit_31_t6 : numbered fields 31 ≡ is_t6 params.coding
 
--- an octet is a facsimile control field's, of either station
+-- an octet is one that either station sends for a facsimile control field
 pub record IsOctetOf (control : Control) (octet : ℕ) : Type 0 where
   pub small : octet < 256
   pub text : has_text (control_text control) octet ≡ true
 
--- the least number of octets of the information field after a facsimile control field
+-- the least number of octets of the information field: 3 in a DIS and a DCS, 2 in an FCD, 4 in a PPS, 32 in a PPR, else 0
 abbrev pub least_octets : Control → ℕ
 least_octets Dis = 3
 least_octets Dcs = 3
@@ -79,8 +79,8 @@ least_octets Pps = 4
 least_octets Ppr = 32
 least_octets _ = 0
 
--- what the information field after a facsimile control field shows: a DCS whose bits show no parameters and a PPS whose first
--- octet there has no known text are another signal
+-- what the information field after a facsimile control field shows; a DCS whose bits show no parameters, and a PPS whose first octet has no
+-- known text, are read as `other`
 abbrev pub FieldsShow : Control → ℕ → List ℕ → PlainSignal → Type 0
 FieldsShow Dis octet fields (dis caps) = DisShows fields caps
 FieldsShow Dcs octet fields (dcs params) = DcsShows fields params
@@ -100,26 +100,27 @@ FieldsShow Rr octet fields rr = Unit {0}
 FieldsShow Dcn octet fields dcn = Unit {0}
 FieldsShow _ _ _ _ = ⊥
 
--- what is read of a facsimile control field and the information field after it: a signal that it shows, or that it is too short
+-- what is read of a facsimile control field and its information field: the signal that they show, or `ShortField` if the field is too short
 abbrev pub IsReadOf : Control → ℕ → List ℕ → Result PlainSignal SignalFault → Type 0
 IsReadOf control octet fields (Ok signal) = (least_octets control ≤ length fields) × FieldsShow control octet fields signal
 IsReadOf control octet fields (Err fault) = (length fields < least_octets control) × (fault ≡ ShortField)
 
--- each content of a known facsimile control field is read by the numbers of its bits
+-- law: a content with a known facsimile control field is read by the numbers of its bits
 abbrev pub ReadsByNumber : Type 0
 ReadsByNumber =
     (control : Control) (last : Bool) (octet : ℕ) (fields : List ℕ) → IsOctetOf control octet → AreOctets fields
     → IsReadOf control octet fields (read_content (head_of last octet ++ fields))
 
--- the numbers of the bits of a DIS that say something
+-- the numbers of the bits of a DIS that have a meaning here
 abbrev pub dis_numbers : List ℕ
 dis_numbers = 10 ∷ 11 ∷ 12 ∷ 13 ∷ 14 ∷ 15 ∷ 17 ∷ 18 ∷ 27 ∷ 31 ∷ []
 
--- the numbers of the bits of a DCS that say something
+-- the numbers of the bits of a DCS that have a meaning here
 abbrev pub dcs_numbers : List ℕ
 dcs_numbers = 11 ∷ 12 ∷ 13 ∷ 14 ∷ 15 ∷ 16 ∷ 17 ∷ 18 ∷ 27 ∷ 28 ∷ 31 ∷ []
 
--- two contents of a facsimile control field, long enough, are read alike where the bits of these numbers are read alike
+-- law: two contents with the same facsimile control field, both long enough, are read alike if they agree in the bits of these numbers: all
+-- other bits are ignored
 abbrev pub ReadsNoOthers : Control → List ℕ → Type 0
 ReadsNoOthers control numbers =
     (last again : Bool) (octet : ℕ) (fields others : List ℕ) → IsOctetOf control octet

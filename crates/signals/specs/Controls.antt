@@ -6,12 +6,12 @@ use Rattle.signals.specs.declared.control.Control.TheVariants.{Dis, Dcs, Cfr, Ft
 use Rattle.signals.specs.declared.signal.Side.{Side}
 use Rattle.signals.specs.declared.signal.Side.TheVariants.{Caller, Answerer}
 
--- the first bit X of the station that sends
+-- the first bit X of a facsimile control field: 1 from the caller, 0 from the answerer
 abbrev pub x_of : Side → ℕ
 x_of Caller = 1
 x_of Answerer = 0
 
--- the octet that a station sends of a facsimile control field, with the station's X where the standard's text has an X
+-- the octet that a station sends for a facsimile control field, with its own bit for the X of the standard's text
 abbrev pub octet_of : Control → Side → ℕ
 octet_of Dis side = 0x80
 octet_of Dcs side = 0x82 + x_of side
@@ -26,14 +26,14 @@ octet_of Rnr side = 0xEC + x_of side
 octet_of Rr side = 0x6E + x_of side
 octet_of Dcn side = 0xFA + x_of side
 
--- all of them
+-- all twelve facsimile control fields
 abbrev pub controls : List Control
 controls = Dis ∷ Dcs ∷ Cfr ∷ Ftt ∷ Fcd ∷ Rcp ∷ Pps ∷ Ppr ∷ Mcf ∷ Rnr ∷ Rr ∷ Dcn ∷ []
 
--- an octet is the one that either station sends of a control field
+-- an octet is the one that either station sends for a facsimile control field
 abbrev pub is_octet : ℕ → Control → Bool
 is_octet octet control = nat_eq octet (octet_of control Caller) || nat_eq octet (octet_of control Answerer)
 
--- the facsimile control field of an octet, of either station
+-- the facsimile control field that an octet is, from either station; None for other octets
 unfoldable pub control_of : ℕ → Option Control
 control_of octet = find (is_octet octet) controls

@@ -20,7 +20,7 @@ use Rattle.signals.specs.declared.params.Wish.{Wish}
 pub data Modulation : Type 0 where
   v27ter v29 v17 : Modulation
 
--- the recommendation of a speed
+-- the recommendation of each speed
 abbrev pub modulation : Speed → Modulation
 modulation V27At2400 = v27ter
 modulation V27At4800 = v27ter
@@ -31,7 +31,8 @@ modulation V17At9600 = v17
 modulation V17At12000 = v17
 modulation V17At14400 = v17
 
--- a row of the standard's table of speeds: bits 11 to 14 of a DCS, the recommendation, bits a second, and the octets of 1.5 s
+-- a row of the standard's table of speeds: bits 11 to 14 of a DCS, the recommendation, the bits a second, and the octets of a training
+-- check of 1.5 s
 pub record SpeedRow : Type 0 where
   pub text : List ℕ
   pub by : Modulation
@@ -51,7 +52,8 @@ speed_table =
     ∷ record { text = codes "1101"; by = v17; rate = 7200; octets = 1350 }
     ∷ []
 
--- each speed has its row of the standard's table: its bits in a DCS, its recommendation, its bits a second and its training check
+-- law: each speed has its row of the standard's table: its bits in a DCS, its recommendation, its bits a second and the octets of its
+-- training check (T.30, table 2)
 abbrev pub SpeedsHaveRows : Type 0
 SpeedsHaveRows =
     (speed : Speed) →
@@ -62,7 +64,7 @@ SpeedsHaveRows =
 abbrev pub width_table : List (List ℕ × ℕ)
 width_table = (codes "00", 1728) ∷ (codes "01", 2432) ∷ (codes "10", 2048) ∷ []
 
--- each width has its row of the standard's table
+-- law: each width has its row of the standard's table: its bits in a DCS and its pixels
 abbrev pub WidthsHaveRows : Type 0
 WidthsHaveRows = (width : PageWidth) → Contains width_table (width_text width, pixels_of width)
 
@@ -79,22 +81,22 @@ abbrev pub HasSpeed : Modems → Speed → Type 0
 HasSpeed Fallback speed = (modulation speed ≡ v27ter) × (bits_a_second speed ≡ 2400)
 HasSpeed modems speed = Contains (modulations_of modems) (modulation speed)
 
--- modems support exactly the speeds that they have
+-- law: modems support exactly the speeds of the recommendations that they have
 abbrev pub ModemsHaveSpeeds : Type 0
 ModemsHaveSpeeds = (modems : Modems) (speed : Speed) → (supports_speed modems speed ≡ true) ↔ HasSpeed modems speed
 
--- two stations try a speed: both have it, and it isn't one of V.29 where both have V.17
+-- two stations try a speed: both have it, and it isn't one of V.29 if both have V.17
 pub record IsTried (ours theirs : Modems) (speed : Speed) : Type 0 where
   pub ours_has : HasSpeed ours speed
   pub theirs_has : HasSpeed theirs speed
   pub v17_for_v29 : modulation speed ≡ v29 → Contains (modulations_of ours) v17 → Contains (modulations_of theirs) v17 → ⊥
 
--- a speed is the fastest that two stations try
+-- no speed that two stations try is faster than this one
 pub record IsFastest (ours theirs : Modems) (speed : Speed) : Type 0 where
   pub tried : IsTried ours theirs speed
   pub fastest : (other : Speed) → IsTried ours theirs other → bits_a_second other ≤ bits_a_second speed
 
--- what is agreed on for pages of a width, fine or not, where something is: what the caps must offer, and what the parameters are
+-- what two stations agree on for pages of a width, fine or not: what the answerer must offer, and what the parameters then are
 pub record Agrees (caps : Caps) (wish : Wish) (width : PageWidth) (fine : Bool) (params : Params) : Type 0 where
   pub receives : caps.receiver ≡ true
   pub corrects_errors : caps.ecm ≡ true
@@ -106,34 +108,36 @@ pub record Agrees (caps : Caps) (wish : Wish) (width : PageWidth) (fine : Bool) 
   pub frames : params.small ≡ wish.small
   pub speed : IsFastest wish.modems caps.modems params.speed
 
--- nothing is agreed on: the caps are without what the pages need, or no speed is tried
+-- two stations have nothing to agree on: the answerer lacks what the pages need, or no speed is tried
 abbrev pub Differ : Caps → Wish → PageWidth → Bool → Type 0
 Differ caps wish width fine =
     (caps.receiver ≡ false) ⊎ (caps.ecm ≡ false) ⊎ (pixels_of caps.widest < pixels_of width) ⊎ ((fine ≡ true) × (caps.fine ≡ false)) ⊎
     ((speed : Speed) → ¬ IsTried wish.modems caps.modems speed)
 
--- an answer of agreement is the right one
+-- an outcome of agreement is the right one, parameters or a refusal
 abbrev pub IsAgreement : Caps → Wish → PageWidth → Bool → Result Params NotCompatible → Type 0
 IsAgreement caps wish width fine (Ok params) = Agrees caps wish width fine params
 IsAgreement caps wish width fine (Err refused) = Differ caps wish width fine
 
--- two stations agree exactly so
+-- law: two stations agree exactly if the answerer has a receiver and error correction, takes the width and the lines, and a speed is
+-- common. The speed agreed is the fastest common one (V.17 in place of V.29 if both have it); T.6 is used exactly if it is wished for and
+-- offered
 abbrev pub AgreesExactly : Type 0
 AgreesExactly =
     (caps : Caps) (wish : Wish) (width : PageWidth) (fine : Bool) → IsAgreement caps wish width fine (agreed caps wish width fine)
 
--- the caps offer what parameters ask for
+-- a station offers what parameters ask for
 pub record Offers (caps : Caps) (params : Params) : Type 0 where
   pub speed : HasSpeed caps.modems params.speed
   pub width : pixels_of params.width ≤ pixels_of caps.widest
   pub lines : params.fine ≡ true → caps.fine ≡ true
   pub t6 : params.coding ≡ T6 → caps.t6 ≡ true
 
--- the caps allow exactly the parameters that ask for what they offer
+-- law: a station allows exactly the parameters whose speed, width, lines and code it offers
 abbrev pub AllowsExactly : Type 0
 AllowsExactly = (caps : Caps) (params : Params) → (allowed caps params ≡ true) ↔ Offers caps params
 
--- a speed is the next below one that is tried: it is tried, it is slower, and no other that is tried stands between the two
+-- a speed is the next below another: both are tried, it is slower, and no other speed that is tried lies between the two
 pub record IsNextBelow (ours theirs : Modems) (speed next : Speed) : Type 0 where
   pub from : IsTried ours theirs speed
   pub tried : IsTried ours theirs next
@@ -141,12 +145,12 @@ pub record IsNextBelow (ours theirs : Modems) (speed next : Speed) : Type 0 wher
   pub nearest : (other : Speed) → IsTried ours theirs other → bits_a_second other < bits_a_second speed →
       bits_a_second other ≤ bits_a_second next
 
--- the speed after a failed training check is the right one; there is none below the slowest that is tried, nor below one that isn't tried
+-- this is the right speed after a failed training check; there is none only below the slowest that is tried, or below one that isn't tried
 abbrev pub IsLower : Modems → Modems → Speed → Option Speed → Type 0
 IsLower ours theirs speed (Some next) = IsNextBelow ours theirs speed next
 IsLower ours theirs speed None =
     IsTried ours theirs speed → (other : Speed) → IsTried ours theirs other → bits_a_second speed ≤ bits_a_second other
 
--- each speed after a failed training check is slower, and every slower one that is tried is reached
+-- law: the speed after a failed training check is the next slower common one; there is none only below the slowest
 abbrev pub LowerIsSlower : Type 0
 LowerIsSlower = (caps : Caps) (wish : Wish) (speed : Speed) → IsLower wish.modems caps.modems speed (lower_speed caps wish speed)

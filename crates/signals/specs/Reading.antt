@@ -25,11 +25,12 @@ use Rattle.signals.specs.declared.signal.PageEnd.TheVariants.{Null, Mps, Eom, Eo
 abbrev pub with_x : ℕ → ℕ → Bool
 with_x even octet = nat_eq octet even || nat_eq octet (even + 1)
 
--- a bit of the information field, numbered from 1 in order of sending, the least significant of an octet first; 0 past them
+-- a bit of the information field, numbered from 1 in order of sending after the facsimile control field, the least significant bit of an
+-- octet first; 0 past the last octet
 abbrev pub field_bit : List ℕ → ℕ → Bool
 field_bit fields number = nat_eq (bit_at (slice_index fields ((number - 1) / 8)) ((number - 1) % 8)) 1
 
--- a bit of the fourth octet, which is read where bit 24 is 1
+-- a bit of the fourth octet, which is read only if bit 24 is 1
 abbrev pub late_bit : List ℕ → ℕ → Bool
 late_bit fields number = field_bit fields 24 && field_bit fields number
 
@@ -66,7 +67,7 @@ width_of true false = Some W2048
 width_of false true = Some W2432
 width_of true true = None
 
--- what ends with a block, by the second field of PPS, the first bit of MPS, EOM and EOP free
+-- what ends with the block of a PPS, by its second field; the first bit of MPS, EOM and EOP is free
 unfoldable pub page_end_of : ℕ → Option PageEnd
 page_end_of octet =
     cond (nat_eq octet 0x00) (Some Null)
@@ -74,7 +75,7 @@ page_end_of octet =
     (cond (with_x 0x8E octet) (Some Eom)
     (cond (with_x 0x2E octet) (Some Eop) None)))
 
--- the capabilities of a DIS
+-- the capabilities that a DIS offers
 unfoldable pub caps_of : List ℕ → Caps
 caps_of fields = record {
   receiver = field_bit fields 10;
@@ -85,7 +86,7 @@ caps_of fields = record {
   ecm = late_bit fields 27;
 }
 
--- the parameters of a DCS, if it has a speed and a width
+-- the parameters of a DCS, if its speed and width are known
 abbrev pub params_at : Option Speed → Option PageWidth → List ℕ → Option Params
 params_at (Some speed) (Some width) fields = Some (record {
   speed = speed;
@@ -97,7 +98,8 @@ params_at (Some speed) (Some width) fields = Some (record {
 params_at (Some _) None fields = None
 params_at None _ fields = None
 
--- the parameters of a DCS; none without error correction, with bit 16 and no T.6, and without a known speed and width
+-- the parameters that a DCS says; None without error correction, with two-dimensional T.4 (bit 16 without T.6), and without a known speed
+-- or width
 unfoldable pub params_of : List ℕ → Option Params
 params_of fields =
     cond (late_bit fields 27 && not (field_bit fields 16 && not (late_bit fields 31)))
@@ -105,12 +107,12 @@ params_of fields =
     (width_of (field_bit fields 17) (field_bit fields 18)) fields)
     None
 
--- the DCS of parameters; another signal where they lie outside
+-- a DCS with its parameters; `other` if they are outside what is known
 abbrev pub dcs_or_other : ℕ → Option Params → PlainSignal
 dcs_or_other octet (Some params) = dcs params
 dcs_or_other octet None = other octet
 
--- the PPS of a page end and the fields after it; another signal with another second field
+-- a PPS with its page end and the fields after it; `other` if its second field is unknown
 abbrev pub pps_or_other : ℕ → Option PageEnd → List ℕ → PlainSignal
 pps_or_other octet (Some ends) fields = pps ends (slice_index fields 1) (slice_index fields 2) (slice_index fields 3)
 pps_or_other octet None fields = other octet
@@ -159,7 +161,7 @@ read_known (Some Dcn) octet fields = Ok dcn
 unfoldable pub read_fields : ℕ → List ℕ → Result PlainSignal SignalFault
 read_fields octet fields = read_known (control_of octet) octet fields
 
--- what a content says, or the first of its faults from its front on
+-- the signal of a content, or the first of its faults from the front on: cut short, a wrong address, a wrong control field
 unfoldable pub read_content : List ℕ → Result PlainSignal SignalFault
 read_content content =
     cond (nat_lt (length content) 1) (Err ShortField)

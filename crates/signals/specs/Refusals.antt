@@ -29,11 +29,12 @@ IsRefused content ShortField =
     ((octet : ℕ) × (name : ℕ) × (fields : List ℕ) × (control : Control) × (content ≡ 0xFF ∷ octet ∷ name ∷ fields) × IsControlField octet ×
     (control_of name ≡ Some control) × (length fields < least_octets control))
 
--- contents are refused exactly so
+-- law: a content is refused exactly if its first octet isn't FF, its second is neither 03 nor 13, or octets are missing, among the first
+-- three or in the information field; the first of these faults in the order of the octets is given
 abbrev pub RefusesExactly : Type 0
 RefusesExactly = (content : List ℕ) (fault : SignalFault) → (read_content content ≡ Err fault) ↔ IsRefused content fault
 
--- contents of 0, 1 and 2 octets
+-- law: what contents of 0, 1 and 2 octets are read as, written out
 pub record ShortOnes : Type 0 where
   pub none : read_content [] ≡ Err ShortField
   pub address : read_content (0xFF ∷ []) ≡ Err ShortField
@@ -43,11 +44,11 @@ pub record ShortOnes : Type 0 where
   pub other_control : read_content (0xFF ∷ 0x12 ∷ []) ≡ Err BadControl
   pub both : read_content (0xFE ∷ 0x12 ∷ []) ≡ Err BadAddress
 
--- the control field
+-- the control field: 13 in the last frame of a transmission, 03 in every other
 abbrev pub control_field : Bool → ℕ
 control_field last = cond last 0x13 0x03
 
--- the octets of the signals that each station sends
+-- law: the octets of each signal that a caller and an answerer send, written out
 pub record SendsOctets : Type 0 where
   -- the caller's
   pub caller_fcd : (last : Bool) (number : ℕ) (octets : List ℕ) →

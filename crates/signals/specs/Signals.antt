@@ -7,7 +7,7 @@ use Rattle.signals.specs.declared.signal.PageEnd.{PageEnd}
 use Rattle.signals.specs.declared.signal.Signal.{Signal}
 use Rattle.signals.specs.declared.signal.Signal.TheVariants.{Dis, Dcs, Cfr, Ftt, Fcd, Rcp, Pps, Ppr, Mcf, Rnr, Rr, Dcn, Other}
 
--- a signal as a plain value
+-- a signal of one frame as a plain value, without the code's types
 pub data PlainSignal : Type 0 where
   dis : Caps → PlainSignal
   dcs : Params → PlainSignal
@@ -23,7 +23,7 @@ pub data PlainSignal : Type 0 where
   dcn : PlainSignal
   other : ℕ → PlainSignal
 
--- the plain value of a signal
+-- the plain value of the code's signal
 abbrev pub plain : Signal → PlainSignal
 plain (Dis caps) = dis caps
 plain (Dcs params) = dcs params
@@ -39,7 +39,7 @@ plain Rr = rr
 plain Dcn = dcn
 plain (Other octet) = other octet
 
--- the plain value of what was read
+-- the result of reading, with a plain value for the signal
 abbrev pub plain_read : Result Signal SignalFault → Result PlainSignal SignalFault
 plain_read (Ok signal) = Ok (plain signal)
 plain_read (Err fault) = Err fault

@@ -48,7 +48,7 @@ width_octet W1728 = 0xF8
 width_octet W2048 = 0xF9
 width_octet W2432 = 0xFA
 
--- the octet of T.6
+-- bit 31 of a DCS in its place: 1 for the code of T.6
 abbrev pub coding_octet : Coding → ℕ
 coding_octet OneDim = 0
 coding_octet T6 = 0x40
@@ -101,26 +101,26 @@ fields_of _ = []
 abbrev pub head_of : Bool → ℕ → List ℕ
 head_of last control = 0xFF ∷ cond last 0x13 0x03 ∷ control ∷ []
 
--- the content of the frame that says a signal, from a side, in the last frame of a transmission or not
+-- the content of a signal's frame, with the first bit X of the station that sends it, in the last frame of a transmission or not
 unfoldable pub content_of : PlainSignal → Side → Bool → List ℕ
 content_of signal side last = head_of last (control_octet signal side) ++ fields_of signal
 
--- a signal that can be written: FCD with 1 to 256 octets of data, PPR with 32 octets, no other signal
+-- a signal that can be written: all but `other`, an FCD with 1 to 256 octets of data, a PPR with 32 octets
 abbrev pub IsWritable : PlainSignal → Type 0
 IsWritable (fcd _ octets) = (1 ≤ length octets) × (length octets ≤ 256)
 IsWritable (ppr map) = length map ≡ 32
 IsWritable (other _) = ⊥
 IsWritable _ = Unit {0}
 
--- a content has 3 to 300 octets, as many as a frame's may
+-- a content has 3 to 300 octets, which is what a frame can carry
 abbrev pub FitsAFrame : List ℕ → Type 0
 FitsAFrame content = (3 ≤ length content) × (length content ≤ 300)
 
--- the content of a signal that can be written fits a frame
+-- law: what is written of a signal, by either station, has 3 to 300 octets
 abbrev pub WrittenFitsAFrame : Type 0
 WrittenFitsAFrame = (signal : PlainSignal) (side : Side) (last : Bool) → IsWritable signal → FitsAFrame (content_of signal side last)
 
--- the content of a signal that can be written, of either side, is read as the signal
+-- law: what is written of a signal, by either station, is read as the signal
 abbrev pub ReadsWhatIsWritten : Type 0
 ReadsWhatIsWritten = (signal : PlainSignal) (side : Side) (last : Bool) → IsWritable signal → read_content (content_of signal side last)
     ≡ Ok signal

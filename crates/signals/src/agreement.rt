@@ -9,13 +9,13 @@ use crate::params::{Caps, Modems, PageWidth, Params, Speed, Wish};
 use raster::Coding;
 use thiserror::Error;
 
-/// Two stations have no way to send the pages.
+/// The two stations have no way to send the pages between them; `why_not` gives the reason.
 #[derive(Clone, Copy, Debug, PartialEq, Eq, Error)]
 #[error("the stations are not compatible")]
 pub struct NotCompatible;
 
 impl NotCompatible {
-    /// The number of the fault in the list of all faults.
+    /// Returns the number of the fault among all faults.
     pub fn number(self) -> u8
         ensures { result ≡ number_of_incompatible self }
     {
@@ -23,7 +23,7 @@ impl NotCompatible {
     }
 }
 
-/// The order of the speeds where both stations have V.17.
+/// The order of the speeds if both stations have V.17.
 const V17_ORDER: [Speed; 6] = [
     Speed::V17At14400,
     Speed::V17At12000,
@@ -33,7 +33,7 @@ const V17_ORDER: [Speed; 6] = [
     Speed::V27At2400,
 ];
 
-/// The order of the speeds where a station has no V.17.
+/// The order of the speeds if a station has no V.17.
 const OTHER_ORDER: [Speed; 4] = [
     Speed::V29At9600,
     Speed::V29At7200,
@@ -68,7 +68,7 @@ fn first_common(ours: Modems, theirs: Modems, speeds: &[Speed]) -> Option<Speed>
         .find(|speed| is_common(ours, theirs, *speed))
 }
 
-/// What comes after a speed; nothing where it isn't there.
+/// The speeds after a speed; none if it isn't among them.
 fn after(speeds: &[Speed], speed: Speed) -> &[Speed]
     ensures { result.now ≡ after_speed speed speeds.now }
 {
@@ -80,7 +80,7 @@ fn after(speeds: &[Speed], speed: Speed) -> &[Speed]
     &[]
 }
 
-/// The code of the pages: T.6 where it is wished and offered.
+/// The code of the pages: T.6 if the caller wishes it and the station offers it, else one-dimensional T.4.
 fn coding(caps: &Caps, wish: &Wish) -> Coding
     ensures { result ≡ agreed_coding caps.now wish.now }
 {
@@ -90,9 +90,10 @@ fn coding(caps: &Caps, wish: &Wish) -> Coding
     }
 }
 
-/// How a caller sends pages of a width to a station, `fine` at 7.7 lines a millimetre: at the first
-/// speed that both try. Errs where the station doesn't receive, has no error correction, takes no such
-/// pages or has no speed in common. ITU-T T.30, 5.3.6.2.
+/// Returns the parameters by which a caller sends pages of a width to a station, at 7.7 lines a millimetre if `fine`:
+/// the fastest speed that both have (V.17 in place of V.29 if both have it), and T.6 if it is wished for and offered.
+/// `NotCompatible` if the station doesn't receive, has no error correction, takes no such pages or has no speed in
+/// common. ITU-T T.30, 5.3.6.2.
 pub fn agree(
     caps: &Caps,
     wish: &Wish,
@@ -122,7 +123,7 @@ pub fn agree(
     })
 }
 
-/// The speed that two stations try below a speed; none below the last, and below one that they don't
+/// Returns the next lower speed that both stations try; None after the lowest one, and after a speed that they don't
 /// try.
 pub fn lower(caps: &Caps, wish: &Wish, speed: Speed) -> Option<Speed>
     ensures { result ≡ lower_speed caps.now wish.now speed }
@@ -134,7 +135,8 @@ pub fn lower(caps: &Caps, wish: &Wish, speed: Speed) -> Option<Speed>
     first_common(wish.modems, caps.modems, below)
 }
 
-/// Whether a station takes pages that are sent by these parameters.
+/// Whether a station takes pages that are sent by these parameters: it has the speed, the width, the lines and the
+/// code.
 pub fn allows(caps: &Caps, params: &Params) -> bool
     ensures { result ≡ allowed caps.now params.now }
 {

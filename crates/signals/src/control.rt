@@ -5,7 +5,7 @@ ghost use Rattle.std.specs.Prelude.{◌≡◌};
 
 use crate::signal::Side;
 
-/// The facsimile control fields that are written and read. ITU-T T.30, 5.3.6.1 and A.4.
+/// The facsimile control fields that are read and written. ITU-T T.30, 5.3.6.1 and A.4.
 #[derive(Clone, Copy)]
 pub(crate) enum Control {
     Dis,
@@ -55,6 +55,7 @@ impl Control {
     pub(crate) fn octet(self, side: Side) -> u8
         ensures { result ≡ octet_of self side }
     {
+        // The one place that has these octets: reading looks for the field that either station would write so.
         let x = side.x();
         match self {
             Control::Dis => 0x80,
@@ -79,7 +80,7 @@ impl Control {
         octet == self.octet(Side::Caller) || octet == self.octet(Side::Answerer)
     }
 
-    /// The one whose octet it is, of either station.
+    /// The control field with this octet, from either station; None for another octet.
     #[tactic(auto, unfolding(crate::specs::Controls::control_of))]
     pub(crate) fn of_octet(octet: u8) -> Option<Control>
         ensures { result ≡ control_of octet }

@@ -1,5 +1,5 @@
-//! The signals of Group 3 facsimile and what two stations agree on: ITU-T T.30, 5.3. It uses `raster`, for the
-//! bits of octets and for the name of a page's code.
+//! The signals of Group 3 fax, read and written, and what two stations agree on: ITU-T T.30, 5.3. It uses `raster` for
+//! the bits of octets and the name of a page's code.
 #![tactic(auto)]
 
 mod agreement;

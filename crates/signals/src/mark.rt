@@ -5,17 +5,17 @@ ghost use Rattle.signals.specs.Marks.{same_mark};
 
 use crate::signal::PageEnd;
 
-/// The counts of a PPS by which a block differs from its neighbours: the page's and the block's, modulo 256.
+/// The counts of page and block in a PPS, both modulo 256, by which a block differs from its neighbours.
 #[derive(Clone, Copy, Debug, PartialEq, Eq)]
 pub struct Mark {
-    /// The page's number modulo 256.
+    /// The page's number, from 0, modulo 256.
     pub page: u8,
-    /// The block's place in its page modulo 256.
+    /// The block's place in its page, from 0, modulo 256.
     pub block: u8,
 }
 
 impl Mark {
-    /// Whether two marks are the same.
+    /// Whether two marks have the same counts.
     pub fn is_same(self, other: Mark) -> bool
         ensures { result ≡ same_mark self other }
     {

@@ -5,7 +5,7 @@ ghost use Rattle.std.specs.Prelude.{◌≡◌, nat_eq};
 
 use raster::Coding;
 
-/// A modulation and its speed in bits a second.
+/// A modulation and its speed.
 #[derive(Clone, Copy, Debug, PartialEq, Eq)]
 pub enum Speed {
     /// V.27 ter at 2400 bits a second.
@@ -51,10 +51,10 @@ impl Speed {
     }
 }
 
-/// The modems of a station.
+/// The modems of a station, as bits 11 to 14 of its DIS say them.
 #[derive(Clone, Copy, Debug, PartialEq, Eq)]
 pub enum Modems {
-    /// V.27 ter at 2400 bits a second alone.
+    /// V.27 ter at 2400 bits a second alone, which each station has.
     Fallback,
     /// V.27 ter.
     V27,
@@ -84,7 +84,7 @@ impl Modems {
     }
 }
 
-/// The width of a page.
+/// The width of a page's rows.
 #[derive(Clone, Copy, Debug, PartialEq, Eq)]
 pub enum PageWidth {
     /// 1728 pixels.
@@ -96,7 +96,7 @@ pub enum PageWidth {
 }
 
 impl PageWidth {
-    /// The width with this number of pixels; none where no page width has it.
+    /// Returns the width with this number of pixels: 1728, 2048 or 2432; None for any other number.
     pub fn of_pixels(pixels: u32) -> Option<PageWidth>
         ensures { result ≡ width_of_pixels pixels }
     {
@@ -108,7 +108,7 @@ impl PageWidth {
         }
     }
 
-    /// The width in pixels.
+    /// Returns the pixels of a row.
     pub fn pixels(self) -> u32
         ensures { result ≡ pixels_of self }
     {
@@ -120,45 +120,45 @@ impl PageWidth {
     }
 }
 
-/// What a station can do: the contents of a DIS.
+/// What a station can do: the contents of a DIS. ITU-T T.30, 5.3.6.2.
 #[derive(Clone, Copy, Debug, PartialEq, Eq)]
 pub struct Caps {
-    /// It receives pages.
+    /// Whether it receives pages: bit 10.
     pub receiver: bool,
     /// The modems that it has.
     pub modems: Modems,
-    /// It takes pages of 7.7 lines a millimetre.
+    /// Whether it takes pages of 7.7 lines a millimetre: bit 15.
     pub fine: bool,
-    /// The widest page that it takes.
+    /// The widest page that it takes: bits 17 and 18.
     pub widest: PageWidth,
-    /// It reads the code of T.6.
+    /// Whether it reads the code of T.6: bit 31.
     pub t6: bool,
-    /// It has the error correction mode.
+    /// Whether it has error correction: bit 27.
     pub ecm: bool,
 }
 
-/// How pages will be sent: the contents of a DCS.
+/// How pages are sent: the contents of a DCS. ITU-T T.30, 5.3.6.2.
 #[derive(Clone, Copy, Debug, PartialEq, Eq)]
 pub struct Params {
     /// The speed of the pages.
     pub speed: Speed,
-    /// The pages have 7.7 lines a millimetre.
+    /// Whether the pages have 7.7 lines a millimetre, else 3.85.
     pub fine: bool,
     /// The width of the pages.
     pub width: PageWidth,
     /// The code of the pages.
     pub coding: Coding,
-    /// Frames have 64 octets of data in place of 256.
+    /// Whether frames have 64 octets of data, else 256.
     pub small: bool,
 }
 
-/// What a caller wishes.
+/// What a caller wishes for a call.
 #[derive(Clone, Copy, Debug, PartialEq, Eq)]
 pub struct Wish {
     /// The modems that it has.
     pub modems: Modems,
-    /// The code of the pages, where the answerer reads it.
+    /// The code of the pages, if the answerer reads it; else it is one-dimensional T.4.
     pub coding: Coding,
-    /// Frames of 64 octets of data in place of 256.
+    /// Whether frames have 64 octets of data, else 256.
     pub small: bool,
 }

@@ -23,7 +23,7 @@ fn bit(fields: &[u8], number: usize) -> bool
     }
 }
 
-/// A bit of the fourth octet, which is read where bit 24 is 1.
+/// A bit of the fourth octet, which is read only if bit 24 is 1.
 fn late(fields: &[u8], number: usize) -> bool
     requires { 1 ≤ number }
     ensures { result ≡ late_bit fields.now number }
@@ -118,7 +118,7 @@ fn caps(fields: &[u8]) -> Caps
     }
 }
 
-/// The parameters of a DCS; none where it lies outside what is known.
+/// The parameters of a DCS; None if they are outside what is known.
 #[tactic(auto, unfolding(crate::specs::Reading::params_of))]
 fn params(fields: &[u8]) -> Option<Params>
     ensures { result ≡ params_of fields.now }
@@ -215,15 +215,16 @@ fn signal(octet: u8, fields: &[u8]) -> Result<Signal<'_>, SignalFault>
     }
 }
 
-/// The signal that a frame's content says: the octets between two flags, with the stuffed bits and the
-/// check sequence taken off. What comes after a signal's fields is ignored, save in FCD, where all is
-/// data. Errs with `BadAddress` where the address isn't FF, with `BadControl` where the control field is
-/// neither 03 nor 13, and with `ShortField` where a field is missing or cut short; the first of these
-/// from the content's front on. ITU-T T.30, 5.3.4 to 5.3.6 and A.4.
+/// Returns the signal that a frame's content says: the octets between two flags, without stuffed bits and check
+/// sequence. Octets after a signal's fields are ignored, but in an FCD all are data. `BadAddress` (20) if the address
+/// isn't FF, `BadControl` (21) if the control field is neither 03 nor 13, `ShortField` (22) if a field is missing or
+/// cut short; the first of these from the front on. ITU-T T.30, 5.3.4 to 5.3.6 and A.4.
 #[tactic(auto, unfolding(crate::specs::Reading::read_content))]
 pub fn read(content: &[u8]) -> Result<Signal<'_>, SignalFault>
     ensures { plain_read result ≡ read_content content.now }
 {
+    // A function, since the faults have an order; the law reads_what_is_said joins it to what a content says, which has
+    // none.
     if content.is_empty() {
         return Err(SignalFault::ShortField);
     }

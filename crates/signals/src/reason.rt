@@ -8,27 +8,27 @@ use crate::agreement::agree;
 use crate::params::{Caps, PageWidth, Wish};
 use thiserror::Error;
 
-/// Why `agree` refuses (ITU-T T.30, 5.3.6.2): of several reasons the first one of these.
+/// Why `agree` refuses, the first of these that holds. ITU-T T.30, 5.3.6.2.
 #[derive(Clone, Copy, Debug, PartialEq, Eq, Error)]
 pub enum Reason {
-    /// The other station doesn't receive: bit 10 of its DIS.
+    /// The answerer doesn't receive: bit 10 of its DIS.
     #[error("the other station does not receive")]
     NoReceiver,
-    /// It has no error correction: bit 27.
+    /// The answerer has no error correction: bit 27.
     #[error("the other station has no error correction")]
     NoErrorCorrection,
-    /// The page is wider than what it takes: bits 17 and 18.
+    /// The page is wider than the answerer takes: bits 17 and 18.
     #[error("the page is wider than what the other station takes")]
     TooWide,
-    /// The page has fine lines, 7.7 a millimetre, and it takes none: bit 15.
+    /// The page has fine lines, 7.7 a millimetre, and the answerer takes none: bit 15.
     #[error("the other station takes no fine lines")]
     NoFineLines,
-    /// No speed is common to both: bits 11 to 14.
+    /// The stations have no speed in common: bits 11 to 14.
     #[error("the stations have no common speed")]
     NoCommonSpeed,
 }
 
-/// The first reason that there is, where two stations don't agree.
+/// The first reason that holds, if two stations don't agree.
 fn first_reason(caps: &Caps, wish: &Wish, width: PageWidth, fine: bool) -> Reason
     requires { agreed caps.now wish.now width fine ≡ Err (record {}) }
     ensures { IsFirstReason caps.now wish.now width fine result }
@@ -48,8 +48,8 @@ fn first_reason(caps: &Caps, wish: &Wish, width: PageWidth, fine: bool) -> Reaso
     Reason::NoCommonSpeed
 }
 
-/// Why a caller can't send pages of a width, `fine` at 7.7 lines a millimetre, to a station; none exactly where `agree` gives
-/// parameters.
+/// Returns the first reason why a caller can't send pages of a width to a station, at 7.7 lines a millimetre if `fine`;
+/// None exactly if `agree` gives parameters.
 pub fn why_not(caps: &Caps, wish: &Wish, width: PageWidth, fine: bool) -> Option<Reason>
     ensures first { IfSome result (IsFirstReason caps.now wish.now width fine) }
     ensures exactly { (result ≡ None) ↔ (agreed caps.now wish.now width fine ≢ Err (record {})) }

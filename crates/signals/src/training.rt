@@ -5,7 +5,7 @@ ghost use Rattle.std.specs.Prelude.{◌≡◌, ◌↔◌, IsTrue, max};
 
 use crate::params::Speed;
 
-/// How many octets 00 the training check has: 1.5 s of 0 bits. ITU-T T.30, 5.3.6.1.3.
+/// Returns how many octets 00 the training check has at a speed: 1.5 s of 0 bits. ITU-T T.30, 5.3.6.1.3.
 pub fn training_len(speed: Speed) -> u32
     ensures { result ≡ training_octets speed }
 {
@@ -32,8 +32,7 @@ fn longest_run(octets: &[u8]) -> usize
     longest
 }
 
-/// Whether what came is a good training check: twice its longest run of octets 00 is at least the
-/// check's length.
+/// Whether what was heard is a good training check: twice its longest run of octets 00 is at least the check's length.
 pub fn training_good(octets: &[u8], speed: Speed) -> bool
     ensures { IsTrue result ↔ IsGoodTraining octets.now speed }
 {

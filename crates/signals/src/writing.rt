@@ -62,11 +62,12 @@ fn coding(coding: Coding) -> u8
     }
 }
 
-/// Bits 17 to 24 of a DIS or a DCS: a width, any length of a page, no time for a row, and a fourth
-/// octet.
+/// Bits 17 to 24 of a DIS or a DCS: a width, any length of a page, no time for a row, and a fourth octet.
 fn width(width: PageWidth) -> u8
     ensures { result ≡ width_octet width }
 {
+    // Bits without a meaning here are written as the table has them, unlimited length and 0 ms a row, else as 0;
+    // reading ignores them.
     match width {
         PageWidth::W1728 => 0xF8,
         PageWidth::W2048 => 0xF9,
@@ -134,6 +135,7 @@ fn content_from(signal: &Signal, side: Side, last: bool) -> ArrayVec<u8, 300>
     requires { IsWritable (plain signal.now) }
     ensures { result.items ≡ content_of (plain signal.now) side last }
 {
+    // By octets, which code can compute; the law writes_the_tables joins them to the standard's texts bit for bit.
     match signal {
         Signal::Dis(caps) => content(last, Control::Dis.octet(side), &dis(caps)),
         Signal::Dcs(params) => content(last, Control::Dcs.octet(side), &dcs(params)),
@@ -164,10 +166,10 @@ fn content_from(signal: &Signal, side: Side, last: bool) -> ArrayVec<u8, 300>
     }
 }
 
-/// The content of the frame that says a signal: FF, the control field, 13 in the last frame of a
-/// transmission and 03 in each other, the facsimile control field with the first bit X of the station
-/// that sends it, and the information field. FCD has 1 to 256 octets of data, and `Other` can't be written. Takes no
-/// memory. ITU-T T.30, 5.3.4 to 5.3.6 and A.4.
+/// Returns the content of the frame that says a signal, 3 to 300 octets: FF, the control field, 13 in the last frame of
+/// a transmission and 03 in every other, the facsimile control field with the first bit X of the station that sends it,
+/// and the information field. An FCD must have 1 to 256 octets of data, and `Other` can't be written, since only its
+/// control field is known. Takes no memory. ITU-T T.30, 5.3.4 to 5.3.6 and A.4.
 pub fn write(signal: &Signal, side: Side, last: bool) -> ArrayVec<u8, 300>
     requires { IsWritable (plain signal.now) }
     ensures content { result.items ≡ content_of (plain signal.now) side last }

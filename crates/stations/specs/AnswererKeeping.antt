@@ -38,7 +38,7 @@ pub record MeetsBlock (s : Answerer) (input : AnswererInput) (ends : PageEnd) (m
   pub is_new : ¬ IsAccepted s mark.page mark.block
   pub counted_is : counted ≡ last_counted s.asked mark last
 
--- such a block has a frame missing
+-- the PPS of a new block comes in the message, and a frame of the block is missing
 abbrev pub MeetsGap : Answerer → AnswererInput → Type 0
 MeetsGap s input =
     (ends : PageEnd) × (mark : Mark) × (counted : ℕ) × MeetsBlock s input ends mark counted ×
@@ -62,7 +62,7 @@ pub record TakesBlock (s : Answerer) (input : AnswererInput) (next : Answerer) :
   pub stores :
       ends ≢ Null → (next.octets ≡ []) × ((stored : PagePixels) × IsPageOf s.params octets stored × (next.pages ≡ s.pages ++ stored ∷ []))
 
--- what a step may change, and where
+-- what a step of an answerer may change, field by field, and when
 pub record AnswererKeeps (s : Answerer) (input : AnswererInput) (next : Answerer) : Type 0 where
   -- the capabilities nowhere
   pub caps : next.caps ≡ s.caps
@@ -70,19 +70,20 @@ pub record AnswererKeeps (s : Answerer) (input : AnswererInput) (next : Answerer
   pub busy : ((b : Bool) → input ≢ is_busy b) → next.busy ≡ s.busy
   -- the parameters at a DCS that is allowed
   pub params : (¬ MeetsDcs s input) → next.params ≡ s.params
-  -- the last accepted block, the octets of the open page and the pages together, where a block is taken
+  -- the last accepted block, the octets of the open page and the pages together, when a block is taken
   pub block :
       ((next.accepted ≡ s.accepted) × (next.octets ≡ s.octets) × (next.pages ≡ s.pages)) ⊎ TakesBlock s input next
-  -- the open frames at an FCD, at a DCS past phase B and where a block is taken
+  -- the open frames at an FCD, at a DCS past phase B and when a block is taken
   pub frames :
       (next.frames ≡ s.frames) ⊎ MeetsFrame s input ⊎ (MeetsDcs s input × (s.state ≢ PhaseB)) ⊎ TakesBlock s input next
-  -- what was asked for by a PPR at a PPS with a frame missing, at a DCS past phase B and where a block is taken
+  -- what a PPR asked for at a PPS with a frame missing, at a DCS past phase B and when a block is taken
   pub asked :
       (next.asked ≡ s.asked) ⊎ MeetsGap s input ⊎ (MeetsDcs s input × (s.state ≢ PhaseB)) ⊎ TakesBlock s input next
   -- whether the memory for frames is taken at an FCD and at a DCS that is allowed
   pub ready : (next.ready ≡ s.ready) ⊎ MeetsFrame s input ⊎ MeetsDcs s input
 
--- each step of any answerer
+-- law: a step of any answerer never changes its capabilities; it changes whether it is busy at the input that says so, the parameters at a
+-- DCS that is allowed, and what is accepted, open and stored only when a whole new block is taken
 abbrev pub AnswerersKeep : Type 0
 AnswerersKeep = (s : Answerer) (input : AnswererInput) → AnswererKeeps s input (answerer_step s input).next
 
@@ -117,11 +118,12 @@ pub record AnswererTakes (s : Answerer) (input : AnswererInput) (answer : Answer
       (¬ IsBad s ends (s.octets ++ joined_frames s.frames (counted + 1))) →
       (answer.next.accepted ≡ Some (record { mark = mark; ends = ends })) × (answer.next.ending ≡ None)
 
--- each answerer that runs
+-- law: an answerer that runs takes the parameters of a DCS, the data of an FCD under its number, the mark and the map of a PPR, and the
+-- mark of a block that it accepts
 abbrev pub AnswerersTake : Type 0
 AnswerersTake = (s : Answerer) (input : AnswererInput) → s.ending ≡ None → AnswererTakes s input (answerer_step s input)
 
--- the last frame of a block that counts: the PPS's, or a greater one that was asked for under the same mark
+-- law: the last frame of a block that counts is the PPS's, or a greater one that was asked for under the same mark
 pub record CountsLast : Type 0 where
   pub unasked : (mark : Mark) (last : ℕ) → last_counted None mark last ≡ last
   pub other : (asked : Asked) (mark : Mark) (last : ℕ) → mark ≢ asked.mark → last_counted (Some asked) mark last ≡ last

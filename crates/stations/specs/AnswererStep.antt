@@ -25,7 +25,7 @@ use Rattle.stations.specs.declared.turn.Turn.{Turn}
 use Rattle.stations.specs.declared.turn.Turn.TheVariants.{Silent, Dis as SendDis, Cfr as SendCfr, Ftt as SendFtt, Mcf as SendMcf}
 use Rattle.stations.specs.declared.turn.Turn.TheVariants.{Ppr as SendPpr, Rnr as SendRnr, Dcn as SendDcn}
 
--- no frame is open
+-- no frame of a block is open
 unfoldable pub is_clear : Frames → Bool
 is_clear frames = list_all (λ frame. not (is_some frame)) frames
 
@@ -75,7 +75,7 @@ later_dcs s params =
     (record { next = record s { state = WaitTraining; params = params; frames = no_frames; ready = false; asked = None }; turn = Silent })
     (answerer_silent s)
 
--- a training check
+-- a training check after a DCS: CFR if it is good, else FTT and phase B
 abbrev pub judges_training : Answerer → List ℕ → AnswererAnswer
 judges_training s octets =
     cond (is_good_training octets s.params)
@@ -132,7 +132,7 @@ judges_block s ends mark last =
     (takes_block s ends mark (s.octets ++ joined_frames s.frames (last + 1)))
     (record { next = record s { asked = Some (record { mark = mark; last = last }) }; turn = SendPpr (ppr_map s.frames last) })
 
--- a PPS in Message
+-- a PPS in the message: of the last accepted block it is confirmed; a whole block is taken; else PPR asks for what is missing
 abbrev pub answers_pps : Answerer → PageEnd → Mark → ℕ → AnswererAnswer
 answers_pps s ends mark last =
     cond (is_repeated s.accepted mark)
@@ -143,7 +143,7 @@ answers_pps s ends mark last =
 abbrev pub answers_repeated : Answerer → Mark → AnswererAnswer
 answers_repeated s mark = cond (is_repeated s.accepted mark) (record { next = s; turn = confirms s }) (answerer_silent s)
 
--- an RR: answered where a block was accepted and no frame is open
+-- an RR: it is answered if a block was accepted and no frame is open
 abbrev pub answers_rr : Answerer → AnswererAnswer
 answers_rr s =
     cond (is_some s.accepted && is_clear s.frames)
@@ -155,7 +155,7 @@ abbrev pub end_after : PageEnd → End
 end_after Eop = Normal
 end_after _ = PeerLeft
 
--- the same from the last accepted block, if there is one
+-- why the call ends when the caller leaves, from the last accepted block, if there is one
 abbrev pub leaves : Option Accepted → End
 leaves None = PeerLeft
 leaves (Some accepted) = end_after accepted.ends
@@ -164,7 +164,7 @@ leaves (Some accepted) = end_after accepted.ends
 abbrev pub answerer_ends : Answerer → End → AnswererAnswer
 answerer_ends s why = record { next = record s { ending = Some why }; turn = Silent }
 
--- the answerer's table
+-- the answerer's table, a row for a state and an input
 abbrev pub answerer_table : AnswererState → AnswererInput → Answerer → AnswererAnswer
 answerer_table PhaseB (listens (dcs params)) s = first_dcs s params
 answerer_table PhaseB t2 s = record { next = record s { state = PhaseB }; turn = SendDis }
@@ -189,11 +189,11 @@ abbrev pub unless_answerer_ended : Option End → AnswererInput → Answerer →
 unless_answerer_ended (Some why) input s = answerer_silent s
 unless_answerer_ended None input s = answerer_table s.state input s
 
--- the answerer's step
+-- the answerer's step: what the table says; an answerer that has ended is silent
 abbrev pub answerer_step : Answerer → AnswererInput → AnswererAnswer
 answerer_step s input = unless_answerer_ended s.ending input s
 
--- a new answerer; its params are those of no DCS yet
+-- a new answerer, with nothing accepted, stored or under way; its parameters are made up until a DCS is allowed
 abbrev pub new_answerer : Caps → Params → Answerer
 new_answerer caps params =
     record {
@@ -210,7 +210,7 @@ new_answerer caps params =
       ending = None;
     }
 
--- the items of an answerer's turn
+-- the items of an answerer's turn: the one frame of the turn, or none
 abbrev pub answerer_items : Answerer → Turn → List PlainItem
 answerer_items s SendDis = framed (dis s.caps) ∷ []
 answerer_items s SendCfr = framed cfr ∷ []
@@ -225,12 +225,13 @@ answerer_items s _ = []
 abbrev pub Steps : Answerer → Answerer → Turn → AnswererAnswer → Type 0
 Steps old new turn answer = (new ≡ answer.next) × (turn ≡ answer.turn)
 
--- the same; or memory was refused, and nothing has changed
+-- a step returns the turn of the answer and leaves its tuple; or memory was refused, and nothing has changed
 abbrev pub StepsOrRefuses : {E : Type 0} → Answerer → Answerer → Result Turn E → AnswererAnswer → Type 0
 StepsOrRefuses old new (Ok turn) answer = Steps old new turn answer
 StepsOrRefuses old new (Err refused) answer = new ≡ old
 
--- an input that takes no memory: no frame is kept for which the memory isn't taken yet, and no block is accepted
+-- an input that takes no memory: no FCD that is kept before the memory for frames is taken, and no PPS of a new block whose frames are all
+-- there
 abbrev pub AnswererTakesNoMemory : AnswererState → AnswererInput → Answerer → Type 0
 AnswererTakesNoMemory Message (listens (fcd number octets)) s = (within_frame_size s.params octets ≡ false) ⊎ (s.ready ≡ true)
 AnswererTakesNoMemory Message (listens (pps ends page block last)) s =

@@ -16,7 +16,7 @@ pub record Block : Type 0 where
   pub params : Params
   pub frames : List (List ℕ)
 
--- the mark of a block: the number of its page and its place in the page, modulo 256
+-- the mark of a block: the number of its page and its place in the page, both modulo 256 (T.30, A.4.3)
 abbrev pub mark_of : Block → Mark
 mark_of block = record { page = block.page % 256; block = block.place % 256 }
 
@@ -53,8 +53,8 @@ abbrev pub groups_after : PagePixels → List PagePixels → List Params → Lis
 groups_after page [] groups = groups
 groups_after page (next ∷ pages) groups = cond (in_one_group page next) groups (groups_after_first groups)
 
--- the call blocks of pages, the first of which has the number, under parameters for each group begun;
--- they stop before a page whose code is too long, and before a group that isn't begun
+-- the blocks of a call in one list, with unbounded numbers: of pages, the first of which has this number, under a list of parameters, one
+-- for each group begun; the list stops before a page whose code is too long, and before a group that isn't begun (T.30, Annex A)
 abbrev pub call_blocks : List Params → ℕ → List PagePixels → List Block
 call_blocks groups number [] = []
 call_blocks [] number (page ∷ pages) = []
@@ -93,12 +93,12 @@ abbrev pub open_past : Option Block → List ℕ → List ℕ
 open_past None octets = octets
 open_past (Some block) octets = open_after block.ends (octets ++ joined block.frames)
 
--- the number of pages whose last block comes before place k
+-- how many pages end before place k of the list
 abbrev pub pages_before : List Block → ℕ → ℕ
 pages_before blocks zero = 0
 pages_before blocks (suc k) = pages_past (slice_get blocks k) (pages_before blocks k)
 
--- the octets of the page that is open after the first k blocks
+-- the octets of the page that is open after the first k blocks of the list
 abbrev pub open_before : List Block → ℕ → List ℕ
 open_before blocks zero = []
 open_before blocks (suc k) = open_past (slice_get blocks k) (open_before blocks k)

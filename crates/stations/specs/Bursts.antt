@@ -16,8 +16,8 @@ use Rattle.stations.specs.declared.lending.Item.{Item}
 use Rattle.stations.specs.declared.turn.CallerState.TheVariants.{WaitCfr}
 use Rattle.stations.specs.declared.turn.Turn.{Turn}
 
--- the carrier of an item: the frames of a page and the RCPs after them go out at the message speed, and so does the training check; all
--- other frames go out by V.21
+-- the carrier of an item: FCDs and RCPs go out at the message speed, and so does the training check; every other frame goes out by V.21
+-- (T.30, 5.3 and Annex A)
 abbrev pub carrier_of : Speed → PlainItem → Carrier
 carrier_of speed (framed (fcd number octets)) = Page speed
 carrier_of speed (framed rcp) = Page speed
@@ -51,7 +51,7 @@ pub record PlainBurst : Type 0 where
   pub carrier : Carrier
   pub items : List PlainItem
 
--- an item before bursts: in the first one where that has its carrier, else alone
+-- an item before bursts: in the first one if that has its carrier, else alone
 abbrev pub put_before : Carrier → PlainItem → List PlainBurst → List PlainBurst
 put_before carrier item [] = record { carrier = carrier; items = item ∷ [] } ∷ []
 put_before carrier item (burst ∷ bursts) =
@@ -59,7 +59,7 @@ put_before carrier item (burst ∷ bursts) =
     (record { carrier = carrier; items = item ∷ burst.items } ∷ bursts)
     (record { carrier = carrier; items = item ∷ [] } ∷ burst ∷ bursts)
 
--- the bursts of items: a new one begins exactly where the carrier changes
+-- the items of a turn in bursts: a new burst begins exactly if the carrier changes
 unfoldable pub bursts_of : Speed → List PlainItem → List PlainBurst
 bursts_of speed [] = []
 bursts_of speed (item ∷ items) = put_before (carrier_of speed item) item (bursts_of speed items)
@@ -75,7 +75,7 @@ front_by speed carrier [] = []
 front_by speed carrier (item ∷ items) =
     cond (same_kind (carrier_of speed item) carrier) (item ∷ front_by speed carrier items) []
 
--- the items after these
+-- the items after the front ones
 unfoldable pub rest_by : Speed → Carrier → List PlainItem → List PlainItem
 rest_by speed carrier [] = []
 rest_by speed carrier (item ∷ items) =
@@ -86,7 +86,8 @@ pub record BurstLeft : Type 0 where
   pub burst : List PlainItem
   pub after : List PlainItem
 
--- the first of the burst's items is given, and the others are left; whether a frame is the last one is said of the whole turn
+-- the first item that a burst has left is given, and the others stay; a frame is marked as the last one exactly if no frame of the whole
+-- turn is left
 abbrev pub GivesBurstItem : BurstLeft → Option Item → BurstLeft → Type 0
 GivesBurstItem old None new = (old.burst ≡ []) × (new ≡ old)
 GivesBurstItem old (Some item) new =
@@ -113,12 +114,13 @@ pub record AreBursts (speed : Speed) (items : List PlainItem) (bursts : List Pla
   pub carried : Each (IsBurst speed) bursts
   pub change : Differ bursts
 
--- the bursts of any items
+-- law: the bursts of any items have these items in order and no others; each has one item at least, and only items of its carrier;
+-- neighbours have different carriers
 abbrev pub CutByCarrier : Type 0
 CutByCarrier = (speed : Speed) (items : List PlainItem) → AreBursts speed items (bursts_of speed items)
 
--- the bursts of the turns: the FCDs of a block and three RCPs at the message speed, and then PPS by V.21; DCS by V.21, and then the training
--- check; what an answerer sends by V.21
+-- law: the bursts of a block are its FCDs with three RCPs at the message speed, then PPS by V.21; those of DCS are DCS by V.21, then the
+-- training check; an answerer's turn goes out by V.21 alone
 pub record TurnsCut : Type 0 where
   pub block :
       (speed : Speed) (map : List ℕ) (block : Block) →

@@ -20,8 +20,8 @@ use Rattle.stations.specs.declared.turn.CallerState.TheVariants.{WaitDis, WaitCf
 use Rattle.stations.specs.declared.turn.End.{End}
 use Rattle.stations.specs.declared.turn.Turn.{Turn}
 
--- the fields: those of the tuple, but for its place in the call's list the number of a page, the place of a block in the page,
--- and the blocks of the page, where its code is made
+-- the caller's fields: those of the tuple, but in place of the tuple's place in the list of all blocks a page's number, a block's place in
+-- the page, and the page's blocks once its code is made
 pub record CallerFields : Type 0 where
   pub document : Document
   pub wish : Wish
@@ -77,7 +77,8 @@ HasPlace WaitCfr v t = (t.present ≡ v.params ∷ []) × AtGroup v t
 HasPlace WaitBlock v t = AtBlock v t
 HasPlace WaitReady v t = AtBlock v t
 
--- the fields represent a tuple; of an ended caller's place only the number of its confirmed pages is kept
+-- the fields represent a tuple: what is still ahead is the same, whatever groups may follow, so that no step has to look at the whole
+-- document; of an ended caller's place only the number of its confirmed pages is kept
 pub record Represents (v : CallerFields) (t : Caller) : Type 0 where
   pub document : t.document ≡ v.document
   pub wish : t.wish ≡ v.wish
@@ -94,7 +95,8 @@ pub record Represents (v : CallerFields) (t : Caller) : Type 0 where
 abbrev pub Answers : CallerFields → CallerFields → Turn → (Caller → CallerAnswer) → Type 0
 Answers old new turn answer = (t : Caller) → Represents old t → Represents new (answer t).next × (turn ≡ (answer t).turn)
 
--- the same; or memory was refused, and nothing has changed
+-- whichever tuple the fields represent, they represent the answer's tuple afterwards, and the turn is the answer's; or memory was refused,
+-- and nothing has changed
 abbrev pub AnswersOrRefuses : {E : Type 0} → CallerFields → CallerFields → Result Turn E → (Caller → CallerAnswer) → Type 0
 AnswersOrRefuses old new (Ok turn) answer = Answers old new turn answer
 AnswersOrRefuses old new (Err refused) answer = new ≡ old
@@ -113,7 +115,7 @@ end_of_first (page ∷ following) = end_before page following
 abbrev pub AreCallable : Document → Type 0
 AreCallable document = All (λ (page : PagePixels). IsSome (width_of_pixels page.width)) document
 
--- no page starts after an MCF: another block of the page does, or the document or the group is through
+-- no page starts after an MCF, since another block of the page does, or the document or the group is through
 abbrev pub NoPageStarts : CallerFields → Type 0
 NoPageStarts v = (next_in_page v.encoded v.block ≢ None) ⊎ (end_of_first (drop v.page v.document) ≢ Mps)
 
@@ -129,7 +131,7 @@ abbrev pub end_by : Option ℕ → PageEnd → PageEnd
 end_by None ends = ends
 end_by (Some next) ends = Null
 
--- the same for the present block of the fields
+-- the end that the PPS of the present block carries, by the fields
 abbrev pub end_of_fields : CallerFields → PageEnd
 end_of_fields v = end_by (next_in_page v.encoded v.block) (end_of_first (drop v.page v.document))
 
@@ -144,19 +146,19 @@ block_of_fields v blocks =
       frames = slice_index_or blocks v.block [];
     }
 
--- the page's blocks are there with the present one among them; none where there are too few
+-- the page's blocks are there with the present one among them; None if there are too few
 abbrev pub HasBlock : CallerFields → Option (Bor (List (List (List ℕ)))) → Type 0
 HasBlock v None = (blocks : List (List (List ℕ))) → v.encoded ≡ Some blocks → length blocks ≤ v.block
 HasBlock v (Some blocks) = (v.encoded ≡ Some blocks.now) × (v.block < length blocks.now)
 
--- the block that a caller is sending is the fields' block among these; none where it is sending no page
+-- the block that a caller is sending is the fields' block among these; None if it is sending no page
 abbrev pub GivesPresent : CallerFields → Option (Bor (List (List (List ℕ)))) → Type 0
 GivesPresent v None = (t : Caller) → Represents v t → present_block t ≡ None
 GivesPresent v (Some blocks) =
     (v.block < length blocks.now) ×
     ((t : Caller) → Represents v t → present_block t ≡ Some (block_of_fields v blocks.now))
 
--- a new caller; none exactly where the width of a page isn't callable
+-- the fields of a new caller represent its tuple; there is no caller exactly if a page has a width that no call can have
 abbrev pub NewCaller : Document → Wish → Result CallerFields CallerFault → Type 0
 NewCaller document wish (Ok caller) = AreCallable document × Represents caller (new_caller document wish no_caps no_params)
 NewCaller document wish (Err fault) = ¬ AreCallable document

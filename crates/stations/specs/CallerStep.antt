@@ -28,7 +28,7 @@ pub record Caller : Type 0 where
   pub document : Document
   pub wish : Wish
   pub caps : Caps
-  -- the parameters of the groups that are through, and those of the present group where it is begun
+  -- the parameters of the groups that are through, and those of the present group if it is begun
   pub finished : List Params
   pub present : List Params
   pub params : Params
@@ -86,7 +86,7 @@ answers_ftt c (Some params) =
 abbrev pub first_burst : Caller → CallerAnswer
 first_burst c = record { next = record c { state = WaitBlock; try = 1; pprs = 0 }; turn = Burst all_frames }
 
--- after a block with this end, where the next one would start: it goes out; or the document is through; or the next page's code is too long
+-- after a block with this end: the next block goes out; or the document is through; or the next page's code is too long
 abbrev pub goes_on : Caller → PageEnd → Option Block → CallerAnswer
 goes_on c ends (Some next) = first_burst c
 goes_on c Eop None = caller_gives_up c Normal
@@ -122,7 +122,7 @@ answers_ppr c map =
 abbrev pub answers_rnr : Caller → CallerAnswer
 answers_rnr c = record { next = record c { state = WaitReady; try = 1 }; turn = SendRr }
 
--- the caller's table
+-- the caller's table, a row for a state and an input
 abbrev pub caller_table : CallerState → CallerInput → Caller → CallerAnswer
 caller_table WaitDis (hears (dis caps)) c = answers_dis c caps (agreed_for caps c.wish (slice_get c.document (confirmed c)))
 caller_table WaitDis timeout c = caller_gives_up c NoAnswer
@@ -147,7 +147,7 @@ abbrev pub unless_caller_ended : Option End → CallerInput → Caller → Calle
 unless_caller_ended (Some why) input c = caller_silent c
 unless_caller_ended None input c = caller_table c.state input c
 
--- the caller's step
+-- the caller's step: what the table says; a caller that has ended is silent
 abbrev pub caller_step : Caller → CallerInput → CallerAnswer
 caller_step c input = unless_caller_ended c.ending input c
 
@@ -185,7 +185,7 @@ abbrev pub burst_of : List ℕ → Option Block → List PlainItem
 burst_of map None = []
 burst_of map (Some block) = fcds map 0 block.frames ++ framed rcp ∷ framed rcp ∷ framed rcp ∷ pps_of block ∷ []
 
--- a PPS alone
+-- the PPS of a block alone, if there is a block
 abbrev pub pps_items : Option Block → List PlainItem
 pps_items None = []
 pps_items (Some block) = pps_of block ∷ []
@@ -196,7 +196,7 @@ present_in WaitBlock None block = block
 present_in WaitReady None block = block
 present_in _ _ block = None
 
--- the same of a caller's tuple
+-- the block that a caller is sending, by its tuple
 abbrev pub present_block : Caller → Option Block
 present_block c = present_in c.state c.ending (slice_get (blocks_of c) c.place)
 
@@ -207,7 +207,8 @@ training_items WaitCfr params = framed (dcs params) ∷ checked (training params
 training_items WaitBlock params = framed (dcs params) ∷ checked (training params) ∷ []
 training_items WaitReady params = framed (dcs params) ∷ checked (training params) ∷ []
 
--- the items of a caller's turn; none of a turn that the state has nothing for
+-- the items of a caller's turn: DCS and a training check; the marked FCDs of the present block in rising order, three RCPs and PPS; or PPS,
+-- RR or DCN alone. A turn for which the state has nothing has none
 abbrev pub caller_items : Caller → Turn → List PlainItem
 caller_items c SendTraining = training_items c.state c.params
 caller_items c (Burst map) = burst_of map (present_block c)
@@ -216,10 +217,10 @@ caller_items c SendRr = framed rr ∷ []
 caller_items c SendDcn = framed dcn ∷ []
 caller_items c _ = []
 
--- the caps of a new caller until a DIS comes; nothing is made of them
+-- the capabilities of a new caller, made up until a DIS comes; no turn shows them
 abbrev pub no_caps : Caps
 no_caps = record { receiver = false; modems = Fallback; fine = false; widest = W1728; t6 = false; ecm = false }
 
--- the parameters of a new station until it has any; nothing is made of them
+-- the parameters of a new station, made up until a DCS is agreed on; no turn shows them
 abbrev pub no_params : Params
 no_params = record { speed = V27At2400; fine = false; width = W1728; coding = OneDim; small = false }

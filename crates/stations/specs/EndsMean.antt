@@ -31,7 +31,7 @@ pub record ConfirmsBlock (c : Caller) (input : CallerInput) (end : PageEnd) : Ty
   pub present : slice_get (blocks_of c) c.place ≡ Some block
   pub end_is : block.ends ≡ end
 
--- and the code of the next page of the group is too long
+-- an MCF confirms the last block of a page, and the code of the group's next page is too long
 pub record MeetsLongPage (c : Caller) (input : CallerInput) : Type 0 where
   pub confirms : ConfirmsBlock c input Mps
   pub page : PagePixels
@@ -42,7 +42,7 @@ pub record MeetsLongPage (c : Caller) (input : CallerInput) : Type 0 where
 abbrev pub Unanswered : Caller → CallerInput → Type 0
 Unanswered c input = ((input ≡ timeout) × (c.state ≢ WaitDis)) ⊎ ((c.state ≡ WaitCfr) × ((caps : Caps) × (input ≡ hears (dis caps))))
 
--- why a caller ends
+-- why a caller ends, by each end
 abbrev pub CallerEndsBy : Caller → CallerInput → End → Type 0
 -- the last block of the document is confirmed
 CallerEndsBy c input Normal = ConfirmsBlock c input Eop
@@ -68,7 +68,7 @@ CallerEndsBy c input BadPage = ⊥
 CallerEndsBy c input PageTooLong =
     ((c.state ≡ WaitCfr) × (input ≡ hears cfr) × (slice_get (blocks_of c) c.place ≡ None)) ⊎ MeetsLongPage c input
 
--- a caller that runs ends exactly so
+-- law: a caller that runs ends exactly by the cause of the end, one line for each end
 abbrev pub CallersEndsMean : Type 0
 CallersEndsMean =
     (c : Caller) (input : CallerInput) (why : End) → c.ending ≡ None →
@@ -96,7 +96,7 @@ pub record TakesBadBlock (s : Answerer) (input : AnswererInput) : Type 0 where
   pub all_there : (number : ℕ) → number ≤ counted → has_frame s.frames number ≡ true
   pub bad : IsBad s ends (s.octets ++ joined_frames s.frames (counted + 1))
 
--- why an answerer ends
+-- why an answerer ends, by each end
 abbrev pub AnswererEndsBy : Answerer → AnswererInput → End → Type 0
 -- the caller left after the document's last block was accepted
 AnswererEndsBy s input Normal = (input ≡ listens dcn) × ((accepted : Accepted) × (s.accepted ≡ Some accepted) × (accepted.ends ≡ Eop))
@@ -109,7 +109,7 @@ AnswererEndsBy s input BadPage = TakesBadBlock s input
 -- the other ends are those of callers
 AnswererEndsBy s input _ = ⊥
 
--- an answerer that runs ends exactly so
+-- law: an answerer that runs ends exactly by the cause of the end, one line for each end
 abbrev pub AnswerersEndsMean : Type 0
 AnswerersEndsMean =
     (s : Answerer) (input : AnswererInput) (why : End) → s.ending ≡ None →

@@ -7,7 +7,7 @@ use Rattle.stations.specs.declared.bursts.Burst.{Burst}
 abbrev pub plain_burst : Burst → PlainBurst
 plain_burst burst = record { carrier = burst.carrier; items = burst.items.burst }
 
--- the first of the bursts is given, and the others are left; it is called the last one exactly if none is left
+-- the first of the bursts left is given, and the others stay; it is marked as the last one exactly if none is left
 abbrev pub GivesBurst : List PlainBurst → Option Burst → List PlainBurst → Type 0
 GivesBurst old None new = (old ≡ []) × (new ≡ [])
 GivesBurst old (Some burst) new =

@@ -18,8 +18,8 @@ abbrev pub blocks_due : Params → Option PagePixels → ℕ
 blocks_due params None = 0
 blocks_due params (Some page) = length (code_blocks params page)
 
--- how far a caller is with its present block: which of the page's blocks it is, how many these are, and how often frames of it were
--- asked for again
+-- how far a caller is with its present block: its place in the page, from 1, how many blocks the page's code has, and how many PPRs asked
+-- for frames of it
 abbrev pub block_progress : Caller → Option Block → Option BlockProgress
 block_progress t None = None
 block_progress t (Some block) =
@@ -30,7 +30,7 @@ block_progress t (Some block) =
       resends = t.pprs;
     })
 
--- how far a caller is
+-- how far a caller is, by its tuple: the pages confirmed of those of the document, its present block, and the tries of the last command
 abbrev pub caller_progress : Caller → CallerProgress
 caller_progress t =
     record {
@@ -40,13 +40,13 @@ caller_progress t =
       tries = t.try;
     }
 
--- how many frames are open
+-- how many frames are open: 0 to 256
 abbrev pub open_count : Frames → ℕ
 open_count [] = 0
 open_count (None ∷ frames) = open_count frames
 open_count (Some octets ∷ frames) = suc (open_count frames)
 
--- how far an answerer is
+-- how far an answerer is, by its tuple: the pages stored, the last accepted mark, the octets of the open page, and how many frames are open
 abbrev pub answerer_progress : Answerer → AnswererProgress
 answerer_progress s =
     record {

@@ -20,7 +20,7 @@ MeetsDis c input = (c.state ≡ WaitDis) × ((caps : Caps) × (input ≡ hears (
 abbrev pub Failed : Caller → CallerInput → Type 0
 Failed c input = (c.state ≡ WaitCfr) × (input ≡ hears ftt)
 
--- what a step may change, and where
+-- what a step of a caller may change, field by field, and when
 pub record Keeps (c : Caller) (input : CallerInput) (next : Caller) : Type 0 where
   -- the document and the wish nowhere
   pub document : next.document ≡ c.document
@@ -38,7 +38,8 @@ pub record Keeps (c : Caller) (input : CallerInput) (next : Caller) : Type 0 whe
       (next.finished ≡ c.finished) ⊎
       (HasSent c × (input ≡ hears mcf) × (next.state ≡ WaitDis) × (next.finished ≡ c.finished ++ c.present) × (next.present ≡ []))
 
--- each step of any caller
+-- law: a step of any caller never changes the document and the wish; it changes the capabilities only at a DIS that is waited for, the
+-- parameters there and at an FTT, and the place only at an MCF for a block
 abbrev pub CallersKeep : Type 0
 CallersKeep = (c : Caller) (input : CallerInput) → Keeps c input (caller_step c input).next
 
@@ -56,12 +57,13 @@ pub record Takes (c : Caller) (input : CallerInput) (next : Caller) : Type 0 whe
   -- at an MCF for a block: the next place
   pub confirmed : (block : Block) → HasSent c → input ≡ hears mcf → slice_get (blocks_of c) c.place ≡ Some block → next.place ≡ suc c.place
 
--- each caller that runs
+-- law: at such a DIS a caller that runs takes its capabilities and what is agreed with them, at an FTT the next lower speed, at an MCF the
+-- next place
 abbrev pub CallersTake : Type 0
 CallersTake = (c : Caller) (input : CallerInput) → c.ending ≡ None → Takes c input (caller_step c input).next
 
--- of whichever tuple the fields represent, they represent one afterwards that has changed so; or memory was refused, and nothing has
--- changed
+-- a step of the program changes so: whichever tuple the fields represent, they represent one afterwards that has changed so; or memory was
+-- refused, and nothing has changed
 abbrev pub KeepsOrRefuses : {E : Type 0} → CallerFields → CallerInput → CallerFields → Result Turn E → Type 0
 KeepsOrRefuses old input new (Ok turn) =
     (t : Caller) → Represents old t → (next : Caller) × Represents new next × Keeps t input next × (t.ending ≡ None → Takes t input next)

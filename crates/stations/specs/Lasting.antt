@@ -18,17 +18,17 @@ use Rattle.stations.specs.declared.turn.End.{End}
 use Rattle.stations.specs.declared.turn.Turn.{Turn}
 use Rattle.stations.specs.declared.turn.Turn.TheVariants.{Silent}
 
--- 1 for a turn that transmits
+-- 1 for a turn that transmits, 0 for silence
 abbrev pub sends : Turn → ℕ
 sends Silent = 0
 sends _ = 1
 
--- 1 for the end of a wait
+-- 1 for the end of a wait, 0 for any other input
 abbrev pub is_wait : CallerInput → ℕ
 is_wait timeout = 1
 is_wait _ = 0
 
--- 1 for an RNR
+-- 1 for an RNR, 0 for any other input
 abbrev pub is_busy_signal : CallerInput → ℕ
 is_busy_signal (hears rnr) = 1
 is_busy_signal _ = 0
@@ -38,7 +38,7 @@ abbrev pub goes_on_by : Option End → ℕ
 goes_on_by None = 1
 goes_on_by (Some why) = 0
 
--- how many turns transmit
+-- how many of the turns transmit
 abbrev pub transmissions : List Turn → ℕ
 transmissions [] = 0
 transmissions (turn ∷ turns) = sends turn + transmissions turns
@@ -60,7 +60,7 @@ groups_in WaitCfr c = suc (length c.finished)
 groups_in WaitBlock c = suc (length c.finished)
 groups_in WaitReady c = suc (length c.finished)
 
--- with a block at its place, one more than come before it
+-- how many blocks are begun: the present one too, if there is a block at its place
 abbrev pub counted_to : ℕ → Option Block → ℕ
 counted_to place None = place
 counted_to place (Some block) = suc place
@@ -72,22 +72,22 @@ blocks_in WaitCfr c = c.place
 blocks_in WaitBlock c = counted_to c.place (slice_get (blocks_of c) c.place)
 blocks_in WaitReady c = counted_to c.place (slice_get (blocks_of c) c.place)
 
--- the same of its tuple
+-- the groups that a caller has begun, by its tuple
 abbrev pub groups_of_caller : Caller → ℕ
 groups_of_caller c = groups_in c.state c
 
--- and the blocks that it has begun
+-- the blocks that a caller has begun, by its tuple
 abbrev pub blocks_of_caller : Caller → ℕ
 blocks_of_caller c = blocks_in c.state c
 
--- the transmissions that a caller has left for its present group or block, where no RNR comes
+-- the transmissions that a caller has left for its present group or block, if no RNR comes
 abbrev pub sends_in : CallerState → Caller → ℕ
 sends_in WaitDis c = 0
 sends_in WaitCfr c = 3 * speeds_left c.caps c.wish c.params + (3 - c.try)
 sends_in WaitBlock c = 3 * (3 - c.pprs) + (3 - c.try)
 sends_in WaitReady c = 3 * (3 - c.pprs) + (3 - c.try)
 
--- the ends of a wait that it has left so
+-- the ends of a wait that a caller has left for its present group or block, if no RNR comes
 abbrev pub waits_in : CallerState → Caller → ℕ
 waits_in WaitDis c = 0
 waits_in WaitCfr c = 2 * speeds_left c.caps c.wish c.params + (3 - c.try)
@@ -101,7 +101,7 @@ HasGroup WaitCfr present = length present ≡ 1
 HasGroup WaitBlock present = length present ≡ 1
 HasGroup WaitReady present = length present ≡ 1
 
--- what a step takes of what is left, where groups and blocks are paid for as they begin
+-- what a step takes of what is left, if groups and blocks are paid for as they begin
 pub record Lasts (c : Caller) (input : CallerInput) (answer : CallerAnswer) : Type 0 where
   pub group : HasGroup answer.next.state answer.next.present
   pub sending :
@@ -116,12 +116,12 @@ pub record Lasts (c : Caller) (input : CallerInput) (answer : CallerAnswer) : Ty
       (waits_in c.state c + goes_on_by c.ending) +
       (12 * groups_in answer.next.state answer.next + 8 * blocks_in answer.next.state answer.next) + 2 * is_busy_signal input
 
--- each step of a caller takes so much, whatever it hears
+-- law: each step of any caller takes so much, whatever it hears
 abbrev pub StepsLast : Type 0
 StepsLast = (c : Caller) (input : CallerInput) → HasGroup c.state c.present → Lasts c input (caller_step c input)
 
--- a step of a caller that runs takes so much: whichever tuple the fields represent, they represent one afterwards of which this holds; or
--- memory was refused, and nothing has changed
+-- a step of the program, of a caller that runs, takes so much: whichever tuple the fields represent, they represent one afterwards of which
+-- this holds; or memory was refused, and nothing has changed
 abbrev pub LastsOrRefuses : {E : Type 0} → CallerFields → CallerInput → CallerFields → Result Turn E → Type 0
 LastsOrRefuses old input new (Ok turn) =
     (t : Caller) → Represents old t → t.ending ≡ None →
@@ -134,7 +134,8 @@ pub record IsBounded (inputs : List CallerInput) (turns : List Turn) (c : Caller
   pub ends :
       12 * groups_in c.state c + 8 * blocks_in c.state c + 2 * busy_signals inputs < waits_over inputs → IsSome c.ending
 
--- so it is of every caller, whatever it hears
+-- law: after any inputs a caller that has begun g groups and b blocks and heard r RNRs has transmitted at most 18 g + 12 b + 3 r + 1 times,
+-- and has ended if its wait was over more than 12 g + 8 b + 2 r times
 abbrev pub CallersEnd : Type 0
 CallersEnd =
     (document : Document) (wish : Wish) (caps : Caps) (params : Params) (inputs : List CallerInput) →

@@ -44,25 +44,25 @@ pub record IsReadable (params : Params) (page : PagePixels) : Type 0 where
   -- each beginning of it is within the limit of a page
   pub fronts : (front rest : List ℕ) → front ++ rest ≡ joined_all (code_blocks params page) → within_page_limit front ≡ true
 
--- a whole page whose code is within the limit is readable, under parameters that fit it
+-- law of the layers below: a whole page whose code is within the limit is readable, under parameters that fit it
 abbrev pub LayersHold : Type 0
 LayersHold =
     (params : Params) (page : PagePixels) → IsFullPage page → Fits params page → code_within_limit params page ≡ true →
     IsReadable params page
 
--- what octets read as is their page by the grammar, and none where they have none
+-- law of the layers below: octets read as a page exactly if it is theirs by the grammar of its code
 abbrev pub ReadsByGrammar : Type 0
 ReadsByGrammar =
     (params : Params) (octets : List ℕ) (page : PagePixels) → (page_read params octets ≡ Some page) ↔ IsPageOf params octets page
 
--- each page of a group that is begun is readable, if its code is within the limit
+-- each page of a group that is begun is readable, if its code is within the limit; the layer above holds this, by LayersHold
 abbrev pub AreReadable : List Params → List PagePixels → Type 0
 AreReadable groups [] = Unit {0}
 AreReadable [] (page ∷ pages) = Unit {0}
 AreReadable (params ∷ groups) (page ∷ pages) =
     (code_within_limit params page ≡ true → IsReadable params page) × AreReadable (groups_after page pages (params ∷ groups)) pages
 
--- what is agreed is allowed and fits the page; what follows from it fits too; and a training check of it as sent is good
+-- law of the layers below: what is agreed is allowed and fits the page, at each lower speed too; and a training check as it is sent is good
 pub record SignalsHold : Type 0 where
   pub agreed_allowed :
       (caps : Caps) (wish : Wish) (page : PagePixels) (params : Params) →
@@ -76,7 +76,7 @@ pub record SignalsHold : Type 0 where
   pub alike_fits : (params : Params) (page next : PagePixels) → in_one_group page next ≡ true → Fits params page → Fits params next
   pub good : (params : Params) → is_good_training (training params) params ≡ true
 
--- at most five speeds are tried below the first, each next one has one speed less below it
+-- law of the layers below: at most five speeds are tried below the first, and each next one has one speed less below it
 pub record SpeedsHold : Type 0 where
   pub first :
       (caps : Caps) (wish : Wish) (page : Option PagePixels) (params : Params) →
@@ -85,7 +85,7 @@ pub record SpeedsHold : Type 0 where
       (caps : Caps) (wish : Wish) (params lower : Params) →
       lowered caps wish params ≡ Some lower → suc (speeds_left caps wish lower) ≡ speeds_left caps wish params
 
--- a signal that a station sends is read as the signal, whichever station it is
+-- law of the layers below: a signal that a station sends is read as the signal, whichever station sends it
 abbrev pub SignalsArrive : Type 0
 SignalsArrive =
     (signal : PlainSignal) (side : Side) (last : Bool) → IsWritable signal → read_content (content_of signal side last) ≡ Ok signal

@@ -17,7 +17,7 @@ dcs_in WaitCfr c = 3 * speeds_left c.caps c.wish c.params + (3 - c.try)
 dcs_in WaitBlock c = 0
 dcs_in WaitReady c = 0
 
--- the same of a caller's tuple
+-- the turns with a DCS that a caller has left, by its tuple alone
 abbrev pub dcs_left : Caller → ℕ
 dcs_left c = dcs_in c.state c
 
@@ -28,7 +28,7 @@ pps_in WaitCfr c = 0
 pps_in WaitBlock c = 3 * (3 - c.pprs) + (3 - c.try)
 pps_in WaitReady c = 3 * (3 - c.pprs)
 
--- the same of a caller's tuple
+-- the turns with a PPS that a caller has left for the present block, by its tuple alone
 abbrev pub pps_left : Caller → ℕ
 pps_left c = pps_in c.state c
 
@@ -39,7 +39,7 @@ rr_in WaitCfr c = 0
 rr_in WaitBlock c = 0
 rr_in WaitReady c = 3 - c.try
 
--- the same of a caller's tuple
+-- the turns with an RR that a caller has left since the last RNR, by its tuple alone
 abbrev pub rr_left : Caller → ℕ
 rr_left c = rr_in c.state c
 
@@ -65,8 +65,8 @@ abbrev pub EndsGroup : CallerInput → Type 0
 EndsGroup (hears mcf) = Unit {0}
 EndsGroup _ = ⊥
 
--- what a step spends; only an MCF that leads back to WaitDis raises the turns with a DCS that are left, only the whole burst that a CFR
--- or an MCF is answered by those with a PPS, and only an RNR those with an RR
+-- what a step spends of the turns left: only an MCF that leads back to WaitDis raises those with a DCS, only the whole burst after a CFR or
+-- an MCF those with a PPS, and only an RNR those with an RR
 pub record Spends (c : Caller) (input : CallerInput) (answer : CallerAnswer) : Type 0 where
   pub training : answer.turn ≡ SendTraining → dcs_left answer.next < dcs_left c
   pub never_more : (dcs_left answer.next ≤ dcs_left c) ⊎ (EndsGroup input × (answer.next.state ≡ WaitDis))
@@ -77,11 +77,12 @@ pub record Spends (c : Caller) (input : CallerInput) (answer : CallerAnswer) : T
   pub not_asking : answer.turn ≢ SendRr → rr_left answer.next ≤ rr_left c
   pub dcn : answer.turn ≡ SendDcn → IsSome answer.next.ending
 
--- each step of any caller spends so, whatever it hears
+-- law: each step of any caller spends so, whatever it hears
 abbrev pub StepsSpend : Type 0
 StepsSpend = (c : Caller) (input : CallerInput) → Spends c input (caller_step c input)
 
--- a step spends so: whichever tuple the fields represent, they represent one afterwards that has spent so; or memory was refused
+-- a step of the program spends so: whichever tuple the fields represent, they represent one afterwards that has spent so; or memory was
+-- refused, and nothing has changed
 abbrev pub SpendsOrRefuses : {E : Type 0} → CallerFields → CallerInput → CallerFields → Result Turn E → Type 0
 SpendsOrRefuses old input new (Ok turn) =
     (t : Caller) → Represents old t →

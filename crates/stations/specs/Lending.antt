@@ -22,12 +22,12 @@ abbrev pub TellsLast : Item → List PlainItem → Type 0
 TellsLast (Frame signal last) left = last ≡ has_no_frame left
 TellsLast (Training count) left = Unit {0}
 
--- the first of the items is given, and the others are left; none of no items
+-- the first of the items left is given, and the others stay; nothing is given if none is left
 abbrev pub GivesItem : List PlainItem → Option Item → List PlainItem → Type 0
 GivesItem old None new = (old ≡ []) × (new ≡ [])
 GivesItem old (Some item) new = (old ≡ plain_item item ∷ new) × TellsLast item new
 
--- the same of signals, which are given in frames
+-- the first of the signals left is given in a frame, and the others stay; nothing is given if none is left
 abbrev pub GivesSignal : List PlainItem → Option Signal → List PlainItem → Type 0
 GivesSignal old None new = (old ≡ []) × (new ≡ [])
 GivesSignal old (Some signal) new = old ≡ framed (plain signal) ∷ new

@@ -6,8 +6,8 @@ use Rattle.stations.specs.Limiting.{is_full, is_kept_out, busy_while, limited_st
 use Rattle.stations.specs.Runs.{answerer_after}
 use Rattle.stations.specs.declared.limiting.Limits.{Limits}
 
--- the inputs by which an answerer without limits gets where one with limits does: none for what is kept out, and busy before the one that
--- fills it
+-- the inputs by which an answerer without limits gets to where one with limits does: none for what is kept out, busy before the input that
+-- fills it, and else the input itself
 abbrev pub heard_as : Limits → Answerer → AnswererInput → List AnswererInput
 heard_as limits s input =
     cond (is_full limits s.pages && is_kept_out s input)
@@ -17,7 +17,7 @@ heard_as limits s input =
     (is_busy true ∷ busy_while (is_full limits s.pages) input ∷ [])
     (busy_while (is_full limits s.pages) input ∷ []))
 
--- each step with limits leads where these inputs lead without
+-- law: each step with limits leads to where these inputs lead an answerer without
 abbrev pub LimitedIsPlain : Type 0
 LimitedIsPlain =
     (limits : Limits) (s : Answerer) (input : AnswererInput) → s.ending ≡ None →

@@ -16,12 +16,12 @@ use Rattle.stations.specs.declared.turn.Turn.TheVariants.{Mcf, Rnr}
 abbrev pub page_octets : PagePixels → ℕ
 page_octets page = length page.rows * ((page.width + 7) / 8)
 
--- the same of pages
+-- the octets of the packed rows of pages
 abbrev pub octets_of_pages : List PagePixels → ℕ
 octets_of_pages [] = 0
 octets_of_pages (page ∷ pages) = page_octets page + octets_of_pages pages
 
--- pages reach a limit: there are that many, or their rows have that many octets
+-- pages reach a limit: they are as many as the limit, or their packed rows have as many octets
 unfoldable pub is_full : Limits → List PagePixels → Bool
 is_full limits pages = nat_le limits.pages (length pages) || nat_le limits.octets (octets_of_pages pages)
 
@@ -30,7 +30,7 @@ abbrev pub not_ready : Turn → Turn
 not_ready Mcf = Rnr
 not_ready turn = turn
 
--- what a step answers where the station had been busy
+-- what a step answers if the station had been busy before
 abbrev pub busy_answer : AnswererAnswer → AnswererAnswer
 busy_answer answer = record { next = record answer.next { busy = true }; turn = not_ready answer.turn }
 
@@ -39,19 +39,19 @@ abbrev pub IsNoBusy : AnswererInput → Type 0
 IsNoBusy (is_busy busy) = ⊥
 IsNoBusy _ = Unit {0}
 
--- an answerer that was busy before an input answers RNR where it would answer MCF, and all else is the same
+-- law: an answerer that was busy before an input answers RNR in place of MCF, and all else is the same
 abbrev pub BusyBefore : Type 0
 BusyBefore =
     (s : Answerer) (input : AnswererInput) → IsNoBusy input →
     answerer_step (record s { busy = true }) input ≡ busy_answer (answerer_step s input)
 
--- what a full answerer doesn't hear: FCDs, and a PPS of another mark than that of the last accepted block
+-- what a full answerer doesn't hear: an FCD, and a PPS of another mark than that of the last accepted block
 abbrev pub is_kept_out : Answerer → AnswererInput → Bool
 is_kept_out s (listens (fcd number octets)) = true
 is_kept_out s (listens (pps ends page block last)) = not (is_repeated s.accepted (record { page = page; block = block }))
 is_kept_out s _ = false
 
--- a full answerer stays busy, whatever it is told
+-- a full answerer stays busy, whatever the program says
 abbrev pub busy_while : Bool → AnswererInput → AnswererInput
 busy_while full (is_busy busy) = is_busy (busy || full)
 busy_while full input = input
@@ -60,7 +60,8 @@ busy_while full input = input
 abbrev pub filled : Bool → Bool → AnswererAnswer → AnswererAnswer
 filled before after answer = cond (not before && after) (busy_answer answer) answer
 
--- the step of an answerer with limits
+-- the step of an answerer with limits: the answerer's own, but a full one is silent at what it doesn't hear, and the page that fills it
+-- makes it busy and has RNR in place of MCF
 abbrev pub limited_step : Limits → Answerer → AnswererInput → AnswererAnswer
 limited_step limits s input =
     cond (is_full limits s.pages && is_kept_out s input)
@@ -69,35 +70,35 @@ limited_step limits s input =
     (is_full limits (answerer_step s (busy_while (is_full limits s.pages) input)).next.pages)
     (answerer_step s (busy_while (is_full limits s.pages) input)))
 
--- at most one page is above a limit: without the last one none is reached
+-- at most one page is above a limit: without the last page stored no limit is reached
 abbrev pub IsWithin : Limits → List PagePixels → Type 0
 IsWithin limits pages = (pages ≡ []) ⊎ ((front : List PagePixels) × (page : PagePixels) × (pages ≡ front ++ page ∷ []) × (is_full limits front ≡ false))
 
--- an answerer with limits, whether it is busy, as it was told, and what cut its call off, if anything did
+-- an answerer with its limits, whether the program said last that it is busy, and what cut its call off, if anything did
 pub record LimitedFields : Type 0 where
   pub station : Answerer
   pub limits : Limits
   pub told : Bool
   pub cut : Option Cut
 
--- whether it is busy, as an input tells
+-- whether the program said last that the answerer is busy; a full one remembers it
 abbrev pub told_by : Bool → AnswererInput → Bool
 told_by told (is_busy busy) = busy
 told_by told input = told
 
--- what a step of the program answers and leaves; or memory was refused, and nothing has changed
+-- a step of the program does what the step with limits does; or memory was refused, and nothing has changed
 abbrev pub LimitedSteps : {E : Type 0} → LimitedFields → AnswererInput → LimitedFields → Result Turn E → Type 0
 LimitedSteps old input new (Ok turn) =
     Steps old.station new.station turn (limited_step old.limits old.station input) × (new.limits ≡ old.limits) ×
     (new.told ≡ told_by old.told input) × (new.cut ≡ old.cut)
 LimitedSteps old input new (Err refused) = new ≡ old
 
--- the same; after the call was cut off it is silent
+-- a step of the program with limits; after a cut it is silent and changes nothing
 abbrev pub LimitedStepsUnlessCut : {E : Type 0} → LimitedFields → AnswererInput → LimitedFields → Result Turn E → Option Cut → Type 0
 LimitedStepsUnlessCut old input new result None = LimitedSteps old input new result
 LimitedStepsUnlessCut old input new result (Some why) = StaysSilent old new result
 
--- the station after its pages are taken: it is as busy as it was told, if it runs
+-- the answerer after its pages are taken: one that runs is as busy as the program said last
 abbrev pub freed : Option End → Bool → Answerer → Answerer
 freed None told s = record s { pages = []; busy = told }
 freed (Some why) told s = record s { pages = [] }

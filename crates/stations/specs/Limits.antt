@@ -24,23 +24,23 @@ AreShort [] = Unit {0}
 AreShort (None ∷ frames) = AreShort frames
 AreShort (Some octets ∷ frames) = (length octets ≤ 256) × AreShort frames
 
--- an answerer has 256 places for frames, none too long, and no more of a page than a call carries
+-- an answerer has 256 places for frames of at most 256 octets each, and at most 8,388,608 octets of an open page
 pub record IsLimited (s : Answerer) : Type 0 where
   pub places : length s.frames ≡ 256
   pub short : AreShort s.frames
   pub page : length s.octets ≤ max_page_octets
 
--- whatever an answerer hears, its open frames hold at most 65,536 octets and its open page at most 8,388,608
+-- law: whatever an answerer hears, its open frames hold at most 65,536 octets and its open page at most 8,388,608
 abbrev pub OpenIsLimited : Type 0
 OpenIsLimited =
     (caps : Caps) (params : Params) (inputs : List AnswererInput) →
     (open_octets (answerer_after inputs (new_answerer caps params)).frames ≤ max_open_octets) ×
     (length (answerer_after inputs (new_answerer caps params)).octets ≤ max_page_octets)
 
--- a new answerer is within the limits
+-- law: a new answerer is within these limits
 abbrev pub NewIsLimited : Type 0
 NewIsLimited = (caps : Caps) (params : Params) → IsLimited (new_answerer caps params)
 
--- each step keeps the limits
+-- law: each step keeps an answerer within these limits
 abbrev pub StepsKeepLimits : Type 0
 StepsKeepLimits = (s : Answerer) (input : AnswererInput) → IsLimited s → IsLimited (answerer_step s input).next

@@ -16,22 +16,23 @@ use Rattle.stations.specs.declared.turn.CallerState.TheVariants.{WaitDis, WaitCf
 use Rattle.stations.specs.declared.turn.End.{End}
 use Rattle.stations.specs.declared.turn.Turn.TheVariants.{Silent}
 
--- the carriers on which an answerer is sent what it waits for, at its message speed
+-- the carriers on which an answerer gets what it waits for, at its message speed: V.21 in phase B, a training check after a DCS, V.21 or a
+-- page in the message
 abbrev pub listens_for : AnswererState → Speed → Listening
 listens_for PhaseB speed = V21
 listens_for WaitTraining speed = Training speed
 listens_for Message speed = V21OrPage speed
 
--- after the end nothing more is taken
+-- after the end V.21, and nothing more is taken
 abbrev pub unless_through : Option End → Listening → Listening
 unless_through None listening = listening
 unless_through (Some why) listening = V21
 
--- the same of an answerer
+-- what an answerer listens for, at the speed of the DCS; V.21 after the end
 abbrev pub answerer_listens : Answerer → Listening
 answerer_listens s = unless_through s.ending (listens_for s.state s.params.speed)
 
--- a training check does something exactly where the answerer listens for one, at the speed agreed; and an FCD that does something finds it
+-- a training check does something exactly if the answerer listens for one, at the speed agreed; and an FCD that does something finds it
 -- listening for a page at that speed
 pub record AnswererHears (s : Answerer) : Type 0 where
   pub check :
@@ -41,31 +42,32 @@ pub record AnswererHears (s : Answerer) : Type 0 where
       (number : ℕ) (octets : List ℕ) → answerer_step s (listens (fcd number octets)) ≢ record { next = s; turn = Silent } →
       answerer_listens s ≡ V21OrPage s.params.speed
 
--- each answerer
+-- law: a training check that does something finds the answerer listening for one, and an FCD that does something finds it listening for a
+-- page, at the speed agreed
 abbrev pub AnswerersHear : Type 0
 AnswerersHear = (s : Answerer) → AnswererHears s
 
--- the parameters of a caller's group, from the DIS that agrees to the MCF that ends the group
+-- the parameters of a caller's group that is under way, from the DIS that agrees to the MCF that ends the group; None between groups
 abbrev pub caller_params : CallerState → Params → Option Params
 caller_params WaitDis params = None
 caller_params WaitCfr params = Some params
 caller_params WaitBlock params = Some params
 caller_params WaitReady params = Some params
 
--- the capabilities of the last DIS that agreed; none before the first one
+-- the capabilities of the last DIS that a caller agreed on; None before the first one
 abbrev pub caller_peer : CallerState → ℕ → Caps → Option Caps
 caller_peer WaitDis pages caps = cond (nat_lt 0 pages) (Some caps) None
 caller_peer WaitCfr pages caps = Some caps
 caller_peer WaitBlock pages caps = Some caps
 caller_peer WaitReady pages caps = Some caps
 
--- the parameters of the DCS of an answerer's group
+-- the parameters of the DCS of an answerer's group that is under way; None in phase B
 abbrev pub answerer_params : AnswererState → Params → Option Params
 answerer_params PhaseB params = None
 answerer_params WaitTraining params = Some params
 answerer_params Message params = Some params
 
--- the last DCS that was allowed: in phase B only where a block was accepted
+-- the last DCS that an answerer allowed, in phase B only if a block was accepted; None before the first one
 abbrev pub answerer_peer : AnswererState → Option Accepted → Params → Option Params
 answerer_peer PhaseB accepted params = cond (is_some accepted) (Some params) None
 answerer_peer WaitTraining accepted params = Some params

@@ -25,8 +25,8 @@ pub record AreReadAlike (params other : Params) : Type 0 where
   pub width : pixels_of params.width ≡ pixels_of other.width
   pub fine : params.fine ≡ other.fine
 
--- all octets are those of the open page from now on, if a call carries this number of octets for a page; where not, or where memory is
--- refused, nothing changes
+-- all octets are those of the open page from now on, if a call carries this number of octets for a page; if not, or if memory is refused,
+-- nothing changes
 abbrev pub TakesOctets : {E : Type 0} → OpenOctets → OpenOctets → Result Bool E → List ℕ → Type 0
 TakesOctets old new (Ok true) all = (within_page_limit all ≡ true) × (new ≡ record old { octets = all })
 TakesOctets old new (Ok false) all = (within_page_limit all ≡ false) × (new ≡ old)

@@ -18,33 +18,33 @@ use Rattle.stations.specs.declared.turn.AnswererState.TheVariants.{Message}
 use Rattle.stations.specs.declared.turn.Turn.{Turn}
 use Rattle.stations.specs.declared.turn.Turn.TheVariants.{Silent}
 
--- a caller after inputs, one after the other
+-- a caller after a list of inputs
 abbrev pub caller_after : List CallerInput → Caller → Caller
 caller_after [] c = c
 caller_after (input ∷ inputs) c = caller_after inputs (caller_step c input).next
 
--- the turns that a caller answers to inputs
+-- the turns of a caller after each of a list of inputs
 abbrev pub caller_turns : List CallerInput → Caller → List Turn
 caller_turns [] c = []
 caller_turns (input ∷ inputs) c = (caller_step c input).turn ∷ caller_turns inputs (caller_step c input).next
 
--- an answerer after inputs, one after the other
+-- an answerer after a list of inputs
 abbrev pub answerer_after : List AnswererInput → Answerer → Answerer
 answerer_after [] s = s
 answerer_after (input ∷ inputs) s = answerer_after inputs (answerer_step s input).next
 
--- the turns that an answerer answers to inputs
+-- the turns of an answerer after each of a list of inputs
 abbrev pub answerer_turns : List AnswererInput → Answerer → List Turn
 answerer_turns [] s = []
 answerer_turns (input ∷ inputs) s = (answerer_step s input).turn ∷ answerer_turns inputs (answerer_step s input).next
 
--- a caller that has ended stays as it is and is silent, whatever it hears
+-- law: a caller that has ended stays as it is and is silent, whatever it hears
 abbrev pub EndedCallerStays : Type 0
 EndedCallerStays =
     (c : Caller) (inputs : List CallerInput) → IsSome c.ending →
     (caller_after inputs c ≡ c) × (caller_turns inputs c ≡ replicate (length inputs) Silent)
 
--- an answerer that has ended stays as it is and is silent, whatever it hears
+-- law: an answerer that has ended stays as it is and is silent, whatever it hears
 abbrev pub EndedAnswererStays : Type 0
 EndedAnswererStays =
     (s : Answerer) (inputs : List AnswererInput) → IsSome s.ending →
@@ -69,13 +69,14 @@ pub record IsReadOf (caps : Caps) (inputs : List AnswererInput) (page : PagePixe
   pub octets_joined : AreJoined inputs octets
   pub reads : IsPageOf params octets page
 
--- each page that an answerer stores is so, whatever it hears
+-- law: whatever an answerer hears, each page that it stores is read of octets joined from the data of FCDs that it heard, by the parameters
+-- of a DCS that it heard and that its capabilities allow
 abbrev pub StoredIsRead : Type 0
 StoredIsRead =
     (caps : Caps) (params : Params) (inputs : List AnswererInput) →
     Each (IsReadOf caps inputs) (answerer_after inputs (new_answerer caps params)).pages
 
--- a step stores no page, or one: that of the octets of the open page and then of the open frames up to a last one
+-- law: a step stores no page, or the one that the octets of the open page and then of the open frames up to a last one read as
 abbrev pub StepsStoreOpen : Type 0
 StepsStoreOpen =
     (s : Answerer) (input : AnswererInput) →
@@ -88,14 +89,14 @@ abbrev pub IsAllowedDcs : Caps → AnswererInput → Type 0
 IsAllowedDcs caps (listens (dcs params)) = allowed caps params ≡ true
 IsAllowedDcs caps _ = ⊥
 
--- an FCD that is kept takes the memory for the open frames
+-- law: after an FCD that is kept the memory for the open frames is taken
 abbrev pub KeptIsReady : Type 0
 KeptIsReady =
     (s : Answerer) (number : ℕ) (octets : List ℕ) →
     s.ending ≡ None → s.state ≡ Message → within_frame_size s.params octets ≡ true →
     (answerer_step s (listens (fcd number octets))).next.ready ≡ true
 
--- from then on it is there until a DCS that is allowed, whatever else is heard
+-- law: from then on the memory stays until a DCS that is allowed, whatever else is heard
 abbrev pub StaysReady : Type 0
 StaysReady =
     (s : Answerer) (inputs : List AnswererInput) →

@@ -18,7 +18,7 @@ abbrev pub AllShort : List (List (List ℕ)) → Type 0
 AllShort [] = Unit {0}
 AllShort (frames ∷ blocks) = (length frames ≤ 256) × AllShort blocks
 
--- a page's code is cut into blocks of at most 256 frames, and where a call can carry it into at most 512 of them
+-- law: a page's code is cut into blocks of at most 256 frames, and into at most 512 of them if a call can carry it
 pub record BlocksAreFew : Type 0 where
   pub short : (params : Params) (page : PagePixels) → AllShort (code_blocks params page)
   pub few : (params : Params) (page : PagePixels) → code_within_limit params page ≡ true → length (code_blocks params page) ≤ 512
@@ -28,7 +28,7 @@ abbrev pub IsShort : Option Block → Type 0
 IsShort None = Unit {0}
 IsShort (Some block) = length block.frames ≤ 256
 
--- all blocks of a caller have
+-- each block of a caller has at most 256 frames
 abbrev pub AreShort : Caller → Type 0
 AreShort c = (k : ℕ) → IsShort (slice_get (blocks_of c) k)
 
@@ -39,26 +39,26 @@ PlaceFits WaitCfr c = c.place ≤ length (call_blocks c.finished 0 c.document)
 PlaceFits WaitBlock c = c.place ≤ length (blocks_of c)
 PlaceFits WaitReady c = c.place ≤ length (blocks_of c)
 
--- what holds of every caller
+-- what holds of every caller: its place is within its blocks, and each group that is through had a block
 pub record IsPlaced (c : Caller) : Type 0 where
   pub group : HasGroup c.state c.present
   pub place : PlaceFits c.state c
   -- each group that is through had a block
   pub groups : length c.finished ≤ c.place
 
--- each step keeps it, and the document
+-- law: each step of a caller keeps this, and keeps the document
 abbrev pub StepsArePlaced : Type 0
 StepsArePlaced =
     (c : Caller) (input : CallerInput) → IsPlaced c →
     IsPlaced (caller_step c input).next × ((caller_step c input).next.document ≡ c.document)
 
--- the blocks that such a caller has begun are at most 512 for each page, and its groups one more
+-- such a caller has begun at most 512 blocks for each page of its document, and at most one group more than that number
 abbrev pub PlacedAreFew : Type 0
 PlacedAreFew =
     (c : Caller) → IsPlaced c → (blocks_in c.state c ≤ 512 * length c.document) × (groups_in c.state c ≤ suc (512 * length c.document)) ×
     (length c.finished ≤ 512 * length c.document)
 
--- a caller after inputs: its groups and blocks are few, by its document alone
+-- law: after any inputs a caller has begun at most 512 blocks for each page of its document, and at most one group more than that number
 abbrev pub CallersAreFew : Type 0
 CallersAreFew =
     (document : Document) (wish : Wish) (caps : Caps) (params : Params) (inputs : List CallerInput) →

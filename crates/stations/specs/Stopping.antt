@@ -12,12 +12,12 @@ use Rattle.stations.specs.declared.turn.End.{End}
 use Rattle.stations.specs.declared.turn.Turn.{Turn}
 use Rattle.stations.specs.declared.turn.Turn.TheVariants.{Silent, Dcn}
 
--- a caller with what cut its call off
+-- a caller with what cut its call off, if anything did
 pub record StoppableCallerFields : Type 0 where
   pub station : CallerFields
   pub cut : Option Cut
 
--- an answerer with what cut its call off
+-- an answerer with what cut its call off, if anything did
 pub record StoppableAnswererFields : Type 0 where
   pub station : Answerer
   pub cut : Option Cut
@@ -29,13 +29,13 @@ call_end None None = None
 call_end None (Some Stop) = Some Stopped
 call_end None (Some Loss) = Some LineLost
 
--- what cuts a call off afterwards, where this does now: an ended call stays as it ended
+-- what has cut a call off, after this cut: the first of several; a call that has ended stays as it ended
 abbrev pub cut_by : Option End → Option Cut → Cut → Option Cut
 cut_by (Some why) cut now = cut
 cut_by None (Some before) now = Some before
 cut_by None None now = Some now
 
--- what is sent where the program stops a call: DCN, and nothing where it has ended
+-- what is sent when the program stops a call: DCN if it runs, nothing if it has ended
 abbrev pub stop_turn : Option End → Option Cut → Turn
 stop_turn (Some why) cut = Silent
 stop_turn None (Some before) = Silent
@@ -45,14 +45,14 @@ stop_turn None None = Dcn
 abbrev pub StaysSilent : {V E : Type 0} → V → V → Result Turn E → Type 0
 StaysSilent old new result = (new ≡ old) × (result ≡ Ok Silent)
 
--- a caller's step is the station's; after the call was cut off it is silent
+-- a caller's step is the station's own; after a cut it is silent and changes nothing
 abbrev pub CallerStepsUnlessCut :
     {E : Type 0} → StoppableCallerFields → CallerInput → StoppableCallerFields → Result Turn E → Option Cut → Type 0
 CallerStepsUnlessCut old input new result None =
     AnswersOrRefuses old.station new.station result (λ t. caller_step t input) × (new.cut ≡ None)
 CallerStepsUnlessCut old input new result (Some why) = StaysSilent old new result
 
--- and so is an answerer's
+-- an answerer's step is the station's own; after a cut it is silent and changes nothing
 abbrev pub AnswererStepsUnlessCut :
     {E : Type 0} → StoppableAnswererFields → AnswererInput → StoppableAnswererFields → Result Turn E → Option Cut → Type 0
 AnswererStepsUnlessCut old input new result None =
@@ -64,7 +64,7 @@ abbrev pub end_of_cut : Cut → CallEnd
 end_of_cut Stop = Stopped
 end_of_cut Loss = LineLost
 
--- a call that runs ends by what cuts it off, and one that has ended stays as it ended
+-- law: a call that runs ends by what cuts it off, and one that has ended stays as it ended
 abbrev pub CutsEnd : Type 0
 CutsEnd =
     (ending : Option End) (cut : Option Cut) (now : Cut) →

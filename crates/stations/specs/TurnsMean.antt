@@ -38,7 +38,7 @@ heard_in timeout = WaitDis ∷ WaitCfr ∷ WaitBlock ∷ WaitReady ∷ []
 heard_in t5 = WaitReady ∷ []
 heard_in _ = []
 
--- elsewhere it is silent and nothing changes
+-- law: in all other states, and at all other inputs, a caller stays as it is and is silent
 abbrev pub CallersHearNothingElse : Type 0
 CallersHearNothingElse =
     (c : Caller) (input : CallerInput) → ¬ Contains (heard_in input) c.state → caller_step c input ≡ record { next = c; turn = Silent }
@@ -56,7 +56,7 @@ listens_in t1 = PhaseB ∷ WaitTraining ∷ Message ∷ []
 listens_in (is_busy busy) = PhaseB ∷ WaitTraining ∷ Message ∷ []
 listens_in _ = []
 
--- a frame is open
+-- a frame of a block is open
 abbrev pub HasOpen : Answerer → Type 0
 HasOpen s = (number : ℕ) × (has_frame s.frames number ≡ true)
 
@@ -68,7 +68,7 @@ IsIgnored s (listens (pps ends page block last)) = (s.state ≢ Message) × (¬ 
 IsIgnored s (listens rr) = (s.accepted ≡ None) ⊎ HasOpen s
 IsIgnored s _ = ⊥
 
--- elsewhere, and at what it ignores, it is silent and nothing changes
+-- law: in all other states, and at an input that it ignores, an answerer stays as it is and is silent
 abbrev pub AnswerersHearNothingElse : Type 0
 AnswerersHearNothingElse =
     (s : Answerer) (input : AnswererInput) → (¬ Contains (listens_in input) s.state) ⊎ IsIgnored s input →
@@ -86,7 +86,7 @@ pub record AlwaysAnswers (s : Answerer) : Type 0 where
   pub repeated :
       (ends : PageEnd) (page block last : ℕ) → IsAccepted s page block →
       Confirms s (answerer_step s (listens (pps ends page block last)))
-  -- RR, where a block was accepted and no frame is open
+  -- RR, if a block was accepted and no frame is open
   pub asked : IsSome s.accepted → (¬ HasOpen s) → Confirms s (answerer_step s (listens rr))
   -- the end of the wait for a command, but in the message
   pub waited : s.state ≢ Message → (answerer_step s t2).turn ≡ SendDis
@@ -99,7 +99,9 @@ pub record AlwaysAnswers (s : Answerer) : Type 0 where
   pub block : (ends : PageEnd) (page block last : ℕ) → s.state ≡ Message →
       (answerer_step s (listens (pps ends page block last))).turn ≢ Silent
 
--- each answerer that runs
+-- law: in every state in which it hasn't ended an answerer sends MCF, or RNR while busy, for a PPS of the last accepted block, and for RR
+-- if a block was accepted and no frame is open; DIS when T2 is over, except in the message; CFR or FTT for a training check after a DCS;
+-- something for each PPS in the message
 abbrev pub AnswerersAlwaysAnswer : Type 0
 AnswerersAlwaysAnswer = (s : Answerer) → s.ending ≡ None → AlwaysAnswers s
 
@@ -107,7 +109,7 @@ AnswerersAlwaysAnswer = (s : Answerer) → s.ending ≡ None → AlwaysAnswers s
 abbrev pub CountsTries : Caller → CallerInput → Caller → Type 0
 CountsTries c input next = (Unanswered c input × (next.try ≡ suc c.try)) ⊎ ((¬ Unanswered c input) × (next.try ≡ 1))
 
--- what a turn of a caller that runs says: what it waits for afterwards, and what it counted
+-- what a turn of a caller that runs says: what the caller waits for afterwards, and how it counted its tries
 abbrev pub CallerSends : Caller → CallerInput → Caller → Turn → Type 0
 CallerSends c input next SendTraining = (next.state ≡ WaitCfr) × (next.ending ≡ None) × CountsTries c input next
 CallerSends c input next (Burst map) =
@@ -128,7 +130,7 @@ CallerSends c input next Silent =
 -- no other turn is a caller's
 CallerSends c input next _ = ⊥
 
--- each turn of a caller that runs
+-- law: each turn of a caller that runs says what the caller waits for afterwards, and how it counted its tries
 abbrev pub CallersTurnsMean : Type 0
 CallersTurnsMean =
     (c : Caller) (input : CallerInput) → c.ending ≡ None → CallerSends c input (caller_step c input).next (caller_step c input).turn
@@ -140,7 +142,7 @@ AfterBlock s next =
     ((accepted : Accepted) × (next.accepted ≡ Some accepted) × (accepted.ends ≡ Eom → next.state ≡ PhaseB) ×
     (accepted.ends ≢ Eom → next.state ≡ Message))
 
--- what a turn of an answerer that runs says: what it waits for afterwards
+-- what a turn of an answerer that runs says: what the answerer waits for afterwards
 abbrev pub AnswererSends : Answerer → Answerer → Turn → Type 0
 AnswererSends s next SendDis = (next.state ≡ PhaseB) × (next.ending ≡ None)
 AnswererSends s next SendFtt = (next.state ≡ PhaseB) × (next.ending ≡ None)
@@ -153,7 +155,7 @@ AnswererSends s next Silent = Unit {0}
 -- no other turn is an answerer's
 AnswererSends s next _ = ⊥
 
--- each turn of an answerer that runs
+-- law: each turn of an answerer that runs says what the answerer waits for afterwards
 abbrev pub AnswerersTurnsMean : Type 0
 AnswerersTurnsMean =
     (s : Answerer) (input : AnswererInput) → s.ending ≡ None → AnswererSends s (answerer_step s input).next (answerer_step s input).turn

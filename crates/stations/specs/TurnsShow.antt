@@ -18,16 +18,17 @@ IsSentBy s rnr turn = turn ≡ SendRnr
 IsSentBy s dcn turn = turn ≡ SendDcn
 IsSentBy s _ turn = ⊥
 
--- the same of an item: an answerer sends no training check
+-- the one turn that sends an item: that of its signal; an answerer sends no training check
 abbrev pub IsItemOf : Answerer → PlainItem → Turn → Type 0
 IsItemOf s (framed signal) turn = IsSentBy s signal turn
 IsItemOf s (checked octets) turn = ⊥
 
--- a turn has one item at most, and an item is in it exactly where the turn is the one that sends it
+-- a turn has one item at most, and an item is in it exactly if the turn is the one that sends it
 pub record AnswererShows (s : Answerer) (turn : Turn) : Type 0 where
   pub one : length (answerer_items s turn) ≤ 1
   pub shown : (item : PlainItem) → Contains (answerer_items s turn) item ↔ IsItemOf s item turn
 
--- each turn of any answerer
+-- law: each turn of any answerer has one item at most, and each frame is in the one turn that sends it: a DIS with the answerer's own
+-- capabilities, a PPR with the turn's own map; no other frame and no training check is sent
 abbrev pub AnswerersShow : Type 0
 AnswerersShow = (s : Answerer) (turn : Turn) → AnswererShows s turn

@@ -13,27 +13,27 @@ use Rattle.stations.specs.declared.turn.Turn.TheVariants.{Dis as SendDis}
 use Rattle.stations.specs.declared.waiting.Wait.{Wait}
 use Rattle.stations.specs.declared.waiting.Wait.TheVariants.{T1, T2, T4, T5}
 
--- the wait of each state of a caller for what it hears next
+-- the wait of T.30 that runs in each state of a caller
 abbrev pub caller_wait : CallerState → Wait
 caller_wait WaitDis = T1
 caller_wait WaitCfr = T4
 caller_wait WaitBlock = T4
 caller_wait WaitReady = T4
 
--- the longer wait of each state that runs beside it
+-- the longer wait beside it, if there is one: T5 while the answerer is busy
 abbrev pub caller_longer_wait : CallerState → Option Wait
 caller_longer_wait WaitDis = None
 caller_longer_wait WaitCfr = None
 caller_longer_wait WaitBlock = None
 caller_longer_wait WaitReady = Some T5
 
--- the wait that runs in each state of an answerer
+-- the wait of T.30 that runs in each state of an answerer
 abbrev pub answerer_wait : AnswererState → Wait
 answerer_wait PhaseB = T2
 answerer_wait WaitTraining = T2
 answerer_wait Message = T1
 
--- and the longer one beside it
+-- the longer wait beside it, if there is one: T1, which runs alone in the message
 abbrev pub answerer_longer_wait : AnswererState → Option Wait
 answerer_longer_wait PhaseB = Some T1
 answerer_longer_wait WaitTraining = Some T1
@@ -56,25 +56,25 @@ CallerRuns c w = IsOneOf (unless_over c.ending (Some (caller_wait c.state))) (un
 abbrev pub AnswererRuns : Answerer → Wait → Type 0
 AnswererRuns s w = IsOneOf (unless_over s.ending (Some (answerer_wait s.state))) (unless_over s.ending (answerer_longer_wait s.state)) w
 
--- which wait runs in a caller, by what its end does: T1 where the call ends for want of an answer, T4 where something is tried once more or
--- was tried often enough, T5 where the answerer was busy for too long
+-- which waits run in a caller, by what their ends do: T1 if the call ends with `NoAnswer`, T4 if the caller tries once more or has tried
+-- often enough, T5 if the call ends with `StillBusy`; T2 never
 pub record CallerWaits (c : Caller) : Type 0 where
   pub t1 : CallerRuns c T1 ↔ ((c.ending ≡ None) × ((caller_step c timeout).next.ending ≡ Some NoAnswer))
   pub t2 : ¬ CallerRuns c T2
   pub t4 : CallerRuns c T4 ↔ ((c.ending ≡ None) × ((caller_step c timeout).next.ending ≢ Some NoAnswer))
   pub t5 : CallerRuns c T5 ↔ ((c.ending ≡ None) × ((caller_step c t5).next.ending ≡ Some StillBusy))
 
--- the same of an answerer: T1 where the call ends for want of a caller, T2 where a DIS is sent again
+-- which waits run in an answerer, by what their ends do: T1 if the call ends with `NoAnswer`, T2 if DIS is sent again; T4 and T5 never
 pub record AnswererWaits (s : Answerer) : Type 0 where
   pub t1 : AnswererRuns s T1 ↔ ((s.ending ≡ None) × ((answerer_step s t1).next.ending ≡ Some NoAnswer))
   pub t2 : AnswererRuns s T2 ↔ ((s.ending ≡ None) × ((answerer_step s t2).turn ≡ SendDis))
   pub t4 : ¬ AnswererRuns s T4
   pub t5 : ¬ AnswererRuns s T5
 
--- each caller waits so
+-- law: exactly these waits run in each caller
 abbrev pub CallersWait : Type 0
 CallersWait = (c : Caller) → CallerWaits c
 
--- each answerer waits so
+-- law: exactly these waits run in each answerer
 abbrev pub AnswerersWait : Type 0
 AnswerersWait = (s : Answerer) → AnswererWaits s

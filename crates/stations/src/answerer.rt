@@ -37,7 +37,7 @@ use std::alloc::{AllocError, Global};
 use std::marker::Model;
 use std::mem;
 
-/// The answering station of a call (ITU-T T.30, phases B to E and Annex A).
+/// The answering station of a call, which stores pages. ITU-T T.30, phases B to E and Annex A.
 #[derive(Debug, Drop)]
 pub struct Answerer {
     alloc: Global,
@@ -79,7 +79,8 @@ impl Model for Answerer {
 }
 
 impl Answerer {
-    /// An answerer in phase B (ITU-T T.30), and its first turn, which is DIS. Takes no memory.
+    /// An answerer in phase B, and its first turn, which is DIS. `caps` must have a receiver and error correction.
+    /// Takes no memory.
     pub fn new(alloc: Global, caps: Caps) -> (Answerer, Turn)
         requires receiver { caps.receiver ≡ true }
         requires ecm { caps.ecm ≡ true }
@@ -102,9 +103,9 @@ impl Answerer {
         (station, Turn::Dis)
     }
 
-    /// Answers an input; an ended call answers silently. Errs where memory is refused, which changes
-    /// nothing. The open frames and the open page stay within their limits, and nothing else changes than what the input
-    /// may change.
+    /// Takes an input and returns the turn to be sent, as the table says for any peer; after the end every turn is
+    /// silent. Open frames have at most 65,536 octets, the open page 8,388,608. `AllocError` if memory is refused, and
+    /// nothing changes; only a PPS that completes a block, and the first FCD kept since the last DCS, may take memory.
     pub fn step(&mut self, input: AnswererIn<'_>) -> Result<Turn, AllocError>
         ensures answers { StepsOrRefuses self.old self.new result (answerer_step self.old (answerer_input input.entry)) }
         ensures lasts { (self.old.ending ≢ None) ⊎ AnswererTakesNoMemory self.old.state (answerer_input input.entry) self.old →
@@ -113,12 +114,13 @@ impl Answerer {
         ensures limits { IsLimited self.old → IsLimited self.new }
         ensures keeps { AnswererKeeps self.old (answerer_input input.entry) self.new }
     {
+        // Laws, which run nothing: their contracts become clauses of the step.
         open_is_limited();
         answerers_keep();
         self.advance(input)
     }
 
-    /// The items of a turn, lent one at a time. A turn that is no answerer's has none. Takes no memory.
+    /// Returns the items of a turn, lent one at a time: one frame; none of a turn that is a caller's. Takes no memory.
     pub fn frames(&self, turn: &Turn) -> Items<'_>
         ensures { result ≡ answerer_items self.now turn.now }
     {
@@ -134,14 +136,15 @@ impl Answerer {
         }
     }
 
-    /// The stored pages, in the order in which they came.
+    /// Returns the stored pages that weren't taken, in the order in which they came.
     pub fn pages(&self) -> &[Page]
         ensures { result.now ≡ self.now.pages }
     {
         &self.pages
     }
 
-    /// The stored pages, in the order in which they came; none is stored then, and nothing else changes. Takes no memory.
+    /// Takes out the stored pages, in the order in which they came; nothing else changes, also not what the answerer
+    /// sends. Takes no memory.
     pub fn take_pages(&mut self) -> Vec<Page>
         ensures pages { result.items ≡ self.old.pages }
         ensures left { self.new ≡ record self.old { pages = [] } }
@@ -149,25 +152,27 @@ impl Answerer {
         mem::replace(&mut self.pages, Vec::new(self.alloc))
     }
 
-    /// The stored pages, in the order in which they came; the station is given up.
+    /// Returns the stored pages that weren't taken, in the order in which they came; the station is given up.
     pub fn into_pages(self) -> Vec<Page>
         ensures { result.items ≡ self.pages }
     {
         self.pages
     }
 
-    /// Why the call ended, if it has.
+    /// Returns why the call ended, if it has.
     pub fn end(&self) -> Option<End>
         ensures { result ≡ self.now.ending }
     {
         self.end
     }
 
-    /// The page over which the call ended with `BadPage`: its octets, the open frames among them, how it was sent and why it can't be
-    /// read. None unless the call ended so. Errs where memory is refused; nothing changes.
+    /// Returns the page over which the call ended with `BadPage`: its octets, those of the open frames among them, how
+    /// it was sent, and why it can't be read; None unless the call ended so. `AllocError` if memory is refused; nothing
+    /// changes.
     pub fn bad_page(&self) -> Result<Option<RefusedPage>, AllocError>
         ensures { IfOk result (λ page. IsBadPage self.now page) }
     {
+        // Joined only when asked for: no step keeps anything for it.
         match self.end {
             Some(End::BadPage) => Ok(Some(self.open_page.refused(&self.block.frames)?)),
             _ => Ok(None),
@@ -226,7 +231,7 @@ impl Answerer {
         self.accepted.is_some()
     }
 
-    /// Whether the station is in phase B, in which it waits for a DCS.
+    /// Whether the station is in phase B, where it waits for a DCS.
     pub fn in_phase_b(&self) -> bool
         ensures { IsTrue result ↔ (self.now.state ≡ PhaseB) }
     {
@@ -234,9 +239,9 @@ impl Answerer {
     }
 }
 
-// The table: what each state answers to an input.
+// The table: what each state does at an input.
 impl Answerer {
-    /// Answers an input; an ended call answers silently.
+    /// Takes an input and returns the turn; after the end every turn is silent.
     fn advance(&mut self, input: AnswererIn<'_>) -> Result<Turn, AllocError>
         ensures answers { StepsOrRefuses self.old self.new result (answerer_step self.old (answerer_input input.entry)) }
         ensures lasts { (self.old.ending ≢ None) ⊎ AnswererTakesNoMemory self.old.state (answerer_input input.entry) self.old →
@@ -253,7 +258,7 @@ impl Answerer {
         }
     }
 
-    /// Answers an input in `PhaseB`.
+    /// Takes an input in `PhaseB`.
     fn in_phase_b_step(&mut self, input: AnswererIn<'_>) -> Turn
         requires state { self.old.state ≡ PhaseB }
         ensures { Steps self.old self.new result (answerer_table PhaseB (answerer_input input.entry) self.old) }
@@ -272,7 +277,7 @@ impl Answerer {
         }
     }
 
-    /// Answers an input in `WaitTraining`.
+    /// Takes an input in `WaitTraining`.
     fn in_wait_training(&mut self, input: AnswererIn<'_>) -> Turn
         requires state { self.old.state ≡ WaitTraining }
         ensures { Steps self.old self.new result (answerer_table WaitTraining (answerer_input input.entry) self.old) }
@@ -292,7 +297,7 @@ impl Answerer {
         }
     }
 
-    /// Answers an input in `Message`. Errs where memory is refused, which changes nothing.
+    /// Takes an input in `Message`. `AllocError` if memory is refused; nothing changes.
     fn in_message(&mut self, input: AnswererIn<'_>) -> Result<Turn, AllocError>
         requires state { self.old.state ≡ Message }
         ensures answers { StepsOrRefuses self.old self.new result (answerer_table Message (answerer_input input.entry) self.old) }
@@ -323,7 +328,7 @@ impl Answerer {
 
 // The rows of the table but that of a PPS while blocks are taken.
 impl Answerer {
-    /// Answers a DCS. In `PhaseB` no frame is open and none is asked for, so nothing is forgotten there.
+    /// Takes a DCS. In `PhaseB` no frame is open and none is asked for, so nothing is forgotten there.
     fn hear_dcs(&mut self, params: Params) -> Turn
         ensures first { self.old.state ≡ PhaseB → Steps self.old self.new result (first_dcs self.old params) }
         ensures later { Steps self.old self.new result (later_dcs self.old params) }
@@ -333,11 +338,12 @@ impl Answerer {
         }
         self.state = AnswererState::WaitTraining;
         self.open_page.agree(params);
+        // The memory for open frames is given up, as the new size of a frame may be another.
         self.block = BlockAssembler::new(self.alloc, params.small);
         Turn::Silent
     }
 
-    /// Answers a training check in `WaitTraining`.
+    /// Takes a training check in `WaitTraining`.
     #[tactic(auto, unfolding(crate::specs::Layers::is_good_training))]
     fn hear_training(&mut self, octets: &[u8]) -> Turn
         requires state { self.old.state ≡ WaitTraining }
@@ -352,7 +358,7 @@ impl Answerer {
         }
     }
 
-    /// Answers an FCD in `Message`. Errs where memory is refused, which changes nothing.
+    /// Takes an FCD in `Message`; one without octets is kept too. `AllocError` if memory is refused; nothing changes.
     #[tactic(auto, unfolding(partial_page::specs::Assembling::within_frame_size))]
     fn hear_fcd(&mut self, number: u8, octets: &[u8]) -> Result<Turn, AllocError>
         requires state { self.old.state ≡ Message }
@@ -367,7 +373,7 @@ impl Answerer {
         }
     }
 
-    /// Answers an RR, which changes nothing.
+    /// Confirms once more if a block was accepted and no frame is open; nothing changes.
     fn hear_rr(&self) -> Turn
         ensures { Steps self.now self.now result (answers_rr self.now) }
     {
@@ -378,7 +384,7 @@ impl Answerer {
         }
     }
 
-    /// Answers a PPS outside `Message`, which changes nothing.
+    /// Outside `Message`, confirms the PPS of the last accepted block and ignores any other; nothing changes.
     fn hear_repeated(&self, mark: Mark) -> Turn
         ensures { Steps self.now self.now result (answers_repeated self.now mark) }
     {
@@ -390,7 +396,7 @@ impl Answerer {
         }
     }
 
-    /// Answers a DCN.
+    /// Takes a DCN.
     fn hear_dcn(&mut self) -> Turn
         ensures { Steps self.old self.new result (answerer_ends self.old (leaves self.old.accepted)) }
     {
@@ -398,7 +404,7 @@ impl Answerer {
         Turn::Silent
     }
 
-    /// Ends the call for want of a caller.
+    /// Ends the call since no caller was heard.
     fn hear_nothing(&mut self) -> Turn
         ensures { Steps self.old self.new result (answerer_ends self.old NoAnswer) }
     {
@@ -406,7 +412,7 @@ impl Answerer {
         Turn::Silent
     }
 
-    /// Whether pages can't be taken for now.
+    /// Notes whether pages can't be taken for now.
     fn set_busy(&mut self, busy: bool) -> Turn
         ensures { Steps self.old self.new result (record { next = record self.old { busy = busy }; turn = Turn.Silent }) }
     {
@@ -460,13 +466,15 @@ impl Answerer {
 
 // A PPS while blocks are taken: the block is accepted, or its missing frames are asked for.
 impl Answerer {
-    /// Answers a PPS in `Message`. Errs where memory is refused, which changes nothing.
+    /// Takes a PPS in `Message`. `AllocError` if memory is refused; nothing changes.
     fn hear_pps(&mut self, pps: Pps) -> Result<Turn, AllocError>
         requires state { self.old.state ≡ Message }
         ensures answers { StepsOrRefuses self.old self.new result (answers_pps self.old pps.ends pps.mark pps.last) }
         ensures lasts { (is_repeated self.old.accepted pps.mark ≡ true) ⊎
             (all_there self.old.frames (last_counted self.old.asked pps.mark pps.last) ≡ false) → IsOk result }
     {
+        // Any other mark is another block's, in whatever order marks come. Frames kept before count for it: only an
+        // accepted block and a DCS clear them.
         if self.has_accepted(pps.mark) {
             return Ok(self.confirm());
         }
@@ -479,7 +487,7 @@ impl Answerer {
         Ok(Turn::Ppr(map))
     }
 
-    /// Takes a block whose frames are all there. Errs where memory is refused, which changes nothing.
+    /// Takes a block whose frames are all there. `AllocError` if memory is refused; nothing changes.
     fn take_block(&mut self, pps: Pps) -> Result<Turn, AllocError>
         requires whole { all_there self.old.frames pps.last ≡ true }
         ensures { StepsOrRefuses self.old self.new result
@@ -491,7 +499,7 @@ impl Answerer {
         }
     }
 
-    /// Takes a block that isn't its page's last. Errs where memory is refused, which changes nothing.
+    /// Takes a block that isn't its page's last. `AllocError` if memory is refused; nothing changes.
     fn take_open(&mut self, pps: Pps) -> Result<Turn, AllocError>
         requires whole { all_there self.old.frames pps.last ≡ true }
         ensures { StepsOrRefuses self.old self.new result
@@ -503,7 +511,7 @@ impl Answerer {
         Ok(self.accept(PageEnd::Null, pps.mark))
     }
 
-    /// Takes a block that is its page's last. Errs where memory is refused, which changes nothing.
+    /// Takes a block that is its page's last. `AllocError` if memory is refused; nothing changes.
     fn take_page(&mut self, pps: Pps) -> Result<Turn, AllocError>
         requires whole { all_there self.old.frames pps.last ≡ true }
         ensures { StepsOrRefuses self.old self.new result
@@ -518,7 +526,7 @@ impl Answerer {
         Ok(self.accept(pps.ends, pps.mark))
     }
 
-    /// Ends the call over a page that can't be read.
+    /// Ends the call over a page that is too long or can't be read; mark, frames and pages stay as they were.
     fn refuse_page(&mut self) -> Turn
         ensures next { self.new ≡ record self.old { ending = Some BadPage } }
         ensures turn { result ≡ Turn.Dcn }

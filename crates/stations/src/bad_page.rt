@@ -10,7 +10,8 @@ use signals::Params;
 use std::alloc::{AllocError, Global};
 use std::marker::Model;
 
-/// A page that an answerer couldn't read: with its octets a program can have the rows before the refused bit (`Coding::salvage`).
+/// A page that an answerer couldn't read: from its octets a program can have the rows before the refused bit
+/// (`Coding::salvage`).
 #[derive(Debug, Drop)]
 pub struct RefusedPage {
     params: Params,
@@ -27,7 +28,7 @@ impl Model for RefusedPage {
 }
 
 impl RefusedPage {
-    /// The page of octets that were sent by these parameters. Errs where memory is refused.
+    /// The page of octets that were sent by these parameters. `AllocError` if memory is refused.
     pub(crate) fn new(
         alloc: Global,
         params: Params,
@@ -55,23 +56,24 @@ impl RefusedPage {
         })
     }
 
-    /// The octets of the page's code, the least significant bit of each first: those of its accepted blocks, and then those of
-    /// the block over which the call ended.
+    /// Returns the octets of the page's code, the least significant bit of each first: those of its accepted blocks,
+    /// then those of the frames that were open at the end, from 0 up to the first that is missing, also beyond the last
+    /// one that the PPS counted.
     pub fn octets(&self) -> &[u8]
         ensures { result.now ≡ self.now.octets }
     {
         &self.octets
     }
 
-    /// How the page was sent: its code, width and lines.
+    /// Returns how the page was sent: its code, width and lines.
     pub fn params(&self) -> Params
         ensures { result ≡ self.now.params }
     {
         self.params
     }
 
-    /// The bit at which decoding the octets refuses them, and why; none where they begin with a page, and are more than a call
-    /// carries for one.
+    /// Returns the bit at which decoding the octets is refused, and why; None if they begin with a page: too long for a
+    /// call, or whole after all, if the caller counted too few frames.
     pub fn fault(&self) -> Option<CodeFault>
         ensures { result ≡ self.now.fault }
     {

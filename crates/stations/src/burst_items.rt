@@ -39,7 +39,8 @@ impl<'a> BurstItems<'a> {
         }
     }
 
-    /// The next item; none where all of the burst were lent. A frame is called the last one where it is the turn's.
+    /// Returns the next item; None if all of the burst were lent. A frame is marked as the last one if it is the
+    /// turn's.
     pub fn take_next(&mut self) -> Option<Item<'a>>
         ensures { GivesBurstItem self.old result self.new }
     {

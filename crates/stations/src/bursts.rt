@@ -16,10 +16,10 @@ use crate::turn::Turn;
 use signals::Speed;
 use std::marker::Model;
 
-/// Items that a station sends one after the other on one carrier.
+/// Items of a turn that go out one after the other on one carrier.
 #[derive(Debug, Drop)]
 pub struct Burst<'a> {
-    /// What they go out on.
+    /// The carrier that they go out on.
     pub carrier: Carrier,
     /// The items, lent one at a time.
     pub items: BurstItems<'a>,
@@ -51,7 +51,7 @@ impl<'a> Bursts<'a> {
         Bursts { items, speed }
     }
 
-    /// The next burst; none where all were lent.
+    /// Returns the next burst; None if all were lent.
     pub fn take_next(&mut self) -> Option<Burst<'a>>
         ensures { GivesBurst self.old result self.new }
     {
@@ -86,7 +86,8 @@ impl<'a> Iterator for Bursts<'a> {
 }
 
 impl Caller {
-    /// The items of a turn, cut where the carrier changes. A turn that the state has nothing for has none. Takes no memory.
+    /// Returns the items of a turn, cut where the carrier changes; none if the state has nothing for that turn. Takes
+    /// no memory.
     pub fn bursts(&self, turn: &Turn) -> Bursts<'_>
         ensures { (t : CallerTuple) → Represents self.now t → result ≡ bursts_of t.params.speed (caller_items t turn.now) }
     {
@@ -95,7 +96,8 @@ impl Caller {
 }
 
 impl Answerer {
-    /// The items of a turn, cut where the carrier changes: each turn of an answerer is one burst by V.21. Takes no memory.
+    /// Returns the items of a turn, cut where the carrier changes: each turn of an answerer is one burst by V.21. Takes
+    /// no memory.
     pub fn bursts(&self, turn: &Turn) -> Bursts<'_>
         ensures { result ≡ bursts_of self.now.params.speed (answerer_items self.now turn.now) }
     {

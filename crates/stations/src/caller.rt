@@ -37,7 +37,7 @@ use signals::{Caps, Modems, PageEnd, PageWidth, Params, Signal, Speed, Wish, agr
 use std::alloc::{AllocError, Global};
 use std::marker::Model;
 
-/// The calling station of a call (ITU-T T.30, phases B to E and Annex A).
+/// The calling station of a call, which sends a document. ITU-T T.30, phases B to E and Annex A.
 #[derive(Debug, Drop)]
 pub struct Caller {
     alloc: Global,
@@ -75,7 +75,7 @@ impl Model for Caller {
 }
 
 impl Caller {
-    /// A caller of a document, which waits for a DIS. Errs with `WidthNotCallable` where a page isn't 1,728, 2,048 or
+    /// A caller of a document, which waits for a DIS. `WidthNotCallable` (26) exactly if a page isn't 1,728, 2,048 or
     /// 2,432 pixels wide. Takes no memory.
     pub fn new(alloc: Global, document: Document, wish: Wish) -> Result<Caller, CallerFault>
         ensures { NewCaller document wish result }
@@ -106,8 +106,9 @@ impl Caller {
         })
     }
 
-    /// Answers an input; an ended call answers silently. Errs where memory is refused, which changes
-    /// nothing.
+    /// Takes an input and returns the turn to be sent, as the table says for any peer; after the end every turn is
+    /// silent. `AllocError` if memory is refused, and nothing changes; only a CFR, and an MCF after which a page
+    /// starts, may take memory.
     pub fn step(&mut self, input: CallerIn<'_>) -> Result<Turn, AllocError>
         ensures answers { AnswersOrRefuses self.old self.new result (λ t. caller_step t (caller_input input.entry)) }
         ensures lasts { (self.old.ending ≢ None) ⊎ CallerTakesNoMemory self.old.state (caller_input input.entry) self.old → IsOk result }
@@ -116,14 +117,15 @@ impl Caller {
         ensures keeps { KeepsOrRefuses self.old (caller_input input.entry) self.new result }
         ensures uses { LastsOrRefuses self.old (caller_input input.entry) self.new result }
     {
+        // Laws, which run nothing: their contracts become clauses of the step. No clause says that a step with enough
+        // memory succeeds; tests do.
         steps_spend();
         callers_keep();
         callers_end();
         self.advance(input)
     }
 
-    /// The items of a turn, lent one at a time. A turn that the state has nothing for has none. Takes no
-    /// memory.
+    /// Returns the items of a turn, lent one at a time; none if the state has nothing for that turn. Takes no memory.
     pub fn frames(&self, turn: &Turn) -> Items<'_>
         ensures { (t : CallerTuple) → Represents self.now t → result ≡ caller_items t turn.now }
     {
@@ -137,14 +139,15 @@ impl Caller {
         }
     }
 
-    /// How many pages are confirmed: those whose last block was answered by MCF.
+    /// Returns how many pages are confirmed: the answerer sent MCF for their last block.
     pub fn confirmed(&self) -> u64
         ensures { (t : CallerTuple) → Represents self.now t → result ≡ confirmed t }
     {
         self.page as u64
     }
 
-    /// The document, and how many of its first pages are confirmed; the station is given up. Who calls again sends the others.
+    /// Returns the document, and how many of its first pages are confirmed; the station is given up. A program that
+    /// calls again sends the others.
     pub fn into_document(self) -> (Document, u64)
         ensures document { result.0 ≡ self.document }
         ensures confirmed { (t : CallerTuple) → Represents self t → result.1 ≡ confirmed t }
@@ -161,7 +164,7 @@ impl Caller {
         matches!(self.state, CallerState::WaitDis) && self.page > 0
     }
 
-    /// Whether the caller waits for a DIS: at the start of a call, and after each group that another one follows.
+    /// Whether the caller waits for a DIS: at the start of a call, and after each group with another one behind it.
     pub fn waits_for_dis(&self) -> bool
         ensures { (t : CallerTuple) → Represents self.now t → IsTrue result ↔ (t.state ≡ WaitDis) }
     {
@@ -210,7 +213,7 @@ impl Caller {
         self.pprs
     }
 
-    /// Why the call ended, if it has.
+    /// Returns why the call ended, if it has.
     pub fn end(&self) -> Option<End>
         ensures { (t : CallerTuple) → Represents self.now t → result ≡ t.ending }
     {
@@ -218,9 +221,9 @@ impl Caller {
     }
 }
 
-// The table: what each state answers to an input.
+// The table: what each state does at an input.
 impl Caller {
-    /// Answers an input; an ended call answers silently.
+    /// Takes an input and returns the turn; after the end every turn is silent.
     fn advance(&mut self, input: CallerIn<'_>) -> Result<Turn, AllocError>
         ensures answers { AnswersOrRefuses self.old self.new result (λ t. caller_step t (caller_input input.entry)) }
         ensures lasts { (self.old.ending ≢ None) ⊎ CallerTakesNoMemory self.old.state (caller_input input.entry) self.old → IsOk result }
@@ -237,7 +240,7 @@ impl Caller {
         }
     }
 
-    /// Answers an input in `WaitDis`.
+    /// Takes an input in `WaitDis`.
     fn in_wait_dis(&mut self, input: CallerIn<'_>) -> Turn
         requires state { self.old.state ≡ WaitDis }
         requires goes_on { self.old.ending ≡ None }
@@ -251,7 +254,7 @@ impl Caller {
         }
     }
 
-    /// Answers an input in `WaitCfr`.
+    /// Takes an input in `WaitCfr`.
     fn in_wait_cfr(&mut self, input: CallerIn<'_>) -> Result<Turn, AllocError>
         requires state { self.old.state ≡ WaitCfr }
         requires goes_on { self.old.ending ≡ None }
@@ -261,6 +264,7 @@ impl Caller {
         match input {
             CallerIn::Heard(Signal::Cfr) => self.hear_cfr(),
             CallerIn::Heard(Signal::Ftt) => Ok(self.hear_ftt()),
+            // A DIS in place of CFR is one more try; the capabilities stay those of the DIS that was agreed on.
             CallerIn::Heard(Signal::Dis(_)) => Ok(self.try_again(Turn::Training)),
             CallerIn::Heard(Signal::Dcn) => Ok(self.hear_dcn()),
             CallerIn::Timeout => Ok(self.try_again(Turn::Training)),
@@ -268,7 +272,7 @@ impl Caller {
         }
     }
 
-    /// Answers an input in `WaitBlock`.
+    /// Takes an input in `WaitBlock`.
     fn in_wait_block(&mut self, input: CallerIn<'_>) -> Result<Turn, AllocError>
         requires state { self.old.state ≡ WaitBlock }
         requires goes_on { self.old.ending ≡ None }
@@ -285,7 +289,7 @@ impl Caller {
         }
     }
 
-    /// Answers an input in `WaitReady`.
+    /// Takes an input in `WaitReady`.
     fn in_wait_ready(&mut self, input: CallerIn<'_>) -> Result<Turn, AllocError>
         requires state { self.old.state ≡ WaitReady }
         requires goes_on { self.old.ending ≡ None }
@@ -306,7 +310,7 @@ impl Caller {
 
 // The rows of the table but that of an MCF.
 impl Caller {
-    /// Answers a DIS in `WaitDis`.
+    /// Takes a DIS in `WaitDis`.
     fn hear_dis(&mut self, caps: Caps) -> Turn
         requires state { self.old.state ≡ WaitDis }
         requires goes_on { self.old.ending ≡ None }
@@ -332,7 +336,7 @@ impl Caller {
         agree(caps, &self.wish, width, page.fine()).ok()
     }
 
-    /// Answers a CFR in `WaitCfr`. Errs where memory is refused, which changes nothing.
+    /// Takes a CFR in `WaitCfr`. `AllocError` if memory is refused; nothing changes.
     fn hear_cfr(&mut self) -> Result<Turn, AllocError>
         requires state { self.old.state ≡ WaitCfr }
         requires goes_on { self.old.ending ≡ None }
@@ -346,7 +350,7 @@ impl Caller {
         Ok(self.send_page(number, blocks))
     }
 
-    /// Answers an FTT in `WaitCfr`.
+    /// Takes an FTT in `WaitCfr`.
     fn hear_ftt(&mut self) -> Turn
         requires state { self.old.state ≡ WaitCfr }
         requires goes_on { self.old.ending ≡ None }
@@ -372,7 +376,7 @@ impl Caller {
         })
     }
 
-    /// Answers a PPR.
+    /// Takes a PPR.
     fn hear_ppr(&mut self, map: [u8; 32]) -> Turn
         requires state { IsSending self.old.state }
         requires goes_on { self.old.ending ≡ None }
@@ -387,7 +391,7 @@ impl Caller {
         Turn::Burst(map)
     }
 
-    /// Answers an RNR.
+    /// Takes an RNR.
     fn hear_rnr(&mut self) -> Turn
         requires state { IsSending self.old.state }
         requires goes_on { self.old.ending ≡ None }
@@ -398,7 +402,7 @@ impl Caller {
         Turn::Rr
     }
 
-    /// Answers a DCN.
+    /// Takes a DCN.
     fn hear_dcn(&mut self) -> Turn
         ensures { Answers self.old self.new result (λ t. record { next = record t { ending = Some PeerLeft }; turn = Silent }) }
     {
@@ -406,10 +410,11 @@ impl Caller {
         Turn::Silent
     }
 
-    /// The same once more; after the third try the call ends.
+    /// Sends the turn once more; after the third try the call ends.
     fn try_again(&mut self, turn: Turn) -> Turn
         ensures { Answers self.old self.new result (λ t. tries_again t turn) }
     {
+        // Three tries, and three PPRs a block, are this project's choice, as is what ends a call.
         if self.tries < 3 {
             self.tries += 1;
             turn
@@ -429,7 +434,7 @@ impl Caller {
 
 // An MCF: the block is confirmed, and the next one goes out, or a group or the document is through.
 impl Caller {
-    /// Answers an MCF. Errs where memory is refused, which changes nothing.
+    /// Takes an MCF. `AllocError` if memory is refused; nothing changes.
     fn hear_mcf(&mut self) -> Result<Turn, AllocError>
         requires state { IsSending self.old.state }
         requires goes_on { self.old.ending ≡ None }
@@ -553,7 +558,7 @@ impl Caller {
 
 // The items of the turns.
 impl Caller {
-    /// DCS and a training check; none before a DIS agrees on parameters for the group.
+    /// DCS and a training check; none while the caller waits for a DIS, also of a further group.
     fn training(&self) -> Items<'_>
         ensures { (t : CallerTuple) → Represents self.now t → result ≡ training_items t.state t.params }
     {
@@ -594,6 +599,7 @@ impl Caller {
         ensures present { GivesPresent self.now result }
         ensures coded { IfSome result (λ blocks. self.now.encoded ≡ Some blocks.now) }
     {
+        // Where an ended caller was among the blocks is kept no longer; RR, DCN and DCS need no block.
         if self.end.is_some() {
             return None;
         }
@@ -604,7 +610,7 @@ impl Caller {
         }
     }
 
-    /// The blocks of the present page, where the present one is among them.
+    /// The blocks of the present page, if the present one is among them.
     fn coded_blocks(&self) -> Option<&Blocks>
         ensures { HasBlock self.now result }
     {
@@ -653,14 +659,14 @@ fn are_callable(pages: &[Page]) -> bool
     true
 }
 
-/// Whether a call can have a page's width.
+/// Whether a call can have a page's width: 1,728, 2,048 or 2,432 pixels.
 fn is_callable(page: &Page) -> bool
     ensures { IsTrue result ↔ IsSome (width_of_pixels page.now.width) }
 {
     PageWidth::of_pixels(page.width()).is_some()
 }
 
-/// The parameters of a station that has none yet.
+/// The parameters of a station that has none yet: made up, and shown by no turn.
 pub(crate) fn no_params() -> Params
     ensures { result ≡ no_params }
 {
@@ -699,7 +705,7 @@ fn code_blocks(alloc: Global, params: Params, page: &Page) -> Result<Option<Bloc
     cut_within_limit(alloc, octets, params.small)
 }
 
-/// Octets cut into blocks; none where they are too many for a page of a call.
+/// Octets cut into blocks; None if they are too many for a page of a call.
 #[tactic(auto, unfolding(crate::specs::Layers::within_page_limit))]
 fn cut_within_limit(
     alloc: Global,

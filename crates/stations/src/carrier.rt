@@ -9,14 +9,14 @@ ghost use Rattle.stations.specs.Lending.{plain_item};
 use crate::lending::Item;
 use signals::{Signal, Speed};
 
-/// What a modem sends with.
+/// What a modem sends with. ITU-T T.30, 5.3 and Annex A.
 #[derive(Clone, Copy, Debug, PartialEq, Eq)]
 pub enum Carrier {
     /// V.21 at 300 bit/s, for every frame but those of a page (T.30, 5.3).
     V21,
     /// The training check at the message speed, octets 00 with no frame (T.30, 5.3.6.1).
     Training(Speed),
-    /// The frames of a page at the message speed (T.30, Annex A).
+    /// FCDs and RCPs, the frames of a page, at the message speed (T.30, Annex A).
     Page(Speed),
 }
 

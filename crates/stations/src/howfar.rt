@@ -14,10 +14,10 @@ use signals::Mark;
 pub struct BlockProgress {
     /// Which of the page's blocks it is, from 1.
     pub number: u64,
-    /// How many blocks the page has.
+    /// How many blocks the code of the page has.
     pub blocks: u64,
-    /// How often frames of it were asked for again by PPR, and sent: 0 to 3. How many frames each time the map of the turn
-    /// (`Turn::Burst`) says.
+    /// How many PPRs asked for frames of it: 0 to 3. The map of each turn (`Turn::Burst`) says how many frames went out
+    /// again.
     pub resends: u8,
 }
 
@@ -28,27 +28,27 @@ pub struct CallerProgress {
     pub confirmed: u64,
     /// How many pages the document has.
     pub pages: u64,
-    /// The block that is under way, from the CFR on; none in phase B and after the end.
+    /// The block that is under way, from the CFR on; None in phase B and after the end.
     pub block: Option<BlockProgress>,
-    /// How often the last command was sent: DCS, PPS or RR. 0 before the first one.
+    /// How often the last command, DCS, PPS or RR, was sent; 0 before the first one.
     pub tries: u8,
 }
 
-/// How far an answerer is.
+/// How far an answerer is with its pages.
 #[derive(Clone, Copy, Debug, PartialEq, Eq)]
 pub struct AnswererProgress {
-    /// How many pages are stored, and not taken.
+    /// How many pages are stored and not taken.
     pub pages: u64,
-    /// The mark of the last accepted block, if there is one: the page and the block by their numbers modulo 256.
+    /// The mark of the last accepted block: its page and its place, both modulo 256; None before the first one.
     pub accepted: Option<Mark>,
-    /// How many octets of code the open page has, of the blocks accepted so far.
+    /// How many octets of code the open page has, of its accepted blocks.
     pub octets: u64,
-    /// How many frames of the block that is under way are there: 0 to 256.
+    /// How many frames of the block that is under way have come: 0 to 256.
     pub frames: u16,
 }
 
 impl Caller {
-    /// How far the caller is. Takes no memory.
+    /// Returns how far the caller is. Takes no memory.
     pub fn progress(&self) -> CallerProgress
         ensures { (t : CallerTuple) → Represents self.now t → result ≡ caller_progress t }
     {
@@ -77,7 +77,7 @@ impl Caller {
 }
 
 impl Answerer {
-    /// How far the answerer is. Takes no memory.
+    /// Returns how far the answerer is. Takes no memory.
     pub fn progress(&self) -> AnswererProgress
         ensures { result ≡ answerer_progress self.now }
     {

@@ -5,25 +5,25 @@ use signals::Signal;
 /// An input of the caller.
 #[derive(Clone, Copy, Debug, PartialEq, Eq)]
 pub enum CallerIn<'a> {
-    /// A signal was heard.
+    /// A signal was heard in a good frame.
     Heard(Signal<'a>),
-    /// The wait for an answer is over.
+    /// T1 or T4 is over, whichever `Caller::waits` says.
     Timeout,
-    /// The wait for a busy answerer is over.
+    /// T5 is over: the answerer was busy for too long.
     T5,
 }
 
 /// An input of the answerer.
 #[derive(Clone, Copy, Debug, PartialEq, Eq)]
 pub enum AnswererIn<'a> {
-    /// A signal was heard.
+    /// A signal was heard in a good frame.
     Heard(Signal<'a>),
     /// The octets of a training check were heard.
     Training(&'a [u8]),
-    /// The wait for a command is over.
+    /// T2 is over: no command came.
     T2,
-    /// The wait for a caller is over.
+    /// T1 is over: there is no caller.
     T1,
-    /// Whether pages can't be taken for now.
+    /// From now on pages can't be taken, or they can again.
     Busy(bool),
 }

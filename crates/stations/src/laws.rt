@@ -22,8 +22,8 @@ ghost use Rattle.stations.specs.Limits.{NewIsLimited, StepsKeepLimits, OpenIsLim
 ghost use Rattle.stations.specs.Runs.{EndedCallerStays, EndedAnswererStays, StoredIsRead, StepsStoreOpen, KeptIsReady, StaysReady};
 ghost use Rattle.stations.specs.Laws.{LayersHold, ReadsByGrammar, SignalsArrive, SignalsHold, SpeedsHold};
 
-/// A page whose code a call can carry is cut into blocks of 1 to 256 frames that can be sent; joined
-/// they read as the page, and each beginning of them is within the limit of a page.
+/// A page whose code a call can carry is cut into blocks of 1 to 256 frames that can be sent; joined they read as the
+/// page, and each beginning of them is within the limit of a page.
 pub fn layers_hold()
     ensures { LayersHold }
 {
@@ -32,7 +32,7 @@ pub fn layers_hold()
     partial_page::laws::page_stays_within_limit();
 }
 
-/// What octets read as is their page by the grammar of its code, and none where they have none.
+/// Octets are read as a page exactly if it is theirs by the grammar of its code.
 pub fn reads_by_grammar()
     ensures { ReadsByGrammar }
 {
@@ -62,15 +62,16 @@ pub fn signals_hold()
     signals::laws::training_checks_are_good();
 }
 
-/// What each step of a caller spends of the turns that it has left, whatever it hears.
+/// For any peer each turn with a DCS, a PPS or an RR lowers a number that only a new group, a new block or another RNR
+/// sets again: 18 turns with a DCS for a group, 12 with a PPS for a block, of which the first is the whole burst, 3
+/// with an RR for an RNR.
 pub fn steps_spend()
     ensures { StepsSpend }
 {
     speeds_hold();
 }
 
-/// Whatever an answerer hears, its open frames hold at most 65,536 octets and its open page at most
-/// 8,388,608.
+/// Whatever an answerer hears, its open frames hold at most 65,536 octets and its open page at most 8,388,608.
 pub fn open_is_limited()
     ensures new { NewIsLimited }
     ensures steps { StepsKeepLimits }
@@ -83,16 +84,16 @@ pub fn ended_stays()
     ensures answerer { EndedAnswererStays }
 {}
 
-/// The first FCD that is kept takes the memory for the open frames, which then stays until a DCS that is
-/// allowed; so no FCD between the two takes any.
+/// The first FCD that is kept takes the memory for the open frames, which stays until the next DCS that is allowed; no
+/// FCD in between takes any.
 pub fn stays_ready()
     ensures kept { KeptIsReady }
     ensures stays { StaysReady }
 {}
 
-/// Whatever an answerer hears, a step stores at most one page, which the octets of the open page and of
-/// the open frames read as. So each page that it stores is read, by the parameters of a DCS that it
-/// heard, of octets joined from data of FCDs that it heard.
+/// Whatever an answerer hears, each page that it stores is read, by the parameters of a DCS that it heard and allows,
+/// of octets joined from the data of FCDs that it heard. A step stores at most one page: that of the open page and the
+/// open frames.
 pub fn stored_is_read()
     ensures steps { StepsStoreOpen }
     ensures runs { StoredIsRead }
@@ -100,9 +101,9 @@ pub fn stored_is_read()
     page_code::laws::reads_exactly();
 }
 
-/// Whatever a caller hears, it transmits at most 18 times for each group that it has begun, 12 times for each block, 3 times
-/// for each RNR and once more, and has ended once its wait was over more than 12 times for each group, 8 times for each block
-/// and twice for each RNR.
+/// Whatever a caller hears, it transmits at most 18 times for each group that it has begun, 12 times for each block, 3
+/// times for each RNR and once more, and has ended once its wait was over more than 12 times for each group, 8 times
+/// for each block and twice for each RNR. It begins at most 512 blocks a page.
 pub fn callers_end()
     ensures steps { StepsLast }
     ensures runs { CallersEnd }
@@ -113,7 +114,7 @@ pub fn callers_end()
     speeds_hold();
 }
 
-/// A station that runs ends exactly by the cause of the end: each of the ten ends has its own.
+/// A station that runs ends exactly by the cause of the end: each of the ten ends has its own cause.
 pub fn ends_mean()
     ensures caller { CallersEndsMean }
     ensures answerer { AnswerersEndsMean }
@@ -122,9 +123,9 @@ pub fn ends_mean()
     reads_by_grammar();
 }
 
-/// In every state an answerer that runs answers a PPS of the last accepted block, and RR where a block was
-/// accepted and no frame is open, by MCF, or by RNR while busy, and nothing changes. After each turn a
-/// station waits for what may answer it, and the caller has counted the try.
+/// In every state an answerer that runs sends MCF, or RNR while busy, for a PPS of the last accepted block, and for RR
+/// if a block was accepted and no frame is open; nothing else changes. After each turn a station waits for what may
+/// answer it, and the caller has counted the try.
 pub fn always_answered()
     ensures always { AnswerersAlwaysAnswer }
     ensures caller { CallersTurnsMean }
@@ -138,8 +139,8 @@ pub fn only_named_change()
 {}
 
 /// A block's mark is the numbers of its page and of its place below 256, and the same again from each 256 on;
-/// neighbouring blocks never share one. A call's list of blocks ends with the document, with a group, or before
-/// a page whose code is too long.
+/// neighbouring blocks never share a mark. A call's list of blocks ends with the document, with a group, or before a
+/// page whose code is too long.
 pub fn marks()
     ensures tell { MarksTell }
     ensures neighbours { NeighboursDiffer }
@@ -148,14 +149,14 @@ pub fn marks()
     partial_page::laws::octets_have_a_block();
 }
 
-/// What a step of a caller may change of what it has, field by field, and where; and what it takes from a DIS, an FTT and an MCF.
+/// What a step of a caller may change, field by field, and when; and what it takes from a DIS, an FTT and an MCF.
 pub fn callers_keep()
     ensures keep { CallersKeep }
     ensures take { CallersTake }
 {}
 
-/// What a step of an answerer may change of what it has, field by field, and where; what it takes from a DCS, an FCD and a
-/// PPS; and which last frame of a block counts.
+/// What a step of an answerer may change, field by field, and when; what it takes from a DCS, an FCD and a PPS; and
+/// which last frame of a block counts.
 pub fn answerers_keep()
     ensures keep { AnswerersKeep }
     ensures take { AnswerersTake }
@@ -169,26 +170,27 @@ pub fn answerers_show()
     ensures { AnswerersShow }
 {}
 
-/// A wait runs in a station exactly where its end does what the wait is for, and none runs after the end.
+/// A wait runs in a station exactly if its end does what the wait is for; none runs after the end.
 pub fn waits_run()
     ensures caller { CallersWait }
     ensures answerer { AnswerersWait }
 {}
 
-/// The bursts of a turn have its items in order, each those of one carrier, and the carrier changes after each. A block is a
-/// burst at the message speed and PPS by V.21, DCS is by V.21 and the training check after it, and an answerer sends by V.21.
+/// The bursts of a turn have its items in order, each those of one carrier, and the carrier changes after each. A block
+/// is a burst at the message speed and PPS by V.21, DCS is by V.21 and the training check after it, and an answerer
+/// sends by V.21.
 pub fn bursts_cut()
     ensures items { CutByCarrier }
     ensures turns { TurnsCut }
 {}
 
-/// What an answerer hears at a message speed does something only where it listens for that.
+/// A training check, or an FCD, that does something finds the answerer listening for it at the speed agreed.
 pub fn answerers_hear()
     ensures { AnswerersHear }
 {}
 
-/// No step of an answerer depends on the pages that are stored; and pages taken and pages there, joined in order, are what the same
-/// inputs store with none taken, with the same turns.
+/// No step of an answerer depends on the pages that are stored. Pages taken and pages there, joined in order, are what
+/// the same inputs store when none are taken, with the same turns.
 pub fn taken_and_there()
     ensures steps { FrontStays }
     ensures runs { TakenAndThere }
@@ -199,12 +201,13 @@ pub fn cuts_end()
     ensures { CutsEnd }
 {}
 
-/// An answerer that was busy before an input answers RNR where it would answer MCF, and all else is the same.
+/// An answerer that was busy before an input sends RNR in place of MCF, and all else is the same.
 pub fn busy_before()
     ensures { BusyBefore }
 {}
 
-/// Each step of an answerer with limits leads where some inputs lead one without: so what holds over any inputs holds of it.
+/// Each step of an answerer with limits leads where some inputs lead one without, so what holds over any inputs holds
+/// of it.
 pub fn limited_is_plain()
     ensures { LimitedIsPlain }
 {}

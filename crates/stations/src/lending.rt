@@ -15,17 +15,17 @@ use raster::packed::{Order, bit_of};
 use signals::{PageEnd, Params, Signal, training_len};
 use std::marker::Model;
 
-/// What a station transmits, one after the other.
+/// A part of what a station transmits in a turn.
 #[derive(Clone, Copy, Debug, PartialEq, Eq)]
 pub enum Item<'a> {
     /// A frame.
     Frame {
-        /// What it says.
+        /// The signal that the frame says.
         signal: Signal<'a>,
         /// Whether it is the turn's last frame.
         last: bool,
     },
-    /// A training check, with the number of its octets, all 00.
+    /// A training check of this number of octets, all 00.
     Training(u32),
 }
 
@@ -52,7 +52,7 @@ impl<'a> Model for Items<'a> {
 }
 
 impl<'a> Items<'a> {
-    /// The next item; none where all were lent.
+    /// Returns the next item; None if all were lent.
     pub fn take_next(&mut self) -> Option<Item<'a>>
         ensures { GivesItem self.old result self.new }
     {
@@ -88,7 +88,7 @@ impl<'a> Items<'a> {
         }
     }
 
-    /// The next item, which is left; none where all were lent.
+    /// The next item, which is left; None if all were lent.
     pub(crate) fn first(&self) -> Option<Item<'a>>
         ensures { BeginsWith self.now result }
     {
@@ -255,7 +255,7 @@ fn marked_again<'a>(marked: &Option<Marked<'a>>) -> Option<Marked<'a>>
     }
 }
 
-/// The next FCD, where there are any.
+/// The next FCD, if there are any.
 fn take_marked<'a>(marked: &mut Option<Marked<'a>>) -> Option<Signal<'a>>
     ensures { GivesSignal (fcds_left marked.old) result (fcds_left marked.new) }
 {
@@ -265,7 +265,7 @@ fn take_marked<'a>(marked: &mut Option<Marked<'a>>) -> Option<Signal<'a>>
     }
 }
 
-/// The first marked number from one on, or the count where there is none below it.
+/// The first marked number from one on, or the count if there is none below it.
 fn next_marked(map: &[u8; 32], from: u16, count: u16) -> u16
     requires order { from ≤ count }
     requires few { count ≤ 256 }

@@ -19,18 +19,20 @@ use signals::{Caps, Mark, Signal};
 use std::alloc::{AllocError, Global};
 use std::marker::Model;
 
-/// How much an answerer stores until its pages are taken. The page that reaches a limit is stored too, and the page that is open, of
-/// at most 8,388,608 octets of code, comes on top.
+/// How much an answerer stores until its pages are taken. The page that reaches a limit is stored too, since its size
+/// is known only then; the open page, at most 8,388,608 octets of code, comes on top.
 #[derive(Clone, Copy, Debug, PartialEq, Eq)]
 pub struct Limits {
-    /// The number of pages.
+    /// The number of pages, not 0.
     pub pages: u64,
-    /// The octets of their packed rows.
+    /// The octets of their packed rows, not 0.
     pub octets: u64,
 }
 
-/// An answerer that is busy while what it stores has reached a limit: it answers RNR, keeps no FCD, and is silent at the PPS of another
-/// block. Its pages are to be taken after each RNR. Its call can be stopped, or lost with its line, as that of a `StoppableAnswerer`.
+/// An answerer that stores no more than its limits until its pages are taken. The page that reaches a limit is stored
+/// and gets RNR in place of MCF; from then on RR and a repeated PPS get RNR, no FCD is kept, and the PPS of another
+/// block gets no answer, as if the line had lost it. A program takes the pages after each RNR. The call can be stopped
+/// or lost, as that of a `StoppableAnswerer`.
 #[derive(Debug, Drop)]
 pub struct LimitedAnswerer {
     station: Answerer,
@@ -50,7 +52,8 @@ impl Model for LimitedAnswerer {
 }
 
 impl LimitedAnswerer {
-    /// An answerer in phase B with limits, neither of them 0, and its first turn, which is DIS. Takes no memory.
+    /// An answerer in phase B with limits, neither of them 0, and its first turn, which is DIS. `caps` must have a
+    /// receiver and error correction. Takes no memory.
     pub fn new(alloc: Global, caps: Caps, limits: Limits) -> (LimitedAnswerer, Turn)
         requires receiver { caps.receiver ≡ true }
         requires ecm { caps.ecm ≡ true }
@@ -69,8 +72,8 @@ impl LimitedAnswerer {
         (limited, turn)
     }
 
-    /// Answers an input; an ended call answers silently, and so does one that was cut off. Errs where memory is refused, which
-    /// changes nothing.
+    /// Takes an input and returns the turn to be sent; after the end, or after the call was cut off, every turn is
+    /// silent. At most one page is above a limit. `AllocError` if memory is refused; nothing changes.
     pub fn step(&mut self, input: AnswererIn<'_>) -> Result<Turn, AllocError>
         ensures steps { LimitedStepsUnlessCut self.old (answerer_input input.entry) self.new result self.old.cut }
         ensures within { IsWithin self.new.limits self.new.station.pages }
@@ -81,7 +84,7 @@ impl LimitedAnswerer {
         }
     }
 
-    /// Answers an input of a call that wasn't cut off.
+    /// Takes an input of a call that wasn't cut off.
     fn advance(&mut self, input: AnswererIn<'_>) -> Result<Turn, AllocError>
         ensures steps { LimitedSteps self.old (answerer_input input.entry) self.new result }
         ensures within { IsWithin self.new.limits self.new.station.pages }
@@ -102,8 +105,8 @@ impl LimitedAnswerer {
         Ok(as_not_ready(turn))
     }
 
-    /// The stored pages, in the order in which they came; none is stored then, and the answerer is as busy as it was told. Takes no
-    /// memory.
+    /// Takes out the stored pages, in the order in which they came, and so makes room; an answerer that runs is then as
+    /// busy as the program said last. Takes no memory.
     pub fn take_pages(&mut self) -> Vec<Page>
         ensures pages { result.items ≡ self.old.station.pages }
         ensures left { self.new ≡ record self.old { station = freed self.old.station.ending self.old.told self.old.station } }
@@ -115,7 +118,7 @@ impl LimitedAnswerer {
         pages
     }
 
-    /// Stops the call: DCN. A call that has ended stays as it ended, and nothing is sent.
+    /// Stops the call and returns DCN; if the call has ended it stays as it ended, and the turn is silent.
     pub fn stop(&mut self) -> Turn
         ensures next { self.new ≡ record self.old { cut = cut_by self.old.station.ending self.old.cut Stop } }
         ensures turn { result ≡ stop_turn self.old.station.ending self.old.cut }
@@ -127,7 +130,7 @@ impl LimitedAnswerer {
         Turn::Dcn
     }
 
-    /// The line is gone: nothing more is sent. A call that has ended stays as it ended.
+    /// The line is gone, and nothing more is sent; if the call has ended it stays as it ended.
     pub fn lost(&mut self)
         ensures { self.new ≡ record self.old { cut = cut_by self.old.station.ending self.old.cut Loss } }
     {
@@ -137,14 +140,14 @@ impl LimitedAnswerer {
         self.cut = Some(Cut::Loss);
     }
 
-    /// Why the call ended, if it has.
+    /// Returns why the call ended, if it has.
     pub fn end(&self) -> Option<CallEnd>
         ensures { result ≡ call_end self.now.station.ending self.now.cut }
     {
         call_end(self.station.end(), self.cut)
     }
 
-    /// The answerer itself: its items, waits and pages.
+    /// Returns the answerer itself: its items, waits and pages.
     pub fn station(&self) -> &Answerer
         ensures { result.now ≡ self.now.station }
     {
@@ -159,7 +162,7 @@ fn is_full(limits: Limits, pages: &[Page]) -> bool
     pages.len() as u64 >= limits.pages || reach(pages, limits.octets)
 }
 
-/// Whether the rows of pages have this number of octets, packed.
+/// Whether the packed rows of pages have at least this number of octets.
 fn reach(pages: &[Page], octets: u64) -> bool
     ensures { IsTrue result ↔ (octets ≤ octets_of_pages pages.now) }
 {
@@ -182,7 +185,7 @@ fn page_octets(page: &Page) -> u128
     page.rows().len() as u128 * ((width + 7) / 8)
 }
 
-/// Whether a full answerer doesn't hear an input.
+/// Whether a full answerer ignores an input, as if the line had lost it.
 fn keeps_out(station: &Answerer, input: AnswererIn<'_>) -> bool
     ensures { result ≡ is_kept_out station.now (answerer_input input.entry) }
 {
@@ -212,7 +215,7 @@ fn as_heard(full: bool, input: AnswererIn<'_>) -> AnswererIn<'_>
     }
 }
 
-/// Whether the answerer is busy, as it was told.
+/// Whether the program said last that the answerer is busy.
 fn as_told(told: bool, input: AnswererIn<'_>) -> bool
     ensures { result ≡ told_by told (answerer_input input.entry) }
 {

@@ -11,26 +11,27 @@ use crate::caller::Caller;
 use crate::turn::{AnswererState, CallerState};
 use signals::{Caps, Params, Speed};
 
-/// What a modem listens for. Frames by V.21 are heard in every state; at a message speed more is.
+/// What a modem listens for. Frames by V.21 are heard in every state; at a message speed more is heard.
 #[derive(Clone, Copy, Debug, PartialEq, Eq)]
 pub enum Listening {
     /// Frames by V.21 alone (T.30, 5.3).
     V21,
-    /// A training check at this speed; DCS by V.21 again where none comes (T.30, 5.3.6.1).
+    /// A training check at this speed; or DCS by V.21 again, if none comes (T.30, 5.3.6.1).
     Training(Speed),
     /// The frames of a page at this speed, and PPS and all other frames by V.21 (T.30, Annex A).
     V21OrPage(Speed),
 }
 
 impl Caller {
-    /// What the caller listens for: each answer comes by V.21.
+    /// Returns what the caller listens for: V.21, by which each reply comes.
     pub fn listens(&self) -> Listening
         ensures { result ≡ V21 }
     {
         Listening::V21
     }
 
-    /// The parameters of the group that is under way, as the caller's DCS says them; none while it waits for a DIS.
+    /// Returns the parameters of the group that is under way, as the caller's DCS says them; None while the caller
+    /// waits for a DIS.
     pub fn params(&self) -> Option<Params>
         ensures { (t : CallerTuple) → Represents self.now t → result ≡ caller_params t.state t.params }
     {
@@ -40,7 +41,7 @@ impl Caller {
         }
     }
 
-    /// The capabilities of the answerer, by the last DIS that was agreed on; none before the first one.
+    /// Returns the answerer's capabilities by the last DIS that was agreed on; None before the first one.
     pub fn peer(&self) -> Option<Caps>
         ensures { (t : CallerTuple) → Represents self.now t → result ≡ caller_peer t.state (confirmed t) t.caps }
     {
@@ -58,7 +59,7 @@ impl Caller {
 }
 
 impl Answerer {
-    /// What the answerer listens for; after the end nothing that it hears changes anything.
+    /// Returns what the answerer listens for; after the end V.21, and nothing that it hears changes anything.
     pub fn listens(&self) -> Listening
         ensures { result ≡ answerer_listens self.now }
     {
@@ -73,7 +74,7 @@ impl Answerer {
         }
     }
 
-    /// The parameters of the group that is under way, as the caller's DCS says them; none in phase B.
+    /// Returns the parameters of the group that is under way, as the caller's DCS says them; None in phase B.
     pub fn params(&self) -> Option<Params>
         ensures { result ≡ answerer_params self.now.state self.now.params }
     {
@@ -83,7 +84,8 @@ impl Answerer {
         }
     }
 
-    /// What the caller's last DCS said that was allowed: in phase B only where a block was accepted, also after the end.
+    /// Returns what the last DCS said that was allowed, also after the end; None before the first one, and in phase B
+    /// before a block was accepted.
     pub fn peer(&self) -> Option<Params>
         ensures { result ≡ answerer_peer self.now.state self.now.accepted self.now.params }
     {

@@ -2,7 +2,7 @@
 
 use signals::{Mark, PageEnd};
 
-/// A block that was accepted.
+/// The last block that was accepted.
 #[derive(Clone, Copy, Debug, PartialEq, Eq)]
 pub struct Accepted {
     /// Its mark.

@@ -73,7 +73,7 @@ impl OpenPage {
         self.octets.len() as u64
     }
 
-    /// The page is sent by these parameters from now on; where they change how it is read, it is read anew. Takes no
+    /// The page is sent by these parameters from now on; if they change how it is read, it is read anew. Takes no
     /// memory.
     pub(crate) fn agree(&mut self, params: Params)
         ensures { self.new ≡ record self.old { params = params } }
@@ -94,8 +94,8 @@ impl OpenPage {
         self.reader = reader_of(self.alloc, self.params);
     }
 
-    /// Appends the frames 0 to `last` of a block, and reads on; false where the page is too long then.
-    /// Errs where memory is refused.
+    /// Appends the frames 0 to `last` of a block and reads on; false if the page is then too long. `AllocError` if
+    /// memory is refused.
     pub(crate) fn take(&mut self, block: &BlockAssembler, last: u8) -> Result<bool, AllocError>
         requires whole { all_there block.now.frames.frames last ≡ true }
         ensures { TakesOctets self.old self.new result (self.old.octets ++ joined_frames block.now.frames.frames (last + 1)) }
@@ -106,6 +106,7 @@ impl OpenPage {
             self.octets.truncate(start);
             return Ok(false);
         }
+        // Reading block by block spreads the time and the memory that a page takes; no clause asks for it.
         if self.reader.read_on(&self.octets).is_err() {
             self.octets.truncate(start);
             return Err(AllocError);
@@ -113,8 +114,8 @@ impl OpenPage {
         Ok(true)
     }
 
-    /// The page that its octets with the frames 0 to `last` of a block begin with; none where they
-    /// begin with no page, or are too many. Errs where memory is refused.
+    /// Reads the page from its octets and the frames 0 to `last` of a block; None if they begin with no page, or are
+    /// too many. `AllocError` if memory is refused.
     pub(crate) fn finish(
         &mut self,
         block: &BlockAssembler,
@@ -132,8 +133,8 @@ impl OpenPage {
         read
     }
 
-    /// The page as it is refused: its octets with the frames of a block from 0 on, up to the first that isn't there. Errs where
-    /// memory is refused.
+    /// The page as it is refused: its octets, then the frames of a block from 0 on, up to the first that is missing,
+    /// also those after the last one counted. `AllocError` if memory is refused.
     pub(crate) fn refused(&self, store: &BlockStore) -> Result<RefusedPage, AllocError>
         ensures { IfOk result (λ page. IsRefused self.now.params (refused_octets self.now.octets store.now.frames) page) }
     {
@@ -144,7 +145,7 @@ impl OpenPage {
     }
 }
 
-/// Appends the frames from 0 on, up to the first that isn't there. Errs where memory is refused.
+/// Appends the frames from 0 on, up to the first that isn't there. `AllocError` if memory is refused.
 fn append_front(store: &BlockStore, octets: &mut Vec<u8>) -> Result<(), AllocError>
     ensures { OnOk result (octets.new.items ≡ octets.old.items ++ front_octets store.now.frames) }
 {
@@ -166,7 +167,7 @@ fn reader_of(alloc: Global, params: Params) -> PageReader
     PageReader::new(alloc, params.coding, Order::LsbFirst, width, params.fine)
 }
 
-/// Whether pages that are sent by the one or by the other parameters are read alike.
+/// Whether pages of these and of other parameters are read alike.
 fn are_read_alike(params: Params, other: Params) -> bool
     ensures { IsTrue result ↔ AreReadAlike params other }
 {
@@ -175,7 +176,7 @@ fn are_read_alike(params: Params, other: Params) -> bool
         && params.fine == other.fine
 }
 
-/// The page that octets begin with; none where they begin with no page, or are too many.
+/// Reads the page that octets begin with; None if they begin with no page, or are too many.
 fn read_page(
     reader: &mut PageReader,
     params: Params,

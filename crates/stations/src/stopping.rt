@@ -27,9 +27,10 @@ pub enum Cut {
 /// Why a call ended.
 #[derive(Clone, Copy, Debug, PartialEq, Eq)]
 pub enum CallEnd {
-    /// By what the station heard, or didn't hear.
+    /// By what the station heard, or didn't hear in time.
     By(End),
     /// The program stopped it.
+    // No ends of a station's table: no input leads to them, and a simulated line has neither.
     Stopped,
     /// The line was lost.
     LineLost,
@@ -51,15 +52,15 @@ impl Model for StoppableCaller {
 }
 
 impl StoppableCaller {
-    /// The caller, with its call not cut off.
+    /// A caller whose call isn't cut off.
     pub fn new(station: Caller) -> StoppableCaller
         ensures { result ≡ record { station = station; cut = None } }
     {
         StoppableCaller { station, cut: None }
     }
 
-    /// Answers an input as the caller does; silently after the call was cut off. Errs where memory is refused, which changes
-    /// nothing.
+    /// Takes an input and returns the caller's turn; after the call was cut off every turn is silent. `AllocError` if
+    /// memory is refused; nothing changes.
     pub fn step(&mut self, input: CallerIn<'_>) -> Result<Turn, AllocError>
         ensures { CallerStepsUnlessCut self.old (caller_input input.entry) self.new result self.old.cut }
     {
@@ -69,7 +70,7 @@ impl StoppableCaller {
         }
     }
 
-    /// Stops the call: DCN. A call that has ended stays as it ended, and nothing is sent.
+    /// Stops the call and returns DCN; if the call has ended it stays as it ended, and the turn is silent.
     pub fn stop(&mut self) -> Turn
         ensures next { self.new ≡ record self.old { cut = cut_by self.old.station.ending self.old.cut Stop } }
         ensures turn { result ≡ stop_turn self.old.station.ending self.old.cut }
@@ -81,7 +82,7 @@ impl StoppableCaller {
         Turn::Dcn
     }
 
-    /// The line is gone: nothing more is sent. A call that has ended stays as it ended.
+    /// The line is gone, and nothing more is sent; if the call has ended it stays as it ended.
     pub fn lost(&mut self)
         ensures { self.new ≡ record self.old { cut = cut_by self.old.station.ending self.old.cut Loss } }
     {
@@ -91,14 +92,14 @@ impl StoppableCaller {
         self.cut = Some(Cut::Loss);
     }
 
-    /// Why the call ended, if it has.
+    /// Returns why the call ended, if it has.
     pub fn end(&self) -> Option<CallEnd>
         ensures { (t : CallerTuple) → Represents self.now.station t → result ≡ call_end t.ending self.now.cut }
     {
         call_end(self.station.end(), self.cut)
     }
 
-    /// The caller itself: its items, waits and pages confirmed.
+    /// Returns the caller itself: its items, waits and confirmed pages.
     pub fn station(&self) -> &Caller
         ensures { result.now ≡ self.now.station }
     {
@@ -122,15 +123,15 @@ impl Model for StoppableAnswerer {
 }
 
 impl StoppableAnswerer {
-    /// The answerer, with its call not cut off.
+    /// An answerer whose call isn't cut off.
     pub fn new(station: Answerer) -> StoppableAnswerer
         ensures { result ≡ record { station = station; cut = None } }
     {
         StoppableAnswerer { station, cut: None }
     }
 
-    /// Answers an input as the answerer does; silently after the call was cut off. Errs where memory is refused, which changes
-    /// nothing.
+    /// Takes an input and returns the answerer's turn; after the call was cut off every turn is silent. `AllocError` if
+    /// memory is refused; nothing changes.
     pub fn step(&mut self, input: AnswererIn<'_>) -> Result<Turn, AllocError>
         ensures { AnswererStepsUnlessCut self.old (answerer_input input.entry) self.new result self.old.cut }
     {
@@ -140,7 +141,7 @@ impl StoppableAnswerer {
         }
     }
 
-    /// Stops the call: DCN. A call that has ended stays as it ended, and nothing is sent.
+    /// Stops the call and returns DCN; if the call has ended it stays as it ended, and the turn is silent.
     pub fn stop(&mut self) -> Turn
         ensures next { self.new ≡ record self.old { cut = cut_by self.old.station.ending self.old.cut Stop } }
         ensures turn { result ≡ stop_turn self.old.station.ending self.old.cut }
@@ -152,7 +153,7 @@ impl StoppableAnswerer {
         Turn::Dcn
     }
 
-    /// The line is gone: nothing more is sent. A call that has ended stays as it ended.
+    /// The line is gone, and nothing more is sent; if the call has ended it stays as it ended.
     pub fn lost(&mut self)
         ensures { self.new ≡ record self.old { cut = cut_by self.old.station.ending self.old.cut Loss } }
     {
@@ -162,21 +163,21 @@ impl StoppableAnswerer {
         self.cut = Some(Cut::Loss);
     }
 
-    /// Why the call ended, if it has.
+    /// Returns why the call ended, if it has.
     pub fn end(&self) -> Option<CallEnd>
         ensures { result ≡ call_end self.now.station.ending self.now.cut }
     {
         call_end(self.station.end(), self.cut)
     }
 
-    /// The answerer itself: its items, waits and pages.
+    /// Returns the answerer itself: its items, waits and pages.
     pub fn station(&self) -> &Answerer
         ensures { result.now ≡ self.now.station }
     {
         &self.station
     }
 
-    /// The stored pages, in the order in which they came; none is stored then, and nothing else changes. Takes no memory.
+    /// Takes out the stored pages, in the order in which they came; nothing else changes. Takes no memory.
     pub fn take_pages(&mut self) -> Vec<Page>
         ensures pages { result.items ≡ self.old.station.pages }
         ensures left { self.new ≡ record self.old { station = record self.old.station { pages = [] } } }

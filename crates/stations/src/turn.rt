@@ -3,54 +3,55 @@
 /// What a station transmits after an input.
 #[derive(Clone, Copy, Debug, PartialEq, Eq)]
 pub enum Turn {
-    /// Nothing.
+    /// Nothing is sent.
     Silent,
-    /// DIS.
+    /// DIS: what the answerer can do.
     Dis,
-    /// DCS and a training check.
+    /// DCS, then a training check at the message speed.
     Training,
-    /// CFR.
+    /// CFR: the training check was good.
     Cfr,
-    /// FTT.
+    /// FTT: the training check was bad.
     Ftt,
-    /// The frames of the block that are marked, three RCP and PPS.
+    /// The FCDs of the present block that the map marks, three RCPs, then PPS. The map is a PPR's: the least
+    /// significant bit of the first octet for frame 0.
     Burst([u8; 32]),
-    /// PPS.
+    /// PPS of the present block alone, once more.
     Pps,
-    /// MCF.
+    /// MCF: the block is accepted.
     Mcf,
-    /// PPR.
+    /// PPR with its map: a 1 asks for a frame.
     Ppr([u8; 32]),
-    /// RNR.
+    /// RNR in place of MCF, while the answerer is busy.
     Rnr,
-    /// RR.
+    /// RR: the caller asks if the answerer is ready.
     Rr,
-    /// DCN.
+    /// DCN: the call is over.
     Dcn,
 }
 
 /// Why a call ended.
 #[derive(Clone, Copy, Debug, PartialEq, Eq)]
 pub enum End {
-    /// All pages went over.
+    /// All pages went over; of an answerer, the caller left after the document's last block was accepted.
     Normal,
-    /// No DIS, no DCS.
+    /// T1 was over: no DIS came, or no caller was heard any more.
     NoAnswer,
-    /// The stations are not compatible.
+    /// A DIS came with which nothing can be agreed for the page due.
     NotCompatible,
-    /// Training failed at the lowest speed.
+    /// The training check failed, and there is no lower speed to try.
     Training,
-    /// No reply after three tries.
+    /// A command had no reply after three tries.
     NoReply,
-    /// A block was asked for a fourth time.
+    /// A block was asked for again by a fourth PPR.
     Unreadable,
-    /// The answerer was busy for too long.
+    /// T5 was over: the answerer was busy for too long.
     StillBusy,
-    /// The other station left.
+    /// The other station sent DCN before the end.
     PeerLeft,
-    /// A page couldn't be read.
+    /// An answerer couldn't read a page, or its code was too long.
     BadPage,
-    /// A page's code is too long.
+    /// The code of a caller's page has more than 8,388,608 octets.
     PageTooLong,
 }
 
@@ -61,9 +62,9 @@ pub enum CallerState {
     WaitDis,
     /// A CFR.
     WaitCfr,
-    /// The answer to a block.
+    /// The reply to a block.
     WaitBlock,
-    /// The answer to RR.
+    /// The reply to RR.
     WaitReady,
 }
 

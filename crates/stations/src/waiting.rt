@@ -9,7 +9,7 @@ use crate::answerer::Answerer;
 use crate::caller::Caller;
 use crate::turn::{AnswererState, CallerState};
 
-/// A wait of ITU-T T.30, 5.4.3. The stations have no clock: a program measures the waits, and says when one is over.
+/// A wait of ITU-T T.30, 5.4.3. The stations have no clock: a program measures the waits and says when one is over.
 #[derive(Clone, Copy, Debug, PartialEq, Eq)]
 pub enum Wait {
     /// 35 s ± 5 s: for the other station to appear. `CallerIn::Timeout` or `AnswererIn::T1` when it is over.
@@ -23,8 +23,8 @@ pub enum Wait {
 }
 
 impl Caller {
-    /// The wait that runs, from the end of the caller's last transmission or the last signal heard, whichever is later;
-    /// T1 runs from the start of the call, and between two groups from the MCF before it. None after the end.
+    /// Returns the wait that runs, from the end of the caller's last transmission or the last signal heard, whichever
+    /// is later; T1 runs from the start of the call, and between two groups from the MCF before it. None after the end.
     pub fn waits(&self) -> Option<Wait>
         ensures { (t : CallerTuple) → Represents self.now t → result ≡ unless_over t.ending (Some (caller_wait t.state)) }
     {
@@ -39,7 +39,7 @@ impl Caller {
         })
     }
 
-    /// The longer wait that runs beside it: T5 while the answerer is busy.
+    /// Returns the longer wait that runs beside it: T5 while the answerer is busy.
     pub fn longer_wait(&self) -> Option<Wait>
         ensures { (t : CallerTuple) → Represents self.now t → result ≡ unless_over t.ending (caller_longer_wait t.state) }
     {
@@ -54,8 +54,8 @@ impl Caller {
 }
 
 impl Answerer {
-    /// The wait that runs, from the end of the answerer's last transmission or the last signal heard, whichever is later.
-    /// None after the end.
+    /// Returns the wait that runs, from the end of the answerer's last transmission or the last signal heard, whichever
+    /// is later. None after the end.
     pub fn waits(&self) -> Option<Wait>
         ensures { result ≡ unless_over self.now.ending (Some (answerer_wait self.now.state)) }
     {
@@ -69,7 +69,8 @@ impl Answerer {
         })
     }
 
-    /// The longer wait that runs beside it: T1, from the start of the call or the last signal heard.
+    /// Returns the longer wait that runs beside it: T1, from the start of the call or the last signal heard; None in
+    /// the message, where T1 runs alone, and after the end.
     pub fn longer_wait(&self) -> Option<Wait>
         ensures { result ≡ unless_over self.now.ending (answerer_longer_wait self.now.state) }
     {

@@ -13,8 +13,8 @@ use Rattle.terminals.specs.Stations.{AnswererLends, CallerLends}
 use Rattle.terminals.specs.Writable.{HasWholeMap}
 use Rattle.terminals.specs.declared.sending.SentBurst.{SentBurst}
 
--- A frame has two flags, and between them at most six bits for each five of its content and its two octets of check sequence: at most one
--- 0 bit is stuffed for each five bits.
+-- law: how many bits a frame has at most: two flags, and between them six bits for each five of its content and its two octets of check
+-- sequence, since at most one 0 bit is stuffed for each five bits
 abbrev pub FramesAreShort : Type 0
 FramesAreShort = (content : List ℕ) (bits : List Bool) → IsFrame content bits → 5 * length bits ≤ 48 * (length content + 2) + 80
 
@@ -24,13 +24,13 @@ HaveAtMost most side bursts =
     (taken : ℕ) (burst : PlainBurst) (later : List PlainBurst) (sent : SentBurst) → drop taken bursts ≡ burst ∷ later →
     IsSent side burst later sent → sent.bits ≤ most
 
--- a burst of a caller has at most 800,000 bits
+-- law: a burst of a caller has at most 800,000 bits
 abbrev pub CallersBurstsAreShort : Type 0
 CallersBurstsAreShort =
     (v : CallerFields) (t : Caller) (turn : Turn) (bursts : List PlainBurst) → Represents v t → CallerLends v turn bursts →
     HaveAtMost 800000 CallerSide bursts
 
--- a burst of an answerer has at most 6,000 bits, where the map of a PPR is whole
+-- law: a burst of an answerer has at most 6,000 bits, if the map of a PPR has 32 octets
 abbrev pub AnswerersBurstsAreShort : Type 0
 AnswerersBurstsAreShort =
     (s : Answerer) (turn : Turn) (bursts : List PlainBurst) → HasWholeMap turn → AnswererLends s turn bursts →

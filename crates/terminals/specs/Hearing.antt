@@ -43,7 +43,8 @@ abbrev pub heard : List (List ℕ) → List PlainInput
 heard [] = []
 heard (content ∷ contents) = heard_if (read_content content) ++ heard contents
 
--- what is heard of octets that come after those before
+-- what is heard of octets that come after others: the signals of the good frames that they complete, in order; a content that says no
+-- signal is left out
 abbrev pub heard_of : List ℕ → List ℕ → List PlainInput
 heard_of before octets = heard (new_contents before octets)
 
@@ -51,11 +52,11 @@ heard_of before octets = heard (new_contents before octets)
 abbrev pub HasHeard : DeframerState → List ℕ → Type 0
 HasHeard framing octets = IsAfter framing (bits_of LsbFirst octets) (length (contents octets))
 
--- octets that come in two pieces are heard as those that come in one
+-- law: octets that come in two pieces are heard as the same octets in one piece
 abbrev pub CutsChangeNothing : Type 0
 CutsChangeNothing =
     (before front rest : List ℕ) → heard_of before (front ++ rest) ≡ heard_of before front ++ heard_of (before ++ front) rest
 
--- how many good frames octets of the line have; the count stays at the greatest number of 64 bits
+-- how many good frames octets of the line have; the count stops at 2^64 - 1
 abbrev pub good_frames : List ℕ → ℕ
 good_frames octets = min (2 ^ 64 - 1) (length (contents octets))

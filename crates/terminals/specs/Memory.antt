@@ -11,12 +11,12 @@ use Rattle.terminals.specs.Runs.{TakesAll}
 use Rattle.terminals.specs.Speaking.{Speaking}
 use Rattle.terminals.specs.Stations.{AnswererSteps}
 
--- of octets that were heard, a deframer keeps no whole content, and at most the 302 octets of one frame
+-- law: of octets that were heard a deframer keeps no whole content, and at most the 302 octets of one frame
 abbrev pub OneFrameIsKept : Type 0
 OneFrameIsKept =
     (framing : DeframerState) (octets : List ℕ) → HasHeard framing octets → (framing.queue ≡ []) × (length framing.kept.octets ≤ 302)
 
--- whatever a new answerer is given, its open frames have at most 65,536 octets, and its open page's code at most 8,388,608
+-- law: whatever a new answerer is given, its open frames have at most 65,536 octets, and its open page's code at most 8,388,608
 abbrev pub OpenPagesAreLimited : Type 0
 OpenPagesAreLimited =
     (caps : Caps) (params : Params) (old new : Speaking Answerer) (inputs : List PlainInput) →

@@ -21,25 +21,25 @@ abbrev pub idle : ℕ → List Bool
 idle zero = []
 idle (suc count) = flag ++ idle count
 
--- a frame that says a signal, of the station that sends it, and whether it is the turn's last one; a signal that can't be written has none
+-- the frame of a signal, from the station that sends it, marked if it is the turn's last one; a signal that can't be written has none
 pub record IsFrameOf (side : Side) (last : Bool) (signal : PlainSignal) (bits : List Bool) : Type 0 where
   pub writable : IsWritable signal
   pub frame : IsFrame (content_of signal side last) bits
 
--- the bits of an item, which items follow in the turn: its frame, and of a training check as many 0 bits as its octets have
+-- the bits of an item, which other items follow in the turn: its frame, or eight 0 bits for each octet of a training check
 abbrev pub AreBitsOf : Side → PlainItem → List PlainItem → List Bool → Type 0
 AreBitsOf side (framed signal) following bits =
     IsFrameOf side (has_no_frame following) signal bits ⊎ ((¬ IsWritable signal) × (bits ≡ []))
 AreBitsOf side (checked octets) following bits = bits ≡ replicate (8 * length octets) false
 
--- the bits of items, which others follow in the turn, one after the other
+-- the bits of items, one after the other: a frame for each signal, marked if it is the turn's last one, and 0 bits for a training check
 abbrev pub AreBits : Side → List PlainItem → List PlainItem → List Bool → Type 0
 AreBits side [] later bits = bits ≡ []
 AreBits side (item ∷ items) later bits =
     (front : List Bool) × (rest : List Bool) × AreBitsOf side item (items ++ later) front × AreBits side items later rest ×
     (bits ≡ front ++ rest)
 
--- a burst, which others follow in its turn, is sent: flags, its items and flags, and nothing else
+-- a burst as it is sent: flags, the bits of its items and flags, in octets, with their number, and nothing else
 pub record IsSent (side : Side) (burst : PlainBurst) (later : List PlainBurst) (sent : SentBurst) : Type 0 where
   pub bits : List Bool
   pub are : AreBits side burst.items (items_of later) bits
@@ -48,8 +48,8 @@ pub record IsSent (side : Side) (burst : PlainBurst) (later : List PlainBurst) (
   pub octets : FillsOctets LsbFirst (idle (flags_before burst.carrier) ++ (bits ++ idle (flags_after burst.carrier))) sent.octets.items
   pub last : IsTrue sent.last ↔ (later ≡ [])
 
--- of the turn's bursts the first that wasn't taken is sent, and is taken then; none where all were taken, or 255, which are more than
--- a turn has; or memory was refused, and nothing has changed
+-- the first of the turn's bursts that wasn't taken is sent, and counts as taken; None if all were taken, or 255, which are more than a turn
+-- has; or memory was refused, and nothing has changed
 abbrev pub SendsNext : {S E : Type 0} → Side → List PlainBurst → Speaking S → Speaking S → Result (Option SentBurst) E → Type 0
 SendsNext side bursts old new (Ok None) = (old.taken < 255 → drop old.taken bursts ≡ []) × (new ≡ old)
 SendsNext side bursts old new (Ok (Some sent)) =
@@ -57,7 +57,7 @@ SendsNext side bursts old new (Ok (Some sent)) =
     (new ≡ record old { taken = old.taken + 1 })
 SendsNext side bursts old new (Err refused) = new ≡ old
 
--- the same of the bursts that a station has for the turn that is kept
+-- the first burst that wasn't taken of the turn that is kept is sent, and counts as taken
 abbrev pub Sends : {S E : Type 0} → Side → BurstsOf S → Speaking S → Speaking S → Result (Option SentBurst) E → Type 0
 Sends side lends old new result =
     (bursts : List PlainBurst) × AreLent lends old.station old.turn bursts × SendsNext side bursts old new result

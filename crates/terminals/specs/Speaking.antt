@@ -16,7 +16,7 @@ abbrev pub is_silent : Turn → Bool
 is_silent Silent = true
 is_silent _ = false
 
--- the turn of a step, after which the station is such, takes the place of the one that is kept; silence takes no place
+-- what the turn of a step makes of a station with its kept turn: it takes the place of the kept one; silence leaves the kept one
 abbrev pub spoken : {S : Type 0} → Speaking S → S → Turn → Speaking S
 spoken old station turn =
     cond (is_silent turn)
@@ -27,7 +27,7 @@ spoken old station turn =
 abbrev pub StepOf : Type 0 → Type 1
 StepOf S = S → PlainInput → S → Turn → Type 0
 
--- the station has answered; or memory was refused, and nothing has changed
+-- the station has made its step; or memory was refused, and nothing has changed
 abbrev pub StepsOrStays : {S E : Type 0} → StepOf S → S → PlainInput → S → Result Turn E → Type 0
 StepsOrStays steps old input new (Ok turn) = steps old input new turn
 StepsOrStays steps old input new (Err refused) = new ≡ old
@@ -40,7 +40,7 @@ BurstsOf S = S → Turn → List PlainBurst → Type 0
 abbrev pub AreLent : {S : Type 0} → BurstsOf S → S → Turn → List PlainBurst → Type 0
 AreLent lends station turn bursts = lends station turn bursts
 
--- an input was taken
+-- an input was taken: the station has made its step, and the step's turn is kept unless it is silence
 pub record Takes (S : Type 0) (steps : StepOf S) (old : Speaking S) (input : PlainInput) (new : Speaking S) : Type 0 where
   pub station : S
   pub turn : Turn

@@ -20,18 +20,18 @@ abbrev pub answerer_inputs : List PlainInput → List AnswererInput
 answerer_inputs [] = []
 answerer_inputs (input ∷ inputs) = put_taken (answerer_takes input) (answerer_inputs inputs)
 
--- a caller after inputs
+-- a caller after what it takes of inputs
 abbrev pub caller_led : List PlainInput → Caller → Caller
 caller_led [] c = c
 caller_led (input ∷ inputs) c = caller_led inputs (caller_given c input).next
 
--- an answerer that has taken inputs is the answerer after what it takes of them
+-- law: an answerer that has taken inputs is the answerer after what it takes of them
 abbrev pub AnswererIsAfter : Type 0
 AnswererIsAfter =
     (old new : Speaking Answerer) (inputs : List PlainInput) → TakesAll AnswererSteps old inputs new →
     new.station ≡ answerer_after (answerer_inputs inputs) old.station
 
--- a caller that has taken inputs is the caller after them
+-- law: a caller that has taken inputs is the caller after what it takes of them
 abbrev pub CallerIsAfter : Type 0
 CallerIsAfter =
     (old new : Speaking CallerFields) (inputs : List PlainInput) (c : Caller) → TakesAll CallerSteps old inputs new →

@@ -29,36 +29,36 @@ abbrev pub CallerStepsUnlessCut : Option Cut → StoppableCallerFields → Plain
 CallerStepsUnlessCut None old input new turn = CallerSteps old.station input new.station turn × (new.cut ≡ None)
 CallerStepsUnlessCut (Some why) old input new turn = (new ≡ old) × (turn ≡ Silent)
 
--- an answerer with limits answers what it takes; to nothing it is silent
+-- a step with limits by what the answerer takes; silence if it takes nothing
 abbrev pub limited_answers : Limits → Answerer → Option AnswererInput → AnswererAnswer
 limited_answers limits s None = answerer_silent s
 limited_answers limits s (Some input) = limited_step limits s input
 
--- whether it is busy, as what it takes tells
+-- whether the program said last that the answerer is busy, after what it takes
 abbrev pub told_after : Bool → Option AnswererInput → Bool
 told_after told None = told
 told_after told (Some input) = told_by told input
 
--- a step of an answerer with limits, by what cut its call off
+-- a step of an answerer with limits, by what cut its call off: the answerer's own, and after a cut it is silent and changes nothing
 abbrev pub LimitedStepsUnlessCut : Option Cut → LimitedFields → PlainInput → LimitedFields → Turn → Type 0
 LimitedStepsUnlessCut None old input new turn =
     Steps old.station new.station turn (limited_answers old.limits old.station (answerer_takes input)) × (new.limits ≡ old.limits) ×
     (new.told ≡ told_after old.told (answerer_takes input)) × (new.cut ≡ None)
 LimitedStepsUnlessCut (Some why) old input new turn = (new ≡ old) × (turn ≡ Silent)
 
--- a caller after this cut its call off
+-- a caller after something cut its call off
 abbrev pub caller_cut_off : Cut → StoppableCallerFields → StoppableCallerFields
 caller_cut_off now v = record v { cut = cut_by v.station.ending v.cut now }
 
--- an answerer with limits after this cut its call off
+-- an answerer with limits after something cut its call off
 abbrev pub limited_cut_off : Cut → LimitedFields → LimitedFields
 limited_cut_off now v = record v { cut = cut_by v.station.ending v.cut now }
 
--- what a caller says where the program stops its call
+-- what a caller sends when the program stops its call: DCN; nothing if the call has ended
 abbrev pub caller_stop_says : StoppableCallerFields → Turn
 caller_stop_says v = stop_turn v.station.ending v.cut
 
--- what an answerer with limits says there
+-- what an answerer with limits sends when the program stops its call: DCN; nothing if the call has ended
 abbrev pub limited_stop_says : LimitedFields → Turn
 limited_stop_says v = stop_turn v.station.ending v.cut
 
@@ -67,7 +67,7 @@ abbrev pub unless_cut : Option Cut → Option Wait → Option Wait
 unless_cut None wait = wait
 unless_cut (Some why) wait = None
 
--- nor after it has ended in any way
+-- no wait runs after a call has ended in any way
 abbrev pub unless_ended : Option CallEnd → Option Wait → Option Wait
 unless_ended None wait = wait
 unless_ended (Some why) wait = None
@@ -81,7 +81,8 @@ caller_shown t cut = record {
   end = call_end t.ending cut;
 }
 
--- a caller that can be stopped shows this, by any state of its table that it is in
+-- what a caller whose call can be stopped shows, by any tuple that its fields represent: the waits that run, none after the end, what it
+-- listens for, and its end
 abbrev pub CallerShows : StoppableCallerFields → Shown → Type 0
 CallerShows v shown = (t : Caller) → Represents v.station t → shown ≡ caller_shown t v.cut
 
@@ -94,19 +95,19 @@ answerer_shown s cut = record {
   end = call_end s.ending cut;
 }
 
--- an answerer with limits shows this
+-- what an answerer with limits shows: the waits that run, none after the end, what it listens for, and its end
 abbrev pub LimitedShows : LimitedFields → Shown → Type 0
 LimitedShows v shown = shown ≡ answerer_shown v.station v.cut
 
--- the program stops the call: the DCN takes the place of the turn that is kept; where the call has ended nothing changes
+-- the program stops the call: DCN takes the place of the turn that is kept; if the call has ended nothing changes
 abbrev pub stopped : {S : Type 0} → (Cut → S → S) → (S → Turn) → Speaking S → Speaking S
 stopped cut_off stop_says old = spoken old (cut_off Stop old.station) (stop_says old.station)
 
--- the same, with DCN to be said whether the call runs or not
+-- the program stops the call, and DCN takes the place of the turn that is kept, also if the call has ended
 abbrev pub hung_up : {S : Type 0} → (Cut → S → S) → Speaking S → Speaking S
 hung_up cut_off old = record { station = cut_off Stop old.station; turn = Dcn; taken = 0 }
 
--- the line is gone: nothing is left to be said
+-- the line is gone: nothing is left to be sent
 abbrev pub silenced : {S : Type 0} → (Cut → S → S) → Speaking S → Speaking S
 silenced cut_off old = record { station = cut_off Loss old.station; turn = Silent; taken = 0 }
 
@@ -125,10 +126,10 @@ IsShown shows station shown = shows station shown
 abbrev pub dcn_burst : List PlainBurst
 dcn_burst = record { carrier = ByV21; items = framed dcn ∷ [] } ∷ []
 
--- so it does from a caller, whatever its state
+-- law: from a caller in any state DCN goes out as one burst by V.21 with no other frame
 abbrev pub CallersSendDcn : Type 0
 CallersSendDcn = (t : Caller) → bursts_of t.params.speed (caller_items t Dcn) ≡ dcn_burst
 
--- so it does from an answerer, whatever its state
+-- law: from an answerer in any state DCN goes out as one burst by V.21 with no other frame
 abbrev pub AnswerersSendDcn : Type 0
 AnswerersSendDcn = (s : Answerer) → bursts_of s.params.speed (answerer_items s Dcn) ≡ dcn_burst

@@ -8,7 +8,7 @@ use Rattle.stations.specs.declared.carrier.Carrier.TheVariants.{V21, Training, P
 use Rattle.stations.specs.declared.waiting.Wait.{Wait}
 use Rattle.stations.specs.declared.waiting.Wait.TheVariants.{T1, T2, T4, T5}
 
--- how long a wait runs, in milliseconds
+-- how long each wait runs, in milliseconds (T.30, 5.4.3.1)
 abbrev pub wait_millis : Wait → ℕ
 wait_millis T1 = 35000
 wait_millis T2 = 6000
@@ -26,13 +26,14 @@ page_flags V17At9600 = 240
 page_flags V17At12000 = 300
 page_flags V17At14400 = 360
 
--- the flags before the frames of a burst: those of 1 s at 300 bit/s, of 200 ms at the speed of a page, and none before a training check
+-- how many flags go before the frames of a burst: 1 s of them at 300 bit/s by V.21, 200 ms at the speed of a page, none before a training
+-- check
 abbrev pub flags_before : Carrier → ℕ
 flags_before V21 = 37
 flags_before (Page speed) = page_flags speed
 flags_before (Training speed) = 0
 
--- the flags after them
+-- how many flags go after the frames of a burst: two, and none after a training check
 abbrev pub flags_after : Carrier → ℕ
 flags_after V21 = 2
 flags_after (Page speed) = 2

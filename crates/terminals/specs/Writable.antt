@@ -31,21 +31,21 @@ abbrev pub HasWholeMap : Turn → Type 0
 HasWholeMap (Ppr map) = length map ≡ 32
 HasWholeMap _ = Unit {0}
 
--- each item of a turn of a caller can be written, whatever its state and the turn
+-- law: each item of a turn of a caller can be written, whatever its state and the turn
 abbrev pub CallersCanBeWritten : Type 0
 CallersCanBeWritten = (t : Caller) (turn : Turn) → Each CanBeWritten (caller_items t turn)
 
--- each item of a turn of an answerer can be written, where the map of a PPR is whole
+-- law: each item of a turn of an answerer can be written, if the map of a PPR has 32 octets
 abbrev pub AnswerersCanBeWritten : Type 0
 AnswerersCanBeWritten = (s : Answerer) (turn : Turn) → HasWholeMap turn → Each CanBeWritten (answerer_items s turn)
 
--- the map of a PPR that a step of an answerer answers is whole, with limits and without
+-- law: the map of each PPR that an answerer's step answers has 32 octets, with limits and without
 pub record MapsAreWhole : Type 0 where
   pub plain : (old new : Answerer) (input : PlainInput) (turn : Turn) → AnswererSteps old input new turn → HasWholeMap turn
   pub limited :
       (old new : LimitedFields) (input : PlainInput) (turn : Turn) → LimitedStepsUnlessCut old.cut old input new turn → HasWholeMap turn
 
--- so is that of the turn that is kept after inputs, where it was before
+-- law: the map of the turn that is kept after inputs has 32 octets, if it had before them
 pub record KeptMapsAreWhole : Type 0 where
   pub plain :
       (old new : Speaking Answerer) (inputs : List PlainInput) → TakesAll AnswererSteps old inputs new → HasWholeMap old.turn →
@@ -60,7 +60,7 @@ abbrev pub AreFrameOf : Side → PlainItem → List PlainItem → List Bool → 
 AreFrameOf side (framed signal) following bits = IsFrameOf side (has_no_frame following) signal bits
 AreFrameOf side (checked octets) following bits = bits ≡ replicate (8 * length octets) false
 
--- the same of items, which others follow in the turn, one after the other
+-- the bits of items, which others follow in the turn, each with its frame, or 0 bits for a training check
 abbrev pub AreFrames : Side → List PlainItem → List PlainItem → List Bool → Type 0
 AreFrames side [] later bits = bits ≡ []
 AreFrames side (item ∷ items) later bits =
@@ -73,13 +73,13 @@ AreSentWhole side bursts =
     (taken : ℕ) (burst : PlainBurst) (later : List PlainBurst) (sent : SentBurst) → drop taken bursts ≡ burst ∷ later →
     (is : IsSent side burst later sent) → AreFrames side burst.items (items_of later) is.bits
 
--- so are the bursts that a caller has for a turn
+-- law: each burst of a caller's turn is sent with the frame of each of its items
 abbrev pub CallersSendWhole : Type 0
 CallersSendWhole =
     (v : CallerFields) (t : Caller) (turn : Turn) (bursts : List PlainBurst) → Represents v t → CallerLends v turn bursts →
     AreSentWhole CallerSide bursts
 
--- and those that an answerer has for one, where the map of a PPR is whole
+-- law: each burst of an answerer's turn is sent with the frame of each of its items, if the map of a PPR has 32 octets
 abbrev pub AnswerersSendWhole : Type 0
 AnswerersSendWhole =
     (s : Answerer) (turn : Turn) (bursts : List PlainBurst) → HasWholeMap turn → AnswererLends s turn bursts →

@@ -8,10 +8,10 @@ use stations::Wait;
 pub enum Input<'a> {
     /// A signal was heard in a good frame.
     Heard(Signal<'a>),
-    /// The octets of a training check were heard. A caller takes none.
+    /// The octets of a training check were heard; a caller ignores them.
     Training(&'a [u8]),
-    /// A wait is over. One that doesn't run changes nothing.
+    /// A wait is over; one that doesn't run changes nothing.
     Over(Wait),
-    /// Whether pages can't be taken for now. A caller takes no notice.
+    /// From now on pages can't be taken, or they can again; a caller ignores it.
     Busy(bool),
 }

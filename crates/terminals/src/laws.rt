@@ -9,7 +9,7 @@ ghost use Rattle.terminals.specs.Stopping.{AnswerersSendDcn, CallersSendDcn};
 ghost use Rattle.terminals.specs.Writable.{AnswerersCanBeWritten, AnswerersSendWhole, CallersCanBeWritten, CallersSendWhole};
 ghost use Rattle.terminals.specs.Writable.{KeptMapsAreWhole, MapsAreWhole};
 
-/// Octets of the line that come in two pieces are heard as those that come in one.
+/// Octets that come in two pieces are heard as the same octets in one piece.
 pub fn cuts_change_nothing()
     ensures { CutsChangeNothing }
 {
@@ -17,7 +17,7 @@ pub fn cuts_change_nothing()
     hdlc::laws::good_contents_stay();
 }
 
-/// A station that a terminal has given inputs stands where its table leads by what it takes of them.
+/// A station that a terminal has given inputs is where its table leads by what it takes of them.
 pub fn stations_are_after()
     ensures caller { CallerIsAfter }
     ensures answerer { AnswererIsAfter }
@@ -29,7 +29,7 @@ pub fn dcn_goes_alone()
     ensures answerer { AnswerersSendDcn }
 {}
 
-/// A turn of a caller has two bursts at most, and one of an answerer has one.
+/// A turn of a caller has two bursts at most, and one of an answerer one.
 pub fn turns_have_few_bursts()
     ensures caller { CallersSendTwo }
     ensures answerer { AnswerersSendOne }
@@ -37,8 +37,9 @@ pub fn turns_have_few_bursts()
     stations::laws::bursts_cut();
 }
 
-/// What a terminal holds beside its station's pages: of the octets that were heard no whole content and at most the 302 octets of one
-/// frame; and of an answerer the frames of the open block, of 65,536 octets at most, and the code of the open page, of 8,388,608 at most.
+/// What a terminal holds beside its station's pages: of the octets heard no whole content and at most the 302 octets of
+/// one frame; of an answerer at most 65,536 octets of the frames of the open block, and 8,388,608 of the open page's
+/// code.
 pub fn little_is_held()
     ensures framing { OneFrameIsKept }
     ensures open { OpenPagesAreLimited }
@@ -46,8 +47,8 @@ pub fn little_is_held()
     stations::laws::open_is_limited();
 }
 
-/// Each item of a turn can be written: the frames of a caller's blocks have 1 to 256 octets, whatever its state, and the map of each PPR
-/// that an answerer gives, and keeps for sending, has 32.
+/// Each item of a turn has a frame or is a training check: the frames of a caller's blocks have 1 to 256 octets,
+/// whatever its state, and the map of each PPR that an answerer sends, and keeps for sending, has 32.
 pub fn turns_can_be_written()
     ensures caller { CallersCanBeWritten }
     ensures answerer { AnswerersCanBeWritten }
@@ -57,7 +58,7 @@ pub fn turns_can_be_written()
     partial_page::laws::page_is_cut_into_full_frames();
 }
 
-/// So each burst of such a turn is sent with the frame of each of its items: none is left out.
+/// Each burst of such a turn is sent with the frame of each of its items; none is left out.
 pub fn turns_are_sent_whole()
     ensures caller { CallersSendWhole }
     ensures answerer { AnswerersSendWhole }

@@ -1,4 +1,5 @@
-//! Stations over the bits of a line: octets that are heard in any pieces, and bursts that go out as octets with their flags.
+//! Stations over the bits of a line: octets that are heard in pieces of any size, and bursts that go out as octets with
+//! their flags. It uses `stations`, `hdlc` and the crates below them.
 #![tactic(auto)]
 
 mod fault;

@@ -18,14 +18,15 @@ use signals::{Side, Signal};
 use stations::{Burst, BurstItems, Bursts, Carrier, Item};
 use std::alloc::{AllocError, Global};
 
-/// A burst as it goes out on its carrier.
+/// A burst as it is sent.
 #[derive(Debug, Drop)]
 pub struct SentBurst {
-    /// What it goes out on.
+    /// The carrier that it goes out on.
     pub carrier: Carrier,
     /// How many bits it has.
     pub bits: u128,
-    /// The octets that hold the bits, the first bit in the least significant one of the first octet, and then fewer than eight 0 bits.
+    /// The octets that hold the bits: the first bit is the least significant one of the first octet, and fewer than
+    /// eight 0 bits fill the last.
     pub octets: Vec<u8>,
     /// Whether it is the turn's last burst.
     pub last: bool,
@@ -40,7 +41,7 @@ pub(crate) fn pass(bursts: &mut Bursts<'_>, count: u8)
     }
 }
 
-/// A burst as it is sent from a side. Errs where memory is refused.
+/// A burst as it is sent from a side. `AllocError` if memory is refused.
 pub(crate) fn send(alloc: Global, side: Side, burst: Burst<'_>) -> Result<SentBurst, AllocError>
     ensures { IfOk result (λ sent. (later : List PlainBurst) →
         burst.entry.items.after ≡ items_of later → (IsTrue burst.entry.last ↔ (later ≡ [])) →
@@ -78,7 +79,7 @@ fn write_zeros(writer: &mut BitWriter, octets: u32) -> Result<(), AllocError>
     Ok(())
 }
 
-/// Whether a signal can be written: an FCD with 1 to 256 octets of data, and each other one that a station sends.
+/// Whether a signal can be written: an FCD with 1 to 256 octets of data, or any other signal but `Other`.
 fn is_writable(signal: Signal<'_>) -> bool
     ensures { IsTrue result ↔ IsWritable (plain signal.entry) }
 {
@@ -106,6 +107,7 @@ fn write_item(writer: &mut BitWriter, side: Side, item: Item<'_>) -> Result<(), 
 {
     match item {
         Item::Frame { signal, last } => {
+            // No turn has another one, by turns_can_be_written; but whose turn it is isn't known here.
             if is_writable(signal) {
                 let content = signals::write(&signal, side, last);
                 write_frame(content.as_slice(), writer)?;

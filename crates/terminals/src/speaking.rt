@@ -22,6 +22,7 @@ use std::marker::Model;
 pub(crate) struct Speaker<S: Station> {
     pub(crate) station: S,
     turn: Turn,
+    // enough: a turn has two bursts at most, and after 255 none is given
     taken: u8,
 }
 
@@ -52,7 +53,7 @@ impl<S: Station> Speaker<S> {
         }
     }
 
-    /// The station has an input. Errs where memory is refused, which changes nothing.
+    /// The station has an input. `AllocError` if memory is refused; nothing changes.
     pub(crate) fn hear(&mut self, input: Input<'_>) -> Result<(), AllocError>
         ensures ok { OnOk result (Takes S S.steps self.old (plain_input input.entry) self.new) }
         ensures err { OnErr result (self.new ≡ self.old) }
@@ -66,11 +67,13 @@ impl<S: Station> Speaker<S> {
         Ok(())
     }
 
-    /// The next burst of the turn that is kept, as it is sent; none where all were taken. Errs where memory is refused, which changes
-    /// nothing.
+    /// The next burst of the turn that is kept, as it is sent; None if all were taken. `AllocError` if memory is
+    /// refused; nothing changes.
     pub(crate) fn next_burst(&mut self, alloc: Global) -> Result<Option<SentBurst>, AllocError>
         ensures { Sends S.sends S.lends self.old self.new result }
     {
+        // As the station has them now: a silent input since, such as the MCF of a group's last block, can leave nothing
+        // of the turn.
         let mut bursts = self.station.lend(&self.turn);
         let Some(next) = self.taken.checked_add(1) else {
             return Ok(None);
@@ -84,8 +87,8 @@ impl<S: Station> Speaker<S> {
         Ok(Some(sent))
     }
 
-    /// The station hears what a content says; a content that says no signal is left out. Answers whether memory was granted:
-    /// where it was refused nothing has changed.
+    /// The station hears what a content says; a content that says no signal is left out. Returns false if memory was
+    /// refused; nothing has changed.
     fn hear_content(&mut self, content: &[u8]) -> bool
         ensures heard { result ≡ true → TakesAll S.steps self.old (heard_if (read_content content.now)) self.new }
         ensures lost { result ≡ false → self.new ≡ self.old }
@@ -101,7 +104,7 @@ impl<S: Station> Speaker<S> {
 }
 
 impl<S: Stoppable> Speaker<S> {
-    /// The program stops the call: DCN takes the place of the turn that is kept. Where the call has ended nothing changes.
+    /// The program stops the call: DCN takes the place of the turn that is kept. If the call has ended nothing changes.
     pub(crate) fn stop(&mut self)
         ensures { self.new ≡ stopped S.cut_off S.stop_says self.old }
     {
@@ -112,7 +115,7 @@ impl<S: Stoppable> Speaker<S> {
         }
     }
 
-    /// The program stops the call, and DCN takes the place of the turn that is kept, also where the call has ended.
+    /// The program stops the call, and DCN takes the place of the turn that is kept, also if the call has ended.
     pub(crate) fn hang_up(&mut self)
         ensures { self.new ≡ hung_up S.cut_off self.old }
     {
@@ -121,7 +124,7 @@ impl<S: Stoppable> Speaker<S> {
         self.taken = 0;
     }
 
-    /// The line is gone: nothing is left to be said.
+    /// The line is gone: nothing is left to be sent.
     pub(crate) fn lost(&mut self)
         ensures { self.new ≡ silenced S.cut_off self.old }
     {
@@ -131,7 +134,7 @@ impl<S: Stoppable> Speaker<S> {
     }
 }
 
-/// The station hears what each content that waits says. Answers whether it has heard all; else memory was refused, and some are lost.
+/// The station hears what each content that waits says. Returns false if memory was refused; some contents are lost.
 pub(crate) fn hear_waiting<S: Station>(deframer: &mut Deframer, speaker: &mut Speaker<S>) -> bool
     ensures all { result ≡ true → TakesAll S.steps speaker.old (heard deframer.old.queue) speaker.new }
     ensures some { TakesSome S.steps speaker.old (heard deframer.old.queue) speaker.new }

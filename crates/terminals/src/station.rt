@@ -15,7 +15,7 @@ use signals::Side;
 use stations::{Answerer, AnswererIn, Bursts, Caller, CallerIn, Turn, Wait};
 use std::alloc::AllocError;
 
-/// A station that a terminal carries.
+/// A station that a terminal carries: of a caller or an answerer.
 pub trait Station: Drop {
     // The step by an input: before, the input, after, and the turn.
     ghost steps: { Self → PlainInput → Self → Turn → Type 0 };
@@ -26,15 +26,15 @@ pub trait Station: Drop {
     // Which of the two stations it is.
     ghost sends: { Side };
 
-    /// Answers an input. Errs where memory is refused, which changes nothing.
+    /// Takes an input and returns the turn to be sent. `AllocError` if memory is refused; nothing changes.
     fn take(&mut self, input: Input<'_>) -> Result<Turn, AllocError>
         ensures { StepsOrStays steps self.old (plain_input input.entry) self.new result };
 
-    /// The bursts of a turn. Takes no memory.
+    /// Returns the bursts of a turn. Takes no memory.
     fn lend(&self, turn: &Turn) -> Bursts<'_>
         ensures { AreLent lends self.now turn.now result };
 
-    /// Which of the two stations it is.
+    /// Returns which of the two stations it is.
     fn side(&self) -> Side
         ensures { result ≡ sends };
 }
@@ -85,7 +85,8 @@ impl Station for Answerer {
     }
 }
 
-/// What a caller takes of an input, by the wait that runs.
+/// What a caller takes of an input, by the wait that runs: the end of T1 only if it waits for a DIS, that of T4 only if
+/// it doesn't.
 pub(crate) fn caller_input(running: Option<Wait>, input: Input<'_>) -> Option<CallerIn<'_>>
     ensures { plain_caller_input result ≡ caller_takes running (plain_input input.entry) }
 {

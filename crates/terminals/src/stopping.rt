@@ -19,11 +19,11 @@ use std::alloc::AllocError;
 /// What a station shows of its call.
 #[derive(Clone, Copy, Debug, PartialEq, Eq)]
 pub struct Shown {
-    /// The wait that runs; none after the end.
+    /// The wait that runs; None after the end.
     pub running: Option<Wait>,
-    /// The longer wait that runs beside it.
+    /// The longer wait that runs beside it, if there is one.
     pub longer: Option<Wait>,
-    /// What it listens for. After the end nothing that it hears changes anything.
+    /// What the station listens for; after the end nothing that it hears changes anything.
     pub listens: Listening,
     /// Why the call ended, if it has.
     pub end: Option<CallEnd>,
@@ -34,22 +34,22 @@ pub trait Stoppable: Station {
     // The station after this cut its call off: one that has ended stays as it ended.
     ghost cut_off: { Cut → Self → Self };
 
-    // What it says where the program stops its call.
+    // What it sends when the program stops its call.
     ghost stop_says: { Self → Turn };
 
     // What it shows.
     ghost shows: { Self → Shown → Type 0 };
 
-    /// Stops the call: DCN. A call that has ended stays as it ended, and nothing is said.
+    /// Stops the call and returns DCN; if the call has ended it stays as it ended, and the turn is silent.
     fn stop(&mut self) -> Turn
         ensures next { self.new ≡ cut_off Stop self.old }
         ensures turn { result ≡ stop_says self.old };
 
-    /// The line is gone. A call that has ended stays as it ended.
+    /// The line is gone; if the call has ended it stays as it ended.
     fn lost(&mut self)
         ensures { self.new ≡ cut_off Loss self.old };
 
-    /// What it shows of its call.
+    /// Returns what the station shows of its call: its waits, what it listens for, and its end.
     fn shown(&self) -> Shown
         ensures { IsShown shows self.now result };
 }
@@ -154,7 +154,7 @@ impl Stoppable for LimitedAnswerer {
     }
 }
 
-/// A wait of a call; none of one that has ended.
+/// A wait of a call; None if the call has ended.
 fn unless_ended(end: Option<CallEnd>, wait: Option<Wait>) -> Option<Wait>
     ensures { result ≡ unless_ended end wait }
 {

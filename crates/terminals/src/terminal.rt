@@ -21,7 +21,8 @@ use stations::{Answerer, Caller, LimitedAnswerer, Turn, Wait};
 use std::alloc::{AllocError, Global};
 use std::marker::Model;
 
-/// A station that hears the octets of a line and keeps its turn for sending.
+/// A station that hears the octets of a line and keeps its turn for sending. The turn of a step takes the place of the
+/// one that is kept, sent or not; a silent turn does not.
 #[derive(Debug, Drop)]
 pub struct Terminal<S: Station> {
     alloc: Global,
@@ -44,7 +45,8 @@ impl<S: Station> Model for Terminal<S> {
 }
 
 impl<S: Station> Terminal<S> {
-    /// A terminal of a station, with its first turn to be sent: an answerer's DIS, or a caller's silence. Takes no memory.
+    /// A terminal of a station, with its first turn to be sent: an answerer's DIS, or a caller's silence. Takes no
+    /// memory.
     pub fn new(alloc: Global, station: S, first: Turn) -> Terminal<S>
         ensures framing { IsAfter result.framing [] 0 }
         ensures speaking { result.speaking ≡ record { station = station; turn = first; taken = 0 } }
@@ -56,23 +58,24 @@ impl<S: Station> Terminal<S> {
         }
     }
 
-    /// The station: its state, its waits, what it listens for, its pages and its end.
+    /// Returns the station itself: its waits, what it listens for, its parameters, its pages and its end.
     pub fn station(&self) -> &S
         ensures { result.now ≡ self.now.speaking.station }
     {
         &self.speaker.station
     }
 
-    /// How many good frames the octets that were heard had. The count stays at 2^64 - 1 once it is there.
+    /// Returns how many good frames the octets heard so far had; the count stops at 2^64 - 1.
     pub fn good_frames(&self) -> u64
         ensures { (octets : List ℕ) → HasHeard self.now.framing octets → result ≡ good_frames octets }
     {
         self.deframer.counts().good
     }
 
-    /// Hears the next octets of the line, on which the least significant bit of each is the first, in pieces of any size. The station
-    /// takes the signal of each good frame in them, in order. A frame with a wrong check sequence and a content that says no signal
-    /// are not heard. Errs where memory is refused: with `NothingTaken` nothing has changed; with `FrameLost` frames were lost.
+    /// Hears the next octets of the line, any octets in pieces of any size, the least significant bit of each first.
+    /// The station takes the signal of each good frame, in order; frames with a wrong check sequence, and contents that
+    /// say no signal, are ignored. `NothingTaken` if memory is refused before the octets are taken: nothing has
+    /// changed, and they can be heard again. `FrameLost` if it is refused to a step: a frame is lost, as on a line.
     pub fn hear(&mut self, octets: &[u8]) -> Result<(), HearFault>
         ensures { Hears S.steps self.old octets.now self.new result }
     {
@@ -85,7 +88,7 @@ impl<S: Station> Terminal<S> {
         Err(HearFault::FrameLost)
     }
 
-    /// The station hears the octets of a training check. Errs where memory is refused, which changes nothing.
+    /// The station hears the octets of a training check. `AllocError` if memory is refused; nothing changes.
     pub fn hear_training(&mut self, octets: &[u8]) -> Result<(), AllocError>
         ensures ok { OnOk result (Takes S S.steps self.old.speaking (check octets.now) self.new.speaking) }
         ensures err { OnErr result (self.new ≡ self.old) }
@@ -94,7 +97,8 @@ impl<S: Station> Terminal<S> {
         self.speaker.hear(Input::Training(octets))
     }
 
-    /// A wait of the station is over; one that doesn't run changes nothing. Errs where memory is refused, which changes nothing.
+    /// A wait of the station is over; one that doesn't run changes nothing. `AllocError` if memory is refused; nothing
+    /// changes.
     pub fn wait_over(&mut self, wait: Wait) -> Result<(), AllocError>
         ensures ok { OnOk result (Takes S S.steps self.old.speaking (over wait) self.new.speaking) }
         ensures err { OnErr result (self.new ≡ self.old) }
@@ -103,7 +107,7 @@ impl<S: Station> Terminal<S> {
         self.speaker.hear(Input::Over(wait))
     }
 
-    /// Whether pages can't be taken for now. Errs where memory is refused, which changes nothing.
+    /// From now on pages can't be taken (`is`), or they can again. `AllocError` if memory is refused; nothing changes.
     pub fn set_busy(&mut self, is: bool) -> Result<(), AllocError>
         ensures ok { OnOk result (Takes S S.steps self.old.speaking (busy is) self.new.speaking) }
         ensures err { OnErr result (self.new ≡ self.old) }
@@ -112,8 +116,8 @@ impl<S: Station> Terminal<S> {
         self.speaker.hear(Input::Busy(is))
     }
 
-    /// The next burst of the turn that is kept: its flags and frames, or a training check, and nothing else; none where all were taken.
-    /// Errs where memory is refused, which changes nothing.
+    /// Takes the next burst of the turn that is kept, to be sent: flags, the frames of its items, flags; or the zeros
+    /// of a training check. None if all were taken. `AllocError` if memory is refused; nothing changes.
     pub fn next_burst(&mut self) -> Result<Option<SentBurst>, AllocError>
         ensures sends { Sends S.sends S.lends self.old.speaking self.new.speaking result }
         ensures framing { self.new.framing ≡ self.old.framing }
@@ -123,7 +127,8 @@ impl<S: Station> Terminal<S> {
 }
 
 impl<S: Stoppable> Terminal<S> {
-    /// Stops the call: DCN takes the place of the turn that is kept. A call that has ended stays as it ended, and nothing changes.
+    /// Stops the call: DCN takes the place of the turn that is kept. If the call has ended it stays as it ended, and
+    /// nothing changes.
     pub fn stop(&mut self)
         ensures framing { self.new.framing ≡ self.old.framing }
         ensures speaking { self.new.speaking ≡ stopped S.cut_off S.stop_says self.old.speaking }
@@ -131,8 +136,8 @@ impl<S: Stoppable> Terminal<S> {
         self.speaker.stop();
     }
 
-    /// Stops the call, and has DCN to be sent in place of the turn that is kept, also where the call has ended: what that turn says is
-    /// not to be said.
+    /// Stops the call, and DCN takes the place of the turn that is kept, also if the call has ended: for a program that
+    /// can't keep what that turn would confirm.
     pub fn hang_up(&mut self)
         ensures framing { self.new.framing ≡ self.old.framing }
         ensures speaking { self.new.speaking ≡ hung_up S.cut_off self.old.speaking }
@@ -140,7 +145,8 @@ impl<S: Stoppable> Terminal<S> {
         self.speaker.hang_up();
     }
 
-    /// The line is gone: nothing is left to be sent. A call that has ended stays as it ended.
+    /// The line is gone: the turn that is kept is dropped, and nothing is left to be sent. If the call has ended it
+    /// stays as it ended.
     pub fn lost(&mut self)
         ensures framing { self.new.framing ≡ self.old.framing }
         ensures speaking { self.new.speaking ≡ silenced S.cut_off self.old.speaking }
@@ -148,7 +154,7 @@ impl<S: Stoppable> Terminal<S> {
         self.speaker.lost();
     }
 
-    /// What the station shows of its call: its waits, what it listens for, and its end.
+    /// Returns what the station shows of its call: its waits, none after the end, what it listens for, and its end.
     pub fn shown(&self) -> Shown
         ensures { IsShown S.shows self.now.speaking.station result }
     {
@@ -157,8 +163,8 @@ impl<S: Stoppable> Terminal<S> {
 }
 
 impl Terminal<LimitedAnswerer> {
-    /// The pages stored so far, in the order in which they came; none is stored then, and the answerer is as busy as it was told. Takes
-    /// no memory.
+    /// Takes out the stored pages, in the order in which they came, and so makes room: the answerer is then as busy as
+    /// the program said last. Takes no memory.
     pub fn take_pages(&mut self) -> Vec<Page>
         ensures pages { result.items ≡ self.old.speaking.station.station.pages }
         ensures framing { self.new.framing ≡ self.old.framing }
@@ -169,7 +175,7 @@ impl Terminal<LimitedAnswerer> {
 }
 
 impl Terminal<Answerer> {
-    /// The pages stored so far, in the order in which they came; none is stored then, and nothing else changes. Takes no memory.
+    /// Takes out the stored pages, in the order in which they came; nothing else changes. Takes no memory.
     pub fn take_pages(&mut self) -> Vec<Page>
         ensures pages { result.items ≡ self.old.speaking.station.pages }
         ensures framing { self.new.framing ≡ self.old.framing }

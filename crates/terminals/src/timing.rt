@@ -21,7 +21,7 @@ pub const T5_MILLIS: u32 = 60_000;
 /// The silence between two carriers of one station, in milliseconds: 75 ms ± 20 ms (T.30, 5.3).
 pub const BETWEEN_CARRIERS_MILLIS: u32 = 75;
 
-/// How long a wait runs, in milliseconds (T.30, 5.4.3.1).
+/// Returns how long a wait runs, in milliseconds. ITU-T T.30, 5.4.3.1.
 pub fn wait_millis(wait: Wait) -> u32
     ensures { result ≡ wait_millis wait }
 {
@@ -33,8 +33,8 @@ pub fn wait_millis(wait: Wait) -> u32
     }
 }
 
-/// How many flags go before the frames of a burst: 1 s of them by V.21, and 200 ms at the speed of a page. A frame begins with
-/// one flag more. A training check has none (T.30, 5.3.1 and Annex A).
+/// Returns how many flags go before the frames of a burst: 37 by V.21, 1 s with the one that the first frame begins
+/// with, 200 ms of them at the speed of a page, none before a training check. ITU-T T.30, 5.3.1 and Annex A.
 pub fn flags_before(carrier: Carrier) -> u32
     ensures { result ≡ flags_before carrier }
 {
@@ -59,7 +59,8 @@ fn page_flags(speed: Speed) -> u32
     }
 }
 
-/// How many flags go after the frames of a burst, each of which ends with one: two, and none after a training check.
+/// Returns how many flags go after the frames of a burst, each of which ends with one: two, and none after a training
+/// check.
 pub fn flags_after(carrier: Carrier) -> u32
     ensures { result ≡ flags_after carrier }
 {
