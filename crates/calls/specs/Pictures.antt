@@ -226,7 +226,7 @@ unfoldable pub style_text : List ℕ
 style_text =
     codes "<title>A fax call</title><style>path{fill:none;stroke:black}.e{text-anchor:end}.m{text-anchor:middle}</style>\n"
 
--- white paper
+-- a rectangle as white paper
 unfoldable pub paper_text : ℕ → List ℕ
 paper_text height = codes "<rect width=\"880\" height=\"" ++ decimal height ++ codes "\" fill=\"white\"/>\n"
 
@@ -303,13 +303,13 @@ end_lines (Some feet) height = feet_lines feet height
 unfoldable pub last_line : List ℕ
 last_line = codes "</svg>\n"
 
--- the picture of rounds and of what the call has left
+-- the SVG of rounds and of what the call has left
 unfoldable pub picture_text : List Round → Option Feet → List ℕ
 picture_text rounds feet =
     head_text (height_of rounds) ++ rounds_text 72 1 rounds ++ end_lines feet (height_of rounds) ++ last_line
 
--- What was written is a picture of the call: of rounds whose events, each time that they come, are those of the call, each once and in
--- order.
+-- What was written is the SVG of rounds whose events are those of the call, each once and in order, and of what the call has left. A DCS
+-- has beside its name what it sets, and a PPS what ends with its block.
 pub record IsPicture (drawn : Drawn) (before after : Option (List ℕ)) : Type 0 where
   pub rounds : List Round
   pub all : entries_of_rounds rounds ≡ drawn.entries

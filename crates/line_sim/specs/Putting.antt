@@ -17,7 +17,7 @@ abbrev pub caller_puts : Caller → Option CallerInput → List PlainItem
 caller_puts c None = []
 caller_puts c (Some input) = let answer = caller_step c input in caller_items answer.next answer.turn
 
--- the same of the answerer
+-- what the answerer sends to an input: the items of its turn, and none without an input
 abbrev pub answerer_puts : Answerer → Option AnswererInput → List PlainItem
 answerer_puts s None = []
 answerer_puts s (Some input) = let answer = answerer_step s input in answerer_items answer.next answer.turn
@@ -36,6 +36,7 @@ abbrev pub IsPut : Bool → List PlainItem → List PlainItem → Type 0
 IsPut false put items = put ≡ items
 IsPut true put items = (made : ℕ) × (put ≡ take made items)
 
--- what an event has put under way to each station is what the other one sends at it, whichever world the fields show
+-- What an event has put under way to each station. The items behind as many as there were before are all that the other station sends at
+-- the event or, if a growth was refused, the first of them; whichever world the fields show.
 abbrev pub Puts : Call → Call → Event → Bool → Type 0
 Puts old new event refused = (to : Side) (w : World) → Shows old w → IsPut refused (put_to to old new) (puts_to to w event)
