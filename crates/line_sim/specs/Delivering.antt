@@ -40,8 +40,9 @@ abbrev pub DeliversAll : {E : Type 0} → WorldFields → WorldFields → World 
 DeliversAll old new w most (Ok number) = Made old new w (polite_steps most w) × (number ≡ count_deliveries (polite_steps most w))
 DeliversAll old new w most (Err refusal) = Stopped old new w (polite_steps most w)
 
--- A call from its start that nobody disturbs. If both stations agree on each page and each page's code is within the limit, the number of
--- deliveries is the lesser of the call's length and of those that may be made; after all of the call's it is through.
+-- A call from its start that nobody disturbs, of a document with a page (which each `Document` has, but a world's fields don't say). If
+-- both stations agree on each page and each page's code is within the limit, the number of deliveries is the lesser of the call's length
+-- and of those that may be made; after all of the call's it is through.
 abbrev pub GoesThrough : WorldFields → WorldFields → ℕ → ℕ → Type 0
 GoesThrough old new most number =
     (document : Document) (wish : Wish) (caps : Caps) (groups : List Params) → Shows old.call (new_world document wish caps) →

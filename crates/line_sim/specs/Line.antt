@@ -21,8 +21,9 @@ pub record World : Type 0 where
   pub to_answerer : List PlainItem
   pub to_caller : List PlainItem
 
--- what became of an event: all of it was done; or a growth was refused, and nothing at all happened, or the input was lost before the
--- station's step, or only the first few items of the turn were sent
+-- What became of an event: all of it was done; or a growth was refused, and nothing at all happened, or the input was lost before the
+-- station's step, or only the first few items of the turn were sent. Refused memory isn't a choice of who reads a clause: the clauses say
+-- that an event has an outcome.
 pub data Outcome : Type 0 where
   Done Nothing InputLost : Outcome
   Cut : (made : ℕ) → Outcome

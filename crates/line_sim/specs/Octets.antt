@@ -35,7 +35,8 @@ is_final (fcd number octets) = false
 is_final rcp = false
 is_final _ = true
 
--- an item is marked as the turn's last frame exactly if it is
+-- An item is marked as the turn's last frame exactly if it is. Neither this nor the bit X is part of a signal, so a frame without them
+-- would be heard alike, and the clauses of what is sent say both.
 abbrev pub TellsFinal : Item → Type 0
 TellsFinal (Frame signal last) = last ≡ is_final (plain signal)
 TellsFinal (CheckOf count) = Unit {0}
