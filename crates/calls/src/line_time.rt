@@ -181,7 +181,8 @@ impl Clocks {
     }
 }
 
-/// How long the wait was that is over in an event, in milliseconds.
+/// How long the wait that is over in an event had run, in milliseconds: it counts whole, so a T1 or T5 that runs beside what is sent makes
+/// a call's seconds more than a real call's.
 pub(crate) fn waited_in(event: Event) -> u64
     ensures { result ≡ waited_in event }
 {

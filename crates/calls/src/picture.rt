@@ -45,8 +45,7 @@ fn times(number: u64, times: u64) -> Result<u64, ToolFault>
     number.checked_mul(times).ok_or(FAILED)
 }
 
-/// The arrow of an item that goes to the answerer or the caller: it ends in a cross where the item is lost, and is a broad one where it is
-/// many.
+/// The arrow of an item to the answerer or the caller: with a cross at its end if the item is lost, and broad for several items.
 fn arrow(event: Event, is_one: bool) -> &'static str
     ensures { result.now ≡ arrow_text event is_one }
 {
@@ -87,7 +86,7 @@ fn shape(row: &Row) -> &'static str
     }
 }
 
-/// What becomes of an item, where it doesn't come as it was.
+/// The label of what becomes of an item that doesn't come as it was sent.
 fn fate_word(event: Event) -> &'static str
     ensures { result.now ≡ fate_text event }
 {
@@ -98,7 +97,7 @@ fn fate_word(event: Event) -> &'static str
     }
 }
 
-/// What is said where there is no item.
+/// The label of an event without an item.
 fn gap_word(event: Event) -> &'static str
     ensures { result.now ≡ gap_text event }
 {
@@ -110,7 +109,7 @@ fn gap_word(event: Event) -> &'static str
     }
 }
 
-/// What happens at a station by itself.
+/// The label of what happens at a station by itself.
 fn own_word(event: Event) -> &'static str
     ensures { result.now ≡ own_text event }
 {
@@ -135,14 +134,14 @@ fn joint_word(event: Event) -> &'static str
     }
 }
 
-/// That a growth was refused.
+/// The label of a refused growth.
 fn refused_word(refused: bool) -> &'static str
     ensures { result.now ≡ refused_text refused }
 {
     if refused { " (memory refused)" } else { "" }
 }
 
-/// Where the text of the station begins or ends that an event acts on.
+/// The place and the alignment of the text beside the station that an event acts on.
 fn base_word(event: Event) -> &'static str
     ensures { result.now ≡ base_text event }
 {
@@ -746,9 +745,10 @@ fn write_all<W: Write>(
     end_picture(writer)
 }
 
-/// Writes a call as a picture, SVG: the caller on the left and the answerer on the right, and from above downwards a row for each event,
-/// or for each that is drawn once for equal ones after it, and what the call has left. Errs with 8 where the writer fails or a number
-/// would be 2^64, and with 9.
+/// Writes a call as a picture, SVG: the caller on the left, the answerer on the right, and downwards a row for each event, or one for
+/// several equal ones, and at the end what the call has left. The clause says that the rounds drawn have the ladder's events, each once and
+/// in order; how they are put together is open. Errs with `FAILED` (8) if the writer fails or a number would be 2^64, and with `NO_MEMORY`
+/// (9).
 pub fn write_picture<W: Write>(ladder: Ladder, writer: &mut W) -> Result<(), ToolFault>
     ensures picture { OnOk result (IsPicture ladder (W.contents writer.old) (W.contents writer.new)) }
     ensures fault { IfErr result IsOutside }

@@ -70,7 +70,7 @@ pub(crate) struct Tally {
     again: u64,
 }
 
-/// Whether at most two items of a call were lost or spoiled.
+/// If a call had at most two losses.
 fn is_mild(counts: &CallCounts) -> bool
     ensures { result ≡ is_mild counts.now }
 {

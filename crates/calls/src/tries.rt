@@ -53,7 +53,7 @@ impl Stood {
     }
 }
 
-/// Whether what became of an item in a step was bad.
+/// If an item was lost or spoiled in a step.
 fn is_bad(step: &Step) -> bool
     ensures { result ≡ is_bad_in (entries_of step.now) }
 {
@@ -63,7 +63,7 @@ fn is_bad(step: &Step) -> bool
     }
 }
 
-/// Whether a training check was spoiled in a step.
+/// If a training check was spoiled in a step.
 fn spoils_check(step: &Step) -> bool
     ensures { result ≡ is_check_in (entries_of step.now) }
 {
@@ -83,7 +83,7 @@ fn is_mcf(event: Event, item: Option<Kind>) -> bool
     }
 }
 
-/// Whether an MCF came in a step.
+/// If an MCF came in a step.
 fn has_mcf(step: &Step) -> bool
     ensures { result ≡ is_mcf_in (entries_of step.now) }
 {
@@ -93,7 +93,7 @@ fn has_mcf(step: &Step) -> bool
     }
 }
 
-/// Whether a step stayed in its phase: a block is left by an MCF, and else none is begun.
+/// If a step stayed in its phase: a block is left by an MCF, and else none is begun.
 fn stays(step: &Step, before: Stood, after: Stood) -> bool
     ensures { result ≡ stays (entries_of step.now) before after }
 {
