@@ -46,7 +46,7 @@ pub record Going : Type 0 where
   pub call : Driven
   pub generator : Lcg
 
--- the generator after a word, where one is drawn
+-- the generator after a word, if one is drawn
 abbrev pub drawn_if : Bool → Lcg → Lcg
 drawn_if drawn generator = cond drawn (pcg32 generator).1 generator
 

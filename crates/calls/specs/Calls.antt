@@ -39,7 +39,7 @@ answerer_caps modems = record { receiver = true; modems = modems; fine = true; w
 abbrev pub caller_wish : CallOptions → Wish
 caller_wish options = record { modems = options.modems; coding = options.coding; small = options.small }
 
--- the world at the start of a call
+-- the world at the start of a call with these options
 abbrev pub call_world : CallOptions → Document → World
 call_world options document = new_world document (caller_wish options) (answerer_caps options.modems)
 

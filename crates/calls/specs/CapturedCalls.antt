@@ -23,7 +23,7 @@ use Rattle.calls.specs.declared.captured_call.LineFrame.{LineFrame}
 
 -- ---- the frames of a capture
 
--- the frame of what was read, where its signal is known: what it is, and what its information field says
+-- the frame of what was read, if its signal is known: its kind, and what its information field says
 abbrev pub read_frame : Result PlainSignal SignalFault → Option CapturedFrame
 read_frame (Ok signal) = option_map (λ kind. record { kind = kind; fields = signal_fields signal }) (signal_kind signal)
 read_frame (Err fault) = None

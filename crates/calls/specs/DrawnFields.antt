@@ -40,7 +40,7 @@ abbrev pub code_name : Coding → List ℕ
 code_name OneDim = codes " T.4 "
 code_name T6 = codes " T.6 "
 
--- their lines, where they are fine ones
+-- the word ` fine` if the lines of a page are fine ones
 abbrev pub fine_name : Bool → List ℕ
 fine_name fine = cond fine (codes " fine") []
 

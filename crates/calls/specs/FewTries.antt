@@ -40,7 +40,7 @@ FewTriesGone (suc made) checks line first =
     let met = met_in line (gone made line first) (tries_gone made line first) in
     FewTriesGone made checks line first × (met.bad ≤ 2) × (met.checks ≤ checks)
 
--- the fates that this number of first steps draws, where the answerer is never set
+-- the fates that this number of first steps draws, if the answerer is never set
 abbrev pub fates_drawn : ℕ → BadLine → Going → List Fate
 fates_drawn zero line g = []
 fates_drawn (suc made) line g =

@@ -12,7 +12,7 @@ use Rattle.line_sim.specs.declared.call.Call.{Call}
 use Rattle.line_sim.specs.declared.event.Event.{Event}
 use Rattle.calls.specs.declared.counts.Counts.{Counts}
 
--- what the writers of a call have, where they tell it: the lines of its events, and the octets that were sent to each station
+-- what the writers of a call have, if they say it: the lines of its events, and the octets that were sent to each station
 pub record Written : Type 0 where
   pub lines : Option (List ℕ)
   pub to_answerer : Option (List ℕ)
@@ -75,8 +75,8 @@ pub record WritesAfter (counts : Counts) (call : Call) (before after : Written) 
   pub lines : after.lines ≡ before.lines
   pub sent : (to : Side) → WritesItems to (drop (count_to to counts) (under_way_to to call)) before after
 
--- What steps send to a station, one after the other: what the other station sends at each event, or where a growth was refused the first
--- of it, or nothing.
+-- What steps send to a station, one after the other: what the other station sends at each event; if a growth was refused, the first items
+-- of that, or nothing.
 abbrev pub AreSent : Side → List (Event × Outcome) → World → List PlainItem → Type 0
 AreSent to [] w items = items ≡ []
 AreSent to (step ∷ steps) w items =

@@ -146,6 +146,7 @@ fn follow_fates<T: CallWriter>(
         };
         tell_step(&step, &mut number, writer)?;
         write_sent(call.live(), counts, writer)?;
+        // What would come after a refused growth is no call by its fates.
         if step.entry.refused {
             return Err(NO_MEMORY);
         }

@@ -71,6 +71,7 @@ fn tell<T: CallWriter>(
 {
     let counts = Counts::of(live);
     let entry = live.event(event);
+    // Lines aren't flushed one by one: the writer decides how many are seen at once.
     writer.entry(*number, &entry)?;
     write_sent(live, counts, writer)?;
     *number = after(*number)?;

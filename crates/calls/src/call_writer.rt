@@ -1,4 +1,4 @@
-//! What a call is written to: its lines, and where they are wanted the octets that are sent on the line.
+//! Writers of a call: of its lines, and if wanted of the octets on the line.
 
 ghost use Rattle.faults.specs.Faults.{IsOutside};
 ghost use Rattle.calls.specs.SentBits.{Written, WritesLines, WritesOctets};

@@ -132,7 +132,7 @@ pub(crate) struct LineFrame {
     pub(crate) frame: CapturedFrame,
 }
 
-/// If a frame answers a command.
+/// True if a frame answers a command.
 fn answers(command: Kind, kind: Kind) -> bool
     ensures { result ≡ is_answer (Before.Command command) kind }
 {
@@ -143,7 +143,7 @@ fn answers(command: Kind, kind: Kind) -> bool
     }
 }
 
-/// If the answerer says a frame after what is drawn last.
+/// True if the answerer says a frame after what is drawn last.
 fn is_answer(before: Before, kind: Kind) -> bool
     ensures { result ≡ is_answer before kind }
 {

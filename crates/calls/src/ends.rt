@@ -6,14 +6,14 @@ ghost use Rattle.std.specs.Prelude.{◌≡◌};
 use line_sim::Ending;
 use stations::End;
 
-/// If a call ended normally for a station.
+/// True if a call ended normally for a station.
 fn is_normal(ending: Option<End>) -> bool
     ensures { result ≡ is_normal ending }
 {
     matches!(ending, Some(End::Normal))
 }
 
-/// If a call ended normally for both stations: all its pages went over, and both say so. False for a call that goes on.
+/// True if a call ended normally for both stations: all its pages went over, and both say so. False for a call that goes on.
 pub fn ended_normally(ending: &Ending) -> bool
     ensures { result ≡ ended_normally ending.now }
 {

@@ -1,4 +1,4 @@
-//! What a picture of a call is drawn from: its events, where equal ones and equal rounds of them are kept once.
+//! What a picture of a call is drawn from: its events, with equal ones and equal rounds of them kept once.
 
 ghost use Rattle.calls.specs.Ladders.{entries_in, entries_of_round, entries_of_rounds, entries_of_row, entries_of_rows, feet_of};
 ghost use Rattle.calls.specs.Ladders.{item_after, repeated};
@@ -120,7 +120,7 @@ fn add_row(rows: &mut Vec<Row>, entry: &Entry) -> Result<(), AllocError>
     Ok(())
 }
 
-/// Whether two rows are the same.
+/// True if two rows are the same.
 fn same_row(row: &Row, other: &Row) -> bool
     ensures { IsTrue result → row.now ≡ other.now }
 {
@@ -130,7 +130,7 @@ fn same_row(row: &Row, other: &Row) -> bool
     same_entry(&row.entry, &other.entry)
 }
 
-/// If rows are the same.
+/// True if rows are the same.
 fn are_same(rows: &[Row], others: &[Row]) -> bool
     ensures { IsTrue result → rows.now ≡ others.now }
 {
@@ -174,7 +174,7 @@ fn add_round(rounds: &mut Vec<Round>, rows: Vec<Row>) -> Result<(), AllocError>
     Ok(())
 }
 
-/// If a station begins an exchange.
+/// True if a station begins an exchange.
 fn begins_exchange(turn: Turn) -> bool {
     match turn {
         Turn::Dis | Turn::Training | Turn::Burst(_) | Turn::Pps | Turn::Rr | Turn::Dcn => true,
@@ -182,7 +182,7 @@ fn begins_exchange(turn: Turn) -> bool {
     }
 }
 
-/// If an event is an answer that comes to a caller about which nothing more is known, as in a capture.
+/// True if an event is an answer that comes to a caller about which nothing more is known, as in a capture.
 fn is_captured_answer(entry: &Entry) -> bool {
     match (entry.event, entry.turn, entry.item) {
         (Event::DeliverToCaller, Turn::Silent, Some(kind)) => !matches!(kind, Kind::Dcn),
@@ -190,12 +190,12 @@ fn is_captured_answer(entry: &Entry) -> bool {
     }
 }
 
-/// If a round ends with an event: a station has begun an exchange in it, or what comes is the answer of one.
+/// True if a round ends with an event: a station has begun an exchange in it, or what comes is the answer of one.
 fn ends_round(entry: &Entry) -> bool {
     begins_exchange(entry.turn) || is_captured_answer(entry)
 }
 
-/// Adds an event to the rows after rounds, and these to the rounds where it ends one.
+/// Adds an event to the rows after rounds, and these rows to the rounds if the event ends one.
 fn add_event(
     alloc: Global,
     rounds: Vec<Round>,

@@ -42,7 +42,7 @@ pub fn one_line_fault()
     ensures { (line : List ℕ) (a b : LineFault) → IsLineFault line a → IsLineFault line b → a ≡ b }
 {}
 
-/// Three events and the words of three ends are printed as they are written out here.
+/// Three events and the words of three ends are printed as `ArePrintedLines` writes them out.
 pub fn printed_lines()
     ensures { ArePrintedLines }
 {}

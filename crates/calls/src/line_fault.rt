@@ -46,21 +46,21 @@ fn line_fault(line: &[u8]) -> LineFault
     }
 }
 
-/// If a line has a tab or a CR, or a space that isn't alone between two words.
+/// True if a line has a tab or a CR, or a space that isn't alone between two words.
 fn has_wrong_blank(line: &str) -> bool
     ensures { result ≡ has_wrong_blank line.now }
 {
     has_tab(line) || is_wrongly_spaced(line)
 }
 
-/// If a line has a tab or a CR.
+/// True if a line has a tab or a CR.
 fn has_tab(line: &str) -> bool
     ensures { result ≡ has_tab line.now }
 {
     line.split_once('\t').is_some() || line.split_once('\r').is_some()
 }
 
-/// If a line has a space that isn't alone between two words.
+/// True if a line has a space that isn't alone between two words.
 fn is_wrongly_spaced(line: &str) -> bool
     ensures { result ≡ is_wrongly_spaced line.now }
 {
@@ -70,14 +70,14 @@ fn is_wrongly_spaced(line: &str) -> bool
     }
 }
 
-/// If nothing is before or after the first space of a line, or there is another space after it.
+/// True if nothing is before or after the first space of a line, or there is another space after it.
 fn is_badly_spaced(before: &str, after: &str) -> bool
     ensures { result ≡ is_badly_spaced before.now after.now }
 {
     before.is_empty() || after.is_empty() || has_space(after)
 }
 
-/// If a text has a space.
+/// True if a text has a space.
 fn has_space(text: &str) -> bool
     ensures { result ≡ has_space text.now }
 {
@@ -94,7 +94,7 @@ fn word_in(line: &str) -> &str
     }
 }
 
-/// If a word is that of an event, or `polite`.
+/// True if a word is that of an event, or `polite`.
 fn is_word(word: &str) -> bool
     ensures { MatchBool result (IsWord word.now) (¬ IsWord word.now) }
 {

@@ -114,7 +114,7 @@ pub(crate) fn generator_of(line: &BadLine, number: u64) -> Lcg64Xsh32
     Lcg64Xsh32::new(line.seed, number)
 }
 
-/// If the answerer is busy, by the generator's next word.
+/// True if the answerer is busy, by the generator's next word.
 pub(crate) fn draw_busy(line: &BadLine, generator: &mut Lcg64Xsh32) -> bool
     ensures busy { result ≡ is_busy_word line.now (pcg32 generator.old).0 }
     ensures next { generator.new ≡ (pcg32 generator.old).1 }

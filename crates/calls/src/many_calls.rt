@@ -54,7 +54,7 @@ struct Counted {
     counts: CallCounts,
     /// How long it lasts.
     clocks: Clocks,
-    /// If each phase had few bad tries, and no more spoiled training checks than are spare.
+    /// True if each phase had few bad tries, and no more spoiled training checks than are spare.
     few: bool,
 }
 
@@ -75,7 +75,7 @@ pub(crate) struct OneCall {
     pub(crate) counts: CallCounts,
     /// For how many whole seconds it had the line.
     pub(crate) seconds: u64,
-    /// If each phase had few bad tries, as `line_sim::laws::calls_bear` counts them.
+    /// True if each phase had few bad tries, as `line_sim::laws::calls_bear` counts them.
     pub(crate) few: bool,
 }
 
@@ -94,21 +94,21 @@ pub(crate) fn one_if(so: bool) -> u64
     if so { 1 } else { 0 }
 }
 
-/// If an item comes in an event.
+/// True if an item comes in an event.
 fn is_delivery(event: Event) -> bool
     ensures { result ≡ is_delivery event }
 {
     matches!(event, Event::DeliverToAnswerer | Event::DeliverToCaller)
 }
 
-/// If an item is lost in an event.
+/// True if an item is lost in an event.
 pub(crate) fn is_loss(event: Event) -> bool
     ensures { result ≡ is_loss event }
 {
     matches!(event, Event::LoseToAnswerer | Event::LoseToCaller)
 }
 
-/// If a training check is spoiled in an event.
+/// True if a training check is spoiled in an event.
 pub(crate) fn is_spoiling(event: Event) -> bool
     ensures { result ≡ is_spoiling event }
 {
@@ -167,7 +167,7 @@ impl CallCounts {
     }
 }
 
-/// If a growth was refused in an event, if there was one.
+/// True if a growth was refused in an event, if there was one.
 fn is_marked(set: Option<Entry>) -> bool
     ensures { result ≡ is_marked set }
 {
@@ -236,7 +236,7 @@ fn stored(ending: &Ending) -> usize
     ending.pages.len()
 }
 
-/// If a call is one that is borne: few of its tries were bad, at least three DIS are sent in a wait, and the answerer is never busy.
+/// True if a call is one that is borne: few of its tries were bad, at least three DIS are sent in a wait, and the answerer is never busy.
 fn is_borne(line: &BadLine, few: bool) -> bool
     ensures { IsTrue result ↔ ((3 ≤ line.now.calls) × (line.now.busy ≡ 0) × IsTrue few) }
 {
@@ -362,6 +362,8 @@ pub fn drive_many<W: Write>(
     let mut tally = Tally::new();
     let mut seconds = Seconds::new(alloc)?;
     for number in 0..times {
+        // The images are read again for each call, since a call takes its document; only numbers are kept of it. The call draws from the
+        // stream of its number, so it is the call that runs alone with that number.
         let call = one_call(alloc, images, options, line, number)?;
         write_call(&call, writer)?;
         tally.add(&call)?;

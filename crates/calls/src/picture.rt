@@ -29,7 +29,7 @@ const GAP: u64 = 10;
 /// Where the first row is.
 const TOP: u64 = 72;
 
-/// The sum of two numbers. Errs with 8 where it would be 2^64.
+/// The sum of two numbers. Errs with `FAILED` (8) if it would be 2^64.
 fn plus(number: u64, more: u64) -> Result<u64, ToolFault>
     ensures sum { IfOk result (λ sum. sum ≡ number + more) }
     ensures fault { IfErr result IsOutside }
@@ -37,7 +37,7 @@ fn plus(number: u64, more: u64) -> Result<u64, ToolFault>
     number.checked_add(more).ok_or(FAILED)
 }
 
-/// The product of two numbers. Errs with 8 where it would be 2^64.
+/// The product of two numbers. Errs with `FAILED` (8) if it would be 2^64.
 fn times(number: u64, times: u64) -> Result<u64, ToolFault>
     ensures product { IfOk result (λ product. product ≡ number * times) }
     ensures fault { IfErr result IsOutside }
@@ -76,7 +76,7 @@ fn mark(event: Event) -> &'static str
     }
 }
 
-/// The lines of a row: an arrow where there is an item, else a mark.
+/// The lines of a row: an arrow if there is an item, else a mark.
 fn shape(row: &Row) -> &'static str
     ensures { result.now ≡ shape_text row.now }
 {
@@ -152,7 +152,7 @@ fn base_word(event: Event) -> &'static str
     }
 }
 
-/// How many items a row has, where it is more than one.
+/// How many items a row has, if it is more than one.
 #[derive(Drop)]
 struct TimesText(Option<Kind>, u64);
 
@@ -243,7 +243,7 @@ impl fmt::Display for NumbersText {
     }
 }
 
-/// How often a round comes, where it is more than once.
+/// How often a round comes, if it is more than once.
 #[derive(Drop)]
 struct RoundsText(u64);
 
@@ -318,7 +318,7 @@ fn write_side<W: Write>(entry: &Entry, writer: &mut W) -> Result<(), ToolFault>
     Ok(())
 }
 
-/// Writes what comes after the title of a row whose first event has this number, and answers the number of the next one.
+/// Writes what comes after the title of a row whose first event has this number, and returns the number of the next one.
 #[tactic(auto, unfolding(crate::specs::Pictures::row_words))]
 fn write_words<W: Write>(row: &Row, number: u64, writer: &mut W) -> Result<u64, ToolFault>
     ensures text { OnOk result (Appends (W.contents writer.old) (W.contents writer.new) (row_words number row.now)) }
@@ -333,7 +333,7 @@ fn write_words<W: Write>(row: &Row, number: u64, writer: &mut W) -> Result<u64, 
     Ok(next)
 }
 
-/// Writes a row at a height, whose first event has this number, and answers the number of the next one.
+/// Writes a row at a height, whose first event has this number, and returns the number of the next one.
 #[tactic(auto, unfolding(crate::specs::Pictures::row_text))]
 fn write_row<W: Write>(row: &Row, y: u64, number: u64, writer: &mut W) -> Result<u64, ToolFault>
     ensures text { OnOk result (Appends (W.contents writer.old) (W.contents writer.new) (row_text y number row.now)) }
@@ -345,7 +345,7 @@ fn write_row<W: Write>(row: &Row, y: u64, number: u64, writer: &mut W) -> Result
     write_words(row, number, writer)
 }
 
-/// Writes rows from a height and a number on, and answers the number of the next event.
+/// Writes rows from a height and a number on, and returns the number of the next event.
 fn write_rows<W: Write>(rows: &[Row], y: u64, number: u64, writer: &mut W) -> Result<u64, ToolFault>
     ensures text { OnOk result (Appends (W.contents writer.old) (W.contents writer.new) (rows_text y number rows.now)) }
     ensures next { IfOk result (λ next. next ≡ number + items_in rows.now) }
@@ -416,7 +416,7 @@ fn write_bracket<W: Write>(rows: u64, y: u64, often: u64, writer: &mut W) -> Res
     Ok(())
 }
 
-/// Writes a round from a height and a number on, and answers the number of the next event after all its times.
+/// Writes a round from a height and a number on, and returns the number of the next event after all its times.
 #[tactic(auto, unfolding(crate::specs::Pictures::round_text))]
 fn write_round<W: Write>(
     round: &Round,
@@ -455,7 +455,7 @@ fn height(rounds: &[Round]) -> Result<u64, ToolFault>
     Ok(height)
 }
 
-/// Writes rounds from a height and a number on, and answers the height after them.
+/// Writes rounds from a height and a number on, and returns the height after them.
 fn write_rounds<W: Write>(rounds: &[Round], writer: &mut W) -> Result<(), ToolFault>
     ensures text { OnOk result (Appends (W.contents writer.old) (W.contents writer.new) (rounds_text 72 1 rounds.now)) }
     ensures fault { IfErr result IsOutside }
@@ -648,7 +648,7 @@ fn write_answerer_pages<W: Write>(pages: usize, writer: &mut W) -> Result<(), To
     Ok(())
 }
 
-/// The mark of stored pages, where there are any: a small page with a corner that is turned down.
+/// The mark of stored pages, if there are any: a small page with a corner that is turned down.
 fn page_mark(pages: usize) -> &'static str
     ensures { result.now ≡ page_mark pages }
 {
@@ -706,7 +706,7 @@ fn write_feet<W: Write>(feet: &Feet, height: u64, writer: &mut W) -> Result<(), 
     Ok(())
 }
 
-/// Writes what a call has left, where it is over.
+/// Writes what a call has left, if it is over.
 #[tactic(auto, unfolding(crate::specs::Pictures::end_lines))]
 fn write_end<W: Write>(feet: &Option<Feet>, height: u64, writer: &mut W) -> Result<(), ToolFault>
     ensures text { OnOk result (Appends (W.contents writer.old) (W.contents writer.new) (end_lines feet.now height)) }

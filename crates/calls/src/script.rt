@@ -86,6 +86,7 @@ fn command_in(line: &str) -> Option<Command>
 fn read_line(line: &[u8]) -> Option<Option<Command>>
     ensures { MatchOption result (IsNoLine line.now) (IsLineOf line.now) }
 {
+    // A script is text: a comment that isn't UTF-8 is refused too, and a CR is no part of a line's end.
     let Ok(text) = str::from_utf8(line) else {
         return None;
     };

@@ -82,7 +82,7 @@ impl Seconds {
         MOST_SECONDS as u64
     }
 
-    /// Writes the row of seconds. Errs with 8 where the writer fails, and with 9.
+    /// Writes the row of seconds. Errs with `FAILED` (8) if the writer fails, and with `NO_MEMORY`.
     pub(crate) fn write<W: Write>(&self, writer: &mut W) -> Result<(), ToolFault>
         ensures row { OnOk result ((calls : List OneCallValue) → CountsSeconds self.now calls →
             TellsSeconds calls (W.contents writer.old) (W.contents writer.new)) }

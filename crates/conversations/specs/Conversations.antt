@@ -123,7 +123,7 @@ LosesFrames b old given new = ⊥
 abbrev pub IsRefused : {S : Type 0} → Behaviour S → TerminalFields S → PlainGiven → TerminalFields S → Type 0
 IsRefused b old given new = (new ≡ old) ⊎ LosesFrames b old given new
 
--- a conversation: its terminal, its clock, how long its waits run, and whether it has begun
+-- a conversation: its terminal, its clock, how long its waits run, and if it has begun
 pub record ConversationFields (S : Type 0) : Type 0 where
   pub terminal : TerminalFields S
   pub clock : Clock

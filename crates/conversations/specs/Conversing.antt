@@ -40,7 +40,7 @@ pub record Talker (S K : Type 0) : Type 1 where
 abbrev pub talker : {S K : Type 0} → Behaviour S → KeepsOf S K → BurstsOf S → Talker S K
 talker station keeps lends = record { station = station; keeps = keeps; lends = lends }
 
--- the next line is read and answered; whether all that it brought was kept, and whether the call is over then
+-- the next line is read and answered: all that it brought was kept or not, and the call is over or goes on
 pub record AnswersNext (S K : Type 0) (t : Talker S K) (old new : TalkState S K) (line : List ℕ) (kept over : Bool) : Type 0 where
   pub read : ReadsLine old.input new.input line
   pub answered :

@@ -26,7 +26,7 @@ GivesAll {S} side lends old (burst ∷ bursts) new =
 abbrev pub IsOver : {S : Type 0} → (S → Shown → Type 0) → ConversationFields S → Bool → Type 0
 IsOver shows c over = (shown : Shown) × shows c.terminal.speaking.station shown × (IsTrue over ↔ IsSome shown.end)
 
--- the lines of an answer: one for each burst, and a word that says whether the call is over
+-- the lines of an answer: one for each burst, and the word `done` or `wait`
 abbrev pub answer_text : List SentBurst → Bool → List ℕ
 answer_text bursts over = flat_map tx_line bursts ++ word_line over
 

@@ -181,7 +181,7 @@ impl Clock {
         }
     }
 
-    /// If a duration has passed since a time.
+    /// True if a duration has passed since a time.
     fn is_past(self, since: Option<u64>, duration: u32) -> bool
         ensures { result ≡ is_past self.now since duration }
     {

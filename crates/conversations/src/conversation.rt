@@ -146,7 +146,7 @@ impl<S: Stoppable> Conversation<S> {
         self.begun = true;
     }
 
-    /// If the station hears what is on the line: a caller from the first line on, an answerer once it has begun.
+    /// True if the station hears what is on the line: a caller from the first line on, an answerer once it has begun.
     pub fn has_begun(&self) -> bool
         ensures { result ≡ self.now.begun }
     {
@@ -160,7 +160,7 @@ impl<S: Stoppable> Conversation<S> {
         self.terminal.shown().end
     }
 
-    /// If the call has ended: nothing more is taken or sent after the bursts of the last line.
+    /// True if the call has ended: nothing more is taken or sent after the bursts of the last line.
     pub fn is_over(&self) -> bool
         ensures { (shown : AnyShown) × S.shows self.now.terminal.speaking.station shown × (IsTrue result ↔ IsSome shown.end) }
     {

@@ -79,14 +79,14 @@ fn heard_given(begun: bool, heard: Heard, octets: &[u8]) -> Given<'_>
     }
 }
 
-/// If a station has begun after a line: an answerer begins at the first quiet line from 1,000 ms on, or at a line that stops it.
+/// True if a station has begun after a line: an answerer begins at the first quiet line from 1,000 ms on, or at a line that stops it.
 pub(crate) fn has_begun(begun: bool, said: &Said, at: u64) -> bool
     ensures { result ≡ cond begun true (begins said.now at) }
 {
     begun || begins(said, at)
 }
 
-/// If a station begins at a line.
+/// True if a station begins at a line.
 fn begins(said: &Said, at: u64) -> bool
     ensures { result ≡ begins said.now at }
 {

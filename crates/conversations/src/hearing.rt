@@ -33,7 +33,7 @@ pub fn heard_as(listens: Listening, channel: Channel, kind: Kind) -> Heard
     }
 }
 
-/// If two speeds are the same.
+/// True if two speeds are the same.
 fn is_same(speed: Speed, other: Speed) -> bool
     ensures { result ≡ same_speed speed other }
 {

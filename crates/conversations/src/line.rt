@@ -185,7 +185,7 @@ fn said_by(word: &[u8]) -> Option<Said>
     }
 }
 
-/// If a word is `rx`, which says that a burst was received.
+/// True if a word is `rx`, which says that a burst was received.
 fn is_rx(word: &[u8]) -> bool
     ensures { IsTrue result ↔ (word.now ≡ codes "rx") }
 {

@@ -82,7 +82,7 @@ impl<F> From<io::Error> for AnswerFault<F> {
 /// The answer to a line, once it is written.
 #[derive(Debug, Drop)]
 pub struct Answered<E> {
-    /// If the call is over, as `done` says.
+    /// True if the call is over, as `done` says.
     pub over: bool,
     /// The storage error, if any; the station has hung up then.
     pub unkept: Option<E>,

@@ -1,4 +1,4 @@
--- A driven call: what is first under way meets its fate; where nothing is under way, somebody's wait is over. Nobody chooses but the fates.
+-- A driven call: what is first under way meets its fate; if nothing is under way, a station's wait is over. Only the fates choose.
 use Rattle.std.specs.Prelude.{◌≡◌, ℕ, zero, suc, ◌+◌, ◌*◌, ◌≤◌, ◌<◌, Bool, true, false, cond, ◌&&◌, not, nat_lt, nat_eq, List, [], ◌∷◌}
 use Rattle.std.specs.Prelude.{length, Option, Some, None}
 use Rattle.signals.specs.Signals.{rnr}
@@ -162,7 +162,7 @@ is_over_at _ _ _ _ = false
 abbrev pub is_over : Driven → Bool
 is_over d = is_over_at d.world.to_answerer d.world.to_caller d.world.caller.ending d.world.answerer.ending
 
--- a number of steps, or fewer where the call is over
+-- a number of steps, or fewer if the call is over
 abbrev pub drive : ℕ → Patience → Driven → Driven
 drive zero p d = d
 drive (suc most) p d = cond (is_over d) d (drive most p (drives p d.world.to_answerer d.world.to_caller d))

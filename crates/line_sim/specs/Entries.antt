@@ -159,7 +159,7 @@ is_refused Done = false
 is_refused _ = true
 
 -- The transcript's entry of an event: the event, the item that it delivers or loses, what that item's information field says (of a DIS, a
--- DCS, a PPS or a PPR), the turn of the station's step, the number of its FCDs, and whether a growth was refused. An event that found no
+-- DCS, a PPS or a PPR), the turn of the station's step, the number of its FCDs, and a mark if a growth was refused. An event that found no
 -- room for its entry has none.
 abbrev pub entry_of : World → Event → Outcome → Option Entry
 entry_of w event Nothing = None

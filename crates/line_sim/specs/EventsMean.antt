@@ -40,7 +40,7 @@ EventsTouch = (w : World) (event : Event) (outcome : Outcome) → Touches w even
 abbrev pub IsFirst : List PlainItem → PlainItem → List PlainItem → Type 0
 IsFirst list item items = list ≡ item ∷ items
 
--- what an event makes where no growth is refused
+-- what an event makes if no growth is refused
 pub record Makes (w : World) (event : Event) (next : World) : Type 0 where
   -- the first item under way to a station comes to it, or is lost; a training check is none that a caller takes
   pub hears :

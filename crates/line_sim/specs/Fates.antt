@@ -81,7 +81,7 @@ abbrev pub before_act : Option Event → List Event
 before_act None = []
 before_act (Some event) = event ∷ []
 
--- one more DIS, where an event is the answerer's T2
+-- one more DIS if the event is the answerer's T2
 abbrev pub dis_with : Event → ℕ → ℕ
 dis_with AnswererT2 dis = suc dis
 dis_with _ dis = dis

@@ -121,7 +121,7 @@ AskedFits None block place accepted = Unit {0}
 AskedFits (Some asked) None place accepted = ⊥
 AskedFits (Some asked) (Some block) place accepted = (asked ≡ asked_of block) × (accepted ≡ place)
 
--- the two stations, where the answerer has accepted `accepted` blocks
+-- what holds of the two stations when the answerer has accepted `accepted` blocks
 pub record StationFacts (c : Caller) (s : Answerer) (accepted : ℕ) : Type 0 where
   pub near : (accepted ≡ c.place) ⊎ (accepted ≡ suc c.place)
   pub phase : Phase c.state c accepted s

@@ -93,7 +93,7 @@ ComeNext side (Some octets) (item ∷ items) = AreOctetsOf side octets item
 abbrev pub IsLent : Side → LineItem → PlainItem → Type 0
 IsLent side lent item = (kind_of item ≡ Some lent.kind) × AreOctetsOf side lent.octets.now item
 
--- the first of the items that a station sends is lent, and none where there is none
+-- the first of the items that a station sends is lent, or none if there is none
 abbrev pub IsFirstLent : Side → Option LineItem → List PlainItem → Type 0
 IsFirstLent side None items = items ≡ []
 IsFirstLent side (Some lent) [] = ⊥

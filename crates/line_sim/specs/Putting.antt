@@ -31,7 +31,7 @@ puts_to TheAnswerer w event = caller_puts w.caller (input_to_caller w event)
 abbrev pub put_to : Side → Call → Call → List PlainItem
 put_to to old new = drop (length (under_way_to to old)) (under_way_to to new)
 
--- all of the items were put under way, or where a growth was refused the first of them, or none
+-- all of the items were put under way; or, if a growth was refused, the first of them or none
 abbrev pub IsPut : Bool → List PlainItem → List PlainItem → Type 0
 IsPut false put items = put ≡ items
 IsPut true put items = (made : ℕ) × (put ≡ take made items)

@@ -123,7 +123,7 @@ tries_of (suc most) p t d =
     let next = drives p d.world.to_answerer d.world.to_caller d in
     cond (is_over d) t (tries_of most p (tries_after d.world next.world (noted p d.world.to_answerer d.world.to_caller d t)) next)
 
--- what an end has cost, in bad tries or spoiled checks of the last phase, where at most `most` DIS come in a wait
+-- what an end has cost, in bad tries or spoiled checks of the last phase, if at most `most` DIS are sent in a wait
 abbrev pub Costs : ℕ → ℕ → Tries → End → Type 0
 Costs most checks t Normal = Unit {0}
 Costs most checks t NoAnswer = most ≤ t.bad

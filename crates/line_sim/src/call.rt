@@ -32,7 +32,7 @@ fn unanswered(event: Event, shown: Shown, refused: bool) -> Entry
     }
 }
 
-/// If a turn sends nothing.
+/// True if a turn sends nothing.
 fn is_silent(turn: &Turn) -> bool
     ensures { IsTrue result ↔ (turn.now ≡ Turn.Silent) }
 {

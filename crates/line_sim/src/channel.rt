@@ -21,7 +21,7 @@ use std::alloc::{AllocError, Global};
 use std::collections::VecDeque;
 use std::marker::Model;
 
-/// If an item is an FCD.
+/// True if an item is an FCD.
 fn is_fcd(item: &Item<'_>) -> bool
     ensures { (items : List PlainItem) → count_fcds (plain_item item.now ∷ items) ≡ cond result 1 0 + count_fcds items }
 {
@@ -83,7 +83,7 @@ impl<S: Sender> Channel<S> {
         }
     }
 
-    /// If nothing is under way.
+    /// True if nothing is under way.
     pub(crate) fn is_empty(&self) -> bool
         ensures { IsTrue result ↔ (self.now ≡ []) }
     {

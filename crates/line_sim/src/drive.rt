@@ -164,14 +164,14 @@ fn past(due: bool, at: usize) -> usize
 }
 
 impl Call {
-    /// If a training check is first under way to the answerer.
+    /// True if a training check is first under way to the answerer.
     fn has_check(&self) -> bool
         ensures { IsTrue result ↔ (head_kind self.now.to_answerer ≡ Some Kind.Training) }
     {
         matches!(self.to_answerer.head(), Some(Kind::Training))
     }
 
-    /// If an RNR is first under way to the caller and exceeds the RNR limit; `few` says that the limit isn't reached.
+    /// True if an RNR is first under way to the caller and exceeds the RNR limit; `few` says that the limit isn't reached.
     fn has_one_too_many(&self, few: bool) -> bool
         ensures { result ≡ is_one_too_many few self.now.to_caller }
     {
@@ -181,7 +181,7 @@ impl Call {
         matches!(self.to_caller.head(), Some(Kind::Rnr))
     }
 
-    /// If a step takes a fate: something is under way, and it isn't an RNR too many.
+    /// True if a step takes a fate: something is under way, and it isn't an RNR too many.
     fn takes_fate(&self, few: bool) -> bool
         ensures { result ≡ is_fate_due few self.now.to_answerer self.now.to_caller }
     {
@@ -194,8 +194,8 @@ impl Call {
         !self.has_one_too_many(few)
     }
 
-    /// If the caller is sending a block, which an MCF would confirm. The caller's fields don't have the block's place in the call, so this
-    /// is known from the PPS that it could send.
+    /// True if the caller is sending a block, which an MCF would confirm. The caller's fields don't have the block's place in the call, so
+    /// this is known from the PPS that it could send.
     fn is_sending(&self) -> bool
         ensures { (w : WorldValue) → Shows self.now w → result ≡ is_sending w.caller }
     {
@@ -203,7 +203,7 @@ impl Call {
         items.take_next().is_some()
     }
 
-    /// If the answerer's T2 is due: the caller waits for a DIS, the answerer for a DCS, and the DIS of this wait are few.
+    /// True if the answerer's T2 is due: the caller waits for a DIS, the answerer for a DCS, and the DIS of this wait are few.
     fn dis_is_due(&self, few: bool) -> bool
         ensures is { (w : WorldValue) → Shows self.now w → result ≡ dis_is_due w.caller.state w.answerer.state w.answerer.ending few }
         ensures at_few { result ≡ true → few ≡ true }
@@ -255,14 +255,14 @@ impl Call {
 }
 
 impl LiveCall {
-    /// If the caller waits for a DIS.
+    /// True if the caller waits for a DIS.
     fn waits_for_dis(&self) -> bool
         ensures { (w : WorldValue) → Shows self.now w → IsTrue result ↔ (w.caller.state ≡ WaitDis) }
     {
         self.call.caller.waits_for_dis()
     }
 
-    /// If a step takes a fate.
+    /// True if a step takes a fate.
     fn takes_fate(&self, few: bool) -> bool
         ensures { result ≡ is_fate_due few self.now.to_answerer self.now.to_caller }
     {
@@ -276,7 +276,7 @@ impl LiveCall {
         self.call.to_caller.head()
     }
 
-    /// If the caller is sending a block.
+    /// True if the caller is sending a block.
     fn is_sending(&self) -> bool
         ensures { (w : WorldValue) → Shows self.now w → result ≡ is_sending w.caller }
     {
@@ -356,14 +356,14 @@ impl DrivenCall {
         self.live.event(Event::Busy(busy))
     }
 
-    /// If fewer RNRs came for the present block than may.
+    /// True if fewer RNRs came for the present block than may.
     fn few_rnrs(&self) -> bool
         ensures { result ≡ nat_lt self.now.rnrs self.now.patience.busy }
     {
         self.rnrs < self.patience.busy
     }
 
-    /// If a PPS or an RR is first under way to the answerer, to which a busy one answers RNR.
+    /// True if a PPS or an RR is first under way to the answerer, to which a busy one answers RNR.
     pub fn asks_ready(&self) -> bool
         ensures { result ≡ asks_ready (head_kind self.now.live.to_answerer) }
     {
@@ -374,14 +374,14 @@ impl DrivenCall {
         }
     }
 
-    /// If the caller is sending a block: from the block's first burst until it is confirmed or the call ends for the caller.
+    /// True if the caller is sending a block: from the block's first burst until it is confirmed or the call ends for the caller.
     pub fn sends_block(&self) -> bool
         ensures { (w : WorldValue) → Shows self.now.live w → result ≡ is_sending w.caller }
     {
         self.live.is_sending()
     }
 
-    /// If the next step takes a fate: something is under way, and it isn't an RNR too many.
+    /// True if the next step takes a fate: something is under way, and it isn't an RNR too many.
     pub fn is_fate_due(&self) -> bool
         ensures { result ≡ is_fate_due (nat_lt self.now.rnrs self.now.patience.busy) self.now.live.to_answerer self.now.live.to_caller }
     {

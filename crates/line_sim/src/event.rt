@@ -196,6 +196,6 @@ pub struct Entry {
     pub turn: Turn,
     /// How many FCDs a burst has, of the whole burst even if its transmission was cut; 0 for any other turn.
     pub fcds: u16,
-    /// If a growth was refused in the event.
+    /// True if a growth was refused in the event.
     pub refused: bool,
 }

@@ -31,7 +31,7 @@ fn kind_of(signal: &Signal) -> Kind
     Kind::of(signal).unwrap_or(Kind::Dcn)
 }
 
-/// If an item is a training check.
+/// True if an item is a training check.
 fn is_check(kind: Kind) -> bool
     ensures { IsTrue result ↔ (kind ≡ Kind.Training) }
 {

@@ -16,8 +16,8 @@ use stations::laws::{layers_hold, signals_hold};
 use std::alloc::AllocError;
 
 impl Call {
-    /// If a group is through and another one follows: neither station has ended, the caller waits for another DIS and the answerer for a
-    /// DCS.
+    /// True if a group is through and another one follows: neither station has ended, the caller waits for another DIS and the answerer for
+    /// a DCS.
     pub(crate) fn is_between_groups(&self) -> bool
         ensures { (w : WorldValue) → Shows self.now w → result ≡ is_between_groups w }
     {
@@ -35,21 +35,21 @@ impl Call {
 }
 
 impl World {
-    /// If nothing is under way to the answerer.
+    /// True if nothing is under way to the answerer.
     fn is_clear_to_answerer(&self) -> bool
         ensures { IsTrue result ↔ (self.now.call.to_answerer ≡ []) }
     {
         self.call.to_answerer.is_empty()
     }
 
-    /// If nothing is under way to the caller.
+    /// True if nothing is under way to the caller.
     fn is_clear_to_caller(&self) -> bool
         ensures { IsTrue result ↔ (self.now.call.to_caller ≡ []) }
     {
         self.call.to_caller.is_empty()
     }
 
-    /// If a group is through and another one follows.
+    /// True if a group is through and another one follows.
     fn is_between_groups(&self) -> bool
         ensures { (w : WorldValue) → Shows self.now.call w → result ≡ is_between_groups w }
     {
