@@ -67,7 +67,8 @@ StoredIsSaid P stores refuses =
     (caps : Caps) (lines : List (List ℕ)) (old new : TalkState LimitedFields P) → IsNewAnswerer caps old.conversation →
     AnswersAll (storing stores refuses) lines old new → StoresWhatIsSaid P stores caps lines old.keeper new.keeper
 
--- The law with one line more, after which the call is over or goes on, and all of whose pages were kept.
+-- The law with one line more, after which the call is over or goes on, and all of whose pages were kept: `StoresWhatIsSaid` holds of the
+-- store.
 abbrev pub LastIsSaid : (P : Type 0) → StoreStep P → StoreStep P → Type 0
 LastIsSaid P stores refuses =
     (caps : Caps) (lines : List (List ℕ)) (old mid new : TalkState LimitedFields P) (line : List ℕ) (over : Bool) →

@@ -202,7 +202,7 @@ pub record Ends (p : Patience) (most made : ℕ) (document : Document) (d : Driv
   pub bounded : made ≤ most_steps p document
   pub over : made < most → is_over d ≡ true
 
--- The law: every driven call ends so, whatever the fates: whether each item comes, is lost or is spoiled.
+-- The law: every driven call ends as `Ends` says, whatever becomes of each item by the list of fates: it comes, is lost or is spoiled.
 abbrev pub DrivenCallsEnd : Type 0
 DrivenCallsEnd =
     (document : Document) (wish : Wish) (caps : Caps) (p : Patience) (fates : List Fate) (most : ℕ) → 1 ≤ p.calls →
