@@ -46,15 +46,15 @@ pub record Going : Type 0 where
   pub call : Driven
   pub generator : Lcg
 
--- the generator after a word, where one is drawn
+-- the generator after a word, if one is drawn
 abbrev pub drawn_if : Bool → Lcg → Lcg
 drawn_if drawn generator = cond drawn (pcg32 generator).1 generator
 
--- It is drawn whether the answerer is busy where this matters, a PPS or an RR being first under way to it, if it ever is.
+-- The answerer's being busy is drawn only if it ever is, and when it matters: a PPS or an RR is first under way to it.
 abbrev pub is_set : BadLine → Driven → Bool
 is_set line d = nat_lt 0 line.busy && asks_ready (head_kind d.world.to_answerer)
 
--- what the answerer is set to before a step, if it is: by the next word
+-- what the next word sets the answerer to before a step, if it is drawn
 abbrev pub setting_of : BadLine → Going → Option Bool
 setting_of line g = cond (is_set line g.call) (Some (is_busy_word line (pcg32 g.generator).0)) None
 
@@ -66,7 +66,7 @@ set_in line g = record { call = sets (setting_of line g) g.call; generator = dra
 abbrev pub is_due : BadLine → Driven → Bool
 is_due line d = is_fate_due (nat_lt d.rnrs (patience_of line).busy) d.world.to_answerer d.world.to_caller
 
--- the driven call with the fate that the next word says, where one is due
+-- the driven call with the fate that the next word says, if one is due
 abbrev pub fated : BadLine → Going → Driven
 fated line g = record {
   world = g.call.world;
@@ -79,27 +79,28 @@ fated line g = record {
 abbrev pub stepped : BadLine → Going → Going
 stepped line g = record { call = next_of (patience_of line) (fated line g); generator = drawn_if (is_due line g.call) g.generator }
 
--- one step: the answerer is set, where that is drawn, and the step is made
+-- One step. If a PPS or an RR is first under way and the answerer may be busy, the next word sets it; if a fate is due, the next word says
+-- it; and the driven call makes its step.
 abbrev pub next_going : BadLine → Going → Going
 next_going line g = stepped line (set_in line g)
 
--- and its events
+-- the events of one step
 abbrev pub going_events : BadLine → Going → List Event
 going_events line g = setting_events (setting_of line g) ++ events_of (patience_of line) (fated line (set_in line g))
 
 -- ---- all steps
 
--- the call after this number of steps
+-- a call over a bad line after this number of steps
 abbrev pub gone : ℕ → BadLine → Going → Going
 gone zero line g = g
 gone (suc made) line g = next_going line (gone made line g)
 
--- the events of one step of a call over a bad line are those of its words, or of the wait that is over
+-- the events of one step of a call over a bad line: those that its words say, or of the wait that is over
 pub record AreOfStep (line : BadLine) (g : Going) (events : List Event) : Type 0 where
   pub goes_on : is_over g.call ≡ false
   pub are : events ≡ going_events line g
 
--- the events of this number of first steps
+-- the events of this number of first steps, one step after the other
 abbrev pub AreOfSteps : ℕ → BadLine → Going → List Event → Type 0
 AreOfSteps zero line g events = events ≡ []
 AreOfSteps (suc made) line g events =
@@ -110,7 +111,7 @@ AreOfSteps (suc made) line g events =
 abbrev pub put_by_step : Side → BadLine → Going → List PlainItem
 put_by_step to line g = drop (length (on_way_to to g.call.world)) (on_way_to to (next_going line g).call.world)
 
--- what this number of first steps has put under way to a station
+-- the items that this number of first steps has put under way to a station: of each step those behind as many as there were before it
 abbrev pub put_by_steps : Side → ℕ → BadLine → Going → List PlainItem
 put_by_steps to zero line g = []
 put_by_steps to (suc made) line g = put_by_steps to made line g ++ put_by_step to line (gone made line g)
@@ -124,7 +125,8 @@ abbrev pub bad_call : CallOptions → BadLine → ℕ → Document → Going
 bad_call options line number document =
     going document (caller_wish options) (answerer_caps options.modems) (generator_of line number)
 
--- whatever the words are, the call is over after more steps than its document bounds
+-- The law: a call over a bad line is over after more steps than `most_steps` of `line_sim` bounds its document by, whatever its generator
+-- draws.
 abbrev pub BadCallsEnd : Type 0
 BadCallsEnd =
     (line : BadLine) (document : Document) (wish : Wish) (caps : Caps) (generator : Lcg) (made : ℕ) → 1 ≤ line.calls →
@@ -147,16 +149,16 @@ abbrev pub is_marked : Option Entry → Bool
 is_marked None = false
 is_marked (Some entry) = entry.refused
 
--- the answerer was set, where that is drawn: unless a growth was refused, the entry is the setting's
+-- the answerer was set, if that was drawn, and the entry is the setting's
 pub record WasSet (line : BadLine) (g : Going) (new : DrivenFields) (generator : Lcg) (set : Option Entry) : Type 0 where
   pub stands : Stands new line generator (set_in line g)
   pub noted : entry_if set ≡ entries (all_done (setting_events (setting_of line g))) g.call.world
 
--- unless a growth was refused
+-- the answerer was set, unless a growth was refused
 abbrev pub IsSet : BadLine → Going → DrivenFields → Lcg → Option Entry → Type 0
 IsSet line g new generator set = is_marked set ≡ false → WasSet line g new generator set
 
--- a step of a call that is set was made, or the call is over; a word was drawn where a fate was due
+-- a step of a call that is set was made, or the call is over; a word was drawn if a fate was due
 pub record Draws (line : BadLine) (g : Going) (old new : DrivenFields) (generator : Lcg) (step : Option Step) : Type 0 where
   pub steps : Steps (patience_of line) old new (fated line g) step
   pub drawn : generator ≡ (stepped line g).generator
@@ -172,10 +174,10 @@ pub record TellsAll (line : BadLine) (first : Going) (new : DrivenFields) (befor
   pub written : Appends before.lines after.lines (entry_lines 1 (entries (all_done events) first.call.world))
   pub sent : (to : Side) → WritesItems to (put_by_steps to made line first) before after
 
--- A call of a document over a bad line: a new call makes steps, as the words of its generator have it, until it is over. What is
--- written is the line of each event, and then how the call ended; and the octets of what was put under way to each station, first of the
--- DIS with which a call begins. The pages stored there are answered: they are a beginning of the
--- document, each confirmed page is stored once, and a normal end means that all are stored.
+-- A call of a document over a bad line: a new call makes steps, as the words of its generator say, until it is over. What is written is the
+-- line of each event and then what the call leaves; and the octets of what was put under way to each station, first of the DIS with which a
+-- call begins. The pages stored are returned, and are safe: they are a beginning of the document, each confirmed page is stored once, and a
+-- normal end means that all are stored.
 pub record TellsDriven (options : CallOptions) (line : BadLine) (number : ℕ) (document : Document) (before after : Written)
     (pages : List PagePixels) : Type 0 where
   pub callable : AreCallable document
@@ -192,24 +194,25 @@ pub record TellsDriven (options : CallOptions) (line : BadLine) (number : ℕ) (
   pub answered : pages ≡ ending.pages.items
   pub safe : IsSafe document ending.pages.items ending.confirmed ending.caller_end ending.answerer_end
 
--- the same, and this is what the call leaves
+-- a call of a document over a bad line, and what it leaves is returned
 abbrev pub LeavesAfter : CallOptions → BadLine → ℕ → Document → Written → Written → Ending → Type 0
 LeavesAfter options line number document before after ending =
     (told : TellsDriven options line number document before after ending.pages.items) × (told.ending ≡ ending)
 
--- the images are a document's, the lines of its call over a bad line were written, and its pages answered
+-- The images are a document's, its call over a bad line made steps by its fates until it was over, the lines of their events and of what it
+-- leaves were written, and the pages stored are returned.
 pub record DrivesCall (options : CallOptions) (line : BadLine) (number : ℕ) (images : List ℕ) (before after : Written)
     (pages : List PagePixels) : Type 0 where
   pub document : Document
   pub read : AreImages options.fine images document
   pub told : TellsDriven options line number document before after pages
 
--- the same, and this is what the call leaves
+-- a call of images over a bad line was driven, and what it leaves is returned
 abbrev pub LeavesDriven : CallOptions → BadLine → ℕ → List ℕ → Written → Written → Ending → Type 0
 LeavesDriven options line number images before after ending =
     (run : DrivesCall options line number images before after ending.pages.items) × (run.told.ending ≡ ending)
 
--- why no call was run to its end: memory, a reader or a writer; the images' first fault; or a page's width is none that a call can have
+-- why no call was run to its end: memory, a reader or a writer (8, 9); the images' first fault; or a width that no call can have (26)
 abbrev pub RefusesDriven : Bool → List ℕ → ToolFault → Type 0
 RefusesDriven fine images fault =
     IsOutside fault ⊎ (((first : RasterFault) × (read_images fine images ≡ Err first) × (fault ≡ No (number_of first))) ⊎

@@ -28,7 +28,7 @@ abbrev pub sends_data : Turn → ℕ → Option Data
 sends_data Silent fcds = None
 sends_data turn fcds = Some (words (turn_text turn fcds))
 
--- that a growth was refused, where one was
+-- that a growth was refused, if one was
 abbrev pub refused_data : Bool → Option Data
 refused_data true = Some (boolean true)
 refused_data false = None

@@ -39,7 +39,7 @@ answerer_caps modems = record { receiver = true; modems = modems; fine = true; w
 abbrev pub caller_wish : CallOptions → Wish
 caller_wish options = record { modems = options.modems; coding = options.coding; small = options.small }
 
--- the world at the start of a call
+-- the world at the start of a call with these options
 abbrev pub call_world : CallOptions → Document → World
 call_world options document = new_world document (caller_wish options) (answerer_caps options.modems)
 
@@ -47,7 +47,7 @@ call_world options document = new_world document (caller_wish options) (answerer
 abbrev pub Steps : Type 0
 Steps = List (Event × Outcome)
 
--- of the steps of a polite run those before a refused event were made, and then that event with what became of it
+-- the steps of a polite run before a refused event were made, and then that event with what became of it
 pub record StopsPolite (polite steps : Steps) : Type 0 where
   pub before : Steps
   pub event : Event
@@ -63,14 +63,14 @@ abbrev pub Makes : Command → World → Steps → Type 0
 Makes (Events event count) w steps = map (λ step. step.0) steps ≡ replicate count event
 Makes (Polite most) w steps = (steps ≡ polite_steps most w) ⊎ StopsPolite (polite_steps most w) steps
 
--- the steps that commands make, each of the world that those before it lead to
+-- the steps that commands make, each in turn from the world that those before it lead to
 abbrev pub MakeAll : List Command → World → Steps → Type 0
 MakeAll [] w steps = steps ≡ []
 MakeAll (command ∷ commands) w steps =
     (first : Steps) × (rest : Steps) × (steps ≡ first ++ rest) × Makes command w first × MakeAll commands (run first w) rest
 
--- A call that showed a world was given steps: it shows the world that they lead to; each step has its entry, and the lines of the entries
--- were written, the first with a number, after which the next one comes. So were the octets of what the steps send to each station.
+-- A call that showed a world was given steps. It shows the world that they lead to; each step has its entry, and the entries' lines were
+-- written, numbered from `first`; `next` is the number after them. The octets of what the steps send to each station were written too.
 pub record TellsSteps (steps : Steps) (w : World) (new : Call) (first next : ℕ) (before after : Written) : Type 0 where
   pub shows : Shows new (run steps w)
   pub each : length (entries steps w) ≡ length steps
@@ -78,27 +78,27 @@ pub record TellsSteps (steps : Steps) (w : World) (new : Call) (first next : ℕ
   pub number : next ≡ first + length steps
   pub sent : (to : Side) → WritesSent to steps w before after
 
--- the same of an event with some outcome, and whether a growth was refused in it
+-- an event with some outcome was one such step, and a growth was refused in it or not
 abbrev pub TellsEvent : Event → World → Call → ℕ → ℕ → Written → Written → Bool → Type 0
 TellsEvent event w new first next before after refused =
     (outcome : Outcome) × (is_refused outcome ≡ refused) × TellsSteps ((event, outcome) ∷ []) w new first next before after
 
--- of the steps of the next delivery all were made, and there are some; or there are none; or they were made up to a refused event
+-- all steps of the next delivery were made, and there are some; or there are none; or they were made up to a refused event
 abbrev pub MakesNext : Steps → Steps → Bool → Type 0
 MakesNext coming steps true = (coming ≢ []) × (steps ≡ coming)
 MakesNext coming steps false = ((coming ≡ []) × (steps ≡ [])) ⊎ StopsPolite coming steps
 
--- the same of a call that showed a world, with their lines
+-- a call that showed a world made the steps of the next delivery, and their lines were written
 abbrev pub TellsNext : World → Call → ℕ → ℕ → Written → Written → Bool → Type 0
 TellsNext w new first next before after whole =
     (steps : Steps) × MakesNext (next_steps w w.to_answerer w.to_caller) steps whole × TellsSteps steps w new first next before after
 
--- the same of the steps of a command
+-- a call that showed a world made the steps of a command, and their lines were written
 abbrev pub TellsCommand : Command → World → Call → ℕ → ℕ → Written → Written → Type 0
 TellsCommand command w new first next before after =
     (steps : Steps) × Makes command w steps × TellsSteps steps w new first next before after
 
--- the same of commands
+-- a call that showed a world made the steps of commands, and their lines were written
 abbrev pub TellsCommands : List Command → World → Call → ℕ → ℕ → Written → Written → Type 0
 TellsCommands commands w new first next before after =
     (steps : Steps) × MakeAll commands w steps × TellsSteps steps w new first next before after
@@ -110,10 +110,10 @@ pub record EndsAs (ending : Ending) (w : World) : Type 0 where
   pub caller_end : ending.caller_end ≡ w.caller.ending
   pub answerer_end : ending.answerer_end ≡ w.answerer.ending
 
--- A call of a document: a new world is given the commands, one after the other. Each event has its entry, and what is written is the line
--- of each and then how the call ended, in the world that they lead to; and the octets of what was sent to each station, first of the DIS
--- with which a call begins. The pages stored there are answered: they are a beginning of the document, each confirmed page is stored once,
--- and a normal end means that all are stored.
+-- A call of a document by commands. A new world makes their steps, and each event has its entry. What is written is the line of each entry
+-- and then what the call leaves; and the octets of what was sent to each station, first of the DIS with which a call begins. The pages
+-- stored are returned, and are safe: they are a beginning of the document, each confirmed page is stored once, and a normal end means that
+-- all are stored.
 pub record TellsCall (options : CallOptions) (document : Document) (commands : List Command) (before after : Written)
     (pages : List PagePixels) : Type 0 where
   pub callable : AreCallable document
@@ -127,7 +127,7 @@ pub record TellsCall (options : CallOptions) (document : Document) (commands : L
   pub answered : pages ≡ ending.pages.items
   pub safe : IsSafe document ending.pages.items ending.confirmed ending.caller_end ending.answerer_end
 
--- the same, and this is what the call leaves
+-- a call of a document by commands, and what it leaves is returned
 abbrev pub LeavesTold : CallOptions → Document → List Command → Written → Written → Ending → Type 0
 LeavesTold options document commands before after ending =
     (told : TellsCall options document commands before after ending.pages.items) × (told.ending ≡ ending)
@@ -136,7 +136,8 @@ LeavesTold options document commands before after ending =
 abbrev pub HaveRows : List PagePixels → Type 0
 HaveRows pages = All (λ page. 0 < length page.rows) pages
 
--- the script says commands, the images are a document's, the lines of its call by the commands were written, and its pages answered
+-- The script says commands, the images are a document's, the lines of its call by the commands were written, and the pages stored are
+-- returned.
 pub record RunsCall (options : CallOptions) (script images : List ℕ) (before after : Written) (pages : List PagePixels) : Type 0 where
   pub commands : List Command
   pub said : IsScript script commands
@@ -144,12 +145,12 @@ pub record RunsCall (options : CallOptions) (script images : List ℕ) (before a
   pub read : AreImages options.fine images document
   pub told : TellsCall options document commands before after pages
 
--- the same, and this is what the call leaves, of whose lines the last ones tell
+-- a call by a script was run, and what it leaves, which the last lines say, is returned
 abbrev pub LeavesCall : CallOptions → List ℕ → List ℕ → Written → Written → Ending → Type 0
 LeavesCall options script images before after ending =
     (run : RunsCall options script images before after ending.pages.items) × (run.told.ending ≡ ending)
 
--- the script is refused at a line
+-- the script is refused at its first line that isn't one
 abbrev pub IsBadScript : List ℕ → ToolFault → Type 0
 IsBadScript script fault = (line : ℕ) × (fault ≡ AtLine line) × IsFirstBadLine script line
 
@@ -159,18 +160,19 @@ AreBadImages fine script images fault =
     ((commands : List Command) × IsScript script commands) × (first : RasterFault) × (read_images fine images ≡ Err first) ×
     (fault ≡ No (number_of first))
 
--- the script says commands and images were read, but a page's width is none that a call can have
+-- the script says commands and the images are a document's, but no call can have the width of one of its pages (fault 26)
 abbrev pub AreNotCallable : Bool → List ℕ → List ℕ → ToolFault → Type 0
 AreNotCallable fine script images fault =
     ((commands : List Command) × IsScript script commands) ×
     (document : Document) × AreImages fine images document × ¬ AreCallable document × (fault ≡ No 26)
 
--- why no call was run to its end, of what the script and the images are
+-- why no call was run to its end: memory, a reader or a writer (8, 9); the script's first bad line; the images' first fault; or a width
+-- that no call can have (26)
 abbrev pub RefusesCall : Bool → List ℕ → List ℕ → ToolFault → Type 0
 RefusesCall fine script images fault =
     IsOutside fault ⊎ (IsBadScript script fault ⊎ (AreBadImages fine script images fault ⊎ AreNotCallable fine script images fault))
 
--- a fault of the script comes before images are read and anything is written
+-- The fault is at a line of the script: it comes before any image is read and before anything is written.
 abbrev pub IsAtLine : ToolFault → Type 0
 IsAtLine (AtLine line) = Unit {0}
 IsAtLine _ = ⊥

@@ -23,7 +23,7 @@ use Rattle.calls.specs.declared.captured_call.LineFrame.{LineFrame}
 
 -- ---- the frames of a capture
 
--- the frame of what was read, where its signal is known: what it is, and what its information field says
+-- the frame of what was read, if its signal is known: its kind, and what its information field says
 abbrev pub read_frame : Result PlainSignal SignalFault → Option CapturedFrame
 read_frame (Ok signal) = option_map (λ kind. record { kind = kind; fields = signal_fields signal }) (signal_kind signal)
 read_frame (Err fault) = None
@@ -32,11 +32,11 @@ read_frame (Err fault) = None
 abbrev pub content_frame : List ℕ → Option CapturedFrame
 content_frame content = read_frame (read_content content)
 
--- the frames whose signal is known, in order
+-- a capture's good frames whose signal is known, in order: the kind of each, and what its information field says
 abbrev pub frames_of : List (List ℕ) → List CapturedFrame
 frames_of contents = filter_map content_frame contents
 
--- how many frames there are whose signal isn't known or can't be read
+-- how many good frames there are beside those: their signal isn't known or can't be read
 abbrev pub others_of : List (List ℕ) → ℕ
 others_of contents = count_by (λ content. is_none (content_frame content)) contents
 
@@ -65,8 +65,8 @@ of_caller frame = record { from = Caller; frame = frame }
 abbrev pub of_answerer : CapturedFrame → LineFrame
 of_answerer frame = record { from = Answerer; frame = frame }
 
--- the frame that is drawn next of those that are left: an answer where it is one, else the caller's; where the caller has none, the
--- answerer's
+-- the frame that is drawn next of those that both stations have left: the answerer's if it is an answer, else the caller's; the answerer's
+-- if the caller has none left
 abbrev pub next_frame : Before → List CapturedFrame → List CapturedFrame → Option LineFrame
 next_frame before [] [] = None
 next_frame before [] (frame ∷ answerer) = Some (of_answerer frame)
@@ -113,11 +113,11 @@ entry_of sent = record {
   refused = false;
 }
 
--- the same as a picture keeps it
+-- what is drawn of a frame, as a picture keeps it
 abbrev pub drawn_of : LineFrame → Entry
 drawn_of sent = drawn_entry (entry_of sent)
 
--- events are those that are drawn of two captures
+-- events are those of the frames of both captures, in the order in which they are drawn, each as a frame that comes
 pub record IsDrawnOf (caller answerer : List CapturedFrame) (entries : List Entry) : Type 0 where
   pub frames : List LineFrame
   pub order : AreInOrder Nothing caller answerer frames

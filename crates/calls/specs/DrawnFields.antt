@@ -35,12 +35,12 @@ speed_name V17At9600 = codes " V.17 9600"
 speed_name V17At12000 = codes " V.17 12000"
 speed_name V17At14400 = codes " V.17 14400"
 
--- their code
+-- the name of a page's code
 abbrev pub code_name : Coding → List ℕ
 code_name OneDim = codes " T.4 "
 code_name T6 = codes " T.6 "
 
--- their lines, where they are fine ones
+-- the word ` fine` if the lines of a page are fine ones
 abbrev pub fine_name : Bool → List ℕ
 fine_name fine = cond fine (codes " fine") []
 

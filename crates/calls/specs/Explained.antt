@@ -18,7 +18,7 @@ signal_said (field.Dcs params) = Some (dcs params)
 signal_said (field.Pps ends page block last) = Some (pps ends page block last)
 signal_said (field.Ppr map) = Some (ppr map)
 
--- the line of what a signal says, as of a frame that is listed, but with no bits that aren't read
+-- the line of what a signal says, as `frames` lists it, without the bits that aren't read
 abbrev pub words_said : Option PlainSignal → List ℕ
 words_said None = []
 words_said (Some signal) = words_of [] signal
@@ -31,7 +31,7 @@ fields_line fields = words_said (signal_said fields)
 abbrev pub explained_line : ℕ → Entry → List ℕ
 explained_line number entry = entry_line number entry ++ fields_line entry.fields
 
--- what a writer of a form has: the lines of a call are known where they are plain
+-- what a writer has whose lines have a form: its lines, which are known only in the plain form, and the octets, which always are
 abbrev pub in_form : ListForm → Written → Written
 in_form Plain written = written
 in_form _ written = record written { lines = None }

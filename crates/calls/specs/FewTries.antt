@@ -26,7 +26,7 @@ abbrev pub met_in : BadLine → Going → Tries → Tries
 met_in line g t =
     let d = fated line (set_in line g) in noted (patience_of line) d.world.to_answerer d.world.to_caller d t
 
--- the tries of a call after this number of first steps
+-- the tries of a call after this number of first steps, counted as `noted` and `tries_after` of `line_sim` do
 abbrev pub tries_gone : ℕ → BadLine → Going → Tries
 tries_gone zero line first = no_tries
 tries_gone (suc made) line first =
@@ -40,15 +40,16 @@ FewTriesGone (suc made) checks line first =
     let met = met_in line (gone made line first) (tries_gone made line first) in
     FewTriesGone made checks line first × (met.bad ≤ 2) × (met.checks ≤ checks)
 
--- the fates that this number of first steps draws, where the answerer is never set
+-- the fates that this number of first steps draws, if the answerer is never set
 abbrev pub fates_drawn : ℕ → BadLine → Going → List Fate
 fates_drawn zero line g = []
 fates_drawn (suc made) line g =
     let rest = fates_drawn made line (next_going line g) in
     cond (is_due line g.call) (fate_of line (pcg32 g.generator).0 ∷ rest) rest
 
--- The call of a number, of a document, has few bad tries in each phase: at most two, and no more spoiled training checks in a group than
--- common speeds are below the first one. At least three DIS come in a wait, and the answerer is never busy.
+-- The call of this number, of a document, has few bad tries: at most two in each phase, and in a group no more spoiled training checks than
+-- common speeds are below the first one. At least three DIS come in a wait, and the answerer is never busy. Such calls are those of
+-- `line_sim::laws::calls_bear`.
 pub record HasFewTries (options : CallOptions) (line : BadLine) (number : ℕ) (document : Document) (made : ℕ) : Type 0 where
   pub patient : 3 ≤ line.calls
   pub ready : line.busy ≡ 0
@@ -56,8 +57,8 @@ pub record HasFewTries (options : CallOptions) (line : BadLine) (number : ℕ) (
 
 -- ---- the laws
 
--- Where the answerer is never busy, a call over a bad line has few bad tries exactly if the driven call of the fates that it draws has, by
--- the definition with which `line_sim::laws::calls_bear` says what a call bears.
+-- The law: if the answerer is never busy, a call over a bad line has few bad tries exactly if the driven call of the fates that it draws
+-- has, by the definition with which `line_sim::laws::calls_bear` says what a call bears.
 abbrev pub FewTriesAreDriven : Type 0
 FewTriesAreDriven =
     (line : BadLine) (document : Document) (wish : Wish) (caps : Caps) (generator : Lcg) (made checks : ℕ) → line.busy ≡ 0 →
@@ -65,8 +66,8 @@ FewTriesAreDriven =
     FewTriesGone made checks line first ↔
     BadTriesAreFew made checks (patience_of line) no_tries (new_driven document wish caps (fates_drawn made line first))
 
--- Both stations of a call agree on each page and its code fits a call: then a call that has few bad tries in each phase ends normally for
--- the caller once it is over, and all pages are stored and confirmed.
+-- The law: if both stations agree on each page and its code fits a call, a call with few bad tries in each phase ends normally for the
+-- caller once it is over, with all pages stored and confirmed.
 abbrev pub FewTriesAreBorne : Type 0
 FewTriesAreBorne =
     (options : CallOptions) (line : BadLine) (number : ℕ) (document : Document) (made : ℕ) → 0 < length document →

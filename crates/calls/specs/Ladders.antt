@@ -23,7 +23,7 @@ abbrev pub entries_from : Entry → ℕ → List Entry
 entries_from entry zero = []
 entries_from entry (suc places) = entries_from entry places ++ entry_after places entry ∷ []
 
--- the events of a row, in order
+-- the events of a row: equal ones, or frames whose numbers follow one another
 abbrev pub entries_of_row : Row → List Entry
 entries_of_row row = entries_from row.entry row.times
 
@@ -31,16 +31,16 @@ entries_of_row row = entries_from row.entry row.times
 abbrev pub entries_of_rows : List Row → List Entry
 entries_of_rows rows = flat_map entries_of_row rows
 
--- events that come this often
+-- these events, as often as a number says
 abbrev pub repeated : List Entry → ℕ → List Entry
 repeated entries zero = []
 repeated entries (suc times) = repeated entries times ++ entries
 
--- the events of a round, each time that it comes
+-- the events of a round of rows, as often as the round comes
 abbrev pub entries_of_round : Round → List Entry
 entries_of_round round = repeated (entries_of_rows round.rows.items) round.times
 
--- the events of rounds, in order
+-- the events of rounds, in order: each round as often as it comes, of rows of equal events or of frames whose numbers follow one another
 abbrev pub entries_of_rounds : List Round → List Entry
 entries_of_rounds rounds = flat_map entries_of_round rounds
 
@@ -57,7 +57,7 @@ feet_of ending = record {
   pages = length ending.pages.items;
 }
 
--- what is drawn of a call: its events, and what it has left, if it is over
+-- what is drawn of a call: its events in order, and what it has left once it is over
 pub record Drawn : Type 0 where
   pub entries : List Entry
   pub feet : Option Feet
@@ -67,6 +67,6 @@ abbrev pub feet_text : Option Feet → List ℕ
 feet_text None = []
 feet_text (Some feet) = caller_line feet.caller_end feet.confirmed ++ answerer_line feet.answerer_end feet.pages
 
--- the lines of what is drawn
+-- the lines of what is drawn, as a transcript has them
 abbrev pub drawn_text : Drawn → List ℕ
 drawn_text drawn = entry_lines 1 drawn.entries ++ feet_text drawn.feet

@@ -40,16 +40,16 @@ check_ticks = ticks_of 1500
 
 -- ---- what is sent
 
--- What comes before an item of a form: the silence of 75 ms between two carriers, of one station or of both, and flags, for 1 s at 300
--- bit/s and for 200 ms at the speed of a page (T.30, 5.3 and Annex A). Each frame at 300 bit/s and each training check has a carrier of
--- its own; frames of a page that follow one another have one together.
+-- What comes before an item of a form, in ticks: 75 ms of silence between two carriers, of one station or of both, and flags, for 1 s at
+-- 300 bit/s and for 200 ms at the speed of a page (T.30, 5.3 and Annex A). Each frame at 300 bit/s and each training check has a carrier of
+-- its own; frames of a page that follow one another share one.
 abbrev pub before_item : Form → Bool → ℕ
 before_item Control page = ticks_of (75 + 1000)
 before_item Page false = ticks_of (75 + 200)
 before_item Page true = 0
 before_item Check page = ticks_of 75
 
--- how long an item of a form and a number of octets lasts, where an octet of a page's frame lasts so long
+-- how long an item of a form and a number of octets lasts, in ticks, if an octet of a page's frame lasts `octet`
 abbrev pub lasting : Form → ℕ → ℕ → ℕ
 lasting Control octets octet = control_octet * octets
 lasting Page octets octet = octet * octets
@@ -71,7 +71,8 @@ is_page _ = false
 abbrev pub new_clock : Clock
 new_clock = record { octet = 0; page = false; ticks = 0 }
 
--- an item of a form and a number of octets is sent
+-- The clock after an item of a form and a number of octets. It lasts what comes before it (75 ms of silence, and 1 s of flags at 300 bit/s
+-- or 200 ms at the speed of a page), and then its octets; a training check lasts 1.5 s, and the page's frames after it have its speed.
 abbrev pub after_item : Form → ℕ → Clock → Clock
 after_item form octets c = record {
   octet = octet_after form octets c.octet;
@@ -79,7 +80,7 @@ after_item form octets c = record {
   ticks = c.ticks + (before_item form c.page + lasting form octets c.octet);
 }
 
--- items that a station sends, one after the other, each with its octets on the line
+-- how long items that a station sends last, one after the other, by the octets of each on the line
 abbrev pub Runs : Side → List PlainItem → Clock → Clock → Type 0
 Runs side [] before after = after ≡ before
 Runs side (item ∷ items) before after =
@@ -91,11 +92,11 @@ abbrev pub clock_to : Side → Clocks → Clock
 clock_to Answerer clocks = clocks.to_answerer
 clock_to Caller clocks = clocks.to_caller
 
--- before anything is sent
+-- the clocks of both directions before anything is sent
 abbrev pub new_clocks : Clocks
 new_clocks = record { to_answerer = new_clock; to_caller = new_clock }
 
--- what is under way to each station after as many items as are counted is sent
+-- to each station, how long the items last that an event has put under way behind as many as were counted before it
 abbrev pub RunsAfter : Counts → Call → Clocks → Clocks → Type 0
 RunsAfter counts call before after =
     (to : Side) → Runs (sender_to to) (drop (count_to to counts) (under_way_to to call)) (clock_to to before) (clock_to to after)
@@ -107,7 +108,8 @@ RunsSteps bad first made clocks =
 
 -- ---- waits
 
--- how long the wait was that is over in an event, in milliseconds: the caller's for an answer is T4
+-- How long the wait was that is over in an event, in milliseconds: T4 of a caller that waits for an answer, its T5, and the answerer's T1
+-- and T2.
 abbrev pub waited_in : Event → ℕ
 waited_in CallerTimeout = wait_millis T4
 waited_in CallerT5 = wait_millis T5
@@ -115,12 +117,13 @@ waited_in AnswererT1 = wait_millis T1
 waited_in AnswererT2 = wait_millis T2
 waited_in _ = 0
 
--- the last wait of a caller that ends with no-answer was for a DIS: T1, so it was longer than T4 by this
+-- The last wait of a caller that ends with NoAnswer was for a DIS: T1, which is longer than T4 by this many milliseconds.
 abbrev pub longer_wait : Option End → ℕ
 longer_wait (Some NoAnswer) = wait_millis T1 - wait_millis T4
 longer_wait _ = 0
 
--- for how many whole seconds a call has the line: what is sent in both directions, and the waits, in milliseconds, by the caller's end
+-- For how many whole seconds a call has the line, rounded down: what is sent in both directions, and the waits that are over (T4 for an
+-- answer, T1 for a DIS, T2, T5 and the answerer's T1), each counted whole.
 abbrev pub seconds_in : Clocks → ℕ → Option End → ℕ
 seconds_in clocks waited ending =
     (clocks.to_answerer.ticks + clocks.to_caller.ticks + ticks_of (waited + longer_wait ending)) / 18000

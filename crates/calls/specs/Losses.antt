@@ -16,18 +16,18 @@ pub record AreDigits (digits : List ℕ) (value : ℕ) : Type 0 where
   pub value_is : value ≡ digits_value 10 digits
   pub most : value ≤ 999999999
 
--- how many of the 2^32 words a part of a whole is, rounded down
+-- how many of the 2^32 words of the generator a part of a whole is, rounded down
 abbrev pub share_of : ℕ → ℕ → ℕ
 share_of part whole = part * 2 ^ 32 / whole
 
--- digits before a % are a rate: a number of 100, and no more
+-- digits before a % are a rate: at most 100 of 100
 pub record IsPercent (digits : List ℕ) (share : ℕ) : Type 0 where
   pub value : ℕ
   pub number : AreDigits digits value
   pub most : value ≤ 100
   pub share_is : share ≡ share_of value 100
 
--- digits on both sides of a / are a rate: a part, and the whole, which is no less and not 0
+-- digits on both sides of a / are a rate: a part, and a whole that is neither 0 nor less than the part
 pub record IsFraction (above below : List ℕ) (share : ℕ) : Type 0 where
   pub part : ℕ
   pub whole : ℕ
@@ -37,21 +37,21 @@ pub record IsFraction (above below : List ℕ) (share : ℕ) : Type 0 where
   pub most : part ≤ whole
   pub share_is : share ≡ share_of part whole
 
--- the text is a rate, as 5% or 1/20: of the generator's 2^32 words as many as the share are below it
+-- The text is a rate, as 5% or 1/20, and `share` is how many of the generator's 2^32 words are below it, rounded down.
 abbrev pub IsRate : List ℕ → ℕ → Type 0
 IsRate text share = ((digits : List ℕ) × (text ≡ digits ++ 37 ∷ []) × IsPercent digits share) ⊎
     ((above : List ℕ) × (below : List ℕ) × (text ≡ above ++ 47 ∷ below) × IsFraction above below share)
 
 -- ---- fates
 
--- what a word of the generator makes of an item: below the share of losses it is lost, else below both shares it is spoiled
+-- what a word of the generator makes of an item: below the share of losses it is lost, else below both shares together it is spoiled
 abbrev pub fate_of : BadLine → ℕ → Fate
 fate_of line word = if nat_lt word line.lose then lost else if nat_lt word (line.lose + line.spoil) then spoiled else comes
 
--- and whether it makes the answerer busy
+-- a word of the generator is below the share of busy words, so it makes the answerer busy
 abbrev pub is_busy_word : BadLine → ℕ → Bool
 is_busy_word line word = nat_lt word line.busy
 
--- the generator of a call: its state is the seed, its stream the number of the call
+-- the generator of a call, pcg32: its state begins with the seed, its stream is the number of the call
 abbrev pub generator_of : BadLine → ℕ → Lcg
 generator_of line number = started 64 multiplier_64 line.seed (increment_of 64 number)

@@ -57,7 +57,7 @@ is_spoiling event.Spoil = true
 is_spoiling _ = false
 
 -- The FCDs that are sent again: those of a burst that answers a PPR. A PPR names the frames of a block that came with an error, and the
--- caller sends these alone again (T.30, Annex A)
+-- caller sends these alone again (T.30, Annex A).
 abbrev pub frames_again : Option Kind → ℕ → ℕ
 frames_again (Some Ppr) fcds = fcds
 frames_again _ fcds = 0
@@ -83,8 +83,8 @@ counts_with a b = record {
   waited = a.waited + b.waited;
 }
 
--- The call at its start was driven until it was over, by the words of its generator, and its events were counted, and how long what it sent
--- lasts, and whether each phase had few bad tries, and as few spoiled checks as are spare.
+-- The call at its start was driven by its generator's words until it was over. Counted are its events, how long what it sent lasts, and if
+-- each phase had few bad tries and each group no more than `spare` spoiled checks.
 pub record CountsAll (bad : BadLine) (spare : ℕ) (first : Going) (new : DrivenFields) (counted : Counted) : Type 0 where
   pub made : ℕ
   pub events : List Event
@@ -104,8 +104,8 @@ pub record EndsSo (call : OneCall) (number : ℕ) (w : World) (counts : CallCoun
   pub pages : call.pages ≡ length w.answerer.pages
   pub counted : call.counts ≡ counts
 
--- The call of a number, of a document: it makes the same steps as where it is driven alone, until it is over. How it ended is what its
--- world has come to, and its events are counted, and for how many seconds it had the line, and whether each phase had few bad tries.
+-- The call of a number, of a document. It makes the same steps as if it ran alone, until it is over. Its result is how it ended, what is
+-- counted of its events, for how many seconds it had the line, and that each phase had few bad tries, or not.
 pub record IsCallOf (options : CallOptions) (bad : BadLine) (number : ℕ) (document : Document) (call : OneCall) : Type 0 where
   pub callable : AreCallable document
   pub made : ℕ
@@ -120,7 +120,7 @@ pub record IsCallOf (options : CallOptions) (bad : BadLine) (number : ℕ) (docu
   pub seconds : call.seconds ≡ seconds_in clocks call.counts.waited call.caller_end
   pub few : IsTrue call.few ↔ HasFewTries options bad number document made
 
--- the images are a document's, and the call of a number, of this document, came to it
+-- the images are a document's, and the call of this number, of that document, came to this result
 pub record IsDrivenTo (options : CallOptions) (bad : BadLine) (number : ℕ) (images : List ℕ) (call : OneCall) : Type 0 where
   pub document : Document
   pub read : AreImages options.fine images document
@@ -144,7 +144,7 @@ abbrev pub counts_words : CallCounts → List ℕ
 counts_words counts = codes " deliveries " ++ (decimal counts.deliveries ++ (codes " lost " ++ (decimal counts.lost
     ++ (codes " spoiled " ++ (decimal counts.spoiled ++ (codes " again " ++ (decimal counts.again ++ 10 ∷ [])))))))
 
--- the line of a call
+-- the line of a call: its number, how it ended for both stations, with the pages confirmed and stored, and what was counted
 abbrev pub one_line : OneCall → List ℕ
 one_line call = ends_words call ++ counts_words call.counts
 
@@ -171,7 +171,7 @@ place_of None = 10
 abbrev pub ended_at : ℕ → List OneCall → ℕ
 ended_at place calls = total (λ call. one_if (nat_eq (place_of call.caller_end) place)) calls
 
--- the row of an end, with how many calls ended so for the caller; none where there is no such call
+-- the row of an end, with how many calls ended so for the caller; no row if there is none
 abbrev pub row_of : End → ℕ → List ℕ
 row_of why count = cond (nat_eq count 0) [] (line (codes "caller" ∷ end_text (Some why) ∷ decimal count ∷ []))
 
@@ -179,15 +179,15 @@ row_of why count = cond (nat_eq count 0) [] (line (codes "caller" ∷ end_text (
 abbrev pub end_row : List OneCall → End → List ℕ
 end_row calls why = row_of why (ended_at (place_of (Some why)) calls)
 
--- two items of a call were lost or training checks of it spoiled, and no more
+-- a call with at most two items lost or training checks spoiled
 abbrev pub is_mild : CallCounts → Bool
 is_mild counts = nat_lt (counts.lost + counts.spoiled) 3
 
--- 1 for such a call
+-- 1 for a call with at most two losses
 abbrev pub mild_in : OneCall → ℕ
 mild_in call = one_if (is_mild call.counts)
 
--- 1 for such a call that ended normally for the caller
+-- 1 for a call with at most two losses that ended normally for the caller
 abbrev pub borne_in : OneCall → ℕ
 borne_in call = cond (nat_eq (place_of call.caller_end) 0) (mild_in call) 0
 
@@ -195,7 +195,7 @@ borne_in call = cond (nat_eq (place_of call.caller_end) 0) (mild_in call) 0
 abbrev pub few_in : OneCall → ℕ
 few_in call = one_if call.few
 
--- 1 for such a call that ended normally for the caller
+-- 1 for a call with few bad tries in each phase that ended normally for the caller
 abbrev pub through_in : OneCall → ℕ
 through_in call = cond (nat_eq (place_of call.caller_end) 0) (few_in call) 0
 
@@ -211,15 +211,16 @@ mild_row mild borne = codes "at-most-two-bad " ++ (decimal mild ++ (codes " norm
 abbrev pub few_row : ℕ → ℕ → List ℕ
 few_row few through = codes "few-bad-tries " ++ (decimal few ++ (codes " normal " ++ (decimal through ++ 10 ∷ [])))
 
--- the table of calls: how many there are, how they ended for the caller, how many bore at most two losses, how many had few bad
--- tries in each phase, and what was counted of all together
+-- The table of calls: how many there are; how many ended how for the caller, with no row for an end of none; how many had at most two
+-- losses, and how many of these ended normally; how many had few bad tries in each phase, and how many of these ended normally; and the
+-- sums of deliveries and of frames sent again.
 abbrev pub table_text : List OneCall → List ℕ
 table_text calls = sum_row (codes "calls") (length calls) ++ (flat_map (end_row calls) all_ends
     ++ (mild_row (total mild_in calls) (total borne_in calls) ++ (few_row (total few_in calls) (total through_in calls)
     ++ (sum_row (codes "deliveries") (total (λ call. call.counts.deliveries) calls)
     ++ sum_row (codes "again") (total (λ call. call.counts.again) calls)))))
 
--- numbers are those of calls
+-- the numbers of the tally are those of these calls
 pub record Tallies (tally : Tally) (calls : List OneCall) : Type 0 where
   pub count : tally.calls ≡ length calls
   pub places : length tally.ended ≡ 11
@@ -235,7 +236,7 @@ pub record Tallies (tally : Tally) (calls : List OneCall) : Type 0 where
 abbrev pub many_text : List OneCall → Shares → List ℕ
 many_text calls shares = flat_map one_line calls ++ (table_text calls ++ seconds_row shares)
 
--- So many calls of the images were driven, numbered from 0, and what was written is the line of each and the table.
+-- So many calls of the images over a bad line were driven, numbered from 0, and what was written is the line of each and the table.
 pub record TellsMany (options : CallOptions) (bad : BadLine) (times : ℕ) (images : List ℕ) (before after : Option (List ℕ)) : Type 0 where
   pub calls : List OneCall
   pub many : length calls ≡ times

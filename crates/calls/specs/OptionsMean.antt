@@ -19,7 +19,7 @@ use Rattle.calls.specs.Calls.{RunsCall, call_world}
 use Rattle.calls.specs.SentBits.{Written}
 use Rattle.calls.specs.declared.options.CallOptions.{CallOptions}
 
--- the bits a second of the first training check between two stations with these modems
+-- the speed in bit/s of the first training check between two stations with these modems
 abbrev pub fastest : Modems → ℕ
 fastest Fallback = 2400
 fastest V27 = 4800
@@ -59,11 +59,11 @@ pub record StartsSo (options : CallOptions) (document : Document) (w : World) : 
   pub document_is : w.caller.document ≡ document
   pub agrees : (width : PageWidth) (fine : Bool) → IsAsAsked options width fine (agreed w.answerer.caps w.caller.wish width fine)
 
--- what each option of a call does
+-- The law: what each option of a call does to what is under way at the start, the DIS in octets, and to what the stations agree on.
 abbrev pub OptionsMean : Type 0
 OptionsMean = (options : CallOptions) (document : Document) → StartsSo options document (call_world options document)
 
--- each page of the document of a call has the lines that the options say
+-- The law: each page read for a call has the lines, fine or not, that the options say.
 abbrev pub LinesAreAsked : Type 0
 LinesAreAsked = (options : CallOptions) (script images : List ℕ) (before after : Written) (pages : List PagePixels)
     → (run : RunsCall options script images before after pages) → AllByRecursion (λ page. page.fine ≡ options.fine) run.document

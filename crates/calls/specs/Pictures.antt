@@ -19,7 +19,7 @@ use Rattle.calls.specs.declared.ladder.Feet.{Feet}
 use Rattle.calls.specs.declared.ladder.Round.{Round}
 use Rattle.calls.specs.declared.ladder.Row.{Row}
 
--- the arrow of an event, of one item or of many; it ends in a cross where they are lost
+-- the arrow of an event, for one item or for many; it ends in a cross if they are lost
 abbrev pub arrow_text : Event → Bool → List ℕ
 arrow_text event.DeliverToAnswerer true = codes "M250 0h280m-9-4l9 4l-9 4"
 arrow_text event.DeliverToAnswerer false = codes "M250-4h266v-4l14 8l-14 8v-4h-266z"
@@ -51,14 +51,14 @@ shape_of (Some kind) event is_one = arrow_text event is_one
 abbrev pub shape_text : Row → List ℕ
 shape_text row = shape_of row.entry.item row.entry.event (nat_eq row.times 1)
 
--- what becomes of an item, where it doesn't come as it was
+-- what becomes of an item that doesn't come as it was sent
 abbrev pub fate_text : Event → List ℕ
 fate_text event.LoseToAnswerer = codes " lost"
 fate_text event.LoseToCaller = codes " lost"
 fate_text event.Spoil = codes " spoiled"
 fate_text _ = []
 
--- what is said where there is no item
+-- the label of an event without an item
 abbrev pub gap_text : Event → List ℕ
 gap_text event.DeliverToAnswerer = codes "nothing under way"
 gap_text event.DeliverToCaller = codes "nothing under way"
@@ -103,7 +103,7 @@ abbrev pub many_text : Option Kind → List ℕ
 many_text (Some (kind.Fcd first)) = codes " frames from "
 many_text _ = codes " times "
 
--- how many items a row has, where it is more than one
+-- how many items a row has, if it is more than one
 abbrev pub times_text : Option Kind → ℕ → List ℕ
 times_text item times = cond (nat_eq times 1) [] (decimal times ++ many_text item)
 
@@ -125,11 +125,11 @@ sends_text joint turn fcds = joint ++ codes "sends " ++ turn_text turn fcds
 abbrev pub side_text : Entry → List ℕ
 side_text entry = own_text entry.event ++ sends_text (joint_text entry.event) entry.turn entry.fcds ++ refused_text entry.refused
 
--- the numbers of the first event of a row and of its last one, where that is another
+-- the numbers of the first event of a row and of its last one, if that is another
 abbrev pub numbers_text : ℕ → ℕ → List ℕ
 numbers_text first last = cond (nat_eq first last) (decimal first) (decimal first ++ codes " to " ++ decimal last)
 
--- how often a round comes, where it is more than once
+-- how often a round comes, if it is more than once
 abbrev pub rounds_word : ℕ → List ℕ
 rounds_word times = cond (nat_eq times 1) [] (decimal times ++ codes " rounds like this")
 
@@ -153,7 +153,7 @@ row_label row = codes "<text class=\"m\" x=\"390\" y=\"-9\">" ++ label_text row 
 unfoldable pub row_side : Entry → List ℕ
 row_side entry = base_text entry.event ++ side_text entry ++ codes "</text></g>\n"
 
--- what is written of a row after its title, where this is the number of its first event
+-- what is written of a row after its title; the number is that of its first event
 unfoldable pub row_words : ℕ → Row → List ℕ
 row_words number row = row_shape (shape_text row) ++ row_numbers number (number + row.times - 1) ++ row_label row ++ row_side row.entry
 
@@ -226,7 +226,7 @@ unfoldable pub style_text : List ℕ
 style_text =
     codes "<title>A fax call</title><style>path{fill:none;stroke:black}.e{text-anchor:end}.m{text-anchor:middle}</style>\n"
 
--- white paper
+-- a rectangle as white paper
 unfoldable pub paper_text : ℕ → List ℕ
 paper_text height = codes "<rect width=\"880\" height=\"" ++ decimal height ++ codes "\" fill=\"white\"/>\n"
 
@@ -294,7 +294,7 @@ answerer_foot feet = answerer_reason (end_text feet.answerer_end) ++ answerer_pa
 unfoldable pub feet_lines : Feet → ℕ → List ℕ
 feet_lines feet height = feet_begin (height + 72) ++ caller_foot feet ++ answerer_foot feet
 
--- where a call is over
+-- what a picture shows of a call that is over
 unfoldable pub end_lines : Option Feet → ℕ → List ℕ
 end_lines None height = []
 end_lines (Some feet) height = feet_lines feet height
@@ -303,13 +303,13 @@ end_lines (Some feet) height = feet_lines feet height
 unfoldable pub last_line : List ℕ
 last_line = codes "</svg>\n"
 
--- the picture of rounds and of what the call has left
+-- the SVG of rounds and of what the call has left
 unfoldable pub picture_text : List Round → Option Feet → List ℕ
 picture_text rounds feet =
     head_text (height_of rounds) ++ rounds_text 72 1 rounds ++ end_lines feet (height_of rounds) ++ last_line
 
--- What was written is a picture of the call: of rounds whose events, each time that they come, are those of the call, each once and in
--- order.
+-- What was written is the SVG of rounds whose events are those of the call, each once and in order, and of what the call has left. A DCS
+-- has beside its name what it sets, and a PPS what ends with its block.
 pub record IsPicture (drawn : Drawn) (before after : Option (List ℕ)) : Type 0 where
   pub rounds : List Round
   pub all : entries_of_rounds rounds ≡ drawn.entries

@@ -16,7 +16,7 @@ use Rattle.calls.specs.declared.script.Command.TheVariants.{Events, Polite}
 
 -- ---- a line
 
--- the word of an event
+-- the word of an event in a script and in the lines of a call
 abbrev pub word_of : Event → List ℕ
 word_of DeliverToAnswerer = codes "to-answerer"
 word_of DeliverToCaller = codes "to-caller"
@@ -42,7 +42,7 @@ pub record IsCount (digits : List ℕ) (count : ℕ) : Type 0 where
 abbrev pub IsCounted : List ℕ → List ℕ → ℕ → Type 0
 IsCounted line word count = (digits : List ℕ) × (line ≡ word ++ 32 ∷ digits) × IsCount digits count
 
--- the line says the command: an event by its word, which is once without a count, or `polite`, which has one
+-- The line says the command: an event by its word, alone, which is once; or a word, one space and a count, which `polite` always has.
 abbrev pub Says : List ℕ → Command → Type 0
 Says line (Events event count) = ((line ≡ word_of event) × (count ≡ 1)) ⊎ IsCounted line (word_of event) count
 Says line (Polite most) = IsCounted line (codes "polite") most
@@ -56,7 +56,7 @@ abbrev pub IsLineOf : List ℕ → Option Command → Type 0
 IsLineOf line None = IsUtf8 line × IsSkipped line
 IsLineOf line (Some command) = IsUtf8 line × Says line command
 
--- the octets are no line of a script
+-- the octets are not a line of a script
 abbrev pub IsNoLine : List ℕ → Type 0
 IsNoLine line = (said : Option Command) → IsLineOf line said → ⊥
 
@@ -71,7 +71,7 @@ abbrev pub ended : List (List ℕ) → List ℕ
 ended [] = []
 ended (line ∷ lines) = line ++ 10 ∷ ended lines
 
--- what a line says, and then other commands
+-- what a line says, followed by other commands
 abbrev pub said_before : Option Command → List Command → List Command
 said_before None commands = commands
 said_before (Some command) commands = command ∷ commands
@@ -84,15 +84,15 @@ LinesSay (line ∷ lines) commands = (said : Option Command) × (rest : List Com
 
 -- ---- a script
 
--- The script says the commands. Each line ends with LF, but the last one need not: what follows the last LF is a line
--- too, and where that is empty, it is skipped.
+-- The lines of the text say the commands, in order. Each line ends with LF, but the last one need not: what follows the last LF is a line
+-- too, and if that is empty, it is skipped.
 pub record IsScript (text : List ℕ) (commands : List Command) : Type 0 where
   pub lines : List (List ℕ)
   pub last : List ℕ
   pub text_is : text ≡ ended lines ++ last
   pub say : LinesSay (lines ++ last ∷ []) commands
 
--- the line of this number, from 1, is the first that is none of a script
+-- the line of this number, counted from 1, is the first that isn't a line of a script
 pub record IsFirstBadLine (text : List ℕ) (number : ℕ) : Type 0 where
   pub before : List (List ℕ)
   pub commands : List Command
@@ -105,7 +105,7 @@ pub record IsFirstBadLine (text : List ℕ) (number : ℕ) : Type 0 where
   pub bad : IsNoLine line
   pub number_is : number ≡ length before + 1
 
--- why a script is refused: memory was refused, or by its first line that is none
+-- why a script is refused: memory (fault 9), or its first line that isn't one
 abbrev pub RefusesScript : List ℕ → ToolFault → Type 0
 RefusesScript text (No number) = number ≡ 9
 RefusesScript text (AtBit number place) = ⊥
@@ -136,19 +136,19 @@ abbrev pub has_tab : List ℕ → Bool
 has_tab octets = nat_lt (position_or_len (λ octet. octet == 9) octets) (length octets)
     || nat_lt (position_or_len (λ octet. octet == 13) octets) (length octets)
 
--- the word that a line begins with: what stands before its first space
+-- the word that a line begins with: all before its first space
 abbrev pub word_in : List ℕ → List ℕ
 word_in line = before_first is_space line
 
--- of a line with a space, nothing stands before its first one, or nothing after it, or another space does
+-- of a line with a space, nothing comes before its first one, or nothing after it, or another space does
 abbrev pub is_badly_spaced : List ℕ → List ℕ → Bool
 is_badly_spaced before after = length before == 0 || (length after == 0 || has_space after)
 
--- a line has a space that doesn't stand alone between two words
+-- a line has a space that isn't alone between two words: two side by side, or one at its beginning or end
 abbrev pub is_wrongly_spaced : List ℕ → Bool
 is_wrongly_spaced line = has_space line && is_badly_spaced (before_first is_space line) (after_first is_space line)
 
--- a line has a tab or a CR, or such a space
+-- a line has a tab or a CR, two spaces side by side, or a space at its beginning or end
 abbrev pub has_wrong_blank : List ℕ → Bool
 has_wrong_blank line = has_tab line || is_wrongly_spaced line
 
@@ -156,14 +156,15 @@ has_wrong_blank line = has_tab line || is_wrongly_spaced line
 abbrev pub IsWord : List ℕ → Type 0
 IsWord word = (word ≡ codes "polite") ⊎ ((event : Event) × (word ≡ word_of event))
 
--- what is wrong with a line that says no command: it isn't UTF-8; else a blank is; else the word that it begins with; else the count
+-- What is wrong with a line that says no command: it isn't UTF-8; else a blank is wrong; else the word that it begins with isn't one of a
+-- script; else the count is wrong.
 abbrev pub IsLineFault : List ℕ → LineFault → Type 0
 IsLineFault line NotUtf8 = ¬ IsUtf8 line
 IsLineFault line Blank = IsUtf8 line × (has_wrong_blank line ≡ true)
 IsLineFault line Word = IsUtf8 line × (has_wrong_blank line ≡ false) × ¬ IsWord (word_in line)
 IsLineFault line Count = IsUtf8 line × (has_wrong_blank line ≡ false) × IsWord (word_in line)
 
--- the line of this number, from 1
+-- the line of this number of a text, counted from 1
 pub record IsLineAt (text : List ℕ) (number : ℕ) (line : List ℕ) : Type 0 where
   pub before : List (List ℕ)
   pub rest : List ℕ

@@ -14,12 +14,12 @@ use Rattle.calls.specs.declared.script.Command.TheVariants.{Events, Polite}
 
 -- ---- words
 
--- a word is an event's, and an event of this word does this to a call in which no memory is refused
+-- a word is an event's, and that event does this to a call in which no memory is refused
 pub record Does (word : List ℕ) (what : World → World) : Type 0 where
   pub some : (event : Event) × (word_of event ≡ word)
   pub each : (event : Event) (w : World) → word_of event ≡ word → happens w event Done ≡ what w
 
--- what each word does to a call
+-- The law: what each of the eleven words of a script does to a call.
 pub record WordsDo : Type 0 where
   -- the first item under way comes, or is lost, or all octets of a training check there become FF
   pub to_answerer : Does (codes "to-answerer") (λ w. delivers_to_answerer w Done w.to_answerer)
@@ -38,7 +38,7 @@ pub record WordsDo : Type 0 where
 
 -- ---- numbers
 
--- how often an event happens, and how many deliveries a polite run has at most
+-- The law: which numbers a script can have, 1 to 1,000,000; how often an event happens, and how many deliveries a polite run has at most.
 pub record CountsMean : Type 0 where
   -- an event without a number happens once, and `polite` has one
   pub once : (event : Event) (command : Command) → Says (word_of event) command ↔ (command ≡ Events event 1)
@@ -58,13 +58,14 @@ pub record MakesEvents (event : Event) (count : ℕ) (steps : Steps) : Type 0 wh
   pub number : length steps ≡ count
   pub same : AllByRecursion (λ step. step.0 ≡ event) steps
 
--- what the steps of a command with a number are
+-- The law: an event with a number happens as often as the number says, and nothing else happens.
 abbrev pub CountsMake : Type 0
 CountsMake = (event : Event) (count : ℕ) (w : World) (steps : Steps) → Makes (Events event count) w steps → MakesEvents event count steps
 
 -- ---- lines
 
--- what a line adds to a script before which it stands, and which line is the first that is none
+-- The law: what an empty line, a comment, a line that says a command and a line that is refused make of the script after them, and which
+-- line is the first bad one.
 pub record LinesMean : Type 0 where
   -- nothing, and a line without a LF, are scripts
   pub nothing : IsScript [] []

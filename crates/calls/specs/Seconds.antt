@@ -17,8 +17,7 @@ over_before seconds calls = total (λ call. one_if (nat_lt (counted_seconds call
 abbrev pub over_at : ℕ → List OneCall → ℕ
 over_at seconds calls = total (λ call. one_if (nat_eq (counted_seconds call) seconds)) calls
 
--- So many of a hundred calls had the line for this number of whole seconds or fewer, and for no fewer is it so: with 50 this is the
--- median, with 100 the greatest.
+-- The least number of whole seconds within which a share of the calls, of a hundred, was over: with 50 the median, with 100 the greatest.
 pub record IsShare (share : ℕ) (calls : List OneCall) (seconds : ℕ) : Type 0 where
   pub enough : share * length calls ≤ 100 * over_before (seconds + 1) calls
   pub least : (fewer : ℕ) → fewer < seconds → 100 * over_before (fewer + 1) calls < share * length calls
@@ -28,7 +27,7 @@ pub record Histogram : Type 0 where
   pub calls : ℕ
   pub counts : List ℕ
 
--- numbers are those of calls
+-- the counts are those of these calls: how many had the line for each number of seconds
 pub record CountsSeconds (h : Histogram) (calls : List OneCall) : Type 0 where
   pub count : h.calls ≡ length calls
   pub at : (seconds : ℕ) → seconds < 86401 → slice_index h.counts seconds ≡ over_at seconds calls
@@ -39,13 +38,13 @@ pub record Shares : Type 0 where
   pub most : ℕ
   pub greatest : ℕ
 
--- they are the median of calls, those within which 95 of a hundred were over, and the greatest
+-- the median of the calls' seconds, the seconds within which 95 of a hundred were over, and the greatest
 pub record AreShares (shares : Shares) (calls : List OneCall) : Type 0 where
   pub median : IsShare 50 calls shares.median
   pub most : IsShare 95 calls shares.most
   pub greatest : IsShare 100 calls shares.greatest
 
--- the row of seconds
+-- the row of the median, of 95 of a hundred, and of the greatest, in seconds
 abbrev pub seconds_row : Shares → List ℕ
 seconds_row shares = codes "seconds median " ++ (decimal shares.median ++ (codes " 95% " ++ (decimal shares.most
     ++ (codes " greatest " ++ (decimal shares.greatest ++ 10 ∷ [])))))

@@ -12,17 +12,17 @@ use Rattle.line_sim.specs.declared.call.Call.{Call}
 use Rattle.line_sim.specs.declared.event.Event.{Event}
 use Rattle.calls.specs.declared.counts.Counts.{Counts}
 
--- what the writers of a call have, where they tell it: the lines of its events, and the octets that were sent to each station
+-- what the writers of a call have, if they say it: the lines of its events, and the octets that were sent to each station
 pub record Written : Type 0 where
   pub lines : Option (List ℕ)
   pub to_answerer : Option (List ℕ)
   pub to_caller : Option (List ℕ)
 
--- a writer of lines alone
+-- a writer of lines alone, which takes no octets
 abbrev pub lines_alone : Option (List ℕ) → Written
 lines_alone lines = record { lines = lines; to_answerer = None; to_caller = None }
 
--- a writer of lines, and one of the octets to each station
+-- three writers: one of lines, and one of the octets to each station
 abbrev pub lines_and_bits : Option (List ℕ) → Option (List ℕ) → Option (List ℕ) → Written
 lines_and_bits lines to_answerer to_caller = record { lines = lines; to_answerer = to_answerer; to_caller = to_caller }
 
@@ -37,12 +37,12 @@ only_to Answerer Answerer octets = octets
 only_to Caller Caller octets = octets
 only_to _ _ octets = []
 
--- the lines grow by some octets, and nothing is sent
+-- the lines grow by a text, and no octets are sent
 pub record WritesLines (before after : Written) (octets : List ℕ) : Type 0 where
   pub lines : Appends before.lines after.lines octets
   pub sent : (side : Side) → bits_to side after ≡ bits_to side before
 
--- octets are sent to a station, and no line is written
+-- octets are sent to one station, and nothing else is written
 pub record WritesOctets (to : Side) (before after : Written) (octets : List ℕ) : Type 0 where
   pub lines : after.lines ≡ before.lines
   pub sent : (side : Side) → Appends (bits_to side before) (bits_to side after) (only_to to side octets)
@@ -58,7 +58,7 @@ abbrev pub WritesItems : Side → List PlainItem → Written → Written → Typ
 WritesItems to items before after =
     (octets : List ℕ) × AreItems (sender_to to) octets items × Appends (bits_to to before) (bits_to to after) octets
 
--- the same, and nothing else was written
+-- the octets of items that are sent to a station were written, and nothing else
 pub record WritesTo (to : Side) (items : List PlainItem) (before after : Written) : Type 0 where
   pub lines : after.lines ≡ before.lines
   pub octets : List ℕ
@@ -75,8 +75,8 @@ pub record WritesAfter (counts : Counts) (call : Call) (before after : Written) 
   pub lines : after.lines ≡ before.lines
   pub sent : (to : Side) → WritesItems to (drop (count_to to counts) (under_way_to to call)) before after
 
--- What steps send to a station, one after the other: what the other station sends at each event, or where a growth was refused the first
--- of it, or nothing.
+-- What steps send to a station, one after the other: what the other station sends at each event; if a growth was refused, the first items
+-- of that, or nothing.
 abbrev pub AreSent : Side → List (Event × Outcome) → World → List PlainItem → Type 0
 AreSent to [] w items = items ≡ []
 AreSent to (step ∷ steps) w items =
@@ -92,7 +92,7 @@ abbrev pub on_way_to : Side → World → List PlainItem
 on_way_to Answerer w = w.to_answerer
 on_way_to Caller w = w.to_caller
 
--- the octets of what is under way to a station at the start, and then of what steps send to it, were written
+-- the octets of what is under way to a station at the start, and then of what each event sends to it, were written
 abbrev pub WritesCall : Side → List (Event × Outcome) → World → Written → Written → Type 0
 WritesCall to steps w before after =
     (items : List PlainItem) × AreSent to steps w items × WritesItems to (on_way_to to w ++ items) before after

@@ -6,7 +6,7 @@ abbrev pub total : {A : Type 0} → (A → ℕ) → List A → ℕ
 total of [] = 0
 total of (x ∷ xs) = of x + total of xs
 
--- one, where something is so
+-- 1 if true, 0 if false
 abbrev pub one_if : Bool → ℕ
 one_if true = 1
 one_if false = 0

@@ -14,7 +14,7 @@ use Rattle.line_sim.specs.declared.live.Ending.{Ending}
 use Rattle.captures.specs.Frames.{line}
 use Rattle.calls.specs.Scripts.{word_of}
 
--- what was delivered or lost; an FCD with the number of its frame
+-- the word of the item that was delivered or lost, `-` if there is none; an FCD with the number of its frame
 abbrev pub item_text : Option Kind → List ℕ
 item_text None = codes "-"
 item_text (Some kind.Dis) = codes "DIS"
@@ -31,7 +31,7 @@ item_text (Some kind.Rnr) = codes "RNR"
 item_text (Some kind.Rr) = codes "RR"
 item_text (Some kind.Dcn) = codes "DCN"
 
--- what was transmitted: DCS comes with its training check; a burst with the number of its FCDs
+-- the word of the turn that was transmitted, `-` if there is none: DCS goes with its training check; a burst with the number of its FCDs
 abbrev pub turn_text : Turn → ℕ → List ℕ
 turn_text turn.Silent fcds = codes "-"
 turn_text turn.Dis fcds = codes "DIS"
@@ -46,7 +46,7 @@ turn_text turn.Rnr fcds = codes "RNR"
 turn_text turn.Rr fcds = codes "RR"
 turn_text turn.Dcn fcds = codes "DCN"
 
--- why a call ended for a station
+-- the word of why a call ended for a station, or `running`
 abbrev pub end_text : Option End → List ℕ
 end_text None = codes "running"
 end_text (Some end.Normal) = codes "normal"
@@ -65,7 +65,8 @@ abbrev pub refusal_words : Bool → List (List ℕ)
 refusal_words true = codes "!" ∷ []
 refusal_words false = []
 
--- the line of an event: its number, its word, the item, the turn, and whether a growth was refused
+-- the line of an event: its number, counted from 1, its word, the item that it delivered or lost, the turn of the station that it acted on,
+-- and ` !` if a growth was refused
 abbrev pub entry_line : ℕ → Entry → List ℕ
 entry_line number entry = line (decimal number ∷ word_of entry.event ∷ item_text entry.item ∷ turn_text entry.turn entry.fcds
     ∷ refusal_words entry.refused)
@@ -83,16 +84,16 @@ caller_line ending confirmed = line (codes "caller" ∷ end_text ending ∷ code
 abbrev pub answerer_line : Option End → ℕ → List ℕ
 answerer_line ending pages = line (codes "answerer" ∷ end_text ending ∷ codes "pages" ∷ decimal pages ∷ [])
 
--- what a call leaves
+-- what a call leaves, a line for each station: how the call ended for it, and how many pages it has confirmed or stored
 abbrev pub ending_text : Ending → List ℕ
 ending_text ending = caller_line ending.caller_end ending.confirmed ++ answerer_line ending.answerer_end (length ending.pages.items)
 
--- a line for each event, numbered from 1, and what has become of the call
+-- the text of a call: a line for each entry, numbered from 1, and what the call leaves
 abbrev pub call_text : List Entry → Ending → List ℕ
 call_text noted ending = entry_lines 1 noted ++ ending_text ending
 
--- written-out lines of events: a burst, an FCD that came where memory was refused, a PPS that was answered by PPR; and the words
--- of the ends that no call of a script has
+-- The law: the lines of three events, written out (a burst, an FCD that came when memory was refused, a PPS answered by PPR), and the words
+-- of the three ends that no call of a script has.
 pub record ArePrintedLines : Type 0 where
   pub burst : (map : List ℕ)
       → entry_line 0 (record { event = DeliverToCaller; item = Some kind.Cfr; fields = field.Nothing; turn = turn.Burst map; fcds = 256; refused = false })

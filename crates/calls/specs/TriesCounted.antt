@@ -41,7 +41,7 @@ is_mcf_in [] = false
 is_mcf_in (entry ∷ []) = is_mcf entry.event entry.item
 is_mcf_in (first ∷ entry ∷ rest) = false
 
--- how much is under way in a world, and whether its caller is sending a block
+-- how much is under way in a world, and if its caller is sending a block
 abbrev pub stood_in : World → Stood
 stood_in w = record {
   counts = record { to_answerer = length w.to_answerer; to_caller = length w.to_caller };
@@ -73,7 +73,7 @@ met_by spare noted t =
 abbrev pub first_try : Bool → TryCounts
 first_try few = record { bad = 0; now = false; checks = 0; few = few }
 
--- the counts in the same phase, where a try begins or not
+-- the counts in a phase that goes on, with or without a new try
 abbrev pub goes_on : Bool → TryCounts → TryCounts
 goes_on again t = record { bad = t.bad; now = t.now && not again; checks = t.checks; few = t.few }
 

@@ -1,4 +1,4 @@
-//! Whether two events are the same.
+//! Compares two events.
 
 ghost use Rattle.std.specs.Prelude.{◌≡◌, IsTrue};
 
@@ -120,7 +120,7 @@ fn same_end(ends: PageEnd, other: PageEnd) -> bool
     }
 }
 
-/// Whether fields are the same, as they are drawn: those of others than a DCS and a PPS aren't.
+/// True if fields are drawn alike; false for fields other than those of a DCS and a PPS.
 fn same_fields(fields: Fields, other: Fields) -> bool
     ensures { IsTrue result → fields ≡ other }
 {
@@ -171,7 +171,7 @@ fn same_turn(turn: Turn, other: Turn) -> bool
     }
 }
 
-/// Whether two events are the same, with all that is shown of them.
+/// True if two events are the same, with all that is shown of them.
 pub(crate) fn same_entry(entry: &Entry, other: &Entry) -> bool
     ensures { IsTrue result → entry.now ≡ other.now }
 {

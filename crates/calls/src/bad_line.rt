@@ -1,4 +1,4 @@
-//! What `call --lose` does: it runs a call of a document over a bad line, over any reader and any writer.
+//! Runs a call of a document over a bad line, for `call --lose`, over any reader and any writer.
 
 ghost use Rattle.calls.specs.BadLines.{Draws, DrivesCall, Going, IsSet, LeavesDriven, RefusesDriven, Stands, TellsAll, entry_if};
 ghost use Rattle.calls.specs.BadLines.{LeavesAfter, is_marked, patience_of};
@@ -26,10 +26,10 @@ use signals::Wish;
 use std::alloc::Global;
 use std::io::Read;
 
-/// How many RNRs may come for a block: T5, 60 s, is over after 20 exchanges of RNR and RR, of some 3 s each.
+/// How many RNRs may come for a block: T5, 60 s, is over after 20 exchanges of RNR and RR, of some 3 s each at 300 bit/s.
 const MOST_RNRS: u64 = 20;
 
-/// How patient the stations of a call over a bad line are.
+/// The retry limits of a call over a bad line.
 pub(crate) fn patience_of(line: &BadLine) -> Patience
     ensures { plain_patience result ≡ patience_of line.now }
 {
@@ -39,8 +39,8 @@ pub(crate) fn patience_of(line: &BadLine) -> Patience
     }
 }
 
-/// Sets the answerer busy or ready, as the next word of the generator has it, where a PPS or an RR is first under way to it and it
-/// may be busy at all. Answers the event's entry.
+/// Sets the answerer busy or ready by the generator's next word, if a PPS or an RR is first under way to it and the line makes it busy at
+/// all. Returns the event's entry.
 pub(crate) fn set_answerer(
     call: &mut DrivenCall,
     line: &BadLine,
@@ -58,7 +58,7 @@ pub(crate) fn set_answerer(
     Some(call.set_busy(busy))
 }
 
-/// Makes the next step of a call, by a fate of the generator where one is due.
+/// Makes the next step of a call, by a fate of the generator if one is due.
 pub(crate) fn next_step(
     call: &mut DrivenCall,
     line: &BadLine,
@@ -73,8 +73,8 @@ pub(crate) fn next_step(
     call.step(Fate::Comes)
 }
 
-/// Writes the line of an entry with a number, after which the next one comes. Errs with 8 where the writer fails or no number is
-/// left, and with 9.
+/// Writes the line of an entry with a number, which is then the next one. Errs with `FAILED` (8) if the writer fails or no number is left,
+/// and with `NO_MEMORY`.
 fn tell_entry<T: CallWriter>(
     entry: &Entry,
     number: &mut u64,
@@ -102,8 +102,8 @@ fn tell_step<T: CallWriter>(step: &Step, number: &mut u64, writer: &mut T) -> Re
     tell_entry(&step.entry, number, writer)
 }
 
-/// Writes the line of an entry, if there is one. Errs with 8 where the writer fails or no number is left, and with 9, after the line where
-/// a growth was refused.
+/// Writes the line of an entry, if there is one. Errs with `FAILED` (8) if the writer fails or no number is left, and with `NO_MEMORY`,
+/// after the line, if a growth was refused.
 fn tell_set<T: CallWriter>(
     set: Option<Entry>,
     number: &mut u64,
@@ -124,8 +124,8 @@ fn tell_set<T: CallWriter>(
     Ok(())
 }
 
-/// Makes the steps of a call until it is over, by the words of the generator, and writes the lines of each as it is made, and what
-/// it has put under way. Errs with 9 after the lines of a step in which a growth was refused.
+/// Makes the steps of a call until it is over, by the generator's words, and writes the lines of each as it is made, and the octets that it
+/// has put under way. Errs with `NO_MEMORY` after the lines of a step in which a growth was refused.
 fn follow_fates<T: CallWriter>(
     call: &mut DrivenCall,
     line: &BadLine,
@@ -146,6 +146,7 @@ fn follow_fates<T: CallWriter>(
         };
         tell_step(&step, &mut number, writer)?;
         write_sent(call.live(), counts, writer)?;
+        // What would come after a refused growth is no call by its fates.
         if step.entry.refused {
             return Err(NO_MEMORY);
         }
@@ -153,8 +154,8 @@ fn follow_fates<T: CallWriter>(
     Err(FAILED)
 }
 
-/// Runs the call of a number, of a document, over a bad line, writes the line of each event as it happens, and then how the call
-/// ended, and answers what it leaves.
+/// Runs the call of a number, of a document, over a bad line, writes the line of each event as it happens, and then how the call ended, and
+/// returns what it leaves.
 fn tell_driven<T: CallWriter>(
     alloc: Global,
     document: Document,
@@ -189,15 +190,14 @@ fn tell_driven<T: CallWriter>(
     Ok(ending)
 }
 
-/// Reads a document's images and runs the call of a number over a bad line between a caller that has the document and an answerer that
-/// can take it, until it is over. Each item under way comes, is lost or is spoiled, as the next word of the generator says,
-/// PCG-XSH-RR of 64 bits of state and 32 bits a word, which begins with the seed and has the number as its stream; where the line makes the
-/// answerer busy, the word before that of a PPS or an RR says whether it is. Writes the line of each event as it happens, of which it keeps
-/// none, and then what has become of the call, and answers what it leaves: the pages that the answerer has stored, and how the call ended
-/// for each station. A `WithBits` gets the octets of what each station sends too, also of what is lost, the answerer's DIS first.
-/// Errs with the first fault of the images; with 26 where the width of a page is none that a call can have; with 8 where the reader or
-/// the writer fails or there are 2^64 events; and with 9, after its line, where a growth was refused in an event. With any fault but
-/// 8 and 9 nothing is written.
+/// Reads a document's images and runs the call of this number over a bad line, between a caller that has the document and an answerer that
+/// can take it, until it is over. Each item under way comes, is lost or is spoiled, as the generator's next word says (PCG-XSH-RR of 64
+/// bits of state and 32 bits a word, whose state begins with the seed and whose stream is the number); if the line makes the answerer busy,
+/// the word before that of a PPS or an RR says if it is. Writes the line of each event as it happens, keeping none, and then how the call
+/// ended. Returns what it leaves: the pages stored, and how the call ended for each station; both are safe, as the headline says. A
+/// `WithBits` gets the octets of what each station sends too, also of what is lost, the answerer's DIS first. Errs with the first fault of
+/// the images; with 26 if no call can have the width of a page; with `FAILED` (8) if the reader or the writer fails or there are 2^64
+/// events; and with `NO_MEMORY` (9), after its line, if a growth was refused in an event. With any fault but 8 and 9 nothing is written.
 pub fn drive_to_end<R: Read, T: CallWriter>(
     alloc: Global,
     input: &mut R,
@@ -217,7 +217,7 @@ pub fn drive_to_end<R: Read, T: CallWriter>(
     Ok(ending)
 }
 
-/// Does what `drive_to_end` does, and answers the pages that the answerer has stored alone.
+/// Does what `drive_to_end` does, and returns only the pages stored.
 pub fn drive_engine<R: Read, T: CallWriter>(
     alloc: Global,
     input: &mut R,

@@ -1,4 +1,4 @@
-//! What `call` does: it runs a call of a document by a script, over any readers and any writer.
+//! Runs a call of a document by a script, for the command `call`, over any readers and any writer.
 
 ghost use Rattle.calls.specs.Calls.{HaveRows, IsAtLine, IsBadScript, LeavesCall, LeavesTold, RefusesCall, RunsCall, TellsCommand};
 ghost use Rattle.calls.specs.Calls.{TellsCommands, TellsEvent, TellsNext, answerer_caps};
@@ -33,8 +33,8 @@ pub(crate) fn fault_of(fault: WorldFault) -> ToolFault
     ToolFault::No(fault.number())
 }
 
-/// The answerer of a call: with these modems, it takes pages of each width, of fine lines too, in each
-/// code, with error correction.
+/// What the answerer of a call can do: with these modems, it takes pages of each width, fine lines too, in each code, with error
+/// correction.
 pub(crate) fn answerer_caps(modems: Modems) -> Caps
     ensures { result ≡ answerer_caps modems }
 {
@@ -48,7 +48,7 @@ pub(crate) fn answerer_caps(modems: Modems) -> Caps
     }
 }
 
-/// The number of the line after the one with this number. Errs with 8 where it would be 2^64.
+/// The number of the next line. Errs with `FAILED` (8) if it would be 2^64.
 pub(crate) fn after(number: u64) -> Result<u64, ToolFault>
     ensures next { IfOk result (λ next. next ≡ number + 1) }
     ensures fault { IfErr result IsOutside }
@@ -56,9 +56,9 @@ pub(crate) fn after(number: u64) -> Result<u64, ToolFault>
     number.checked_add(1).ok_or(FAILED)
 }
 
-/// A call is given an event, and the line of its entry is written with a number, after which the next one
-/// comes, and what it has put under way. Answers whether a growth was refused in the event. Errs with 8 where
-/// the writer fails or no number is left, and with 9.
+/// Gives a call an event, writes the line of its entry with a number, which is then the next one, and the octets that it has put under way.
+/// Returns true if a growth was refused in the event. Errs with `FAILED` (8) if the writer fails or no number is left, and with
+/// `NO_MEMORY`.
 fn tell<T: CallWriter>(
     live: &mut LiveCall,
     event: Event,
@@ -71,13 +71,14 @@ fn tell<T: CallWriter>(
 {
     let counts = Counts::of(live);
     let entry = live.event(event);
+    // Lines aren't flushed one by one: the writer decides how many are seen at once.
     writer.entry(*number, &entry)?;
     write_sent(live, counts, writer)?;
     *number = after(*number)?;
     Ok(entry.refused)
 }
 
-/// A call is given an event `count` times, whatever becomes of each, with the line of each.
+/// Gives a call an event `count` times, whatever becomes of each, and writes the line of each.
 fn repeat<T: CallWriter>(
     live: &mut LiveCall,
     event: Event,
@@ -95,8 +96,8 @@ fn repeat<T: CallWriter>(
     Ok(())
 }
 
-/// The next delivery comes, if there is one; between groups the answerer sends its DIS again, which comes.
-/// Answers whether there was one and no growth was refused in it; a refused event is the last one.
+/// Makes the next delivery, if there is one; between groups the answerer sends its DIS again, and that comes. Returns true if there was one
+/// and no growth was refused in it; a refused event is the last one.
 fn deliver_next<T: CallWriter>(
     live: &mut LiveCall,
     number: &mut u64,
@@ -123,7 +124,7 @@ fn deliver_next<T: CallWriter>(
     }
 }
 
-/// A call is given deliveries, `most` at most, up to the first that is refused, with the line of each event.
+/// Makes deliveries, at most `most`, up to the first that is refused, and writes the line of each event.
 fn politely<T: CallWriter>(
     live: &mut LiveCall,
     most: u64,
@@ -143,7 +144,7 @@ fn politely<T: CallWriter>(
     Ok(())
 }
 
-/// A call is given a command, with the line of each event.
+/// Gives a call a command, and writes the line of each event.
 fn follow<T: CallWriter>(
     live: &mut LiveCall,
     command: Command,
@@ -160,7 +161,7 @@ fn follow<T: CallWriter>(
     }
 }
 
-/// A call is given commands, one after the other, with the line of each event.
+/// Gives a call commands, in order, and writes the line of each event.
 fn follow_all<T: CallWriter>(
     live: &mut LiveCall,
     commands: &[Command],
@@ -177,9 +178,9 @@ fn follow_all<T: CallWriter>(
     Ok(())
 }
 
-/// Runs a call of a document by commands, writes the line of each event as it happens, and then how the call
-/// ended, and answers what it leaves. Errs with 26 where the width of a page is none that a call can have,
-/// with 8 where the writer fails, and with 9; with 26 nothing is written.
+/// Runs a call of a document by commands, writes the line of each event as it happens, and then how the call ended, and returns what it
+/// leaves. Errs with 26 if no call can have the width of a page (nothing is written then), with `FAILED` (8) if the writer fails, and with
+/// `NO_MEMORY` (9).
 fn tell_call<T: CallWriter>(
     alloc: Global,
     document: Document,
@@ -212,8 +213,7 @@ fn tell_call<T: CallWriter>(
     Ok(ending)
 }
 
-/// Reads a script. Errs with 30 at its first line that isn't one, with 8 where the reader fails, and
-/// with 9.
+/// Reads a script. Errs with `AtLine` (30) at its first line that isn't one, with `FAILED` (8) if the reader fails, and with `NO_MEMORY`.
 fn read_commands<S: Read>(alloc: Global, script: &mut S) -> Result<Vec<Command>, ToolFault>
     ensures said { IfOk result (λ commands. IfSome (S.remaining script.old) (λ said. IsScript said commands.items)) }
     ensures refused { IfErr result (λ fault. IfSome (S.remaining script.old) (λ said. IsOutside fault ⊎ IsBadScript said fault)) }
@@ -223,15 +223,13 @@ fn read_commands<S: Read>(alloc: Global, script: &mut S) -> Result<Vec<Command>,
     read_script(alloc, &said)
 }
 
-/// Reads a script and then a document's images, and runs the call that the script says between a caller
-/// that has the document and an answerer that can take it. Writes the line of each event as it happens, of
-/// which it keeps none, and then what has become of the call, and answers what it leaves: the pages that the
-/// answerer has stored, and how the call ended for each station. A `WithBits` gets the octets of what each station
-/// sends too, the answerer's DIS first. Errs with 30 at the line of the script that is refused, before it reads
-/// images; with the first fault of the images; with 26 where the width of a page is none that a call can have; with
-/// 8 where a reader or the writer fails or there are 2^64 events; and with 9. With any fault but these two nothing is
-/// written; where the writer fails, the call ends after the lines that it took. A growth that is refused while the
-/// call runs is no fault: its line shows it.
+/// Reads a script and then a document's images, and runs the call that the script says between a caller that has the document and an
+/// answerer that can take it. Writes the line of each event as it happens, keeping none, and then how the call ended. Returns what it
+/// leaves: the pages stored, and how the call ended for each station; both are safe, as the headline says. A `WithBits` gets the octets of
+/// what each station sends too, the answerer's DIS first. Errs with `AtLine` (30) at the script's first bad line, before an image is read;
+/// with the first fault of the images; with 26 if no call can have the width of a page; with `FAILED` (8) if a reader or the writer fails
+/// or there are 2^64 events; and with `NO_MEMORY` (9). With any fault but 8 and 9 nothing is written; if the writer fails, the call ends
+/// after the lines that it took. A growth that is refused while the call runs is no fault: its line shows it.
 pub fn call_to_end<S: Read, R: Read, T: CallWriter>(
     alloc: Global,
     script: &mut S,
@@ -253,7 +251,7 @@ pub fn call_to_end<S: Read, R: Read, T: CallWriter>(
     Ok(ending)
 }
 
-/// Does what `call_to_end` does, and answers the pages that the answerer has stored alone.
+/// Does what `call_to_end` does, and returns only the pages stored.
 pub fn call_engine<S: Read, R: Read, T: CallWriter>(
     alloc: Global,
     script: &mut S,

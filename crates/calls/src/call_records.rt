@@ -52,7 +52,7 @@ fn sends_value(alloc: Global, turn: Turn, fcds: u16) -> Result<Option<Value>, Al
     Ok(Some(Value::String(text)))
 }
 
-/// That a growth was refused, where one was.
+/// That a growth was refused, if one was.
 fn refused_value(refused: bool) -> Option<Value>
     ensures { option_map view result ≡ refused_data refused }
 {
@@ -63,7 +63,7 @@ fn refused_value(refused: bool) -> Option<Value>
     }
 }
 
-/// Puts a member into an object, where there is a value for it.
+/// Puts a member into an object, if there is a value for it.
 fn put_if(
     map: &mut Map<String, Value>,
     alloc: Global,
@@ -110,7 +110,7 @@ fn answerer_record(alloc: Global, ending: Option<End>, pages: usize) -> Result<V
     json!(in alloc; {"station": "answerer", "end": end_word(ending), "pages": pages})
 }
 
-/// Writes the record of an event as a line. Errs with 8 where the writer fails, and with 9.
+/// Writes the record of an event as a line. Errs with `FAILED` (8) if the writer fails, and with `NO_MEMORY`.
 pub(crate) fn write_entry_record<W: Write>(
     alloc: Global,
     number: u64,
@@ -125,7 +125,7 @@ pub(crate) fn write_entry_record<W: Write>(
     write_record(alloc, &record, writer)
 }
 
-/// Writes the record of how a call ended for the caller as a line. Errs with 8 where the writer fails, and with 9.
+/// Writes the record of how a call ended for the caller as a line. Errs with `FAILED` (8) if the writer fails, and with `NO_MEMORY`.
 fn write_caller<W: Write>(
     alloc: Global,
     ending: Option<End>,
@@ -139,7 +139,7 @@ fn write_caller<W: Write>(
     write_record(alloc, &record, writer)
 }
 
-/// Writes the record of how a call ended for the answerer as a line. Errs with 8 where the writer fails, and with 9.
+/// Writes the record of how a call ended for the answerer as a line. Errs with `FAILED` (8) if the writer fails, and with `NO_MEMORY`.
 fn write_answerer<W: Write>(
     alloc: Global,
     ending: Option<End>,
@@ -153,8 +153,8 @@ fn write_answerer<W: Write>(
     write_record(alloc, &record, writer)
 }
 
-/// Writes the records of what a call leaves as lines: how it ended for the caller, and for the answerer, with their pages. Errs with 8
-/// where the writer fails, and with 9.
+/// Writes the records of what a call leaves as lines: how it ended for the caller, and for the answerer, with their pages. Errs with
+/// `FAILED` (8) if the writer fails, and with `NO_MEMORY`.
 pub(crate) fn write_ending_records<W: Write>(
     alloc: Global,
     ending: &Ending,

@@ -1,4 +1,4 @@
-//! What a call is written to: its lines, and where they are wanted the octets that are sent on the line.
+//! Writers of a call: of its lines, and if wanted of the octets on the line.
 
 ghost use Rattle.faults.specs.Faults.{IsOutside};
 ghost use Rattle.calls.specs.SentBits.{Written, WritesLines, WritesOctets};
@@ -11,21 +11,22 @@ use line_sim::{Ending, Entry};
 use signals::Side;
 use std::io::Write;
 
-/// What a call is written to. A writer takes its lines alone, and `WithBits` the octets on the line too.
+/// What a call is written to. A plain writer takes its lines alone, and `WithBits` the octets on the line too. A line changes nothing of
+/// the octets, and octets of one direction change nothing of the lines and of the other direction.
 pub trait CallWriter {
     ghost written: { Self → Written };
 
-    /// Writes the line of an event, with its number. Errs with 8 where the writer fails, and with 9.
+    /// Writes the line of an event, with its number. Errs with `FAILED` (8) if the writer fails, and with `NO_MEMORY`.
     fn entry(&mut self, number: u64, entry: &Entry) -> Result<(), ToolFault>
         ensures line { OnOk result (WritesLines (written self.old) (written self.new) (entry_line number entry.now)) }
         ensures fault { IfErr result IsOutside };
 
-    /// Writes how a call ended. Errs with 8 where the writer fails, and with 9.
+    /// Writes how a call ended. Errs with `FAILED` (8) if the writer fails, and with `NO_MEMORY`.
     fn ending(&mut self, ending: &Ending) -> Result<(), ToolFault>
         ensures lines { OnOk result (WritesLines (written self.old) (written self.new) (ending_text ending.now)) }
         ensures fault { IfErr result IsOutside };
 
-    /// Writes the octets of an item that is sent to a station. Errs with 8 where the writer fails, and with 9.
+    /// Writes the octets of an item that is sent to a station. Errs with `FAILED` (8) if the writer fails, and with `NO_MEMORY`.
     fn sent(&mut self, to: Side, octets: &[u8]) -> Result<(), ToolFault>
         ensures octets { OnOk result (WritesOctets to (written self.old) (written self.new) octets.now) }
         ensures fault { IfErr result IsOutside };
@@ -49,8 +50,10 @@ impl<W: Write> CallWriter for W {
     }
 }
 
-/// A writer of a call's lines, and one for each direction of the line, which gets the octets of each item that is sent, also of one that
-/// is lost or spoiled then: the least significant bit of an octet first, as the frames are that `frames_engine` reads.
+/// A writer of a call's lines, and one for each direction of the line, which gets the octets of each item when it is sent, even if it is
+/// lost or spoiled later: the least significant bit of an octet first, as `frames_engine` reads frames. A training check is written as it
+/// is sent, its 0 bits; no flags are added between items. If a growth is refused in an event, they are the octets of the items that it has
+/// put under way.
 #[derive(Debug, Drop)]
 pub struct WithBits<L, B> {
     /// Takes the lines.

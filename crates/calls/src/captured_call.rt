@@ -25,7 +25,7 @@ const PIECE: usize = 4096;
 /// A frame of a capture.
 #[derive(Clone, Copy, Debug)]
 pub struct CapturedFrame {
-    /// What it is.
+    /// The kind of its signal.
     pub kind: Kind,
     /// What its information field says.
     pub fields: Fields,
@@ -36,11 +36,11 @@ pub struct CapturedFrame {
 pub struct CapturedFrames {
     /// The good frames whose signal is known, in order.
     pub known: Vec<CapturedFrame>,
-    /// How many good frames there are beside them, whose signal isn't known or can't be read.
+    /// How many other good frames there are: their signal isn't known or can't be read.
     pub others: u64,
 }
 
-/// A frame by its content; none where its signal isn't known or can't be read.
+/// The frame of a content; None if its signal isn't known or can't be read.
 fn frame_of(content: &[u8]) -> Option<CapturedFrame>
     ensures { result ≡ content_frame content.now }
 {
@@ -55,7 +55,7 @@ fn frame_of(content: &[u8]) -> Option<CapturedFrame>
 }
 
 impl CapturedFrames {
-    /// Takes the frame with this content. Errs with 8 where there would be 2^64 others, and with 9.
+    /// Takes the frame with this content. Errs with `FAILED` (8) if there would be 2^64 others, and with `NO_MEMORY`.
     fn take(&mut self, content: &[u8]) -> Result<(), ToolFault>
         ensures known { OnOk result (self.new.known.items ≡ self.old.known.items ++ frames_of (content.now ∷ [])) }
         ensures others { OnOk result (self.new.others ≡ self.old.others + others_of (content.now ∷ [])) }
@@ -82,8 +82,8 @@ fn take_frames(deframer: &mut Deframer, frames: &mut CapturedFrames) -> Result<(
     Ok(())
 }
 
-/// The frames of a capture, whose octets have the bits in this order. Errs with 8 where the reader fails or doesn't end in 2^64 reads, and
-/// with 9.
+/// Reads the frames of a capture, whose octets have the bits in this order. Errs with `FAILED` (8) if the reader fails or doesn't end in
+/// 2^64 reads, and with `NO_MEMORY` (9).
 pub fn captured_frames<R: Read>(
     alloc: Global,
     reader: &mut R,
@@ -132,7 +132,7 @@ pub(crate) struct LineFrame {
     pub(crate) frame: CapturedFrame,
 }
 
-/// Whether a frame answers a command.
+/// True if a frame answers a command.
 fn answers(command: Kind, kind: Kind) -> bool
     ensures { result ≡ is_answer (Before.Command command) kind }
 {
@@ -143,7 +143,7 @@ fn answers(command: Kind, kind: Kind) -> bool
     }
 }
 
-/// Whether a frame is what the answerer says after what is drawn last.
+/// True if the answerer says a frame after what is drawn last.
 fn is_answer(before: Before, kind: Kind) -> bool
     ensures { result ≡ is_answer before kind }
 {
@@ -153,7 +153,7 @@ fn is_answer(before: Before, kind: Kind) -> bool
     }
 }
 
-/// The frame that is drawn next, where each station has one left.
+/// The frame that is drawn next, if each station has one left.
 fn chosen(before: Before, next: CapturedFrame, frame: CapturedFrame) -> LineFrame
     ensures { Some result ≡ next_frame before (next ∷ []) (frame ∷ []) }
 {
@@ -170,7 +170,7 @@ fn chosen(before: Before, next: CapturedFrame, frame: CapturedFrame) -> LineFram
     }
 }
 
-/// The frame that is drawn next of those that are left: an answer where it is one, else the caller's, where it has one.
+/// The frame that is drawn next of those that are left: the answerer's if it is an answer, else the caller's if it has one.
 fn next_frame(
     before: Before,
     caller: &[CapturedFrame],
@@ -203,7 +203,7 @@ impl LineFrame {
         }
     }
 
-    /// What is drawn of it.
+    /// The event that is drawn for it.
     fn entry(self) -> Entry
         ensures { result ≡ entry_of self }
     {
@@ -234,8 +234,8 @@ fn left_after(side: Side, from: Side, frames: &[CapturedFrame]) -> &[CapturedFra
     }
 }
 
-/// What a picture is drawn from of two captures, by the frames of the caller and of the answerer: each of them once, as one that comes,
-/// and each answer after the first command that it can answer. Errs with 8 where there are 2^64 frames, and with 9.
+/// What a picture of two captures is drawn from, by the frames of the caller and of the answerer: each frame once, as one that comes, and
+/// each answer after the first command that it can answer. Errs with `FAILED` (8) if there are 2^64 frames, and with `NO_MEMORY` (9).
 pub fn ladder_of(
     alloc: Global,
     caller: &[CapturedFrame],

@@ -1,4 +1,4 @@
-//! What a call is written to that is drawn too.
+//! A writer of a call that is drawn too.
 
 use crate::call_writer::CallWriter;
 use crate::ladder::Ladder;
@@ -6,7 +6,8 @@ use faults::ToolFault;
 use line_sim::{Ending, Entry};
 use signals::Side;
 
-/// What a call is written to, and the ladder that its picture is drawn from, where it is drawn. The writer has no lines yet.
+/// A writer of a call, and the ladder that its picture is drawn from, if it is drawn. It says its lines as long as they are those of the
+/// ladder's events, so the writer must have no lines yet.
 #[derive(Debug, Drop)]
 pub struct WithDiagram<T> {
     /// Takes the lines and the octets.

@@ -60,7 +60,7 @@ fn code_name(coding: Coding) -> &'static str
     }
 }
 
-/// The lines of pages, where they are fine ones.
+/// The lines of pages, if they are fine ones.
 fn fine_name(fine: bool) -> &'static str
     ensures { result.now ≡ fine_name fine }
 {

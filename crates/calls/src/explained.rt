@@ -36,7 +36,7 @@ pub(crate) fn signal_said<'a>(fields: Fields) -> Option<Signal<'a>>
     }
 }
 
-/// Writes the line of what an information field says, and none where there is none.
+/// Writes the line of what an information field says, or nothing if it says nothing.
 fn write_fields<W: Write>(fields: Fields, writer: &mut W) -> Result<(), ToolFault>
     ensures text { OnOk result (Appends (W.contents writer.old) (W.contents writer.new) (fields_line fields)) }
     ensures fault { IfErr result IsOutside }
@@ -47,8 +47,7 @@ fn write_fields<W: Write>(fields: Fields, writer: &mut W) -> Result<(), ToolFaul
     }
 }
 
-/// Writes the line of an event, and after that of a DIS, a DCS, a PPS or a PPR one that says in words what it says. Errs where the
-/// writer fails.
+/// Writes the line of an event, and after it a line in words of what a DIS, a DCS, a PPS or a PPR says. Errs if the writer fails.
 pub(crate) fn write_explained<W: Write>(
     number: u64,
     entry: &Entry,

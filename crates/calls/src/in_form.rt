@@ -1,4 +1,4 @@
-//! What a call is written to in a form: lines, lines with words, or records.
+//! A writer of a call in a form: plain lines, lines with words, or records.
 
 use crate::call_records::{write_ending_records, write_entry_record};
 use crate::call_writer::{CallWriter, WithBits};
@@ -11,7 +11,9 @@ use signals::Side;
 use std::alloc::Global;
 use std::io::Write;
 
-/// What a call is written to, with the form of its lines.
+/// A writer of a call, with the form of its lines. If they are plain, it has all that `WithBits` has. For lines with words and for records
+/// it is proved which ones are written at each event and at the end, but not what those of a whole call are; the octets are proved in each
+/// form.
 #[derive(Debug, Drop)]
 pub struct InForm<L, B> {
     /// Where the records are built.

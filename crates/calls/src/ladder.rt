@@ -1,4 +1,4 @@
-//! What a picture of a call is drawn from: its events, where equal ones and equal rounds of them are kept once.
+//! What a picture of a call is drawn from: its events, with equal ones and equal rounds of them kept once.
 
 ghost use Rattle.calls.specs.Ladders.{entries_in, entries_of_round, entries_of_rounds, entries_of_row, entries_of_rows, feet_of};
 ghost use Rattle.calls.specs.Ladders.{item_after, repeated};
@@ -120,7 +120,7 @@ fn add_row(rows: &mut Vec<Row>, entry: &Entry) -> Result<(), AllocError>
     Ok(())
 }
 
-/// Whether two rows are the same.
+/// True if two rows are the same.
 fn same_row(row: &Row, other: &Row) -> bool
     ensures { IsTrue result → row.now ≡ other.now }
 {
@@ -130,7 +130,7 @@ fn same_row(row: &Row, other: &Row) -> bool
     same_entry(&row.entry, &other.entry)
 }
 
-/// Whether rows are the same.
+/// True if rows are the same.
 fn are_same(rows: &[Row], others: &[Row]) -> bool
     ensures { IsTrue result → rows.now ≡ others.now }
 {
@@ -174,7 +174,7 @@ fn add_round(rounds: &mut Vec<Round>, rows: Vec<Row>) -> Result<(), AllocError>
     Ok(())
 }
 
-/// Whether a station begins an exchange.
+/// True if a station begins an exchange.
 fn begins_exchange(turn: Turn) -> bool {
     match turn {
         Turn::Dis | Turn::Training | Turn::Burst(_) | Turn::Pps | Turn::Rr | Turn::Dcn => true,
@@ -182,7 +182,7 @@ fn begins_exchange(turn: Turn) -> bool {
     }
 }
 
-/// Whether an event is an answer that comes to a caller of which nothing more is known, as in a capture.
+/// True if an event is an answer that comes to a caller about which nothing more is known, as in a capture.
 fn is_captured_answer(entry: &Entry) -> bool {
     match (entry.event, entry.turn, entry.item) {
         (Event::DeliverToCaller, Turn::Silent, Some(kind)) => !matches!(kind, Kind::Dcn),
@@ -190,12 +190,12 @@ fn is_captured_answer(entry: &Entry) -> bool {
     }
 }
 
-/// Whether a round ends with an event: a station has begun an exchange in it, or what comes is the answer of one.
+/// True if a round ends with an event: a station has begun an exchange in it, or what comes is the answer of one.
 fn ends_round(entry: &Entry) -> bool {
     begins_exchange(entry.turn) || is_captured_answer(entry)
 }
 
-/// Adds an event to the rows after rounds, and these to the rounds where it ends one.
+/// Adds an event to the rows after rounds, and these rows to the rounds if the event ends one.
 fn add_event(
     alloc: Global,
     rounds: Vec<Round>,
@@ -214,7 +214,8 @@ fn add_event(
     Ok((rounds, Vec::new(alloc)))
 }
 
-/// What a picture of a call is drawn from. It grows with the picture, and not with the call.
+/// What a picture of a call is drawn from: its events, with equal ones and equal rounds of them kept once. It grows with the picture, and
+/// not with the call.
 #[derive(Debug, Drop)]
 pub struct Ladder {
     alloc: Global,
@@ -240,7 +241,7 @@ impl Model for Ladder {
 }
 
 impl Ladder {
-    /// Nothing has happened yet.
+    /// A ladder before the first event.
     pub fn new(alloc: Global) -> Ladder
         ensures { result ≡ record { entries = []; feet = None } }
     {
@@ -253,7 +254,8 @@ impl Ladder {
         }
     }
 
-    /// Adds the event of a number, as it is drawn. Errs with 8 where that isn't the next number or the call is over, and with 9.
+    /// Adds the event of a number, as it is drawn. Errs with `FAILED` (8) if that isn't the next number or the call is over, and with
+    /// `NO_MEMORY`.
     pub(crate) fn add(&mut self, number: u64, entry: &Entry) -> Result<(), ToolFault>
         ensures added { OnOk result (self.new ≡ record self.old { entries = self.old.entries ++ drawn_entry entry.now ∷ [] }) }
         ensures number { OnOk result (number ≡ length self.old.entries + 1) }
@@ -274,7 +276,7 @@ impl Ladder {
         Ok(())
     }
 
-    /// The call is over. Errs with 8 where it was so before.
+    /// Ends the ladder with what the call has left. Errs with `FAILED` (8) if it was ended before.
     pub(crate) fn end(&mut self, ending: &Ending) -> Result<(), ToolFault>
         ensures ended { OnOk result (self.new ≡ record self.old { feet = Some (feet_of ending.now) }) }
         ensures going { OnOk result (self.old.feet ≡ None) }
@@ -287,7 +289,7 @@ impl Ladder {
         Ok(())
     }
 
-    /// The rounds, with the rows of the last one, and what the call has left. Errs with 9.
+    /// The rounds, with the rows of the last one, and what the call has left. Errs with `NO_MEMORY`.
     pub(crate) fn into_rounds(self) -> Result<(Vec<Round>, Option<Feet>), ToolFault>
         ensures all { IfOk result (λ ended. entries_of_rounds ended.0.items ≡ self.entries) }
         ensures feet { IfOk result (λ ended. ended.1 ≡ self.feet) }

@@ -12,7 +12,7 @@ ghost use Rattle.faults.specs.declared.line_fault.LineFault.{LineFault};
 ghost use Rattle.calls.specs.declared.script.Command.{Command};
 ghost use Rattle.std.specs.Prelude.{ℕ, ◌≡◌, List};
 
-/// A text says one list of commands at most, and where it says one it is refused for memory alone.
+/// A text says at most one list of commands, and a text that says one is refused only for memory.
 pub fn one_script()
     ensures says { (text : List ℕ) (a b : List Command) → IsScript text a → IsScript text b → a ≡ b }
     ensures refused { (text : List ℕ) (fault : ToolFault) → RefusesScript text fault → (commands : List Command)
@@ -27,8 +27,8 @@ pub fn bad_calls_end()
     stations::laws::callers_end();
 }
 
-/// A call over a bad line with few bad tries in each phase is a driven call with few, of the fates that it draws; so where both stations
-/// agree on each page and its code fits a call, it ends normally for the caller, and all pages are stored and confirmed.
+/// A call over a bad line with few bad tries in each phase is a driven call with few, of the fates that it draws. So if both stations agree
+/// on each page and its code fits a call, it ends normally for the caller, and all pages are stored and confirmed.
 pub fn few_tries_are_borne()
     ensures driven { FewTriesAreDriven }
     ensures borne { FewTriesAreBorne }
@@ -42,13 +42,13 @@ pub fn one_line_fault()
     ensures { (line : List ℕ) (a b : LineFault) → IsLineFault line a → IsLineFault line b → a ≡ b }
 {}
 
-/// Written-out lines of events and words of ends are printed as they are written here.
+/// Three events and the words of three ends are printed as `ArePrintedLines` writes them out.
 pub fn printed_lines()
     ensures { ArePrintedLines }
 {}
 
-/// What each word of a script does to a call, how often, and what a line adds to a script before which it stands. Lines
-/// that are refused are counted from 1.
+/// What each word of a script does to a call, and how often: each number from 1 to 1,000,000 can be written, and no other. What a line adds
+/// to the script after it. Lines that are refused are counted from 1.
 pub fn scripts_mean()
     ensures words { WordsDo }
     ensures numbers { CountsMean }
@@ -56,8 +56,8 @@ pub fn scripts_mean()
     ensures lines { LinesMean }
 {}
 
-/// What each option of a call does: the octets of the DIS that it begins with, and what the stations agree on for pages of each
-/// width, fine or not: the code, the frames, the lines and the speed are as the options say.
+/// For all options of a call: the octets of the DIS that it begins with, and that the stations agree on the code, the frames, the lines and
+/// the speed that the options say, for pages of each width, fine or not.
 pub fn options_mean()
     ensures stations { OptionsMean }
     ensures lines { LinesAreAsked }

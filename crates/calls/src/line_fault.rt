@@ -8,8 +8,8 @@ ghost use Rattle.std.specs.Prelude.{◌≡◌, ℕ, IfSome, List};
 use crate::script::{event_named, split_line};
 use faults::LineFault;
 
-/// What is wrong with the line of this number, from 1, of a script that is refused there. `None` where the text has no
-/// such line.
+/// What is wrong with the line of this number, from 1, of a script that is refused there; None if the text has no such line. By the law
+/// `one_line_fault` a line is wrong in one way alone.
 pub fn line_fault_at(text: &[u8], number: u64) -> Option<LineFault>
     ensures { IfSome result (λ fault. (line : List ℕ) × IsLineAt text.now number line × IsLineFault line fault) }
 {
@@ -46,21 +46,21 @@ fn line_fault(line: &[u8]) -> LineFault
     }
 }
 
-/// Whether a line has a tab or a CR, or a space that doesn't stand alone between two words.
+/// True if a line has a tab or a CR, or a space that isn't alone between two words.
 fn has_wrong_blank(line: &str) -> bool
     ensures { result ≡ has_wrong_blank line.now }
 {
     has_tab(line) || is_wrongly_spaced(line)
 }
 
-/// Whether a line has a tab or a CR.
+/// True if a line has a tab or a CR.
 fn has_tab(line: &str) -> bool
     ensures { result ≡ has_tab line.now }
 {
     line.split_once('\t').is_some() || line.split_once('\r').is_some()
 }
 
-/// Whether a line has a space that doesn't stand alone between two words.
+/// True if a line has a space that isn't alone between two words.
 fn is_wrongly_spaced(line: &str) -> bool
     ensures { result ≡ is_wrongly_spaced line.now }
 {
@@ -70,14 +70,14 @@ fn is_wrongly_spaced(line: &str) -> bool
     }
 }
 
-/// Whether what stands before and after the first space of a line is no word and no count: nothing, or with a space.
+/// True if nothing is before or after the first space of a line, or there is another space after it.
 fn is_badly_spaced(before: &str, after: &str) -> bool
     ensures { result ≡ is_badly_spaced before.now after.now }
 {
     before.is_empty() || after.is_empty() || has_space(after)
 }
 
-/// Whether a text has a space.
+/// True if a text has a space.
 fn has_space(text: &str) -> bool
     ensures { result ≡ has_space text.now }
 {
@@ -94,7 +94,7 @@ fn word_in(line: &str) -> &str
     }
 }
 
-/// Whether a word is that of an event, or `polite`.
+/// True if a word is that of an event, or `polite`.
 fn is_word(word: &str) -> bool
     ensures { MatchBool result (IsWord word.now) (¬ IsWord word.now) }
 {

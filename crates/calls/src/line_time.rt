@@ -40,7 +40,7 @@ fn before_octets(flags: u32) -> u64
     TICKS * u64::from(BETWEEN_CARRIERS_MILLIS + flags)
 }
 
-/// The product of two numbers. Errs with 8 where it would be 2^64 or more.
+/// The product of two numbers. Errs with `FAILED` (8) if it would be 2^64 or more.
 fn product(one: u64, other: u64) -> Result<u64, ToolFault>
     ensures product { IfOk result (λ product. product ≡ one * other) }
     ensures fault { IfErr result IsOutside }
@@ -53,7 +53,7 @@ fn product(one: u64, other: u64) -> Result<u64, ToolFault>
 pub(crate) struct Clock {
     /// How many ticks an octet of a page's frame lasts.
     pub(crate) octet: u64,
-    /// Whether such a frame was the last item.
+    /// True if such a frame was the last item.
     pub(crate) page: bool,
     /// How many ticks all items lasted.
     pub(crate) ticks: u64,
@@ -75,8 +75,8 @@ fn before_item(form: Form, page: bool) -> u64
     }
 }
 
-/// How many ticks an item of a form lasts that has so many octets, where an octet of a page's frame lasts so many. Errs with 8 where
-/// they would be 2^64 or more.
+/// How many ticks an item of a form lasts that has so many octets, where an octet of a page's frame lasts so many. Errs with `FAILED` (8)
+/// if they would be 2^64 or more.
 fn lasting(form: Form, octets: u64, octet: u64) -> Result<u64, ToolFault>
     ensures lasts { IfOk result (λ ticks. ticks ≡ lasting form octets octet) }
     ensures fault { IfErr result IsOutside }
@@ -98,7 +98,7 @@ fn octet_after(form: Form, octets: u64, octet: u64) -> u64
     }
 }
 
-/// Whether an item is a page's frame.
+/// True if an item is a page's frame.
 fn is_page(form: Form) -> bool
     ensures { result ≡ is_page form }
 {
@@ -117,7 +117,7 @@ impl Clock {
         }
     }
 
-    /// An item of a form and a number of octets is sent. Errs with 8 where a number would be 2^64 or more.
+    /// An item of a form and a number of octets is sent. Errs with `FAILED` (8) if a number would be 2^64 or more.
     fn after_item(self, form: Form, octets: u64) -> Result<Clock, ToolFault>
         ensures after { IfOk result (λ clock. clock ≡ after_item form octets self) }
         ensures fault { IfErr result IsOutside }
@@ -127,12 +127,13 @@ impl Clock {
         Ok(Clock {
             octet: octet_after(form, octets, self.octet),
             page: is_page(form),
+            // What a modem sends before its data, as the training of V.29, and the flags after a frame's last one aren't counted.
             ticks: sum(self.ticks, all)?,
         })
     }
 }
 
-/// What is under way to a station from a place on is sent. Errs with 8 where a number would be 2^64 or more.
+/// What is under way to a station from a place on is sent. Errs with `FAILED` (8) if a number would be 2^64 or more.
 fn after_items(live: &LiveCall, to: Side, first: usize, clock: Clock) -> Result<Clock, ToolFault>
     ensures runs { IfOk result (Runs (sender_to to) (drop first (under_way_to to live.now)) clock) }
     ensures fault { IfErr result IsOutside }
@@ -167,7 +168,7 @@ impl Clocks {
         }
     }
 
-    /// What a call has put under way since its items were counted is sent. Errs with 8 where a number would be 2^64 or more.
+    /// What a call has put under way since its items were counted is sent. Errs with `FAILED` (8) if a number would be 2^64 or more.
     pub(crate) fn after_sent(self, live: &LiveCall, counts: Counts) -> Result<Clocks, ToolFault>
         ensures runs { IfOk result (RunsAfter counts live.now self) }
         ensures fault { IfErr result IsOutside }
@@ -181,7 +182,8 @@ impl Clocks {
     }
 }
 
-/// How long the wait was that is over in an event, in milliseconds.
+/// How long the wait that is over in an event had run, in milliseconds: it counts whole, so a T1 or T5 that runs beside what is sent makes
+/// a call's seconds more than a real call's.
 pub(crate) fn waited_in(event: Event) -> u64
     ensures { result ≡ waited_in event }
 {
@@ -204,8 +206,8 @@ fn longer_wait(ending: Option<End>) -> u64
     }
 }
 
-/// For how many whole seconds a call has the line, by what was sent, the milliseconds of its waits and the caller's end. Errs with 8 where
-/// a number would be 2^64 or more.
+/// For how many whole seconds a call has the line, by what was sent, the milliseconds of its waits and the caller's end. Errs with `FAILED`
+/// (8) if a number would be 2^64 or more.
 pub(crate) fn seconds_in(
     clocks: &Clocks,
     waited: u64,

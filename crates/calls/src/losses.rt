@@ -15,18 +15,18 @@ const MOST_DIGITS: usize = 9;
 /// The greatest number in a rate.
 const MOST: u64 = 999_999_999;
 
-/// How bad a line is, and by which numbers its losses are drawn.
+/// How bad a line is, and the numbers that its losses are drawn by.
 #[derive(Clone, Copy, Debug, PartialEq, Eq)]
 pub struct BadLine {
-    /// How many of the 2^32 words of the generator lose an item.
+    /// How many of the generator's 2^32 words lose an item: those below this number.
     pub lose: u64,
-    /// How many of them spoil it.
+    /// How many words spoil it: those after the ones that lose it.
     pub spoil: u64,
-    /// How many of them make the answerer busy, where a PPS or an RR comes to it.
+    /// How many words make the answerer busy when a PPS or an RR comes to it; 0 draws no word.
     pub busy: u64,
     /// The state with which the generator begins.
     pub seed: u64,
-    /// How many DIS are sent in one wait for a DIS, and at least the first one.
+    /// How many DIS are sent in one wait for a DIS; the first one always is.
     pub calls: u64,
 }
 
@@ -44,7 +44,7 @@ fn digits_in(digits: &str) -> Option<u64>
     }
 }
 
-/// How many of 2^32 words a part of a whole is, rounded down.
+/// How many of the 2^32 words a part of a whole is, rounded down.
 fn share_of(part: u64, whole: u64) -> u64
     requires least { 1 ≤ whole }
     requires most { part ≤ 2 ^ 30 }
@@ -53,7 +53,7 @@ fn share_of(part: u64, whole: u64) -> u64
     part * 4_294_967_296 / whole
 }
 
-/// The share of a rate in a hundred, without its %.
+/// The share of a percentage, without its %.
 fn percent_in(digits: &str) -> Option<u64>
     ensures is { IfSome result (IsPercent digits.now) }
     ensures only { (share : ℕ) → IsPercent digits.now share → result ≡ Some share }
@@ -64,7 +64,7 @@ fn percent_in(digits: &str) -> Option<u64>
     }
 }
 
-/// The share of a rate as a part and the whole.
+/// The share of a fraction.
 fn fraction_in(above: &str, below: &str) -> Option<u64>
     ensures is { IfSome result (IsFraction above.now below.now) }
     ensures only { (share : ℕ) → IsFraction above.now below.now share → result ≡ Some share }
@@ -77,8 +77,8 @@ fn fraction_in(above: &str, below: &str) -> Option<u64>
     Some(share_of(part, whole))
 }
 
-/// The rate that a text says, as `5%` or `1/20`: how many of the generator's 2^32 words are below it. Its numbers have one
-/// to nine decimal digits; a rate above 1, and a whole of 0, are none.
+/// The rate that a text says, as `5%` or `1/20`: how many of the generator's 2^32 words are below it, rounded down. Its numbers have one to
+/// nine decimal digits. None if the text is no rate: above 1, or a fraction with 0 below.
 pub fn read_rate(text: &str) -> Option<u64>
     ensures is { IfSome result (IsRate text.now) }
     ensures only { (share : ℕ) → IsRate text.now share → result ≡ Some share }
@@ -92,7 +92,7 @@ pub fn read_rate(text: &str) -> Option<u64>
     fraction_in(above, below)
 }
 
-/// What becomes of an item, as a word of the generator has it.
+/// What a word of the generator makes of an item.
 fn fate_of(line: &BadLine, word: u32) -> Fate
     ensures { plain_fate result ≡ fate_of line.now word }
 {
@@ -106,14 +106,15 @@ fn fate_of(line: &BadLine, word: u32) -> Fate
     Fate::Comes
 }
 
-/// The generator of the call of a number, from 0: PCG-XSH-RR of 64 bits of state and 32 bits a word.
+/// The generator of the call of this number, from 0: PCG-XSH-RR of 64 bits of state and 32 bits a word, known as pcg32. The seed is its
+/// state, the number its stream, so any program can draw the same.
 pub(crate) fn generator_of(line: &BadLine, number: u64) -> Lcg64Xsh32
     ensures { result ≡ generator_of line.now number }
 {
     Lcg64Xsh32::new(line.seed, number)
 }
 
-/// Whether the answerer is busy, as the next word of the generator has it.
+/// True if the answerer is busy, by the generator's next word.
 pub(crate) fn draw_busy(line: &BadLine, generator: &mut Lcg64Xsh32) -> bool
     ensures busy { result ≡ is_busy_word line.now (pcg32 generator.old).0 }
     ensures next { generator.new ≡ (pcg32 generator.old).1 }

@@ -1,4 +1,4 @@
-//! What `call --times` does: it runs many calls of a document over a bad line, over any writer, and tells what became of them.
+//! Runs many calls of a document over a bad line, for `call --times`, over any writer, and writes a table of them.
 
 ghost use Rattle.calls.specs.BadLines.{Going, RefusesDriven, Stands, is_marked};
 ghost use Rattle.faults.specs.Faults.{IsOutside};
@@ -43,7 +43,7 @@ pub(crate) struct CallCounts {
     pub(crate) spoiled: u64,
     /// How many FCDs were sent again, in answer to a PPR.
     pub(crate) again: u64,
-    /// How long the waits were that were over, in milliseconds; the caller's for an answer is T4.
+    /// How long the waits that were over had run, in milliseconds; a caller's wait for an answer is T4.
     pub(crate) waited: u64,
 }
 
@@ -54,11 +54,11 @@ struct Counted {
     counts: CallCounts,
     /// How long it lasts.
     clocks: Clocks,
-    /// Whether each phase of it had few bad tries, and as few spoiled training checks as are spare.
+    /// True if each phase had few bad tries, and no more spoiled training checks than are spare.
     few: bool,
 }
 
-/// What has become of one call of many.
+/// The result of one call of many.
 #[derive(Clone, Copy, Debug, PartialEq, Eq)]
 pub(crate) struct OneCall {
     /// The call's number.
@@ -75,11 +75,11 @@ pub(crate) struct OneCall {
     pub(crate) counts: CallCounts,
     /// For how many whole seconds it had the line.
     pub(crate) seconds: u64,
-    /// Whether each phase of it had few bad tries, as `line_sim::laws::calls_bear` has it.
+    /// True if each phase had few bad tries, as `line_sim::laws::calls_bear` counts them.
     pub(crate) few: bool,
 }
 
-/// The sum of two numbers. Errs with 8 where it would be 2^64 or more.
+/// The sum of two numbers. Errs with `FAILED` (8) if it would be 2^64 or more.
 pub(crate) fn sum(one: u64, other: u64) -> Result<u64, ToolFault>
     ensures sum { IfOk result (λ sum. sum ≡ one + other) }
     ensures fault { IfErr result IsOutside }
@@ -87,35 +87,36 @@ pub(crate) fn sum(one: u64, other: u64) -> Result<u64, ToolFault>
     one.checked_add(other).ok_or(FAILED)
 }
 
-/// One, where something is so.
+/// 1 if true, 0 if false.
 pub(crate) fn one_if(so: bool) -> u64
     ensures { result ≡ one_if so }
 {
     if so { 1 } else { 0 }
 }
 
-/// Whether an item comes in an event.
+/// True if an item comes in an event.
 fn is_delivery(event: Event) -> bool
     ensures { result ≡ is_delivery event }
 {
     matches!(event, Event::DeliverToAnswerer | Event::DeliverToCaller)
 }
 
-/// Whether an item is lost in an event.
+/// True if an item is lost in an event.
 pub(crate) fn is_loss(event: Event) -> bool
     ensures { result ≡ is_loss event }
 {
     matches!(event, Event::LoseToAnswerer | Event::LoseToCaller)
 }
 
-/// Whether a training check is spoiled in an event.
+/// True if a training check is spoiled in an event.
 pub(crate) fn is_spoiling(event: Event) -> bool
     ensures { result ≡ is_spoiling event }
 {
     matches!(event, Event::Spoil)
 }
 
-/// How many FCDs are sent again in answer to an item, of the number of those that are sent.
+/// How many FCDs of a burst are sent again: all of them if it answers a PPR, which names the frames that came with an error (ITU-T T.30,
+/// Annex A). A first burst answers a CFR or an MCF. A PPS, a DCS or a DIS that is sent again isn't counted.
 fn frames_again(item: Option<Kind>, fcds: u16) -> u64
     ensures { result ≡ frames_again item fcds }
 {
@@ -126,7 +127,7 @@ fn frames_again(item: Option<Kind>, fcds: u16) -> u64
 }
 
 impl CallCounts {
-    /// Before the first event.
+    /// The counts before the first event.
     fn new() -> CallCounts
         ensures { result ≡ counts_in [] }
     {
@@ -139,7 +140,7 @@ impl CallCounts {
         }
     }
 
-    /// The counts with an entry more. Errs with 8 where a number would be 2^64.
+    /// The counts with one entry more. Errs with `FAILED` (8) if a number would be 2^64.
     fn with_entry(self, entry: &Entry) -> Result<CallCounts, ToolFault>
         ensures counts { IfOk result (λ counts. counts ≡ counts_with self (counts_in (entry.now ∷ []))) }
         ensures fault { IfErr result IsOutside }
@@ -153,7 +154,7 @@ impl CallCounts {
         })
     }
 
-    /// The counts with the entries of a step more. Errs with 8 where a number would be 2^64.
+    /// The counts with the entries of one step more. Errs with `FAILED` (8) if a number would be 2^64.
     fn with_step(self, step: &Step) -> Result<CallCounts, ToolFault>
         ensures counts { IfOk result (λ counts. counts ≡ counts_with self (counts_in (entries_of step.now))) }
         ensures fault { IfErr result IsOutside }
@@ -166,7 +167,7 @@ impl CallCounts {
     }
 }
 
-/// Whether a growth was refused in an event, if there was one.
+/// True if a growth was refused in an event, if there was one.
 fn is_marked(set: Option<Entry>) -> bool
     ensures { result ≡ is_marked set }
 {
@@ -188,9 +189,9 @@ fn slower_speeds(modems: Modems) -> u64
     }
 }
 
-/// Makes the steps of a call until it is over, by the words of the generator, and counts its events and how long what it sends lasts,
-/// and whether each phase had few bad tries, and a group as few spoiled checks as are spare. Errs with 9 where a growth was refused, and
-/// with 8 where a number would be 2^64.
+/// Makes the steps of a call until it is over, by the generator's words, and counts its events, how long what it sends lasts, and if each
+/// phase had few bad tries and each group no more spoiled checks than are spare. Errs with `NO_MEMORY` if a growth was refused, and with
+/// `FAILED` (8) if a number would be 2^64.
 fn count_fates(
     call: &mut DrivenCall,
     line: &BadLine,
@@ -228,23 +229,22 @@ fn count_fates(
     Err(FAILED)
 }
 
-/// How many pages are stored where a call has ended.
+/// How many pages are stored at a call's end.
 fn stored(ending: &Ending) -> usize
     ensures { result ≡ length ending.now.pages.items }
 {
     ending.pages.len()
 }
 
-/// Whether a call is one that is borne: few of its tries were bad, at least three DIS are sent in a wait, and the answerer is
-/// never busy.
+/// True if a call is one that is borne: few of its tries were bad, at least three DIS are sent in a wait, and the answerer is never busy.
 fn is_borne(line: &BadLine, few: bool) -> bool
     ensures { IsTrue result ↔ ((3 ≤ line.now.calls) × (line.now.busy ≡ 0) × IsTrue few) }
 {
     line.calls >= 3 && line.busy == 0 && few
 }
 
-/// Runs the call of a number, of a document, over a bad line. Errs with 26 where the width of a page is none that a call can have, with
-/// 9, and with 8 where a number would be 2^64.
+/// Runs the call of a number, of a document, over a bad line. Errs with 26 if no call can have the width of a page, with `NO_MEMORY`, and
+/// with `FAILED` (8) if a number would be 2^64.
 fn run_call(
     alloc: Global,
     document: Document,
@@ -300,8 +300,8 @@ fn one_call(
     run_call(alloc, document, options, line, number)
 }
 
-/// Writes a call's number and how it ended for both stations, without the end of the line. Errs with 8 where the writer
-/// fails, and with 9.
+/// Writes a call's number and how it ended for both stations, without the end of the line. Errs with `FAILED` (8) if the writer fails, and
+/// with `NO_MEMORY`.
 fn write_ends<W: Write>(call: &OneCall, writer: &mut W) -> Result<(), ToolFault>
     ensures words { OnOk result (Appends (W.contents writer.old) (W.contents writer.new) (ends_words call.now)) }
     ensures fault { IfErr result IsOutside }
@@ -317,7 +317,8 @@ fn write_ends<W: Write>(call: &OneCall, writer: &mut W) -> Result<(), ToolFault>
     Ok(())
 }
 
-/// Writes what was counted of a call, after a space, and the end of its line. Errs with 8 where the writer fails, and with 9.
+/// Writes what was counted of a call, after a space, and the end of its line. Errs with `FAILED` (8) if the writer fails, and with
+/// `NO_MEMORY`.
 fn write_counts<W: Write>(counts: &CallCounts, writer: &mut W) -> Result<(), ToolFault>
     ensures words { OnOk result (Appends (W.contents writer.old) (W.contents writer.new) (counts_words counts.now)) }
     ensures fault { IfErr result IsOutside }
@@ -330,7 +331,7 @@ fn write_counts<W: Write>(counts: &CallCounts, writer: &mut W) -> Result<(), Too
     Ok(())
 }
 
-/// Writes the line of a call. Errs with 8 where the writer fails, and with 9.
+/// Writes the line of a call. Errs with `FAILED` (8) if the writer fails, and with `NO_MEMORY`.
 fn write_call<W: Write>(call: &OneCall, writer: &mut W) -> Result<(), ToolFault>
     ensures line { OnOk result (Appends (W.contents writer.old) (W.contents writer.new) (one_line call.now)) }
     ensures fault { IfErr result IsOutside }
@@ -339,13 +340,12 @@ fn write_call<W: Write>(call: &OneCall, writer: &mut W) -> Result<(), ToolFault>
     write_counts(&call.counts, writer)
 }
 
-/// Runs so many calls over a bad line, of the numbers from 0, one after the other, each between a caller that has the images' document
-/// and an answerer that can take it, as `drive_engine` runs the call of a number. Writes a line for each as it is over, with how it
-/// ended for both stations, how many items came and were lost, how many training checks were spoiled and how many FCDs were sent
-/// again; and then a table: how many calls ended how for the caller, how many bore at most two losses, how many had few bad tries in each
-/// phase, the sums, and for how many seconds calls had the line. Keeps nothing of a call but numbers, so its memory doesn't grow with
-/// their count. Errs with the first fault of the images; with 26 where the width of a page is none that a call can have; with 8 where the
-/// writer fails or a sum would be 2^64; and with 9. With any fault but 8 and 9 nothing is written.
+/// Runs calls 0 to `times` - 1 over a lossy line, one after the other, each as `drive_engine` runs the call of its number. Writes a line
+/// for each as it is over: how it ended for both stations, how many items came and were lost, how many training checks were spoiled and how
+/// many FCDs were sent again. Then it writes a table: how many calls ended how for the caller, how many had at most two losses, how many
+/// had few bad tries in each phase, the sums, and for how many seconds calls had the line. It keeps only numbers of a call, so its memory
+/// doesn't grow with `times`. Errs with the first fault of the images; with 26 if no call can have the width of a page; with `FAILED` (8)
+/// if the writer fails or a sum would be 2^64; and with `NO_MEMORY` (9). With any fault but 8 and 9 nothing is written.
 pub fn drive_many<W: Write>(
     alloc: Global,
     images: &[u8],
@@ -362,6 +362,8 @@ pub fn drive_many<W: Write>(
     let mut tally = Tally::new();
     let mut seconds = Seconds::new(alloc)?;
     for number in 0..times {
+        // The images are read again for each call, since a call takes its document; only numbers are kept of it. The call draws from the
+        // stream of its number, so it is the call that runs alone with that number.
         let call = one_call(alloc, images, options, line, number)?;
         write_call(&call, writer)?;
         tally.add(&call)?;

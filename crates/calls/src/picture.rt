@@ -29,7 +29,7 @@ const GAP: u64 = 10;
 /// Where the first row is.
 const TOP: u64 = 72;
 
-/// The sum of two numbers. Errs with 8 where it would be 2^64.
+/// The sum of two numbers. Errs with `FAILED` (8) if it would be 2^64.
 fn plus(number: u64, more: u64) -> Result<u64, ToolFault>
     ensures sum { IfOk result (λ sum. sum ≡ number + more) }
     ensures fault { IfErr result IsOutside }
@@ -37,7 +37,7 @@ fn plus(number: u64, more: u64) -> Result<u64, ToolFault>
     number.checked_add(more).ok_or(FAILED)
 }
 
-/// The product of two numbers. Errs with 8 where it would be 2^64.
+/// The product of two numbers. Errs with `FAILED` (8) if it would be 2^64.
 fn times(number: u64, times: u64) -> Result<u64, ToolFault>
     ensures product { IfOk result (λ product. product ≡ number * times) }
     ensures fault { IfErr result IsOutside }
@@ -45,8 +45,7 @@ fn times(number: u64, times: u64) -> Result<u64, ToolFault>
     number.checked_mul(times).ok_or(FAILED)
 }
 
-/// The arrow of an item that goes to the answerer or the caller: it ends in a cross where the item is lost, and is a broad one where it is
-/// many.
+/// The arrow of an item to the answerer or the caller: with a cross at its end if the item is lost, and broad for several items.
 fn arrow(event: Event, is_one: bool) -> &'static str
     ensures { result.now ≡ arrow_text event is_one }
 {
@@ -77,7 +76,7 @@ fn mark(event: Event) -> &'static str
     }
 }
 
-/// The lines of a row: an arrow where there is an item, else a mark.
+/// The lines of a row: an arrow if there is an item, else a mark.
 fn shape(row: &Row) -> &'static str
     ensures { result.now ≡ shape_text row.now }
 {
@@ -87,7 +86,7 @@ fn shape(row: &Row) -> &'static str
     }
 }
 
-/// What becomes of an item, where it doesn't come as it was.
+/// The label of what becomes of an item that doesn't come as it was sent.
 fn fate_word(event: Event) -> &'static str
     ensures { result.now ≡ fate_text event }
 {
@@ -98,7 +97,7 @@ fn fate_word(event: Event) -> &'static str
     }
 }
 
-/// What is said where there is no item.
+/// The label of an event without an item.
 fn gap_word(event: Event) -> &'static str
     ensures { result.now ≡ gap_text event }
 {
@@ -110,7 +109,7 @@ fn gap_word(event: Event) -> &'static str
     }
 }
 
-/// What happens at a station by itself.
+/// The label of what happens at a station by itself.
 fn own_word(event: Event) -> &'static str
     ensures { result.now ≡ own_text event }
 {
@@ -135,14 +134,14 @@ fn joint_word(event: Event) -> &'static str
     }
 }
 
-/// That a growth was refused.
+/// The label of a refused growth.
 fn refused_word(refused: bool) -> &'static str
     ensures { result.now ≡ refused_text refused }
 {
     if refused { " (memory refused)" } else { "" }
 }
 
-/// Where the text of the station begins or ends that an event acts on.
+/// The place and the alignment of the text beside the station that an event acts on.
 fn base_word(event: Event) -> &'static str
     ensures { result.now ≡ base_text event }
 {
@@ -153,7 +152,7 @@ fn base_word(event: Event) -> &'static str
     }
 }
 
-/// How many items a row has, where it is more than one.
+/// How many items a row has, if it is more than one.
 #[derive(Drop)]
 struct TimesText(Option<Kind>, u64);
 
@@ -244,7 +243,7 @@ impl fmt::Display for NumbersText {
     }
 }
 
-/// How often a round comes, where it is more than once.
+/// How often a round comes, if it is more than once.
 #[derive(Drop)]
 struct RoundsText(u64);
 
@@ -319,7 +318,7 @@ fn write_side<W: Write>(entry: &Entry, writer: &mut W) -> Result<(), ToolFault>
     Ok(())
 }
 
-/// Writes what comes after the title of a row whose first event has this number, and answers the number of the next one.
+/// Writes what comes after the title of a row whose first event has this number, and returns the number of the next one.
 #[tactic(auto, unfolding(crate::specs::Pictures::row_words))]
 fn write_words<W: Write>(row: &Row, number: u64, writer: &mut W) -> Result<u64, ToolFault>
     ensures text { OnOk result (Appends (W.contents writer.old) (W.contents writer.new) (row_words number row.now)) }
@@ -334,7 +333,7 @@ fn write_words<W: Write>(row: &Row, number: u64, writer: &mut W) -> Result<u64, 
     Ok(next)
 }
 
-/// Writes a row at a height, whose first event has this number, and answers the number of the next one.
+/// Writes a row at a height, whose first event has this number, and returns the number of the next one.
 #[tactic(auto, unfolding(crate::specs::Pictures::row_text))]
 fn write_row<W: Write>(row: &Row, y: u64, number: u64, writer: &mut W) -> Result<u64, ToolFault>
     ensures text { OnOk result (Appends (W.contents writer.old) (W.contents writer.new) (row_text y number row.now)) }
@@ -346,7 +345,7 @@ fn write_row<W: Write>(row: &Row, y: u64, number: u64, writer: &mut W) -> Result
     write_words(row, number, writer)
 }
 
-/// Writes rows from a height and a number on, and answers the number of the next event.
+/// Writes rows from a height and a number on, and returns the number of the next event.
 fn write_rows<W: Write>(rows: &[Row], y: u64, number: u64, writer: &mut W) -> Result<u64, ToolFault>
     ensures text { OnOk result (Appends (W.contents writer.old) (W.contents writer.new) (rows_text y number rows.now)) }
     ensures next { IfOk result (λ next. next ≡ number + items_in rows.now) }
@@ -417,7 +416,7 @@ fn write_bracket<W: Write>(rows: u64, y: u64, often: u64, writer: &mut W) -> Res
     Ok(())
 }
 
-/// Writes a round from a height and a number on, and answers the number of the next event after all its times.
+/// Writes a round from a height and a number on, and returns the number of the next event after all its times.
 #[tactic(auto, unfolding(crate::specs::Pictures::round_text))]
 fn write_round<W: Write>(
     round: &Round,
@@ -456,7 +455,7 @@ fn height(rounds: &[Round]) -> Result<u64, ToolFault>
     Ok(height)
 }
 
-/// Writes rounds from a height and a number on, and answers the height after them.
+/// Writes rounds from a height and a number on, and returns the height after them.
 fn write_rounds<W: Write>(rounds: &[Round], writer: &mut W) -> Result<(), ToolFault>
     ensures text { OnOk result (Appends (W.contents writer.old) (W.contents writer.new) (rounds_text 72 1 rounds.now)) }
     ensures fault { IfErr result IsOutside }
@@ -649,7 +648,7 @@ fn write_answerer_pages<W: Write>(pages: usize, writer: &mut W) -> Result<(), To
     Ok(())
 }
 
-/// The mark of stored pages, where there are any: a small page with a corner that is turned down.
+/// The mark of stored pages, if there are any: a small page with a corner that is turned down.
 fn page_mark(pages: usize) -> &'static str
     ensures { result.now ≡ page_mark pages }
 {
@@ -707,7 +706,7 @@ fn write_feet<W: Write>(feet: &Feet, height: u64, writer: &mut W) -> Result<(), 
     Ok(())
 }
 
-/// Writes what a call has left, where it is over.
+/// Writes what a call has left, if it is over.
 #[tactic(auto, unfolding(crate::specs::Pictures::end_lines))]
 fn write_end<W: Write>(feet: &Option<Feet>, height: u64, writer: &mut W) -> Result<(), ToolFault>
     ensures text { OnOk result (Appends (W.contents writer.old) (W.contents writer.new) (end_lines feet.now height)) }
@@ -746,9 +745,10 @@ fn write_all<W: Write>(
     end_picture(writer)
 }
 
-/// Writes a call as a picture, SVG: the caller on the left and the answerer on the right, and from above downwards a row for each event,
-/// or for each that is drawn once for equal ones after it, and what the call has left. Errs with 8 where the writer fails or a number
-/// would be 2^64, and with 9.
+/// Writes a call as a picture, SVG: the caller on the left, the answerer on the right, and downwards a row for each event, or one for
+/// several equal ones, and at the end what the call has left. The clause says that the rounds drawn have the ladder's events, each once and
+/// in order; how they are put together is open. Errs with `FAILED` (8) if the writer fails or a number would be 2^64, and with `NO_MEMORY`
+/// (9).
 pub fn write_picture<W: Write>(ladder: Ladder, writer: &mut W) -> Result<(), ToolFault>
     ensures picture { OnOk result (IsPicture ladder (W.contents writer.old) (W.contents writer.new)) }
     ensures fault { IfErr result IsOutside }

@@ -17,14 +17,14 @@ const MOST: u64 = 1_000_000;
 /// The most digits of a count.
 const MOST_DIGITS: usize = 7;
 
-/// What a line of a script says.
+/// The command of a script's line.
 #[derive(Clone, Copy, Debug, PartialEq, Eq)]
 pub enum Command {
-    /// An event, this number of times.
+    /// An event, so many times.
     Events {
-        /// The event.
+        /// The event itself.
         event: Event,
-        /// How many times, 1 to 1,000,000.
+        /// How many times it happens, 1 to 1,000,000.
         count: u64,
     },
     /// Deliveries until nothing is under way, at most this number of them, 1 to 1,000,000.
@@ -51,7 +51,7 @@ pub(crate) fn event_named(word: &str) -> Option<Event>
     }
 }
 
-/// The count that digits write.
+/// The count that digits write: digits alone, without a sign.
 fn count_in(digits: &str) -> Option<u64>
     ensures { MatchOption result ((count : ℕ) → IsCount digits.now count → ⊥) (IsCount digits.now) }
 {
@@ -64,7 +64,7 @@ fn count_in(digits: &str) -> Option<u64>
     }
 }
 
-/// The command that a line says, with no count where there is no space.
+/// The command that a line says; without a space it has no count.
 fn command_in(line: &str) -> Option<Command>
     ensures { MatchOption result ((command : CommandValue) → Says line.now command → ⊥) (Says line.now) }
 {
@@ -82,10 +82,11 @@ fn command_in(line: &str) -> Option<Command>
     Some(Command::Events { event, count })
 }
 
-/// What a line says: a command, or nothing where it is skipped. No line of a script answers `None`.
+/// What a line says: a command, or nothing if it is skipped. None if it isn't a line of a script.
 fn read_line(line: &[u8]) -> Option<Option<Command>>
     ensures { MatchOption result (IsNoLine line.now) (IsLineOf line.now) }
 {
+    // A script is text: a comment that isn't UTF-8 is refused too, and a CR is no part of a line's end.
     let Ok(text) = str::from_utf8(line) else {
         return None;
     };
@@ -96,7 +97,7 @@ fn read_line(line: &[u8]) -> Option<Option<Command>>
     Some(Some(command))
 }
 
-/// Adds what the line of this number says. Errs with the fault of that line, and with 9.
+/// Adds the command of the line of this number. Errs with fault 30 at that line, and with `NO_MEMORY`.
 fn add_line(commands: &mut Vec<Command>, line: &[u8], number: u64) -> Result<(), ToolFault>
     ensures { MatchResult result (λ _. AddsLine line.now commands.old.items commands.new.items) (RefusesLine line.now number) }
 {
@@ -110,8 +111,7 @@ fn add_line(commands: &mut Vec<Command>, line: &[u8], number: u64) -> Result<(),
     }
 }
 
-/// The line that a text begins with, without its LF, and what follows the LF. A text with no LF
-/// answers `None`.
+/// The line that a text begins with, without its LF, and what follows the LF; None for a text without an LF.
 pub(crate) fn split_line(text: &[u8]) -> Option<(&[u8], &[u8])>
     ensures { MatchOption result (HasNoFeed text.now)
         (λ parts. HasNoFeed parts.0.now × (text.now ≡ parts.0.now ++ 10 ∷ parts.1.now)) }
@@ -124,8 +124,8 @@ pub(crate) fn split_line(text: &[u8]) -> Option<(&[u8], &[u8])>
     None
 }
 
-/// The commands that the octets of a script say, in order. A line ends with LF, the last one with or without. Errs with 30 at the
-/// first line that isn't one of a script, counted from 1, and with 9.
+/// The commands that the octets of a script say, in order. Each line ends with LF; the last one need not. Errs with `AtLine` (30) at the
+/// first line that isn't one of a script, counted from 1, and with `NO_MEMORY` (9).
 pub fn read_script(alloc: Global, text: &[u8]) -> Result<Vec<Command>, ToolFault>
     ensures says { MatchResult result (λ commands. IsScript text.now commands.items) (RefusesScript text.now) }
     ensures only { (script : List CommandValue) → IsScript text.now script

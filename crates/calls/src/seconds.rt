@@ -12,7 +12,8 @@ use std::alloc::Global;
 use std::io::Write;
 use std::marker::Model;
 
-/// The most seconds that are counted, a day: a longer call counts as one of these.
+/// The most seconds that are counted, a day: a longer call counts as a day. So the median is exact, and memory (675 KiB) doesn't grow with
+/// the calls.
 const MOST_SECONDS: usize = 86_400;
 
 /// How many of many calls had the line for how many whole seconds.
@@ -43,7 +44,7 @@ fn counted_seconds(call: &OneCall) -> usize
 }
 
 impl Seconds {
-    /// Before the first call. Errs with 9.
+    /// The counts before the first call. Errs with `NO_MEMORY`.
     pub(crate) fn new(alloc: Global) -> Result<Seconds, ToolFault>
         ensures new { IfOk result (λ seconds. CountsSeconds seconds []) }
         ensures fault { IfErr result IsOutside }
@@ -53,7 +54,7 @@ impl Seconds {
         Ok(Seconds { calls: 0, counts })
     }
 
-    /// One call more. Errs with 8 where a number would be 2^64.
+    /// Counts one call more. Errs with `FAILED` (8) if a number would be 2^64.
     pub(crate) fn add(&mut self, call: &OneCall) -> Result<(), ToolFault>
         ensures counts { OnOk result ((calls : List OneCallValue) → CountsSeconds self.old calls →
             CountsSeconds self.new (calls ++ call.now ∷ [])) }
@@ -81,7 +82,7 @@ impl Seconds {
         MOST_SECONDS as u64
     }
 
-    /// Writes the row of seconds. Errs with 8 where the writer fails, and with 9.
+    /// Writes the row of seconds. Errs with `FAILED` (8) if the writer fails, and with `NO_MEMORY`.
     pub(crate) fn write<W: Write>(&self, writer: &mut W) -> Result<(), ToolFault>
         ensures row { OnOk result ((calls : List OneCallValue) → CountsSeconds self.now calls →
             TellsSeconds calls (W.contents writer.old) (W.contents writer.new)) }

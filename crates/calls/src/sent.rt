@@ -11,7 +11,7 @@ use faults::ToolFault;
 use line_sim::LiveCall;
 use signals::Side;
 
-/// Writes the octets of the items under way to a station from a place on. Errs with 8 where the writer fails, and with 9.
+/// Writes the octets of the items under way to a station from a place on. Errs with `FAILED` (8) if the writer fails, and with `NO_MEMORY`.
 fn write_from<T: CallWriter>(
     live: &LiveCall,
     to: Side,
@@ -30,7 +30,8 @@ fn write_from<T: CallWriter>(
     Ok(())
 }
 
-/// Writes the octets of what a call has put under way since its items were counted. Errs with 8 where the writer fails, and with 9.
+/// Writes the octets of what a call has put under way since its items were counted. Errs with `FAILED` (8) if the writer fails, and with
+/// `NO_MEMORY`.
 pub(crate) fn write_sent<T: CallWriter>(
     live: &LiveCall,
     counts: Counts,

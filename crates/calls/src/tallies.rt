@@ -70,21 +70,21 @@ pub(crate) struct Tally {
     again: u64,
 }
 
-/// Whether at most two items of a call were lost or spoiled.
+/// True if a call had at most two losses.
 fn is_mild(counts: &CallCounts) -> bool
     ensures { result ≡ is_mild counts.now }
 {
     counts.lost < 3 && counts.spoiled < 3 - counts.lost
 }
 
-/// One, where at most two items of a call were lost or spoiled.
+/// 1 if at most two items of a call were lost or spoiled.
 fn mild_in(call: &OneCall) -> u64
     ensures { result ≡ mild_in call.now }
 {
     if is_mild(&call.counts) { 1 } else { 0 }
 }
 
-/// One, where at most two items of a call were lost or spoiled and it ended normally for the caller.
+/// 1 if at most two items of a call were lost or spoiled and it ended normally for the caller.
 fn borne_in(call: &OneCall) -> u64
     ensures { result ≡ borne_in call.now }
 {
@@ -94,14 +94,14 @@ fn borne_in(call: &OneCall) -> u64
     0
 }
 
-/// One, where a call had few bad tries in each phase.
+/// 1 if a call had few bad tries in each phase.
 fn few_in(call: &OneCall) -> u64
     ensures { result ≡ few_in call.now }
 {
     one_if(call.few)
 }
 
-/// One, where a call had few bad tries in each phase and it ended normally for the caller.
+/// 1 if a call had few bad tries in each phase and it ended normally for the caller.
 fn through_in(call: &OneCall) -> u64
     ensures { result ≡ through_in call.now }
 {
@@ -111,8 +111,8 @@ fn through_in(call: &OneCall) -> u64
     0
 }
 
-/// Writes the row of an end, with how many calls ended so for the caller, or nothing where there is none. Errs with 8 where the
-/// writer fails, and with 9.
+/// Writes the row of an end, with how many calls ended so for the caller, or nothing if there is none. Errs with `FAILED` (8) if the writer
+/// fails, and with `NO_MEMORY`.
 fn write_end<W: Write>(why: End, count: u64, writer: &mut W) -> Result<(), ToolFault>
     ensures row { OnOk result (Appends (W.contents writer.old) (W.contents writer.new) (row_of why count)) }
     ensures fault { IfErr result IsOutside }
@@ -125,7 +125,7 @@ fn write_end<W: Write>(why: End, count: u64, writer: &mut W) -> Result<(), ToolF
     Ok(())
 }
 
-/// Writes the row of a word and a number. Errs with 8 where the writer fails, and with 9.
+/// Writes the row of a word and a number. Errs with `FAILED` (8) if the writer fails, and with `NO_MEMORY`.
 fn write_sum<W: Write>(word: &str, count: u64, writer: &mut W) -> Result<(), ToolFault>
     ensures row { OnOk result (Appends (W.contents writer.old) (W.contents writer.new) (sum_row word.now count)) }
     ensures fault { IfErr result IsOutside }
@@ -134,8 +134,8 @@ fn write_sum<W: Write>(word: &str, count: u64, writer: &mut W) -> Result<(), Too
     Ok(())
 }
 
-/// Writes how many calls lost little, and how many of them ended normally for the caller. Errs with 8 where the writer fails,
-/// and with 9.
+/// Writes how many calls lost little, and how many of them ended normally for the caller. Errs with `FAILED` (8) if the writer fails, and
+/// with `NO_MEMORY`.
 fn write_mild<W: Write>(mild: u64, borne: u64, writer: &mut W) -> Result<(), ToolFault>
     ensures row { OnOk result (Appends (W.contents writer.old) (W.contents writer.new) (mild_row mild borne)) }
     ensures fault { IfErr result IsOutside }
@@ -144,8 +144,8 @@ fn write_mild<W: Write>(mild: u64, borne: u64, writer: &mut W) -> Result<(), Too
     Ok(())
 }
 
-/// Writes how many calls had few bad tries in each phase, and how many of them ended normally for the caller. Errs with 8 where the
-/// writer fails, and with 9.
+/// Writes how many calls had few bad tries in each phase, and how many of them ended normally for the caller. Errs with `FAILED` (8) if the
+/// writer fails, and with `NO_MEMORY`.
 fn write_few<W: Write>(few: u64, through: u64, writer: &mut W) -> Result<(), ToolFault>
     ensures row { OnOk result (Appends (W.contents writer.old) (W.contents writer.new) (few_row few through)) }
     ensures fault { IfErr result IsOutside }
@@ -171,7 +171,7 @@ impl Tally {
         }
     }
 
-    /// One call more. Errs with 8 where a number would be 2^64.
+    /// One call more. Errs with `FAILED` (8) if a number would be 2^64.
     pub(crate) fn add(&mut self, call: &OneCall) -> Result<(), ToolFault>
         ensures tallies { OnOk result ((calls : List OneCallValue) → Tallies self.old calls → Tallies self.new (calls ++ call.now ∷ [])) }
         ensures fault { IfErr result IsOutside }
@@ -195,7 +195,7 @@ impl Tally {
         self.ended[place_of(Some(why))]
     }
 
-    /// Writes the row of an end, where a call had it for the caller. Errs with 8 where the writer fails, and with 9.
+    /// Writes the row of an end, if a call had it for the caller. Errs with `FAILED` (8) if the writer fails, and with `NO_MEMORY`.
     fn write_end_of<W: Write>(&self, why: End, writer: &mut W) -> Result<(), ToolFault>
         ensures row { OnOk result ((calls : List OneCallValue) → Tallies self.now calls →
             Appends (W.contents writer.old) (W.contents writer.new) (end_row calls why)) }
@@ -206,7 +206,7 @@ impl Tally {
         Ok(())
     }
 
-    /// Writes the rows of the ends that a call had for the caller. Errs with 8 where the writer fails, and with 9.
+    /// Writes the rows of the ends that a call had for the caller. Errs with `FAILED` (8) if the writer fails, and with `NO_MEMORY`.
     fn write_ends<W: Write>(&self, writer: &mut W) -> Result<(), ToolFault>
         ensures rows { OnOk result ((calls : List OneCallValue) → Tallies self.now calls →
             Appends (W.contents writer.old) (W.contents writer.new) (flat_map (end_row calls) all_ends)) }
@@ -218,7 +218,7 @@ impl Tally {
         Ok(())
     }
 
-    /// Writes the table. Errs with 8 where the writer fails, and with 9.
+    /// Writes the table. Errs with `FAILED` (8) if the writer fails, and with `NO_MEMORY`.
     pub(crate) fn write<W: Write>(&self, writer: &mut W) -> Result<(), ToolFault>
         ensures table { OnOk result ((calls : List OneCallValue) → Tallies self.now calls →
             Appends (W.contents writer.old) (W.contents writer.new) (table_text calls)) }

@@ -12,7 +12,7 @@ use stations::{End, Turn};
 use std::fmt;
 use std::io::Write;
 
-/// The word of an event, as scripts have it.
+/// The word of an event, as in scripts.
 pub(crate) fn event_word(event: Event) -> &'static str
     ensures { result.now ≡ word_of event }
 {
@@ -31,7 +31,7 @@ pub(crate) fn event_word(event: Event) -> &'static str
     }
 }
 
-/// The word of why a call ended for a station, or that it goes on: `normal`, `no-reply`, .., `running`.
+/// The word of why a call ended for a station: `normal`, `no-reply` .., or `running` if it goes on.
 pub fn end_word(ending: Option<End>) -> &'static str
     ensures { result.now ≡ end_text ending }
 {
@@ -50,7 +50,7 @@ pub fn end_word(ending: Option<End>) -> &'static str
     }
 }
 
-/// What was delivered or lost.
+/// The words of what was delivered or lost.
 #[derive(Drop)]
 pub(crate) struct ItemText(pub(crate) Option<Kind>);
 
@@ -80,7 +80,7 @@ impl fmt::Display for ItemText {
     }
 }
 
-/// What was transmitted: a turn, and the number of its FCDs.
+/// The words of what was transmitted: a turn, and the number of its FCDs.
 #[derive(Drop)]
 pub(crate) struct TurnText(pub(crate) Turn, pub(crate) u16);
 
@@ -108,8 +108,7 @@ impl fmt::Display for TurnText {
     }
 }
 
-/// Writes the line of an event: its number, its word, the item, the turn, and ` !` where a growth was
-/// refused in it. Errs where the writer fails.
+/// Writes the line of an event: its number, its word, the item, the turn, and ` !` if a growth was refused in it. Errs if the writer fails.
 pub(crate) fn write_entry<W: Write>(
     number: u64,
     entry: &Entry,
@@ -129,9 +128,8 @@ pub(crate) fn write_entry<W: Write>(
     Ok(())
 }
 
-/// Writes what a call leaves: how it ended for the caller, with the number of pages that it counts as
-/// confirmed, and for the answerer, with the number of pages that it has stored. Errs with 8 where the
-/// writer fails, and with 9.
+/// Writes what a call leaves: how it ended for the caller, with the number of confirmed pages, and for the answerer, with the number of
+/// stored pages. Errs with `FAILED` (8) if the writer fails, and with `NO_MEMORY`.
 pub(crate) fn write_ending<W: Write>(ending: &Ending, writer: &mut W) -> Result<(), ToolFault>
     ensures text { OnOk result (Appends (W.contents writer.old) (W.contents writer.new) (ending_text ending.now)) }
     ensures fault { IfErr result IsOutside }

@@ -1,4 +1,5 @@
-//! How many tries of a call's phases were bad.
+//! How many tries of a call's phases were bad. They are counted beside the call, step by step: by a step's events, by how much was under
+//! way before and after it, and by its caller sending a block or not.
 
 ghost use Rattle.calls.specs.TriesCounted.{begins, first_try, goes_on, is_bad_in, is_check_in, is_mcf, is_mcf_in, met_by, stays, stood_in};
 ghost use Rattle.calls.specs.TriesCounted.{tried};
@@ -22,7 +23,7 @@ use line_sim::{DrivenCall, Event, Kind, Step};
 pub(crate) struct Stood {
     /// How much is under way.
     counts: Counts,
-    /// Whether the caller is sending a block.
+    /// True if the caller is sending a block.
     sends: bool,
 }
 
@@ -32,11 +33,11 @@ pub(crate) struct Stood {
 pub(crate) struct TryCounts {
     /// How many tries of the present phase were bad.
     bad: u64,
-    /// Whether the present try is bad.
+    /// True if the present try is bad.
     now: bool,
     /// How many training checks of the present phase were spoiled.
     checks: u64,
-    /// Whether so far no phase had more than two bad tries, or more spoiled checks than it bears.
+    /// True if so far no phase had more than two bad tries, or more spoiled checks than it bears.
     pub(crate) few: bool,
 }
 
@@ -53,7 +54,7 @@ impl Stood {
     }
 }
 
-/// Whether what became of an item in a step was bad.
+/// True if an item was lost or spoiled in a step.
 fn is_bad(step: &Step) -> bool
     ensures { result ≡ is_bad_in (entries_of step.now) }
 {
@@ -63,7 +64,7 @@ fn is_bad(step: &Step) -> bool
     }
 }
 
-/// Whether a training check was spoiled in a step.
+/// True if a training check was spoiled in a step.
 fn spoils_check(step: &Step) -> bool
     ensures { result ≡ is_check_in (entries_of step.now) }
 {
@@ -73,7 +74,7 @@ fn spoils_check(step: &Step) -> bool
     }
 }
 
-/// Whether an MCF comes in an event, by the item that it delivers or loses.
+/// True if an MCF comes in an event, by the item that it delivers or loses.
 fn is_mcf(event: Event, item: Option<Kind>) -> bool
     ensures { result ≡ is_mcf event item }
 {
@@ -83,7 +84,7 @@ fn is_mcf(event: Event, item: Option<Kind>) -> bool
     }
 }
 
-/// Whether an MCF came in a step.
+/// True if an MCF came in a step.
 fn has_mcf(step: &Step) -> bool
     ensures { result ≡ is_mcf_in (entries_of step.now) }
 {
@@ -93,7 +94,7 @@ fn has_mcf(step: &Step) -> bool
     }
 }
 
-/// Whether a step stayed in its phase: a block is left by an MCF, and else none is begun.
+/// True if a step stayed in its phase: a block is left by an MCF, and else none is begun.
 fn stays(step: &Step, before: Stood, after: Stood) -> bool
     ensures { result ≡ stays (entries_of step.now) before after }
 {
@@ -103,7 +104,7 @@ fn stays(step: &Step, before: Stood, after: Stood) -> bool
     !after.sends
 }
 
-/// Whether a try began: nothing was under way to the answerer, and something is; or nothing at all was, and something is to the
+/// True if a try began: nothing was under way to the answerer, and something is; or nothing at all was, and something is to the
 /// caller.
 fn begins(before: Counts, after: Counts) -> bool
     ensures { result ≡ begins before after }
@@ -112,7 +113,7 @@ fn begins(before: Counts, after: Counts) -> bool
         && (after.to_answerer > 0 || (before.to_caller == 0 && after.to_caller > 0))
 }
 
-/// The number of bad tries, with one more where a try turns bad. Errs with 8 where it would be 2^64.
+/// The number of bad tries, with one more where a try turns bad. Errs with `FAILED` (8) if it would be 2^64.
 fn bad_with(is_bad: bool, now: bool, bad: u64) -> Result<u64, ToolFault>
     ensures bad { IfOk result (λ sum. sum ≡ bad_with is_bad now bad) }
     ensures fault { IfErr result IsOutside }
@@ -136,7 +137,7 @@ impl TryCounts {
         }
     }
 
-    /// The counts when a step's item has met its fate. Errs with 8 where a number would be 2^64.
+    /// The counts when a step's item has met its fate. Errs with `FAILED` (8) if a number would be 2^64.
     fn met_by(self, step: &Step, spare: u64) -> Result<TryCounts, ToolFault>
         ensures met { IfOk result (λ met. met ≡ met_by spare (entries_of step.now) self) }
         ensures fault { IfErr result IsOutside }
@@ -165,7 +166,7 @@ impl TryCounts {
     }
 
     /// The counts after a step, by how much was under way before and after it and whether the caller sent a block; of a group's training
-    /// checks as many may be spoiled as are spare. Errs with 8 where a number would be 2^64.
+    /// checks as many may be spoiled as are spare. Errs with `FAILED` (8) if a number would be 2^64.
     pub(crate) fn after_step(
         self,
         step: &Step,

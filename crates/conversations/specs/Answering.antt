@@ -11,12 +11,12 @@ use Rattle.terminals.specs.Stopping.{LimitedShows, LimitedStepsUnlessCut, limite
 abbrev pub StoreStep : Type 0 → Type 1
 StoreStep P = P → PagePixels → P → Type 0
 
--- pages are stored in order, each one in what the one before it left
+-- pages are stored in order, each in what the one before it left, by what the store says of one page
 abbrev pub StoresEach : {P : Type 0} → StoreStep P → P → List PagePixels → P → Type 0
 StoresEach stores old [] new = new ≡ old
 StoresEach {P} stores old (page ∷ pages) new = (mid : P) × stores old page mid × StoresEach stores mid pages new
 
--- some of the pages are stored, in order: those before the one that was refused
+-- the pages before the first one that is refused are stored, in order, and that one is refused
 abbrev pub StoresSome : {P : Type 0} → StoreStep P → StoreStep P → P → List PagePixels → P → Type 0
 StoresSome {P} stores refuses old pages new =
     (front : List PagePixels) × (refused : PagePixels) × (rest : List PagePixels) × (mid : P) × (pages ≡ front ++ refused ∷ rest) ×
@@ -39,7 +39,8 @@ StoresAll stores refuses old new before after true = StoresEach stores before (p
 StoresAll stores refuses old new before after false =
     StoresSome stores refuses before (pages_of old) after × (new ≡ hung_up_so limited_cut_off (with_pages_taken old))
 
--- a line is taken, and then each page that was accepted is stored, before anything is said; whether all were
+-- A line is taken. Then, before anything is said, each page that was accepted is stored, and all were; or the first one that is refused
+-- makes the station hang up.
 abbrev pub AnswersLine :
     {P : Type 0} → StoreStep P → StoreStep P → ConversationFields LimitedFields → TimedLine → ConversationFields LimitedFields → P → P →
     Bool → Type 0
@@ -47,7 +48,7 @@ AnswersLine stores refuses old line new before after all =
     (mid : ConversationFields LimitedFields) × TakesLine LimitedFields limited_behaviour old line mid ×
     StoresAll stores refuses mid new before after all
 
--- after a line no page is left in the answerer: each one is in the store, or was refused
+-- The law: after a line no page is left in the answerer; each is in the store or was refused.
 abbrev pub NoneAreLeft : Type 0
 NoneAreLeft =
     (mid : ConversationFields LimitedFields) → (pages_of (with_pages_taken mid) ≡ []) ×

@@ -10,18 +10,18 @@ use Rattle.stations.specs.declared.waiting.Wait.{Wait}
 use Rattle.stations.specs.declared.waiting.Wait.TheVariants.{T1, T2, T4, T5}
 use Rattle.terminals.specs.declared.stopping.Shown.{Shown}
 
--- how long each wait runs
+-- how long each wait runs, in milliseconds, of the durations given
 abbrev pub duration : Durations → Wait → ℕ
 duration d T1 = d.t1
 duration d T2 = d.t2
 duration d T4 = d.t4
 duration d T5 = d.t5
 
--- a call that has just been set up
+-- the clock of a new call: at 0 ms, not calm, and nothing heard
 abbrev pub new_clock : Clock
 new_clock = record { now = 0; calm = None; heard = 0; asked = None }
 
--- the time that is kept, or this one where none is
+-- the time that is kept, or this one if none is
 abbrev pub since_or : Option ℕ → ℕ → Option ℕ
 since_or None at = Some at
 since_or (Some since) at = Some since
@@ -36,15 +36,15 @@ calm_at calm Ready at = calm
 calm_at calm Stop at = calm
 calm_at calm End at = calm
 
--- the clock at a line
+-- the clock at a line: the line is calm from the first quiet line after a carrier
 abbrev pub clock_at : Clock → Said → ℕ → Clock
 clock_at c said at = record c { now = at; calm = calm_at c.calm said at }
 
--- the clock where its line brought a good frame or the awaited training check, or brought neither
+-- the clock after a line that brought a good frame or the awaited training check, or neither
 abbrev pub heard_now : Bool → Clock → Clock
 heard_now brought c = cond brought (record c { heard = c.now }) c
 
--- since when T5 runs, where it is the longer wait that runs after a line: from this line on, unless it ran before
+-- Since when T5 runs: from the line after which the station first shows it as its longer wait, until a line after which it doesn't.
 abbrev pub asked_by : Option Wait → Option ℕ → ℕ → Option ℕ
 asked_by (Some T5) asked now = since_or asked now
 asked_by (Some T1) asked now = None
@@ -52,16 +52,16 @@ asked_by (Some T2) asked now = None
 asked_by (Some T4) asked now = None
 asked_by None asked now = None
 
--- the clock after a line, by the longer wait that the station shows then
+-- the clock after a line, with the time that T5 runs from, by the longer wait that the station shows afterwards
 abbrev pub asked_since : Option Wait → Clock → Clock
 asked_since longer c = record c { asked = asked_by longer c.asked c.now }
 
--- a burst that is sent ends the calm
+-- the clock after a burst is sent, which ends the calm
 abbrev pub after_burst : Clock → Clock
 after_burst c = record c { calm = None }
 
--- since when the wait that a station shows runs: a caller's T1 from what was heard last, and an answerer's, which it shows while it takes
--- blocks, from the calm on, as T2 and T4
+-- Since when the wait that a station shows runs. A caller's T1 runs from what was heard last; an answerer's T1, which it shows while it
+-- takes blocks, runs from the calm on, as T2 and T4 do.
 abbrev pub runs_from : Side → Clock → Wait → Option ℕ
 runs_from Caller c T1 = Some c.heard
 runs_from Answerer c T1 = c.calm
@@ -81,17 +81,17 @@ abbrev pub is_past : ℕ → Option ℕ → ℕ → Bool
 is_past now None passed = false
 is_past now (Some since) passed = nat_le (since + passed) now
 
--- the wait that a station shows, where it is over
+-- the wait that a station shows, if it is over
 abbrev pub running_over : Side → Option Wait → Clock → Durations → Option Wait
 running_over side None c d = None
 running_over side (Some wait) c d = cond (is_past c.now (runs_from side c wait) (duration d wait)) (Some wait) None
 
--- the longer one, where it is over
+-- the longer wait that a station shows, if it is over
 abbrev pub longer_over : Option Wait → Clock → Durations → Option Wait
 longer_over None c d = None
 longer_over (Some wait) c d = cond (is_past c.now (longer_runs_from c wait) (duration d wait)) (Some wait) None
 
--- of two waits the first that there is
+-- the first of two waits, or the second if there is no first
 abbrev pub first_of : Option Wait → Option Wait → Option Wait
 first_of (Some wait) next = Some wait
 first_of None next = next
@@ -100,24 +100,25 @@ first_of None next = next
 abbrev pub wait_over : Side → Shown → Clock → Durations → Option Wait
 wait_over side shown c d = first_of (longer_over shown.longer c d) (running_over side shown.running c d)
 
--- a duration has passed since a time that there is
+-- a duration has passed since a time that is known
 abbrev pub HasPassed : ℕ → Option ℕ → ℕ → Type 0
 HasPassed now since passed = (from : ℕ) × (since ≡ Some from) × (from + passed ≤ now)
 
--- a wait is over only where the station shows it and its duration has passed since the time that it runs from
+-- The law: a wait is over only if the station shows it and its duration has passed since the time that it runs from.
 abbrev pub WaitsPass : Type 0
 WaitsPass =
     (side : Side) (shown : Shown) (c : Clock) (d : Durations) (wait : Wait) → wait_over side shown c d ≡ Some wait →
     ((shown.longer ≡ Some wait) × HasPassed c.now (longer_runs_from c wait) (duration d wait)) ⊎
     ((shown.running ≡ Some wait) × HasPassed c.now (runs_from side c wait) (duration d wait))
 
--- T2 and T4 don't run while a carrier is on
+-- The law: T2 and T4 are never over while a carrier is on.
 abbrev pub CarriersHold : Type 0
 CarriersHold =
     (side : Side) (shown : Shown) (c : Clock) (d : Durations) → c.calm ≡ None →
     (wait_over side shown c d ≢ Some T2) × (wait_over side shown c d ≢ Some T4)
 
--- a carrier that is on, or has just ended, and a burst that was sent end the calm; the first quiet line after them begins it
+-- The law: a busy line, on which a carrier is on or has just ended, and a burst that was sent end the calm; the first quiet line after them
+-- begins it.
 abbrev pub CalmIsQuiet : Type 0
 CalmIsQuiet =
     (c : Clock) (at : ℕ) (later : ℕ) → ((clock_at c Busy at).calm ≡ None) × ((after_burst c).calm ≡ None) ×

@@ -36,7 +36,7 @@ pub data PlainGiven : Type 0 where
   frames : List ℕ → PlainGiven
   input : PlainInput → PlainGiven
 
--- the plain value of what is given
+-- the plain value of what the code gives a station
 abbrev pub plain_given : Given → PlainGiven
 plain_given GivenNothing = nothing
 plain_given (GivenFrames octets) = frames octets.now
@@ -46,18 +46,18 @@ plain_given (GivenBusy is) = input (busy is)
 plain_given GivenStop = stopping
 plain_given GivenLoss = losing
 
--- a wait that is over is given
+-- the wait that is over is given, if there is one
 abbrev pub over_given : Option Wait → PlainGiven
 over_given None = nothing
 over_given (Some wait) = input (over wait)
 
--- what is heard of octets is given
+-- what the station is given of octets, by how it hears them
 abbrev pub heard_given : Heard → List ℕ → PlainGiven
 heard_given Frames octets = frames octets
 heard_given Check octets = input (check octets)
 heard_given Nothing octets = nothing
 
--- what a line gives a station that has begun, or hasn't: until then nothing is heard and no wait is over
+-- What a line gives a station. Until the station has begun nothing is heard and no wait is over.
 abbrev pub line_gives : Bool → Side → Shown → Clock → Durations → Said → PlainGiven
 line_gives begun side shown c d Quiet = cond begun (over_given (wait_over side shown c d)) nothing
 line_gives begun side shown c d Busy = nothing
@@ -68,7 +68,7 @@ line_gives begun side shown c d Ready = input (busy false)
 line_gives begun side shown c d Stop = stopping
 line_gives begun side shown c d End = losing
 
--- a station begins at the first quiet line from a second on, and where it is stopped
+-- A station begins at the first quiet line from 1,000 ms on, and at a line that stops it.
 abbrev pub begins : Said → ℕ → Bool
 begins Quiet at = nat_le 1000 at
 begins Busy at = false
@@ -78,11 +78,11 @@ begins Ready at = false
 begins Stop at = true
 begins End at = false
 
--- octets that come after those before have a good frame
+-- octets bring a good frame that the octets before them hadn't
 abbrev pub brings_frame : List ℕ → List ℕ → Bool
 brings_frame before octets = nat_lt (good_frames before) (good_frames (before ++ octets))
 
--- an input is a training check, which is given only where it is awaited
+-- the input is a training check, which is given only if it is awaited
 abbrev pub is_check : PlainInput → Bool
 is_check (said signal) = false
 is_check (check octets) = true
@@ -103,7 +103,7 @@ abbrev pub behaviour :
 behaviour side steps shows cut_off stop_says =
     record { side = side; steps = steps; shows = shows; cut_off = cut_off; stop_says = stop_says }
 
--- a terminal was given this, and it brought a good frame or the awaited training check, or neither
+-- a terminal was given what a line gives, and that brought a good frame or the awaited training check, or neither
 abbrev pub Gives : {S : Type 0} → Behaviour S → TerminalFields S → PlainGiven → TerminalFields S → Bool → Type 0
 Gives b old nothing new brought = (new ≡ old) × (brought ≡ false)
 Gives b old stopping new brought =
@@ -123,14 +123,14 @@ LosesFrames b old given new = ⊥
 abbrev pub IsRefused : {S : Type 0} → Behaviour S → TerminalFields S → PlainGiven → TerminalFields S → Type 0
 IsRefused b old given new = (new ≡ old) ⊎ LosesFrames b old given new
 
--- a conversation: its terminal, its clock, how long its waits run, and whether it has begun
+-- a conversation: its terminal, its clock, how long its waits run, and if it has begun
 pub record ConversationFields (S : Type 0) : Type 0 where
   pub terminal : TerminalFields S
   pub clock : Clock
   pub durations : Durations
   pub begun : Bool
 
--- a new conversation of a station
+-- a new conversation of a station, at time 0
 abbrev pub IsNew : {S : Type 0} → TerminalFields S → Durations → Bool → ConversationFields S → Type 0
 IsNew terminal durations begun new = new ≡ record { terminal = terminal; clock = new_clock; durations = durations; begun = begun }
 
@@ -138,7 +138,8 @@ IsNew terminal durations begun new = new ≡ record { terminal = terminal; clock
 abbrev pub gives : {S : Type 0} → Behaviour S → ConversationFields S → Shown → TimedLine → PlainGiven
 gives b old shown line = line_gives old.begun b.side shown (clock_at old.clock line.said line.at) old.durations line.said
 
--- a line was taken
+-- A line was taken, at a time not before the line before it: the terminal was given what it gives, and the clock and the beginning were
+-- noted.
 pub record TakesLine (S : Type 0) (b : Behaviour S) (old : ConversationFields S) (line : TimedLine) (new : ConversationFields S) :
     Type 0 where
   pub shown : Shown
@@ -152,7 +153,7 @@ pub record TakesLine (S : Type 0) (b : Behaviour S) (old : ConversationFields S)
   pub begun : new.begun ≡ cond old.begun true (begins line.said line.at)
   pub durations : new.durations ≡ old.durations
 
--- memory was refused at a line
+-- memory was refused at a line: all but the terminal is as it was
 pub record RefusesLine (S : Type 0) (b : Behaviour S) (old : ConversationFields S) (line : TimedLine) (new : ConversationFields S) :
     Type 0 where
   pub shown : Shown
@@ -174,7 +175,7 @@ clock_sent (Ok (Some sent)) c = after_burst c
 clock_sent (Ok None) c = c
 clock_sent (Err refused) c = c
 
--- the next burst is given; none before a station has begun
+-- the next burst is given, which ends the calm; none before the station has begun
 abbrev pub SendsIfBegun :
     {S E : Type 0} → Side → BurstsOf S → Bool → ConversationFields S → ConversationFields S → Result (Option SentBurst) E → Type 0
 SendsIfBegun side lends false old new result = (new ≡ old) × (result ≡ Ok None)
@@ -182,11 +183,11 @@ SendsIfBegun side lends true old new result =
     Sends side lends old.terminal.speaking new.terminal.speaking result × (new.terminal.framing ≡ old.terminal.framing) ×
     (new ≡ record old { terminal = new.terminal; clock = clock_sent result old.clock })
 
--- a conversation of an answerer with limits whose pages were taken
+-- a conversation of an answerer with limits, whose pages were taken out of it
 abbrev pub with_pages_taken : ConversationFields LimitedFields → ConversationFields LimitedFields
 with_pages_taken old = record old { terminal = record old.terminal { speaking = without_its_pages old.terminal.speaking } }
 
--- a call that is stopped, with DCN to be sent in place of the turn that is kept
+-- a conversation that was stopped, with DCN to be sent in place of the turn that is kept
 abbrev pub hung_up_so : {S : Type 0} → (Cut → S → S) → ConversationFields S → ConversationFields S
 hung_up_so cut_off old =
     record old { terminal = record old.terminal { speaking = hung_up cut_off old.terminal.speaking }; begun = true }

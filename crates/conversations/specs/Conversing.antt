@@ -25,7 +25,7 @@ pub record TalkState (S K : Type 0) : Type 0 where
   pub keeper : K
   pub output : Option (List ℕ)
 
--- how far it is, of these four
+-- how far a conversation is, of its four parts
 abbrev pub talk_state : {S K : Type 0} → Option (List ℕ) → ConversationFields S → K → Option (List ℕ) → TalkState S K
 talk_state input conversation keeper output =
     record { input = input; conversation = conversation; keeper = keeper; output = output }
@@ -36,17 +36,17 @@ pub record Talker (S K : Type 0) : Type 1 where
   pub keeps : KeepsOf S K
   pub lends : BurstsOf S
 
--- who talks, of these three
+-- who talks, of its three parts
 abbrev pub talker : {S K : Type 0} → Behaviour S → KeepsOf S K → BurstsOf S → Talker S K
 talker station keeps lends = record { station = station; keeps = keeps; lends = lends }
 
--- the next line is read and answered; whether all that it brought was kept, and whether the call is over then
+-- the next line is read and answered: all that it brought was kept or not, and the call is over or goes on
 pub record AnswersNext (S K : Type 0) (t : Talker S K) (old new : TalkState S K) (line : List ℕ) (kept over : Bool) : Type 0 where
   pub read : ReadsLine old.input new.input line
   pub answered :
       Answers S K t.station t.keeps t.lends line old.conversation new.conversation old.keeper new.keeper old.output new.output kept over
 
--- lines are read and answered one after the other: all that they brought was kept, and the call goes on
+-- lines are read and answered one after the other: all that each brought was kept, and the call goes on
 abbrev pub AnswersAll : {S K : Type 0} → Talker S K → List (List ℕ) → TalkState S K → TalkState S K → Type 0
 AnswersAll t [] old new = new ≡ old
 AnswersAll {S} {K} t (line ∷ lines) old new =
@@ -56,7 +56,7 @@ AnswersAll {S} {K} t (line ∷ lines) old new =
 abbrev pub lost_at : ℕ → TimedLine
 lost_at now = record { at = now; said = End }
 
--- no line is left, and the station takes that its line is lost
+-- no line is left, and the station is given the loss of its line, at the time of the last one
 pub record LosesLine (S K : Type 0) (t : Talker S K) (old new : TalkState S K) : Type 0 where
   pub no_more : Consumes old.input new.input []
   pub at_end : IsAtEnd new.input
@@ -70,7 +70,7 @@ EndsSo {S} {K} t old new Over = (line : List ℕ) × AnswersNext S K t old new l
 EndsSo {S} {K} t old new (Unkept why) = (line : List ℕ) × (over : Bool) × AnswersNext S K t old new line false over
 EndsSo {S} {K} t old new Lost = LosesLine S K t old new
 
--- lines are answered, and then the conversation ends so
+-- lines are read and answered, and then the conversation ends: the call is over, or a page wasn't kept, or no line is left
 pub record Converses (S K E : Type 0) (t : Talker S K) (old new : TalkState S K) (ending : Ending E) : Type 0 where
   pub lines : List (List ℕ)
   pub last : TalkState S K
@@ -102,7 +102,7 @@ pub record FailsToRead (S K : Type 0) (t : Talker S K) (old new : TalkState S K)
   pub answered : AnswersAll t lines old last
   pub rest : new ≡ record last { input = new.input }
 
--- how far a conversation is where it stops for a fault; of a line whose answer failed nothing is said
+-- how far a conversation is when it stops for a fault; nothing is said of a line whose answer failed
 abbrev pub StopsSo : {S K F : Type 0} → Talker S K → TalkState S K → TalkState S K → ConverseFault F → Type 0
 StopsSo {S} {K} t old new (Line number) = RefusesLineOf S K t old new number
 StopsSo {S} {K} t old new (Reader kind) = FailsToRead S K t old new
@@ -111,7 +111,7 @@ StopsSo t old new (Writer kind) = ⊤
 StopsSo t old new (Follower fault) = ⊤
 StopsSo t old new TooManyLines = ⊤
 
--- the fault of a conversation whose line of a number isn't answered
+-- the fault of a conversation whose line of this number, from 1, isn't answered
 abbrev pub unanswered : {F : Type 0} → AnswerFault F → ℕ → ConverseFault F
 unanswered NoLine number = Line number
 unanswered Backwards number = Line number

@@ -27,19 +27,20 @@ place_of V17At14400 = 7
 abbrev pub same_speed : Speed → Speed → Bool
 same_speed speed other = nat_eq (place_of speed) (place_of other)
 
--- a training check is heard where one at its speed is awaited
+-- a training check is heard if one at its speed is awaited
 abbrev pub check_heard : Listening → Speed → Heard
 check_heard V21 speed = Nothing
 check_heard (Training agreed) speed = cond (same_speed speed agreed) HeardCheck Nothing
 check_heard (V21OrPage agreed) speed = Nothing
 
--- frames at a message speed are heard where a page at that speed is awaited
+-- frames at a message speed are heard if a page at that speed is awaited
 abbrev pub page_heard : Listening → Speed → Heard
 page_heard V21 speed = Nothing
 page_heard (Training agreed) speed = Nothing
 page_heard (V21OrPage agreed) speed = cond (same_speed speed agreed) HeardFrames Nothing
 
--- what is heard of bits of a kind by a carrier: frames by V.21 always, a training check and the frames of a page where they are awaited
+-- what bits of a kind by a carrier are to a station: frames by V.21 always, a training check and the frames of a page if they are awaited
+-- at that speed
 abbrev pub heard_as : Listening → Channel → Kind → Heard
 heard_as listens ByV21 Frames = HeardFrames
 heard_as listens ByV21 Check = Nothing

@@ -24,7 +24,7 @@ inputs_given before losing = []
 inputs_given before (frames octets) = heard_of before octets
 inputs_given before (input x) = x ∷ []
 
--- an answerer with limits after inputs
+-- where inputs lead an answerer with limits
 abbrev pub limited_led : Limits → List PlainInput → Answerer → Answerer
 limited_led limits [] s = s
 limited_led limits (x ∷ xs) s = limited_led limits xs (limited_answers limits s (answerer_takes x)).next
@@ -34,7 +34,8 @@ abbrev pub caller_behaviour : Behaviour StoppableCallerFields
 caller_behaviour =
     behaviour CallerSide (λ old x new turn. CallerStepsUnlessCut old.cut old x new turn) CallerShows caller_cut_off caller_stop_says
 
--- after a line that was taken, an answerer whose call wasn't cut off is where its table leads by the inputs that the line gives
+-- The law: after a line that was taken, an answerer with limits whose call wasn't cut off is where its table leads by the inputs that the
+-- line gives.
 abbrev pub AnswerersAreLed : Type 0
 AnswerersAreLed =
     (old new : ConversationFields LimitedFields) (line : TimedLine) (before : List ℕ)
@@ -44,7 +45,8 @@ AnswerersAreLed =
     limited_led old.terminal.speaking.station.limits (inputs_given before (gives limited_behaviour old h.shown line))
     old.terminal.speaking.station.station
 
--- and so is a caller
+-- The law: after a line that was taken, a caller whose call wasn't cut off represents where its tuple leads by the inputs that the line
+-- gives.
 abbrev pub CallersAreLed : Type 0
 CallersAreLed =
     (old new : ConversationFields StoppableCallerFields) (line : TimedLine) (before : List ℕ)

@@ -20,11 +20,11 @@ use Rattle.conversations.specs.declared.line.Said.{Said}
 use Rattle.conversations.specs.declared.line.Said.TheVariants.{Quiet, Busy, Received, NotReady, Ready, Stop, End}
 use Rattle.conversations.specs.declared.line.TimedLine.{TimedLine}
 
--- two carriers have two names
+-- The law: two carriers have two names.
 abbrev pub ChannelsHaveNames : Type 0
 ChannelsHaveNames = (one other : Channel) → channel_name one ≡ channel_name other → one ≡ other
 
--- two kinds have two names
+-- The law: the two kinds of bits have two names.
 abbrev pub KindsHaveNames : Type 0
 KindsHaveNames = (one other : Kind) → kind_name one ≡ kind_name other → one ≡ other
 
@@ -43,7 +43,7 @@ plain_said Ready = ready
 plain_said Stop = stop
 plain_said End = ended
 
--- a line says one thing at most, at one time
+-- The law: a line says at most one thing, at one time.
 abbrev pub SaysOneThing : Type 0
 SaysOneThing =
     (line : List ℕ) (one other : TimedLine) → Says line one → Says line other →
@@ -55,25 +55,25 @@ pub record FitsALine (burst : SentBurst) : Type 0 where
   pub size : length burst.octets.items ≡ octets_for burst.bits
   pub octets : AreOctets burst.octets.items
 
--- a burst that is sent fits a line, where it has no more bits
+-- The law: a burst that a terminal sends fits a line if it has at most 1,599,824 bits.
 abbrev pub SentFitsALine : Type 0
 SentFitsALine =
     (side : Side) (plain : PlainBurst) (later : List PlainBurst) (burst : SentBurst) → IsSent side plain later burst →
     AreOctets burst.octets.items → burst.bits ≤ 1599824 → FitsALine burst
 
--- each burst of these, as it is sent, fits a line
+-- each of these bursts, as it is sent, fits a line
 abbrev pub FitLines : Side → List PlainBurst → Type 0
 FitLines side bursts =
     (taken : ℕ) (burst : PlainBurst) (later : List PlainBurst) (sent : SentBurst) → drop taken bursts ≡ burst ∷ later →
     IsSent side burst later sent → AreOctets sent.octets.items → FitsALine sent
 
--- so does each burst that a caller has for a turn
+-- The law: each burst that a caller has for a turn fits a line.
 abbrev pub CallersFitLines : Type 0
 CallersFitLines =
     (v : CallerFields) (t : Caller) (turn : Turn) (bursts : List PlainBurst) → Represents v t → CallerLends v turn bursts →
     FitLines CallerSide bursts
 
--- and each that an answerer has for one, where the map of a PPR is whole
+-- The law: each burst that an answerer has for a turn fits a line, if a PPR's map is whole.
 abbrev pub AnswerersFitLines : Type 0
 AnswerersFitLines =
     (s : Answerer) (turn : Turn) (bursts : List PlainBurst) → HasWholeMap turn → AnswererLends s turn bursts → FitLines AnswererSide bursts
@@ -87,7 +87,8 @@ abbrev pub come_at : ℕ → SentBurst → TimedLine
 come_at at burst =
     record { at = at; said = Received (channel_of burst.carrier) (kind_of burst.carrier) burst.bits burst.octets }
 
--- the words in which a burst is sent say at the other station its carrier, kind, number of bits and octets
+-- The law: the words in which a burst is sent, after `rx` and a time, are a line that says at the other station the burst's carrier, kind,
+-- number of bits and octets.
 abbrev pub ReadsWhatIsSent : Type 0
 ReadsWhatIsSent =
     (burst : SentBurst) (time : List ℕ) (at : ℕ) → FitsALine burst → IsNumber 15 time at → Says (rx_line time burst) (come_at at burst)

@@ -17,7 +17,7 @@ use Rattle.conversations.specs.declared.line.TimedLine.{TimedLine}
 abbrev pub spaced : List (List ℕ) → List ℕ
 spaced words = join_with_byte 32 words
 
--- the name of a carrier
+-- the name of a carrier in a line
 abbrev pub channel_name : Channel → List ℕ
 channel_name V21 = codes "v21"
 channel_name (Message V27At2400) = codes "v27ter-2400"
@@ -29,7 +29,7 @@ channel_name (Message V17At9600) = codes "v17-9600"
 channel_name (Message V17At12000) = codes "v17-12000"
 channel_name (Message V17At14400) = codes "v17-14400"
 
--- the name of what bits are: flags and frames, or a training check
+-- the name in a line of what bits are: flags and frames (`hdlc`), or a training check (`raw`)
 abbrev pub kind_name : Kind → List ℕ
 kind_name Frames = codes "hdlc"
 kind_name Check = codes "raw"
@@ -38,17 +38,17 @@ kind_name Check = codes "raw"
 abbrev pub HasNoSpace : List ℕ → Type 0
 HasNoSpace octets = (k : ℕ) → k < length octets → slice_index octets k ≢ 32
 
--- decimal digits, one to `most` of them, write a number
+-- one to `most` decimal digits write a number; zeros may come first
 pub record IsNumber (most : ℕ) (digits : List ℕ) (number : ℕ) : Type 0 where
   pub numeral : IsNumeral 10 digits
   pub short : length digits ≤ most
   pub value : number ≡ digits_value 10 digits
 
--- how many octets bits need
+-- how many octets a number of bits needs
 abbrev pub octets_for : ℕ → ℕ
 octets_for bits = (bits + 7) / 8
 
--- BITS HEX: a number of bits, and just as many octets as they need, each by two hexadecimal digits in capitals or not
+-- BITS HEX: a number of bits, and exactly as many octets as they need, each by two hexadecimal digits, in capitals or not
 pub record AreBits (text : List ℕ) (bits : ℕ) (octets : List ℕ) : Type 0 where
   pub count : List ℕ
   pub hex : List ℕ
@@ -62,7 +62,7 @@ abbrev pub IsBurst : List ℕ → Channel → Kind → ℕ → List ℕ → Type
 IsBurst text channel kind bits octets =
     (rest : List ℕ) × (text ≡ spaced (channel_name channel ∷ kind_name kind ∷ rest ∷ [])) × AreBits rest bits octets
 
--- the word of a line that says this and has nothing but the time after it
+-- the word of a line that has nothing but the time after it
 abbrev pub IsWordOf : List ℕ → Said → Type 0
 IsWordOf word Quiet = word ≡ codes "quiet"
 IsWordOf word Busy = word ≡ codes "busy"
@@ -72,17 +72,17 @@ IsWordOf word Ready = word ≡ codes "ready"
 IsWordOf word Stop = word ≡ codes "stop"
 IsWordOf word End = word ≡ codes "end"
 
--- a word and the time
+-- the line is a word and the time
 abbrev pub IsTimed : List ℕ → TimedLine → Type 0
 IsTimed line timed = (word : List ℕ) × (time : List ℕ)
     × (line ≡ spaced (word ∷ time ∷ [])) × IsWordOf word timed.said × IsNumber 15 time timed.at
 
--- what was received is this burst
+-- the line says that this burst was received
 abbrev pub IsReceived : List ℕ → Said → Type 0
 IsReceived burst (Received channel kind bits octets) = IsBurst burst channel kind bits octets.items
 IsReceived burst said = ⊥
 
--- T CARRIER KIND BITS HEX: the time, and what was received
+-- T CARRIER KIND BITS HEX, what follows `rx`: the time and a burst
 abbrev pub ReceivedAfter : List ℕ → TimedLine → Type 0
 ReceivedAfter text timed = (time : List ℕ) × (burst : List ℕ)
     × (text ≡ spaced (time ∷ burst ∷ [])) × IsNumber 15 time timed.at × IsReceived burst timed.said

@@ -4,7 +4,7 @@ use Rattle.std.specs.Io.KnownBytes.{Consumes, IsAtEnd}
 use Rattle.conversations.specs.declared.reading.ReadFault.{ReadFault}
 use Rattle.conversations.specs.declared.reading.ReadFault.TheVariants.{NoMemory, TooLong, Failed}
 
--- no octet is LF
+-- no octet is LF, the end of a line
 abbrev pub HasNoFeed : List ℕ → Type 0
 HasNoFeed octets = (k : ℕ) → k < length octets → slice_index octets k ≢ 10
 
@@ -21,7 +21,8 @@ pub record TakesTooMany (old new : Option (List ℕ)) (line : List ℕ) : Type 0
   pub all : length line ≡ 400000
   pub taken : Consumes old new (line ++ octet ∷ [])
 
--- what is taken where the next line is read: that line; nothing at the end; or more octets than a line has
+-- what is taken of a reader for the next line: that line with its LF; nothing at the end; or, without an LF among them, one octet more than
+-- the 400,000 that a line may have
 abbrev pub TakesNext : Option (List ℕ) → Option (List ℕ) → List ℕ → Result Bool ReadFault → Type 0
 TakesNext old new line (Ok true) = TakesLine old new line
 TakesNext old new line (Ok false) = Consumes old new [] × IsAtEnd new

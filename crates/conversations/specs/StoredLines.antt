@@ -39,7 +39,7 @@ AreOfLines (line ∷ lines) octets =
 abbrev pub signals_in : List ℕ → List AnswererInput
 signals_in octets = answerer_inputs (heard_of [] octets)
 
--- the conversation of a new answerer of these capabilities, which has heard nothing
+-- the conversation of a new answerer of these capabilities, which has heard nothing yet
 pub record IsNewAnswerer (caps : Caps) (c : ConversationFields LimitedFields) : Type 0 where
   pub params : Params
   pub station : c.terminal.speaking.station.station ≡ new_answerer caps params
@@ -52,8 +52,8 @@ storing stores refuses =
     talker limited_behaviour (λ old c new after kept. StoresAll stores refuses c after old new kept)
     (λ v turn bursts. AnswererLends v.station turn bursts)
 
--- pages were stored in order, and each is read of octets of the lines: of data of FCDs in their good frames, joined, by the parameters of a
--- DCS in one of their good frames, which the answerer allows
+-- Pages were stored in order, and each is what data fields of FCDs, joined, read as by the parameters of a DCS that the answerer allows;
+-- all of these frames are good ones among the octets that the lines bring.
 pub record StoresWhatIsSaid (P : Type 0) (stores : StoreStep P) (caps : Caps) (lines : List (List ℕ)) (before after : P) : Type 0 where
   pub octets : List ℕ
   pub of_lines : AreOfLines lines octets
@@ -61,13 +61,14 @@ pub record StoresWhatIsSaid (P : Type 0) (stores : StoreStep P) (caps : Caps) (l
   pub stored : StoresEach stores before pages after
   pub read : Each (IsReadOf caps (signals_in octets)) pages
 
--- so it is of whatever lines an answerer has answered
+-- The law, whoever is on the line: after lines that an answerer has answered `StoresWhatIsSaid` holds of its store.
 abbrev pub StoredIsSaid : (P : Type 0) → StoreStep P → StoreStep P → Type 0
 StoredIsSaid P stores refuses =
     (caps : Caps) (lines : List (List ℕ)) (old new : TalkState LimitedFields P) → IsNewAnswerer caps old.conversation →
     AnswersAll (storing stores refuses) lines old new → StoresWhatIsSaid P stores caps lines old.keeper new.keeper
 
--- and so with one line more, after which the call is over or goes on, and all that it brought was kept
+-- The law with one line more, after which the call is over or goes on, and all of whose pages were kept: `StoresWhatIsSaid` holds of the
+-- store.
 abbrev pub LastIsSaid : (P : Type 0) → StoreStep P → StoreStep P → Type 0
 LastIsSaid P stores refuses =
     (caps : Caps) (lines : List (List ℕ)) (old mid new : TalkState LimitedFields P) (line : List ℕ) (over : Bool) →
@@ -75,7 +76,7 @@ LastIsSaid P stores refuses =
     AnswersNext LimitedFields P (storing stores refuses) mid new line true over →
     StoresWhatIsSaid P stores caps (lines ++ line ∷ []) old.keeper new.keeper
 
--- where a page that the last line brought was refused, so it is of those before it
+-- The law for a last line of whose pages one was refused: `StoresWhatIsSaid` holds of the pages before that one.
 abbrev pub RefusedIsLast : (P : Type 0) → StoreStep P → StoreStep P → Type 0
 RefusedIsLast P stores refuses =
     (caps : Caps) (lines : List (List ℕ)) (old mid new : TalkState LimitedFields P) (line : List ℕ) (over : Bool) →

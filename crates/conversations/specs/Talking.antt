@@ -16,7 +16,7 @@ use Rattle.terminals.specs.declared.stopping.Shown.{Shown}
 abbrev pub GivesNext : {S : Type 0} → Side → BurstsOf S → ConversationFields S → Option SentBurst → ConversationFields S → Type 0
 GivesNext {S} side lends old sent new = SendsIfBegun {E = Unit {0}} side lends old.begun old new (Ok sent)
 
--- bursts are given one after the other, and then none is left
+-- bursts are given one after the other, until none is left
 abbrev pub GivesAll : {S : Type 0} → Side → BurstsOf S → ConversationFields S → List SentBurst → ConversationFields S → Type 0
 GivesAll side lends old [] new = GivesNext side lends old None new
 GivesAll {S} side lends old (burst ∷ bursts) new =
@@ -26,11 +26,12 @@ GivesAll {S} side lends old (burst ∷ bursts) new =
 abbrev pub IsOver : {S : Type 0} → (S → Shown → Type 0) → ConversationFields S → Bool → Type 0
 IsOver shows c over = (shown : Shown) × shows c.terminal.speaking.station shown × (IsTrue over ↔ IsSome shown.end)
 
--- the lines of an answer: one for each burst, and a word that says whether the call is over
+-- the lines of an answer: one for each burst, and the word `done` or `wait`
 abbrev pub answer_text : List SentBurst → Bool → List ℕ
 answer_text bursts over = flat_map tx_line bursts ++ word_line over
 
--- all bursts that are left are given, and the lines of the answer are written
+-- all bursts that are left are given, one after the other until there is none, and the lines of the answer are written: one for each burst,
+-- and the word after them
 pub record WritesTurn (S : Type 0) (side : Side) (lends : BurstsOf S) (shows : S → Shown → Type 0) (old new : ConversationFields S)
     (before after : Option (List ℕ)) (over : Bool) : Type 0 where
   pub bursts : List SentBurst
@@ -38,11 +39,12 @@ pub record WritesTurn (S : Type 0) (side : Side) (lends : BurstsOf S) (shows : S
   pub is_over : IsOver shows new over
   pub writes : Appends before after (answer_text bursts over)
 
--- what it is to keep what there is after a line
+-- a relation that says how what a line brought is kept: the keeper and the conversation before and after, and if all was kept
 abbrev pub KeepsOf : Type 0 → Type 0 → Type 1
 KeepsOf S K = K → ConversationFields S → K → ConversationFields S → Bool → Type 0
 
--- a line is answered: it is taken, what it brought is kept, and then the answer is written
+-- A line is answered: it is taken, what it brought is kept, and only then is the answer written: the line of each burst that is left, and
+-- the word.
 pub record Answers (S K : Type 0) (b : Behaviour S) (keeps : KeepsOf S K) (lends : BurstsOf S) (line : List ℕ)
     (old new : ConversationFields S) (keeper kept_in : K) (before after : Option (List ℕ)) (kept over : Bool) : Type 0 where
   pub timed : TimedLine
@@ -53,18 +55,18 @@ pub record Answers (S K : Type 0) (b : Behaviour S) (keeps : KeepsOf S K) (lends
   pub keeps_so : keeps keeper heard kept_in ready kept
   pub writes : WritesTurn S b.side lends b.shows ready new before after over
 
--- octets that aren't answered: they are none of a station's lines, or the time of theirs runs back
+-- octets that aren't answered: they are no line of a station, or their time runs back
 abbrev pub IsNoAnswer : {S F : Type 0} → ConversationFields S → List ℕ → AnswerFault F → Type 0
 IsNoAnswer old line NoLine = SaysNothing line
 IsNoAnswer old line Backwards = (timed : TimedLine) × Says line timed × (timed.at < old.clock.now)
 IsNoAnswer old line fault = ⊤
 
--- this holds where octets were refused before anything was done
+-- the condition holds if octets were refused before anything was done: they were no line, or their time runs back
 abbrev pub IfRefused : {F : Type 0} → AnswerFault F → Type 0 → Type 0
 IfRefused NoLine A = A
 IfRefused Backwards A = A
 IfRefused fault A = ⊤
 
--- a fault after the line was taken, or one that says nothing of it
+-- the fault is another one than a refused line: it came after the line was taken, or says nothing of it
 abbrev pub IsLate : {F : Type 0} → AnswerFault F → Type 0
 IsLate fault = IfRefused fault ⊥

@@ -11,13 +11,13 @@ use Rattle.conversations.specs.declared.carrier.Kind.{Kind}
 use Rattle.conversations.specs.declared.carrier.Kind.TheVariants.{Frames, Check}
 use Rattle.conversations.specs.Lines.{channel_name, kind_name, spaced}
 
--- what a burst goes by
+-- the carrier that a burst goes by
 abbrev pub channel_of : Carrier → Channel
 channel_of V21 = channel.V21
 channel_of (Training speed) = channel.Message speed
 channel_of (Page speed) = channel.Message speed
 
--- what a burst is: a training check, or flags and frames
+-- what a burst's bits are: a training check, or flags and frames
 abbrev pub kind_of : Carrier → Kind
 kind_of V21 = Frames
 kind_of (Training speed) = Check
@@ -28,11 +28,11 @@ abbrev pub burst_words : SentBurst → List ℕ
 burst_words burst = spaced (channel_name (channel_of burst.carrier) ∷ kind_name (kind_of burst.carrier) ∷ decimal burst.bits
     ∷ encode_upper burst.octets.items ∷ [])
 
--- the line of a burst that is sent
+-- the line of a burst that is sent: `tx` and the burst's words
 abbrev pub tx_line : SentBurst → List ℕ
 tx_line burst = spaced (codes "tx" ∷ burst_words burst ∷ []) ++ 10 ∷ []
 
--- the line after the bursts: whether the call is over
+-- the line after the bursts: `done` if the call is over, else `wait`
 abbrev pub word_line : Bool → List ℕ
 word_line true = codes "done" ++ 10 ∷ []
 word_line false = codes "wait" ++ 10 ∷ []

@@ -10,7 +10,7 @@ use crate::line::TimedLine;
 use raster::Page;
 use stations::LimitedAnswerer;
 
-/// Where pages are stored for good, as on a disk.
+/// Where pages are stored for good, for example on a disk.
 pub trait PageStore {
     // What it is that a page is stored: the store before, the page, and the store after.
     ghost stores: { Self → PagePixels → Self → Type 0 };
@@ -21,13 +21,13 @@ pub trait PageStore {
     /// Why a page couldn't be stored.
     type Refused: Drop;
 
-    /// Stores a page. Once it has answered `Ok` the page stays stored. Errs where that can't be done; then no page more is stored.
+    /// Stores a page: once it has returned `Ok` the page stays stored. Errs if that can't be done; after that it is given no further page.
     fn store(&mut self, page: Page) -> Result<(), Self::Refused>
         ensures ok { OnOk result (stores self.old page self.new) }
         ensures err { OnErr result (refuses self.old page self.new) };
 }
 
-/// Stores pages in order. Errs at the first one that is refused; those before it are stored.
+/// Stores pages in order. Errs at the first one that is refused; the pages before it are stored.
 pub fn store_pages<P: PageStore>(store: &mut P, pages: Vec<Page>) -> Result<(), P::Refused>
     ensures ok { OnOk result (StoresEach P.stores store.old pages.items store.new) }
     ensures err { OnErr result (StoresSome P.stores P.refuses store.old pages.items store.new) }
@@ -38,8 +38,8 @@ pub fn store_pages<P: PageStore>(store: &mut P, pages: Vec<Page>) -> Result<(), 
     Ok(())
 }
 
-/// Stores each page that the answerer has accepted, in order. Answers why one was refused, if that is so: those before it are stored,
-/// and DCN is sent in place of the turn that would confirm it.
+/// Stores each page that the answerer has accepted, in order. Returns the error of the first page that is refused, if any: the pages before
+/// it are stored, and DCN is sent in place of the turn that would confirm it.
 pub fn keep_pages<P: PageStore>(
     conversation: &mut Conversation<LimitedAnswerer>,
     store: &mut P,
@@ -57,9 +57,9 @@ pub fn keep_pages<P: PageStore>(
 }
 
 /// Takes a line, and stores each page that the answerer accepted at it before any burst can be sent: a page is confirmed only once it is
-/// stored. Answers `None`, and then all pages are stored, in order, and the bursts are those of the answerer's turn; or why a page was
-/// refused, and then those before it are stored, and DCN is sent in place of the turn. Errs as `Conversation::take` does, with nothing
-/// stored.
+/// stored. Returns None if all pages are stored, in order: then the bursts are those of the answerer's turn. Returns the error of the first
+/// page that is refused: the pages before it are stored, and DCN is sent in place of the turn. Errs as `Conversation::take` does, with
+/// nothing stored.
 pub fn answer_line<P: PageStore>(
     conversation: &mut Conversation<LimitedAnswerer>,
     line: &TimedLine,

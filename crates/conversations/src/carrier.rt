@@ -1,4 +1,4 @@
-//! The carriers and kinds of bursts, by their names in lines.
+//! The carriers and kinds of bursts, and their names in lines.
 
 ghost use Rattle.conversations.specs.Lines.{channel_name, kind_name};
 ghost use Rattle.conversations.specs.declared.carrier.Channel.{Channel as ChannelValue};
@@ -7,7 +7,7 @@ ghost use Rattle.std.specs.Prelude.{◌≡◌, MatchOption};
 
 use signals::Speed;
 
-/// What bits of the line go by.
+/// The carrier that bits on the line go by.
 #[derive(Clone, Copy, Debug, PartialEq, Eq)]
 pub enum Channel {
     /// V.21 at 300 bit/s.
@@ -17,7 +17,7 @@ pub enum Channel {
 }
 
 impl Channel {
-    /// The carrier's name in lines.
+    /// The carrier's name in lines: `v21`, or a modulation and its bit/s as `v29-9600`.
     pub fn name(self) -> &'static str
         ensures { result.now ≡ channel_name self }
     {
@@ -34,7 +34,7 @@ impl Channel {
         }
     }
 
-    /// The carrier of this name.
+    /// The carrier of this name; None if no carrier has it.
     pub fn named(name: &[u8]) -> Option<Channel>
         ensures { MatchOption result ((channel : ChannelValue) → name.now ≡ channel_name channel → ⊥)
             (λ channel. name.now ≡ channel_name channel) }
@@ -54,17 +54,17 @@ impl Channel {
     }
 }
 
-/// What bits of the line are.
+/// What bits on the line are.
 #[derive(Clone, Copy, Debug, PartialEq, Eq)]
 pub enum Kind {
-    /// Flags and frames: `hdlc`.
+    /// Flags and frames, `hdlc` in lines.
     Frames,
-    /// A training check: `raw`.
+    /// A training check, `raw` in lines.
     Check,
 }
 
 impl Kind {
-    /// The kind's name in lines.
+    /// The kind's name in lines: `hdlc` or `raw`.
     pub fn name(self) -> &'static str
         ensures { result.now ≡ kind_name self }
     {
@@ -74,7 +74,7 @@ impl Kind {
         }
     }
 
-    /// The kind of this name.
+    /// The kind of this name; None if no kind has it.
     pub fn named(name: &[u8]) -> Option<Kind>
         ensures { MatchOption result ((kind : KindValue) → name.now ≡ kind_name kind → ⊥) (λ kind. name.now ≡ kind_name kind) }
     {

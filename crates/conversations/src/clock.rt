@@ -12,21 +12,21 @@ use signals::Side;
 use stations::Wait;
 use terminals::{Shown, wait_millis};
 
-/// How long each wait runs, in milliseconds (T.30, 5.4.3.1).
+/// How long each wait runs, in milliseconds (ITU-T T.30, 5.4.3.1).
 #[derive(Clone, Copy, Debug, PartialEq, Eq)]
 pub struct Durations {
-    /// For the other station to appear: T.30 has 35 s.
+    /// T1, for the other station to appear: 35 s in T.30.
     pub t1: u32,
-    /// Of an answerer, for a command: T.30 has 6 s.
+    /// T2, an answerer's, for a command: 6 s in T.30.
     pub t2: u32,
-    /// Of a caller, for an answer: T.30 has 3 s.
+    /// T4, a caller's, for an answer: 3 s in T.30.
     pub t4: u32,
-    /// Of a caller, for a busy answerer: T.30 has 60 s.
+    /// T5, a caller's, for a busy answerer: 60 s in T.30.
     pub t5: u32,
 }
 
 impl Durations {
-    /// Those of T.30.
+    /// The durations of T.30: 35 s, 6 s, 3 s and 60 s.
     pub fn of_t30() -> Durations
         ensures { (wait : AnyWait) → duration result wait ≡ wait_millis wait }
     {
@@ -56,16 +56,17 @@ impl Durations {
 pub struct Clock {
     /// The time of the last line.
     pub now: u64,
-    /// The first quiet line since the last carrier of either side; none where there was none since then.
+    /// The time of the first quiet line since the last carrier of either side; None if no line was quiet since then.
     pub calm: Option<u64>,
-    /// The last line that brought a good frame, or the training check that was awaited; 0 before the first one.
+    /// The time of the last line that brought a good frame or the awaited training check; 0 before the first one. A good check and a bad
+    /// one count alike.
     pub heard: u64,
-    /// The line since which T5 runs, where it does.
+    /// The time of the line since which T5 runs, if it runs.
     pub asked: Option<u64>,
 }
 
 impl Clock {
-    /// The clock of a call that has just been set up.
+    /// The clock of a call that has just been set up, at 0 ms.
     pub fn new() -> Clock
         ensures { result ≡ new_clock }
     {
@@ -77,7 +78,7 @@ impl Clock {
         }
     }
 
-    /// The clock at a line: a quiet one is calm from the first one on, and no line is calm while a carrier is on.
+    /// The clock at a line: the line is calm from the first quiet line on, and no line is calm while a carrier is on.
     pub fn at(self, said: &Said, at: u64) -> Clock
         ensures { result ≡ clock_at self said.now at }
     {
@@ -93,7 +94,7 @@ impl Clock {
         }
     }
 
-    /// The clock where its line brought a good frame or the awaited training check, or brought neither.
+    /// The clock after its line brought a good frame or the awaited training check (true), or neither (false).
     pub fn heard(self, brought: bool) -> Clock
         ensures { result ≡ heard_now brought self }
     {
@@ -106,7 +107,7 @@ impl Clock {
         self
     }
 
-    /// The clock where this longer wait runs after its line: T5 from this line on, unless it ran before.
+    /// The clock after its line, with this longer wait running: T5 runs from this line on, unless it ran before.
     pub fn asked(self, longer: Option<Wait>) -> Clock
         ensures { result ≡ asked_since longer self }
     {
@@ -117,14 +118,15 @@ impl Clock {
         Clock { asked, ..self }
     }
 
-    /// The clock after a burst was sent.
+    /// The clock after a burst was sent, which ends the calm.
     pub fn sent(self) -> Clock
         ensures { result ≡ after_burst self }
     {
         Clock { calm: None, ..self }
     }
 
-    /// The wait that is over now, of those that a station shows: the longer one first.
+    /// The wait that is over now, of the two that a station shows, the longer one first. By the law `waits_pass` it is one that runs and
+    /// whose duration has passed.
     pub fn wait_over(self, side: Side, shown: Shown, durations: Durations) -> Option<Wait>
         ensures { result ≡ wait_over side shown self durations }
     {
@@ -134,7 +136,7 @@ impl Clock {
         }
     }
 
-    /// The longer wait, where it is over now.
+    /// The longer wait, if it is over now.
     fn longer_over(self, longer: Option<Wait>, durations: Durations) -> Option<Wait>
         ensures { result ≡ longer_over longer self durations }
     {
@@ -144,7 +146,7 @@ impl Clock {
         }
     }
 
-    /// The wait that runs, where it is over now.
+    /// The wait that runs, if it is over now.
     fn running_over(self, side: Side, running: Option<Wait>, durations: Durations) -> Option<Wait>
         ensures { result ≡ running_over side running self durations }
     {
@@ -154,7 +156,7 @@ impl Clock {
         }
     }
 
-    /// Since when the wait that a station shows runs.
+    /// The time since which the wait that a station shows runs.
     fn from(self, side: Side, wait: Wait) -> Option<u64>
         ensures { result ≡ runs_from side self wait }
     {
@@ -167,7 +169,7 @@ impl Clock {
         }
     }
 
-    /// Since when the longer wait that a station shows runs.
+    /// The time since which the longer wait that a station shows runs.
     fn longer_from(self, wait: Wait) -> Option<u64>
         ensures { result ≡ longer_runs_from self wait }
     {
@@ -179,7 +181,7 @@ impl Clock {
         }
     }
 
-    /// Whether a duration has passed since a time.
+    /// True if a duration has passed since a time.
     fn is_past(self, since: Option<u64>, duration: u32) -> bool
         ensures { result ≡ is_past self.now since duration }
     {

@@ -17,7 +17,7 @@ use thiserror::Error;
 /// Why a line wasn't taken.
 #[derive(Clone, Copy, Debug, PartialEq, Eq, Drop, Error)]
 pub enum TakeFault {
-    /// Its time is before that of the line before it. Nothing has changed.
+    /// The line's time is before that of the line before it. Nothing has changed.
     #[error("time runs back")]
     Backwards,
     /// Memory was refused. Nothing has changed, or frames that the line brought are lost.
@@ -36,7 +36,7 @@ impl From<AllocError> for TakeFault {
     }
 }
 
-/// A station over lines that say what is on the line of a call, and when.
+/// A station driven by lines that say what is on the line of a call, and when.
 #[derive(Debug, Drop)]
 pub struct Conversation<S: Stoppable> {
     terminal: Terminal<S>,
@@ -54,7 +54,7 @@ impl<S: Stoppable> Model for Conversation<S> {
 }
 
 impl Conversation<StoppableCaller> {
-    /// The conversation of a caller's terminal, which hears from the first line on.
+    /// The conversation of a caller's terminal, which listens from the first line on.
     pub fn new_caller(
         terminal: Terminal<StoppableCaller>,
         durations: Durations,
@@ -71,7 +71,8 @@ impl Conversation<StoppableCaller> {
 }
 
 impl Conversation<LimitedAnswerer> {
-    /// The conversation of an answerer's terminal, whose first turn is DIS: it begins at the first quiet line from 1,000 ms on.
+    /// The conversation of an answerer's terminal, whose first turn is DIS. It begins at the first quiet line from 1,000 ms on, or at a
+    /// line that stops it.
     pub fn new_answerer(
         terminal: Terminal<LimitedAnswerer>,
         durations: Durations,
@@ -86,8 +87,8 @@ impl Conversation<LimitedAnswerer> {
         }
     }
 
-    /// The pages stored so far, in the order in which they came; none is stored then, and the answerer is as busy as it was told. Takes
-    /// no memory.
+    /// Takes the pages stored so far out of the answerer, and returns them in the order in which they came. The answerer stays as busy as
+    /// it was set. Takes no memory.
     pub fn take_pages(&mut self) -> Vec<Page>
         ensures pages { result.items ≡ self.old.terminal.speaking.station.station.pages }
         ensures left { self.new ≡ with_pages_taken self.old }
@@ -97,8 +98,8 @@ impl Conversation<LimitedAnswerer> {
 }
 
 impl<S: Stoppable> Conversation<S> {
-    /// Takes a line. Errs with `Backwards` where its time is before that of the line before it, and with `NoMemory` where memory is
-    /// refused.
+    /// Takes a line: gives the station what the line says, and sets the clock. Errs with `Backwards` if its time is before that of the line
+    /// before it: nothing has changed. Errs with `NoMemory`: nothing has changed, or frames that the line brought are lost.
     pub fn take(&mut self, line: &TimedLine) -> Result<(), TakeFault>
         ensures { TakesOrRefuses (behaviour S.sends S.steps S.shows S.cut_off S.stop_says) self.old line.now self.new result }
     {
@@ -121,8 +122,8 @@ impl<S: Stoppable> Conversation<S> {
         Ok(())
     }
 
-    /// The next burst of the turn that is kept; none where all were given, nor before an answerer has begun. Errs where memory is
-    /// refused, which changes nothing.
+    /// The next burst of the turn that is kept; None if all were sent, and before an answerer has begun. A burst restarts the silence
+    /// timer. Errs if memory is refused, which changes nothing.
     pub fn next_burst(&mut self) -> Result<Option<SentBurst>, AllocError>
         ensures { SendsIfBegun S.sends S.lends self.old.begun self.old self.new result }
     {
@@ -136,8 +137,8 @@ impl<S: Stoppable> Conversation<S> {
         Ok(sent)
     }
 
-    /// Stops the call, and has DCN to be sent in place of the turn that is kept, also where the call has ended: what that turn says is
-    /// not to be said.
+    /// Stops the call, and has DCN sent in place of the turn that is kept, even if the call has ended: the station must not say what that
+    /// turn says.
     pub fn hang_up(&mut self)
         ensures { self.new ≡ hung_up_so S.cut_off self.old }
     {
@@ -145,21 +146,21 @@ impl<S: Stoppable> Conversation<S> {
         self.begun = true;
     }
 
-    /// Whether the station hears what is on the line: a caller from the first line on, an answerer once it has sent its first DIS.
+    /// True if the station hears what is on the line: a caller from the first line on, an answerer once it has begun.
     pub fn has_begun(&self) -> bool
         ensures { result ≡ self.now.begun }
     {
         self.begun
     }
 
-    /// Why the call ended, if it has.
+    /// Why the call ended; None while it goes on.
     pub fn end(&self) -> Option<CallEnd>
         ensures { (shown : AnyShown) × S.shows self.now.terminal.speaking.station shown × (result ≡ shown.end) }
     {
         self.terminal.shown().end
     }
 
-    /// Whether the call has ended: nothing more is taken or sent after the bursts of the last line.
+    /// True if the call has ended: nothing more is taken or sent after the bursts of the last line.
     pub fn is_over(&self) -> bool
         ensures { (shown : AnyShown) × S.shows self.now.terminal.speaking.station shown × (IsTrue result ↔ IsSome shown.end) }
     {
@@ -173,7 +174,7 @@ impl<S: Stoppable> Conversation<S> {
         &self.terminal
     }
 
-    /// The clock of the last line.
+    /// The clock as the last line left it.
     pub fn clock(&self) -> Clock
         ensures { result ≡ self.now.clock }
     {

@@ -17,17 +17,17 @@ use terminals::Stoppable;
 pub enum Ending<E> {
     /// The call is over.
     Over,
-    /// No line was left before the call was over: its line is lost.
+    /// No line was left before the call was over: the station's line is lost.
     Lost,
-    /// Something that a line brought can't be kept. The station hung up, and that was written.
+    /// Something that a line brought can't be kept. The station hung up, and wrote so.
     Unkept(E),
 }
 
 /// Why a conversation stopped before its end.
 #[derive(Clone, Copy, Debug, PartialEq, Eq, Drop)]
 pub enum ConverseFault<F> {
-    /// The line of this number, from 1, has more than 400,000 octets, is none of a station's lines, or its time runs back. It has changed
-    /// nothing.
+    /// The line of this number, from 1, has more than 400,000 octets, isn't a line of a station, or its time runs back. It has changed
+    /// nothing but what is left to be read.
     Line(u64),
     /// Memory was refused.
     NoMemory,
@@ -35,13 +35,13 @@ pub enum ConverseFault<F> {
     Reader(ErrorKind),
     /// The writer failed.
     Writer(ErrorKind),
-    /// Who follows can't go on.
+    /// The follower failed.
     Follower(F),
     /// There were 2^64 - 2 lines.
     TooManyLines,
 }
 
-/// The fault of a conversation whose line of a number isn't answered.
+/// The fault of a conversation whose line of this number, from 1, isn't answered.
 fn unanswered<F>(fault: AnswerFault<F>, number: u64) -> ConverseFault<F>
     ensures { result ≡ unanswered fault number }
 {
@@ -53,7 +53,7 @@ fn unanswered<F>(fault: AnswerFault<F>, number: u64) -> ConverseFault<F>
     }
 }
 
-/// The station takes that its line is lost, at the time of the last line. Errs where memory is refused.
+/// Gives the station the loss of its line, at the time of the last line. Errs if memory is refused.
 fn lose<S: Stoppable>(conversation: &mut Conversation<S>) -> Result<(), AllocError>
     ensures { OnOk result (TakesLine S (behaviour S.sends S.steps S.shows S.cut_off S.stop_says)
         conversation.old (lost_at conversation.old.clock.now) conversation.new) }
@@ -68,10 +68,10 @@ fn lose<S: Stoppable>(conversation: &mut Conversation<S>) -> Result<(), AllocErr
     }
 }
 
-/// Reads line after line and answers each, as `answer` does, until the call is over. Where no line is left before that, the station's line
-/// is lost; where something that a line brought can't be kept, the conversation ends after the answer to that line. Errs at the first line
-/// that is none of a station's, with its number; where memory is refused; and where the reader, the writer or who follows fails. Holds one
-/// line at a time.
+/// Reads line after line and answers each, as `answer` does, until the call is over, and returns how it ended. If no line is left before
+/// that, the station's line is lost at the time of the last one; if something that a line brought can't be kept, the conversation ends
+/// after the answer to that line. Errs with `Line` at the first line that is too long, isn't a line of a station, or whose time runs back;
+/// with `NoMemory`; and with `Reader`, `Writer` or `Follower` if one of these fails. Holds one line at a time.
 pub fn converse<S: Stoppable, R: Read, K: Keeper<S>, W: Write, F: Follower>(
     alloc: Global,
     reader: &mut R,

@@ -12,26 +12,26 @@ use stations::Wait;
 use std::alloc::AllocError;
 use terminals::{Shown, Stoppable, Terminal};
 
-/// What a line gives a station.
+/// The input that a line means for a station.
 #[derive(Clone, Copy, Debug, PartialEq, Eq)]
 pub enum Given<'a> {
-    /// Nothing.
+    /// No input.
     Nothing,
-    /// The octets of frames.
+    /// Octets of frames.
     Frames(&'a [u8]),
-    /// The octets of the training check that is awaited.
+    /// The octets of the awaited training check.
     Check(&'a [u8]),
-    /// That a wait is over.
+    /// A wait is over.
     Over(Wait),
-    /// Whether pages can't be taken for now.
+    /// Pages can't be taken for now (true), or can again (false).
     Busy(bool),
-    /// That its call is to be stopped.
+    /// The call is to be stopped.
     Stop,
-    /// That its line is gone.
+    /// The line is lost.
     Loss,
 }
 
-/// What a line gives a station that has begun, or hasn't; the clock is that of the line.
+/// The input that a line means for a station, at the line's clock. Until the station has begun nothing is heard and no wait is over.
 pub(crate) fn line_gives<'a>(
     begun: bool,
     side: Side,
@@ -58,7 +58,7 @@ pub(crate) fn line_gives<'a>(
     }
 }
 
-/// A wait that is over, where the station has begun.
+/// A wait that is over, if the station has begun.
 fn over_given<'a>(begun: bool, over: Option<Wait>) -> Given<'a>
     ensures { plain_given result ≡ cond begun (over_given over) nothing }
 {
@@ -68,7 +68,7 @@ fn over_given<'a>(begun: bool, over: Option<Wait>) -> Given<'a>
     }
 }
 
-/// What is heard of octets, where the station has begun.
+/// What is heard of octets, if the station has begun.
 fn heard_given(begun: bool, heard: Heard, octets: &[u8]) -> Given<'_>
     ensures { plain_given result ≡ cond begun (heard_given heard octets.now) nothing }
 {
@@ -79,14 +79,14 @@ fn heard_given(begun: bool, heard: Heard, octets: &[u8]) -> Given<'_>
     }
 }
 
-/// Whether a station has begun after a line that says this: an answerer begins at the first quiet line from 1,000 ms on.
+/// True if a station has begun after a line: an answerer begins at the first quiet line from 1,000 ms on, or at a line that stops it.
 pub(crate) fn has_begun(begun: bool, said: &Said, at: u64) -> bool
     ensures { result ≡ cond begun true (begins said.now at) }
 {
     begun || begins(said, at)
 }
 
-/// Whether a station begins at a line that says this.
+/// True if a station begins at a line.
 fn begins(said: &Said, at: u64) -> bool
     ensures { result ≡ begins said.now at }
 {
@@ -97,8 +97,7 @@ fn begins(said: &Said, at: u64) -> bool
     }
 }
 
-/// The terminal is given what a line gives. Answers whether it brought a good frame, or the training check that was awaited. Errs
-/// where memory is refused.
+/// Gives the terminal an input. Returns true if it brought a good frame or the awaited training check. Errs if memory is refused.
 pub(crate) fn give<S: Stoppable>(
     terminal: &mut Terminal<S>,
     given: Given<'_>,
@@ -134,7 +133,7 @@ pub(crate) fn give<S: Stoppable>(
     }
 }
 
-/// The terminal hears octets of frames. Answers whether they brought a good frame. Errs where memory is refused.
+/// The terminal hears octets of frames. Returns true if they brought a good frame. Errs if memory is refused.
 fn hear<S: Stoppable>(terminal: &mut Terminal<S>, octets: &[u8]) -> Result<bool, AllocError>
     ensures ok { IfOk result (λ brought.
         Gives (behaviour S.sends S.steps S.shows S.cut_off S.stop_says) terminal.old (frames octets.now) terminal.new brought) }

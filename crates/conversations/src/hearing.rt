@@ -7,18 +7,19 @@ use crate::carrier::{Channel, Kind};
 use signals::Speed;
 use stations::Listening;
 
-/// What bits that came by a carrier are to a station.
+/// How a station takes received bits.
 #[derive(Clone, Copy, Debug, PartialEq, Eq)]
 pub enum Heard {
-    /// Frames that it hears.
+    /// As frames that it hears.
     Frames,
-    /// The training check that it awaits.
+    /// As the training check that it awaits.
     Check,
-    /// Nothing: it doesn't listen for them.
+    /// It ignores them.
     Nothing,
 }
 
-/// What bits of a kind, that came by a carrier, are to a station that listens so.
+/// How a station that listens for this takes bits of a kind by a carrier: frames by V.21 always, a training check and the frames of a page
+/// only if they are awaited at that speed (ITU-T T.30, 5.3 and Annex A).
 pub fn heard_as(listens: Listening, channel: Channel, kind: Kind) -> Heard
     ensures { result ≡ heard_as listens channel kind }
 {
@@ -32,7 +33,7 @@ pub fn heard_as(listens: Listening, channel: Channel, kind: Kind) -> Heard
     }
 }
 
-/// Whether two speeds are the same.
+/// True if two speeds are the same.
 fn is_same(speed: Speed, other: Speed) -> bool
     ensures { result ≡ same_speed speed other }
 {

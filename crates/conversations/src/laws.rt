@@ -9,7 +9,7 @@ use crate::answering::PageStore;
 
 pub mod lines;
 
-/// A wait is over only where the station shows it, and its duration has passed since the time that it runs from.
+/// A wait is over only if the station shows it and its duration has passed since the time that it runs from.
 pub fn waits_pass()
     ensures { WaitsPass }
 {}
@@ -20,21 +20,21 @@ pub fn carriers_hold()
     ensures calm { CalmIsQuiet }
 {}
 
-/// After a line that was taken each station stands where its table leads by what the line gives it, whoever is on the line, unless its
-/// call was cut off before.
+/// After a line that was taken each station stands where its table leads by what the line gives it, whoever is on the line, unless its call
+/// was cut off before.
 pub fn stations_are_led()
     ensures answerer { AnswerersAreLed }
     ensures caller { CallersAreLed }
 {}
 
-/// After a line that was answered no page is left in the answerer.
+/// After a line that was answered no page is left in the answerer: each is in the store or was refused.
 pub fn none_are_left()
     ensures { NoneAreLeft }
 {}
 
-/// Whoever is on the line, the pages that an answerer of lines has stored are stored in order, and each one is the reading, by the grammar of
-/// its code, of data fields of FCDs, joined, by the parameters of a DCS that the answerer allows; and these FCDs and the DCS are in good
-/// frames among the octets that the lines bring. So it is after each line, after the last one, and where a page was refused.
+/// Whoever is on the line, the pages that an answerer of lines has stored are stored in order, and each is read, by the grammar of its
+/// code, from data fields of FCDs, joined, by the parameters of a DCS that the answerer allows; these FCDs and the DCS came in good frames
+/// among the octets that the lines bring. It holds after each line, after the last one, and if a page was refused.
 pub fn stored_is_said<P: PageStore>()
     ensures lines { StoredIsSaid P P.stores P.refuses }
     ensures last { LastIsSaid P P.stores P.refuses }

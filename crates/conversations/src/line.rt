@@ -25,28 +25,28 @@ const BITS_DIGITS: usize = 7;
 /// What a line says.
 #[derive(Debug, PartialEq, Eq, Drop)]
 pub enum Said {
-    /// Nothing is on the line.
+    /// `quiet`: nothing is on the line.
     Quiet,
-    /// A carrier of the other side has begun.
+    /// `busy`: a carrier of the other side has begun.
     Busy,
-    /// It has ended.
+    /// `rx`: the other side's carrier has ended, and this came by it.
     Received {
-        /// What it was.
+        /// The carrier.
         channel: Channel,
         /// What its bits are.
         kind: Kind,
-        /// How many bits it has.
+        /// How many bits came; the last octet may have spare ones.
         bits: u64,
         /// The octets that hold the bits, the least significant bit of each first.
         octets: Vec<u8>,
     },
-    /// The receiver can't take pages for now.
+    /// `not-ready`: the receiver can't take pages for now.
     NotReady,
-    /// It can again.
+    /// `ready`: the receiver can take pages again.
     Ready,
-    /// The call is to be ended in order.
+    /// `stop`: the call is to be ended in order.
     Stop,
-    /// The line has dropped.
+    /// `end`: the line has dropped.
     End,
 }
 
@@ -65,7 +65,7 @@ pub enum LineRefused {
     /// Memory was refused.
     #[error("no memory")]
     NoMemory,
-    /// It is no line of a station as a process.
+    /// The octets aren't a line of a station.
     #[error("no such line")]
     NoLine,
 }
@@ -73,7 +73,7 @@ pub enum LineRefused {
 /// A burst, as words say it.
 #[derive(Drop)]
 struct Burst {
-    /// What it goes by.
+    /// Its carrier.
     channel: Channel,
     /// What its bits are.
     kind: Kind,
@@ -90,7 +90,7 @@ struct Bits {
     octets: Vec<u8>,
 }
 
-/// The word that a text begins with, and what follows the space after it. A text with no space answers `None`.
+/// The word that a text begins with, and what follows the space after it; None for a text without a space.
 fn split_word(text: &[u8]) -> Option<(&[u8], &[u8])>
     ensures { MatchOption result (HasNoSpace text.now)
         (λ parts. HasNoSpace parts.0.now × (text.now ≡ parts.0.now ++ 32 ∷ parts.1.now)) }
@@ -103,7 +103,7 @@ fn split_word(text: &[u8]) -> Option<(&[u8], &[u8])>
     None
 }
 
-/// The number that decimal digits write, of which there are one to `most`.
+/// The number that one to `most` decimal digits write; they may begin with zeros.
 fn number_in(digits: &[u8], most: usize) -> Option<u64>
     requires { most ≤ 15 }
     ensures { MatchOption result ((number : ℕ) → IsNumber most digits.now number → ⊥) (IsNumber most digits.now) }
@@ -123,7 +123,7 @@ fn number_in(digits: &[u8], most: usize) -> Option<u64>
     }
 }
 
-/// BITS HEX.
+/// Reads BITS HEX.
 fn read_bits(alloc: Global, text: &[u8]) -> Result<Bits, LineRefused>
     ensures { MatchResult result (λ bits. AreBits text.now bits.count bits.octets.items)
         (λ refused. refused ≡ NoLine → (count : ℕ) → (octets : List ℕ) → AreBits text.now count octets → ⊥) }
@@ -144,7 +144,7 @@ fn read_bits(alloc: Global, text: &[u8]) -> Result<Bits, LineRefused>
     }
 }
 
-/// CARRIER KIND BITS HEX.
+/// Reads CARRIER KIND BITS HEX.
 fn read_burst(alloc: Global, text: &[u8]) -> Result<Burst, LineRefused>
     ensures { MatchResult result (λ burst. IsBurst text.now burst.channel burst.kind burst.content.count burst.content.octets.items)
         (λ refused. refused ≡ NoLine → (channel : ChannelValue) → (kind : KindValue) → (count : ℕ) → (octets : List ℕ)
@@ -185,7 +185,7 @@ fn said_by(word: &[u8]) -> Option<Said>
     }
 }
 
-/// Whether a word is `rx`, which says that a burst was received.
+/// True if a word is `rx`, which says that a burst was received.
 fn is_rx(word: &[u8]) -> bool
     ensures { IsTrue result ↔ (word.now ≡ codes "rx") }
 {
@@ -195,7 +195,7 @@ fn is_rx(word: &[u8]) -> bool
     }
 }
 
-/// T, and a burst: what was received, and when.
+/// Reads the time and a burst: what was received, and when.
 fn read_received(alloc: Global, text: &[u8]) -> Result<TimedLine, LineRefused>
     ensures { MatchResult result (ReceivedAfter text.now) (λ refused. refused ≡ NoLine → (timed : TimedValue)
         → ReceivedAfter text.now timed → ⊥) }
@@ -224,8 +224,8 @@ fn read_received(alloc: Global, text: &[u8]) -> Result<TimedLine, LineRefused>
     Ok(TimedLine { at, said })
 }
 
-/// What a line says, which comes without its LF, and when. Errs where it is no line of a station as a process, with `NoLine`, and
-/// where memory is refused.
+/// Reads a line without its LF: what it says, and when, in milliseconds. Errs with `NoLine` only if the octets aren't a line of a station,
+/// and with `NoMemory`.
 pub fn read_line(alloc: Global, line: &[u8]) -> Result<TimedLine, LineRefused>
     ensures { MatchResult result (Says line.now) (λ refused. refused ≡ NoLine → SaysNothing line.now) }
 {

@@ -23,7 +23,7 @@ pub enum ReadFault {
     Failed(ErrorKind),
 }
 
-/// The next octet, or `None` at the end. Reads again where the reader is interrupted.
+/// The next octet, or None at the end. Reads again if the reader is interrupted.
 fn next_octet<R: Read>(reader: &mut R) -> Result<Option<u8>, ReadFault>
     ensures taken { IfOk result (λ octet. Consumes (R.remaining reader.old) (R.remaining reader.new) (option_to_list octet)) }
     ensures end { result ≡ Ok None → IsAtEnd (R.remaining reader.new) }
@@ -44,9 +44,9 @@ fn next_octet<R: Read>(reader: &mut R) -> Result<Option<u8>, ReadFault>
     Err(ReadFault::Failed(ErrorKind::Interrupted))
 }
 
-/// Reads the next line into a list in place of what is there, without its LF, and answers whether there was one. What follows the last
-/// LF is a line too, unless it is empty. It takes an octet at a time, so the reader is best one with a buffer, and never holds more than
-/// 400,000 of them. Errs where the line is longer, where memory is refused and where the reader fails.
+/// Reads the next line, without its LF, in place of what `line` holds, and returns true if there was one. What follows the last LF is a
+/// line too, unless it is empty. Takes one octet at a time, so the reader is best one with a buffer, and holds at most 400,000 octets. Errs
+/// with `TooLong`, `NoMemory` or `Failed`.
 pub fn next_line<R: Read>(reader: &mut R, line: &mut Vec<u8>) -> Result<bool, ReadFault>
     ensures { TakesNext (R.remaining reader.old) (R.remaining reader.new) line.new.items result }
 {

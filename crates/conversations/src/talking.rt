@@ -16,35 +16,35 @@ use terminals::{SentBurst, Stoppable};
 /// The most bursts that are written of a turn; a turn has two.
 const MOST_BURSTS: u32 = 255;
 
-/// Where what a station has stored goes, before anything is said.
+/// Where the pages that a station has stored go before it answers.
 pub trait Keeper<S: Stoppable> {
     // What it is to keep what there is after a line: the keeper and the conversation before, both after, and whether all was kept.
     ghost keeps: { Self → ConversationFields S → Self → ConversationFields S → Bool → Type 0 };
 
-    /// Why something can't be kept.
+    /// The error of a keeper.
     type Refused: Drop;
 
-    /// Keeps what there is. Answers why that can't be done, if it is so.
+    /// Keeps what the last line brought. Returns the storage error, if any.
     fn keep(&mut self, conversation: &mut Conversation<S>) -> Option<Self::Refused>
         ensures { keeps self.old conversation.old self.new conversation.new (is_none result) };
 }
 
-/// Who follows a conversation, as one who writes a trace of it.
+/// Observes a conversation, for example to write a trace, and changes nothing of it.
 pub trait Follower {
-    /// Why it can't follow any further.
+    /// Why the follower can't go on.
     type Failed: Drop;
 
-    /// A line is taken by a station that listens so.
+    /// A station that listens for this takes a line.
     fn heard(&mut self, listens: Listening, line: &TimedLine) -> Result<(), Self::Failed>;
 
-    /// A burst is given, in answer to the line of this time, in milliseconds.
+    /// A burst is sent, in answer to the line of this time, in milliseconds.
     fn said(&mut self, at: u64, burst: &SentBurst) -> Result<(), Self::Failed>;
 }
 
 /// Why a line wasn't answered.
 #[derive(Clone, Copy, Debug, PartialEq, Eq, Drop)]
 pub enum AnswerFault<F> {
-    /// The octets are none of a station's lines. Nothing has changed.
+    /// The octets aren't a line of a station. Nothing has changed.
     NoLine,
     /// The line's time is before that of the line before it. Nothing has changed.
     Backwards,
@@ -52,7 +52,7 @@ pub enum AnswerFault<F> {
     NoMemory,
     /// The writer failed.
     Writer(ErrorKind),
-    /// Who follows can't go on.
+    /// The follower failed.
     Follower(F),
 }
 
@@ -79,18 +79,18 @@ impl<F> From<io::Error> for AnswerFault<F> {
     }
 }
 
-/// What was answered to a line.
+/// The answer to a line, once it is written.
 #[derive(Debug, Drop)]
 pub struct Answered<E> {
-    /// Whether the call is over.
+    /// True if the call is over, as `done` says.
     pub over: bool,
-    /// Why something that the line brought can't be kept, if that is so. The station hangs up then.
+    /// The storage error, if any; the station has hung up then.
     pub unkept: Option<E>,
 }
 
-/// Writes the bursts that are left of the turn, in order, a line each, and then a word that says whether the call is over, which is
-/// answered. `at` is the time of the line that is answered, in milliseconds. Errs where the writer fails, where memory is refused and
-/// where who follows can't go on; then a part of the answer may be written.
+/// Writes the bursts that are left of the turn, in order, a line each, and then `done` if the call is over, else `wait`; returns true for
+/// `done`. `at` is the time of the answered line, in milliseconds. Errs with `Writer`, `NoMemory` or `Follower`; a part of the answer may
+/// be written then.
 pub fn write_turn<S: Stoppable, W: Write, F: Follower>(
     alloc: Global,
     conversation: &mut Conversation<S>,
@@ -114,10 +114,9 @@ pub fn write_turn<S: Stoppable, W: Write, F: Follower>(
     Err(AnswerFault::NoMemory)
 }
 
-/// Answers a line, which comes without its LF: it is taken, what it brought is kept, and only then the bursts of the turn are written, and
-/// a word. Where something can't be kept, what is written is what the conversation says after that. Errs where the octets are none of a
-/// station's lines or their time runs back, and nothing has changed then; where memory is refused, where the writer fails, and where who
-/// follows can't go on.
+/// Answers a line, which comes without its LF: takes it, keeps what it brought, and only then writes the bursts of the turn and a word. If
+/// something can't be kept, the answer is what the conversation says after that. Errs with `NoLine`, or with `Backwards` if the time runs
+/// back: nothing has changed. Errs with `NoMemory`, `Writer` or `Follower`.
 pub fn answer<S: Stoppable, K: Keeper<S>, W: Write, F: Follower>(
     alloc: Global,
     line: &[u8],

@@ -16,7 +16,7 @@ use terminals::SentBurst;
 const PIECE: usize = 1024;
 
 impl Channel {
-    /// What a burst goes by.
+    /// The carrier of a burst, as lines name it.
     pub fn of(carrier: Carrier) -> Channel
         ensures { result ≡ channel_of carrier }
     {
@@ -39,7 +39,7 @@ impl Kind {
     }
 }
 
-/// Writes octets in hex, in capitals.
+/// Writes octets in hexadecimal digits, in capitals.
 fn write_hex<W: Write>(alloc: Global, octets: &[u8], writer: &mut W) -> io::Result<()>
     ensures { OnOk result (Appends (W.contents writer.old) (W.contents writer.new) (encode_upper octets.now)) }
 {
@@ -53,8 +53,8 @@ fn write_hex<W: Write>(alloc: Global, octets: &[u8], writer: &mut W) -> io::Resu
     Ok(())
 }
 
-/// Writes the line of a burst that is sent, with its LF: `tx CARRIER KIND BITS HEX`. It holds the digits of 1,024 octets at a time.
-/// Errs where the writer fails or memory is refused, and then a part of the line may be written.
+/// Writes the line of a burst that is sent, `tx CARRIER KIND BITS HEX` and LF. Holds the digits of 1,024 octets at a time. Errs if the
+/// writer fails or memory is refused; a part of the line may be written then.
 pub fn write_burst<W: Write>(alloc: Global, burst: &SentBurst, writer: &mut W) -> io::Result<()>
     ensures { OnOk result (Appends (W.contents writer.old) (W.contents writer.new) (tx_line burst.now)) }
 {
@@ -65,7 +65,7 @@ pub fn write_burst<W: Write>(alloc: Global, burst: &SentBurst, writer: &mut W) -
     writer.write_all(b"\n")
 }
 
-/// Writes the line after the bursts, `done` where the call is over and else `wait`, and flushes the writer. Errs where the writer fails.
+/// Writes the line after the bursts, `done` if the call is over, else `wait`, and flushes the writer. Errs if the writer fails.
 pub fn write_word<W: Write>(writer: &mut W, done: bool) -> io::Result<()>
     ensures { OnOk result (Appends (W.contents writer.old) (W.contents writer.new) (word_line done)) }
 {

@@ -13,16 +13,16 @@ use Rattle.stations.specs.declared.turn.End.{End}
 use Rattle.stations.specs.declared.turn.End.TheVariants.{NoAnswer, NoReply, Training}
 use Rattle.line_sim.specs.Driving.{Fate, comes, lost, spoiled, drive, new_driven}
 
--- after a number of steps by fates the caller of a driven call, in which at most three DIS are sent in a wait, has ended so
+-- after a number of steps by these fates, the caller of a driven call with at most three DIS in a wait has ended for this reason
 abbrev pub EndsFor : Document → Wish → Caps → List Fate → ℕ → End → Type 0
 EndsFor document wish caps fates steps why =
     (busy : ℕ) → (drive steps (record { calls = 3; busy = busy }) (new_driven document wish caps fates)).world.caller.ending ≡ Some why
 
--- three lost DIS: nobody answers
+-- The fewest losses that break a call before its first page: three lost DIS, if three are sent in a wait, end it with NoAnswer.
 abbrev pub LostDisBreak : Type 0
 LostDisBreak = (document : Document) (wish : Wish) (caps : Caps) → EndsFor document wish caps (lost ∷ lost ∷ lost ∷ []) 6 NoAnswer
 
--- a DIS comes, and three times the DCS is lost: the training check alone has no reply
+-- a DIS comes, and the DCS is lost three times: the training check alone gets no reply, and the call ends with NoReply
 abbrev pub LostDcsBreak : Type 0
 LostDcsBreak =
     (page : PagePixels) (pages : Document) (wish : Wish) (caps : Caps) (params : Params) → agreed_for caps wish (Some page) ≡ Some params →
@@ -36,7 +36,7 @@ slow_wish = record { modems = Fallback; coding = T6; small = false }
 abbrev pub slow_caps : Caps
 slow_caps = record { receiver = true; modems = Fallback; fine = true; widest = W2432; t6 = true; ecm = true }
 
--- the only training check is spoiled: no speed is left
+-- one spoiled training check ends a call with Training if both stations have only one common speed
 abbrev pub SpoiledCheckBreaks : Type 0
 SpoiledCheckBreaks =
     (rows : List (List Color)) (pages : Document) →

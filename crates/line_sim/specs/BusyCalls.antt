@@ -22,7 +22,7 @@ abbrev pub first_setting : List (Option Bool) → Option Bool
 first_setting [] = None
 first_setting (setting ∷ settings) = setting
 
--- and those after it
+-- the settings after the first one
 abbrev pub later_settings : List (Option Bool) → List (Option Bool)
 later_settings [] = []
 later_settings (setting ∷ settings) = settings
@@ -36,12 +36,13 @@ abbrev pub setting_events : Option Bool → List Event
 setting_events None = []
 setting_events (Some busy) = Busy busy ∷ []
 
--- the events of a step before which the answerer is set: the setting's, and then the step's own
+-- the events of a step before which the answerer is set: that of the setting, if there is one, and then the step's own
 abbrev pub set_events : Patience → Option Bool → Driven → List Event
 set_events p setting d =
     let set = sets setting d in setting_events setting ++ step_events p set.world.to_answerer set.world.to_caller set
 
--- a number of steps, before each of which the answerer is set, or fewer where the call is over
+-- at most a number of steps, before each of which the answerer is set busy or ready or left as it is by a list of settings; fewer if the
+-- call is over
 abbrev pub drive_set : ℕ → Patience → List (Option Bool) → Driven → Driven
 drive_set zero p settings d = d
 drive_set (suc most) p settings d =
@@ -53,20 +54,22 @@ steps_set zero p settings d = 0
 steps_set (suc most) p settings d =
     cond (is_over d) 0 (suc (steps_set most p (later_settings settings) (drives_set p (first_setting settings) d)))
 
--- a driven call ends within the same bound, whatever the fates, and whenever the answerer is set busy and ready
+-- The law: a driven call whose answerer is set busy or ready, or left as it is, before each step ends within the number of steps of `Ends`,
+-- whatever the fates and the settings are.
 abbrev pub BusyCallsEnd : Type 0
 BusyCallsEnd =
     (document : Document) (wish : Wish) (caps : Caps) (p : Patience) (fates : List Fate) (settings : List (Option Bool)) (most : ℕ) →
     1 ≤ p.calls → let first = new_driven document wish caps fates in
     Ends p most (steps_set most p settings first) document (drive_set most p settings first)
 
--- and what it has come to is safe
+-- The law: at each step of such a call the headline holds.
 abbrev pub BusyCallsAreSafe : Type 0
 BusyCallsAreSafe =
     (document : Document) (wish : Wish) (caps : Caps) (p : Patience) (fates : List Fate) (settings : List (Option Bool)) (most : ℕ) →
     Each IsFullPage document → IsSafeWorld document (drive_set most p settings (new_driven document wish caps fates)).world
 
--- each such step is a run of its events, all of each done
+-- The law: the events of a step before which the answerer is set, the setting's event first if there is one, lead to the next step when all
+-- of each is done.
 abbrev pub BusyStepsAreEvents : Type 0
 BusyStepsAreEvents =
     (p : Patience) (setting : Option Bool) (d : Driven) →

@@ -56,12 +56,12 @@ abbrev pub is_silent : Turn → Bool
 is_silent Silent = true
 is_silent _ = false
 
--- an MCF
+-- the item is an MCF
 abbrev pub is_mcf : Option Kind → Bool
 is_mcf (Some Mcf) = true
 is_mcf _ = false
 
--- an RNR
+-- the item is an RNR
 abbrev pub is_rnr : Option Kind → Bool
 is_rnr (Some Rnr) = true
 is_rnr _ = false
@@ -76,15 +76,15 @@ is_cfr_or_mcf _ = false
 abbrev pub shows_dcs : Entry → Bool
 shows_dcs entry = is_callers entry.event && is_training entry.turn
 
--- the same of DCN
+-- the caller transmits DCN
 abbrev pub shows_dcn : Entry → Bool
 shows_dcn entry = is_callers entry.event && is_dcn entry.turn
 
--- the same of RR
+-- the caller transmits RR
 abbrev pub shows_rr : Entry → Bool
 shows_rr entry = is_callers entry.event && is_rr entry.turn
 
--- the same of a burst or a PPS alone
+-- the caller transmits a burst or a PPS alone
 abbrev pub shows_block : Entry → Bool
 shows_block entry = is_callers entry.event && is_block_turn entry.turn
 
@@ -108,7 +108,7 @@ groups_through w = length w.caller.finished
 abbrev pub groups_begun : World → ℕ
 groups_begun w = length w.caller.finished + length w.caller.present
 
--- what is counted in the transcript of a run in which the caller has begun `groups` groups
+-- how often the caller transmits what, counted in the transcript of a run in which it has begun `groups` groups
 pub record IsCounted (groups : ℕ) (transcript : List Entry) : Type 0 where
   -- at most 18 DCS for each group begun
   pub dcs : count shows_dcs transcript ≤ 18 * groups
@@ -125,14 +125,14 @@ pub record IsCounted (groups : ℕ) (transcript : List Entry) : Type 0 where
   -- at most 12 PPS and bursts for each first burst
   pub blocks : count shows_block transcript ≤ 12 * count shows_first_burst transcript
 
--- so it is in the transcript of every run
+-- The law: the counts of `IsCounted` hold of the transcript of every run.
 abbrev pub RunsAreCounted : Type 0
 RunsAreCounted =
     (document : Document) (wish : Wish) (caps : Caps) (steps : List (Event × Outcome)) →
     IsCounted (groups_begun (run steps (new_world document wish caps))) (entries steps (new_world document wish caps))
 
--- between one entry into the wait for DIS and the next, the caller transmits at most 18 DCS: any steps in which no group gets through
--- have no more
+-- The law: between one entry into the wait for a DIS and the next the caller transmits at most 18 DCS: any steps in which no group gets
+-- through have no more.
 abbrev pub DcsBetweenGroups : Type 0
 DcsBetweenGroups =
     (document : Document) (wish : Wish) (caps : Caps) (before steps : List (Event × Outcome)) →

@@ -10,11 +10,11 @@ use Rattle.line_sim.specs.Polite.{next_steps, polite_steps, count_deliveries, Ar
 use Rattle.line_sim.specs.Represents.{Shows, WorldFields}
 use Rattle.line_sim.specs.declared.event.Event.{Event}
 
--- steps were made from a world that the fields represented: they represent the one after them, and have their entries
+-- all of these steps were made from a world that the old fields showed: the new ones show the world after them, and have their entries
 abbrev pub Made : WorldFields → WorldFields → World → List (Event × Outcome) → Type 0
 Made old new w steps = Shows new.call (run steps w) × (new.entries ≡ old.entries ++ entries steps w)
 
--- of steps those before a refused event were made, and that event has another outcome
+-- the steps before a refused event were made, and then that event with another outcome
 pub record Stopped (old new : WorldFields) (w : World) (steps : List (Event × Outcome)) : Type 0 where
   pub before : List (Event × Outcome)
   pub event : Event
@@ -30,18 +30,19 @@ NextDone old new w true = Made old new w (next_steps w w.to_answerer w.to_caller
     (count_deliveries (next_steps w w.to_answerer w.to_caller) ≡ 1)
 NextDone old new w false = (new ≡ old) × (next_steps w w.to_answerer w.to_caller ≡ [])
 
--- the same, or a growth was refused
+-- the next delivery was made, or there is none; or a growth was refused
 abbrev pub DeliversNext : {E : Type 0} → WorldFields → WorldFields → World → Result Bool E → Type 0
 DeliversNext old new w (Ok delivered) = NextDone old new w delivered
 DeliversNext old new w (Err refusal) = Stopped old new w (next_steps w w.to_answerer w.to_caller)
 
--- a polite run of `most` deliveries at most was made, or a growth was refused
+-- a polite run of at most `most` deliveries was made, and their number is returned; or the events before a refused one were made
 abbrev pub DeliversAll : {E : Type 0} → WorldFields → WorldFields → World → ℕ → Result ℕ E → Type 0
 DeliversAll old new w most (Ok number) = Made old new w (polite_steps most w) × (number ≡ count_deliveries (polite_steps most w))
 DeliversAll old new w most (Err refusal) = Stopped old new w (polite_steps most w)
 
--- a call from its start that nobody disturbs: where both stations agree on each page and each page's code fits a call, the number of
--- deliveries is the lesser of the call's and those that may be made, and after all of the call's it is through
+-- A call from its start that nobody disturbs, of a document with a page (which each `Document` has, but a world's fields don't say). If
+-- both stations agree on each page and each page's code is within the limit, the number of deliveries is the lesser of the call's length
+-- and of those that may be made; after all of the call's it is through.
 abbrev pub GoesThrough : WorldFields → WorldFields → ℕ → ℕ → Type 0
 GoesThrough old new most number =
     (document : Document) (wish : Wish) (caps : Caps) (groups : List Params) → Shows old.call (new_world document wish caps) →

@@ -1,4 +1,4 @@
--- A driven call: what is first under way meets its fate; where nothing is under way, somebody's wait is over. Nobody chooses but the fates.
+-- A driven call: what is first under way meets its fate; if nothing is under way, a station's wait is over. Only the fates choose.
 use Rattle.std.specs.Prelude.{◌≡◌, ℕ, zero, suc, ◌+◌, ◌*◌, ◌≤◌, ◌<◌, Bool, true, false, cond, ◌&&◌, not, nat_lt, nat_eq, List, [], ◌∷◌}
 use Rattle.std.specs.Prelude.{length, Option, Some, None}
 use Rattle.signals.specs.Signals.{rnr}
@@ -32,20 +32,20 @@ pub record Patience : Type 0 where
   pub calls : ℕ
   pub busy : ℕ
 
--- a world in a driven call, the DIS that were sent since the caller waits for one, the RNRs that came for its present block, and what is to
--- become of the next items; all after those come
+-- A driven call has no script. It has a world, how many DIS were sent since the caller began to wait for one, how many RNRs came for its
+-- present block, and the fates of the next items; all items after those come.
 pub record Driven : Type 0 where
   pub world : World
   pub dis : ℕ
   pub rnrs : ℕ
   pub fates : List Fate
 
--- the fate of the next item
+-- the fate of the next item: the first of the list, and that it comes once the list is used up
 abbrev pub first_fate : List Fate → Fate
 first_fate [] = comes
 first_fate (fate ∷ fates) = fate
 
--- and those after it
+-- the fates after the first one
 abbrev pub later_fates : List Fate → List Fate
 later_fates [] = []
 later_fates (fate ∷ fates) = fates
@@ -57,7 +57,7 @@ meets_answerer lost item w = happens w LoseToAnswerer Done
 meets_answerer spoiled (framed signal) w = happens w LoseToAnswerer Done
 meets_answerer spoiled (checked octets) w = happens (happens w Spoil Done) DeliverToAnswerer Done
 
--- the same of what is under way to the caller
+-- what is first under way to the caller meets its fate
 abbrev pub meets_caller : Fate → World → World
 meets_caller comes w = happens w DeliverToCaller Done
 meets_caller lost w = happens w LoseToCaller Done
@@ -124,26 +124,27 @@ drives p (item ∷ items) others d =
 drives p [] (item ∷ items) d = comes_back (is_rnr_item item && not (nat_lt d.rnrs p.busy)) item d
 drives p [] [] d = somebody_waits p d.world.caller.ending d.world.answerer.ending d
 
--- what one step of a driven call is, as events: those of what is first under way to the answerer
+-- the events of one step: those of what is first under way to the answerer, one, or two if a training check is spoiled
 abbrev pub events_there : Fate → PlainItem → List Event
 events_there comes item = DeliverToAnswerer ∷ []
 events_there lost item = LoseToAnswerer ∷ []
 events_there spoiled (framed signal) = LoseToAnswerer ∷ []
 events_there spoiled (checked octets) = Spoil ∷ DeliverToAnswerer ∷ []
 
--- those of what is first under way to the caller, where it isn't an RNR too many
+-- the event of what is first under way to the caller, if it isn't an RNR too many
 abbrev pub events_back : Fate → List Event
 events_back comes = DeliverToCaller ∷ []
 events_back lost = LoseToCaller ∷ []
 events_back spoiled = LoseToCaller ∷ []
 
--- those of a wait that is over, if anybody waits; the answerer's T2 may be due
+-- the event of a wait that is over, if anybody waits; the answerer's T2 may be due
 abbrev pub events_waiting : Option End → Option End → Bool → List Event
 events_waiting None ending due = cond due AnswererT2 CallerTimeout ∷ []
 events_waiting (Some why) None due = AnswererT1 ∷ []
 events_waiting (Some why) (Some other) due = []
 
--- and those of the step
+-- The events of one step, by the fate of what is first under way, or by whose wait is over: one, or two if a training check is spoiled or
+-- an RNR is one too many.
 abbrev pub step_events : Patience → List PlainItem → List PlainItem → Driven → List Event
 step_events p (item ∷ items) others d = events_there (first_fate d.fates) item
 step_events p [] (item ∷ items) d =
@@ -157,11 +158,11 @@ abbrev pub is_over_at : List PlainItem → List PlainItem → Option End → Opt
 is_over_at [] [] (Some why) (Some other) = true
 is_over_at _ _ _ _ = false
 
--- the same of a driven call
+-- a driven call is over: nothing is under way, and both stations have ended
 abbrev pub is_over : Driven → Bool
 is_over d = is_over_at d.world.to_answerer d.world.to_caller d.world.caller.ending d.world.answerer.ending
 
--- a number of steps, or fewer where the call is over
+-- a number of steps, or fewer if the call is over
 abbrev pub drive : ℕ → Patience → Driven → Driven
 drive zero p d = d
 drive (suc most) p d = cond (is_over d) d (drive most p (drives p d.world.to_answerer d.world.to_caller d))
@@ -192,26 +193,28 @@ most_steps p document =
     (times (suc (512 * length document)) (2 * p.calls) + 66 * suc (512 * length document) +
     times (512 * length document) (1068 + 8 * p.busy)) + 2
 
--- a driven call ends: it makes no more steps than the groups and blocks that it has begun may take, and 2, which is bounded by the document
--- alone; where it has made fewer than it may, both stations have ended and nothing is under way
+-- A driven call ends at both stations. It makes at most 2 `calls` steps for each group that is through and one more, 66 for each group
+-- begun, 1,068 + 8 `busy` for each block begun, and 2; this is bounded by the document alone. If it made fewer steps than it may, both
+-- stations have ended and nothing is under way. `calls` is how many DIS are sent in one wait, `busy` how many RNRs a caller hears for one
+-- block before its T5.
 pub record Ends (p : Patience) (most made : ℕ) (document : Document) (d : Driven) : Type 0 where
   pub few : made ≤ paid p d.world.caller + 2
   pub bounded : made ≤ most_steps p document
   pub over : made < most → is_over d ≡ true
 
--- so it is of every driven call, whatever the fates
+-- The law: every driven call ends as `Ends` says, whatever becomes of each item by the list of fates: it comes, is lost or is spoiled.
 abbrev pub DrivenCallsEnd : Type 0
 DrivenCallsEnd =
     (document : Document) (wish : Wish) (caps : Caps) (p : Patience) (fates : List Fate) (most : ℕ) → 1 ≤ p.calls →
     Ends p most (steps_made most p (new_driven document wish caps fates)) document (drive most p (new_driven document wish caps fates))
 
--- what a driven call has come to is safe, however far it came: it is what a run of events leads to
+-- The law: at each step of a driven call the headline holds, since it is a run of events.
 abbrev pub DrivenCallsAreSafe : Type 0
 DrivenCallsAreSafe =
     (document : Document) (wish : Wish) (caps : Caps) (p : Patience) (fates : List Fate) (most : ℕ) → Each IsFullPage document →
     IsSafeWorld document (drive most p (new_driven document wish caps fates)).world
 
--- each step of a driven call is a run of its events, all of each done
+-- The law: the events of a step, all of each done, lead to the world of the next step.
 abbrev pub DrivenStepsAreEvents : Type 0
 DrivenStepsAreEvents =
     (p : Patience) (d : Driven) →

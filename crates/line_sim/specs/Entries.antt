@@ -18,7 +18,7 @@ use Rattle.line_sim.specs.declared.event.Kind.TheVariants.{Dis, Dcs, Training, C
 use Rattle.line_sim.specs.Line.{World, Outcome, happens}
 use Rattle.line_sim.specs.Line.Outcome.{Done, Nothing, InputLost}
 
--- the kind of a signal; no station sends a signal that it doesn't know
+-- the kind of a signal, as the transcript shows it; None for a signal that isn't known, which no station sends
 abbrev pub signal_kind : PlainSignal → Option Kind
 signal_kind (dis caps) = Some Dis
 signal_kind (dcs params) = Some Dcs
@@ -34,7 +34,7 @@ signal_kind rr = Some Rr
 signal_kind dcn = Some Dcn
 signal_kind (other octet) = None
 
--- the kind of an item
+-- the kind of an item: that of its signal, or Training for a training check
 abbrev pub kind_of : PlainItem → Option Kind
 kind_of (framed signal) = signal_kind signal
 kind_of (checked octets) = Some Training
@@ -60,17 +60,17 @@ signal_fields (pps ends page block last) = field.Pps ends page block last
 signal_fields (ppr map) = field.Ppr map
 signal_fields _ = field.Nothing
 
--- what that of an item says; a training check has none
+-- what the information field of an item's frame says; a training check has none
 abbrev pub fields_of : PlainItem → Fields
 fields_of (framed signal) = signal_fields signal
 fields_of (checked octets) = field.Nothing
 
--- what that of the first item under way says
+-- what the information field of the first item under way says
 abbrev pub head_fields : List PlainItem → Fields
 head_fields [] = field.Nothing
 head_fields (item ∷ items) = fields_of item
 
--- what that of the item says that an event delivers or loses
+-- what the information field says of the item that an event delivers or loses
 abbrev pub event_fields : World → Event → Fields
 event_fields w DeliverToAnswerer = head_fields w.to_answerer
 event_fields w LoseToAnswerer = head_fields w.to_answerer
@@ -105,7 +105,7 @@ input_to_caller w CallerTimeout = Some timeout
 input_to_caller w CallerT5 = Some t5
 input_to_caller w _ = None
 
--- unless the input was lost
+-- the input, unless the event's outcome is that it was lost
 abbrev pub unless_lost : {A : Type 0} → Outcome → Option A → Option A
 unless_lost InputLost input = None
 unless_lost _ input = input
@@ -130,7 +130,7 @@ fcds_in _ items = 0
 abbrev pub caller_said : Turn → List PlainItem → Said
 caller_said turn items = record { turn = turn; fcds = fcds_in turn items }
 
--- a turn that is no burst
+-- what a station says by a turn that is no burst: it has no FCDs
 abbrev pub says : Turn → Said
 says turn = record { turn = turn; fcds = 0 }
 
@@ -138,7 +138,7 @@ says turn = record { turn = turn; fcds = 0 }
 abbrev pub caller_says : Caller → CallerInput → Said
 caller_says c input = let answer = caller_step c input in caller_said answer.turn (caller_items answer.next answer.turn)
 
--- what the answerer says, which sends no burst
+-- what the answerer says to an input; it sends no burst
 abbrev pub answerer_says : Answerer → AnswererInput → Said
 answerer_says s input = says (answerer_step s input).turn
 
@@ -158,7 +158,9 @@ abbrev pub is_refused : Outcome → Bool
 is_refused Done = false
 is_refused _ = true
 
--- the entry of an event; an event that found no room for its entry has none
+-- The transcript's entry of an event: the event, the item that it delivers or loses, what that item's information field says (of a DIS, a
+-- DCS, a PPS or a PPR), the turn of the station's step, the number of its FCDs, and a mark if a growth was refused. An event that found no
+-- room for its entry has none.
 abbrev pub entry_of : World → Event → Outcome → Option Entry
 entry_of w event Nothing = None
 entry_of w event outcome =
@@ -177,7 +179,7 @@ abbrev pub and_entries : Option Entry → List Entry → List Entry
 and_entries None rest = rest
 and_entries (Some entry) rest = entry ∷ rest
 
--- the entries of a run
+-- the entries of a run, one for each event that found room for it, in order
 abbrev pub entries : List (Event × Outcome) → World → List Entry
 entries [] w = []
 entries (step ∷ steps) w = and_entries (entry_of w step.0 step.1) (entries steps (happens w step.0 step.1))
@@ -187,7 +189,7 @@ abbrev pub one_mark : Bool → ℕ → ℕ
 one_mark true count = suc count
 one_mark false count = count
 
--- how many entries show a refusal
+-- how many entries show a refused growth
 abbrev pub marks : List Entry → ℕ
 marks [] = 0
 marks (entry ∷ rest) = one_mark entry.refused (marks rest)

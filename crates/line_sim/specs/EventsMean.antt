@@ -10,16 +10,17 @@ use Rattle.line_sim.specs.declared.event.Event.{Event}
 use Rattle.line_sim.specs.declared.event.Event.TheVariants.{DeliverToAnswerer, DeliverToCaller, LoseToAnswerer, LoseToCaller, Spoil}
 use Rattle.line_sim.specs.declared.event.Event.TheVariants.{CallerTimeout, CallerT5, AnswererT1, AnswererT2, Busy}
 
--- the three events that the caller hears of
+-- the three events that the caller hears of: a delivery to it, its timeout and its T5
 abbrev pub IsForCaller : Event → Type 0
 IsForCaller event = (event ≡ DeliverToCaller) ⊎ ((event ≡ CallerTimeout) ⊎ (event ≡ CallerT5))
 
--- the events that the answerer hears of
+-- the events that the answerer hears of: a delivery to it, its T1, its T2, and that it is busy or ready
 abbrev pub IsForAnswerer : Event → Type 0
 IsForAnswerer event =
     (event ≡ DeliverToAnswerer) ⊎ ((event ≡ AnswererT1) ⊎ ((event ≡ AnswererT2) ⊎ ((busy : Bool) × (event ≡ Busy busy))))
 
--- what an event may change, whatever became of it
+-- What an event may change, whatever its outcome. A station changes only at events that it hears of, and only at those does what is under
+-- way from it grow; if it transmits, what was under way to it is lost.
 pub record Touches (w : World) (event : Event) (next : World) : Type 0 where
   -- a station is as it was at each event that it doesn't hear of: a loss and a spoiled check reach nobody
   pub caller : (¬ IsForCaller event) → next.caller ≡ w.caller
@@ -31,7 +32,7 @@ pub record Touches (w : World) (event : Event) (next : World) : Type 0 where
   pub caller_sends : IsForCaller event → (next.to_answerer ≡ w.to_answerer) ⊎ (next.to_caller ≡ [])
   pub answerer_sends : IsForAnswerer event → (next.to_caller ≡ w.to_caller) ⊎ (next.to_answerer ≡ [])
 
--- every event, whatever becomes of it
+-- The law: every event, whatever its outcome, changes no more than `Touches` allows.
 abbrev pub EventsTouch : Type 0
 EventsTouch = (w : World) (event : Event) (outcome : Outcome) → Touches w event (happens w event outcome)
 
@@ -39,7 +40,7 @@ EventsTouch = (w : World) (event : Event) (outcome : Outcome) → Touches w even
 abbrev pub IsFirst : List PlainItem → PlainItem → List PlainItem → Type 0
 IsFirst list item items = list ≡ item ∷ items
 
--- what an event makes where no growth is refused
+-- what an event makes if no growth is refused
 pub record Makes (w : World) (event : Event) (next : World) : Type 0 where
   -- the first item under way to a station comes to it, or is lost; a training check is none that a caller takes
   pub hears :
@@ -70,7 +71,7 @@ pub record Makes (w : World) (event : Event) (next : World) : Type 0 where
   pub t2 : event ≡ AnswererT2 → next.answerer ≡ (answerer_step w.answerer t2).next
   pub busy : (busy : Bool) → event ≡ Busy busy → next.answerer ≡ (answerer_step w.answerer (is_busy busy)).next
 
--- every event that is done
+-- The law: what every event that is done makes of the first item under way, or of a wait that is over.
 abbrev pub EventsMake : Type 0
 EventsMake = (w : World) (event : Event) → Makes w event (happens w event Done)
 
@@ -80,6 +81,6 @@ pub record Refuses (w : World) (event : Event) : Type 0 where
   pub caller : (happens w event InputLost).caller ≡ w.caller
   pub answerer : (happens w event InputLost).answerer ≡ w.answerer
 
--- every event that is refused
+-- The law: an event that was refused before anything happened changes nothing, and one whose input was lost changes no station.
 abbrev pub EventsRefuse : Type 0
 EventsRefuse = (w : World) (event : Event) → Refuses w event

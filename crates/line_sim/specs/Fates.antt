@@ -32,25 +32,25 @@ use Rattle.line_sim.specs.declared.event.Kind.{Kind}
 use Rattle.line_sim.specs.declared.event.Kind.TheVariants.{Mcf, Pps, Rnr, Rr}
 use Rattle.line_sim.specs.declared.fault.WorldFault.{WorldFault}
 
--- the fields of a driven call: its call; how many DIS are sent in one wait, and how many RNRs may come for a block; how many were sent in
--- the present wait, and how many came for the present block
+-- the fields of a driven call: its call; how many DIS are sent in one wait and how many RNRs may come for a block; how many DIS were sent
+-- in the present wait, and how many RNRs came for the present block
 pub record DrivenFields : Type 0 where
   pub live : Call
   pub patience : CallPatience
   pub dis : ℕ
   pub rnrs : ℕ
 
--- the fate that the code's is
+-- the fate of the definition that one of the code is
 abbrev pub plain_fate : CallFate → Fate
 plain_fate Comes = comes
 plain_fate Lost = lost
 plain_fate Spoiled = spoiled
 
--- the patience that the code's is
+-- the patience of the definition that one of the code is
 abbrev pub plain_patience : CallPatience → Patience
 plain_patience patience = record { calls = patience.calls; busy = patience.busy }
 
--- the fields show a driven call
+-- the fields show a driven call of the definition: its world, the DIS of this wait, the RNRs of this block, and the patience
 pub record ShowsDriven (v : DrivenFields) (p : Patience) (d : Driven) : Type 0 where
   pub world : Shows v.live d.world
   pub dis : d.dis ≡ v.dis
@@ -61,16 +61,16 @@ pub record ShowsDriven (v : DrivenFields) (p : Patience) (d : Driven) : Type 0 w
 abbrev pub next_of : Patience → Driven → Driven
 next_of p d = drives p d.world.to_answerer d.world.to_caller d
 
--- and its events
+-- the events of the step that comes next in a driven call
 abbrev pub events_of : Patience → Driven → List Event
 events_of p d = step_events p d.world.to_answerer d.world.to_caller d
 
--- an RNR is first under way that is one too many: few may come yet, or not
+-- an RNR is first under way and no more may come: it is one too many
 abbrev pub is_one_too_many : Bool → List PlainItem → Bool
 is_one_too_many few [] = false
 is_one_too_many few (item ∷ items) = is_rnr_item item && not few
 
--- a fate is due where something is under way; but an RNR too many has none, for it is lost
+-- A step takes a fate if something is under way; but an RNR too many takes none, since it is lost.
 abbrev pub is_fate_due : Bool → List PlainItem → List PlainItem → Bool
 is_fate_due few (item ∷ items) others = true
 is_fate_due few [] (item ∷ others) = not (is_one_too_many few (item ∷ others))
@@ -81,18 +81,18 @@ abbrev pub before_act : Option Event → List Event
 before_act None = []
 before_act (Some event) = event ∷ []
 
--- one more DIS, where an event is the answerer's T2
+-- one more DIS if the event is the answerer's T2
 abbrev pub dis_with : Event → ℕ → ℕ
 dis_with AnswererT2 dis = suc dis
 dis_with _ dis = dis
 
--- an item of this kind asks the answerer for more: a busy one answers RNR
+-- an item of this kind, PPS or RR, asks the answerer for more: a busy one answers RNR
 abbrev pub asks_ready : Option Kind → Bool
 asks_ready (Some Pps) = true
 asks_ready (Some Rr) = true
 asks_ready _ = false
 
--- the caller is sending a block, which an MCF confirms
+-- the caller is sending a block, which an MCF would confirm: it has sent the block's first burst and hasn't ended
 abbrev pub is_sending : Caller → Bool
 is_sending c = is_some (present_block c)
 
@@ -102,12 +102,12 @@ rnrs_heard (Some Rnr) sending rnrs = suc rnrs
 rnrs_heard (Some Mcf) true rnrs = 0
 rnrs_heard _ sending rnrs = rnrs
 
--- the same after an event, by the first item under way to the caller
+-- the RNRs for a block after an event, by the first item under way to the caller
 abbrev pub rnrs_after : Event → Option Kind → Bool → ℕ → ℕ
 rnrs_after DeliverToCaller kind sending rnrs = rnrs_heard kind sending rnrs
 rnrs_after _ kind sending rnrs = rnrs
 
--- an act is what comes next: its events are those of the next step
+-- an act is the next step: its events, and what it makes of the counts, are those of the definition
 pub record Follows (p : Patience) (items others : List PlainItem) (d : Driven) (act : Act) : Type 0 where
   pub goes_on : is_over_at items others d.world.caller.ending d.world.answerer.ending ≡ false
   pub events : before_act act.before ++ act.event ∷ [] ≡ step_events p items others d
@@ -124,18 +124,18 @@ abbrev pub IsUnheardIf : Option Event → Type 0
 IsUnheardIf None = Unit {0}
 IsUnheardIf (Some event) = IsUnheard event
 
--- so it is of an act; a DIS is sent only where few were, and an RNR comes only where few came
+-- no station hears of the event before an act's own; a DIS is sent only if few were, and an RNR comes only if few came
 pub record IsPossible (few_dis few_rnrs : Bool) (kind : Option Kind) (act : Act) : Type 0 where
   pub before : IsUnheardIf act.before
   pub dis : act.event ≡ AnswererT2 → few_dis ≡ true
   pub rnrs : act.event ≡ DeliverToCaller → kind ≡ Some Rnr → few_rnrs ≡ true
 
--- the same, where there is one
+-- what comes next is possible, or the call is over
 abbrev pub MayAct : Bool → Bool → Option Kind → Option Act → Type 0
 MayAct few_dis few_rnrs kind None = Unit {0}
 MayAct few_dis few_rnrs kind (Some act) = IsPossible few_dis few_rnrs kind act
 
--- an event alone
+-- an act that is one event alone
 abbrev pub plainly : Event → Act
 plainly event = record { before = None; event = event }
 
@@ -146,14 +146,14 @@ act_to_answerer Lost check = plainly LoseToAnswerer
 act_to_answerer Spoiled true = record { before = Some Spoil; event = DeliverToAnswerer }
 act_to_answerer Spoiled false = plainly LoseToAnswerer
 
--- what is first under way to the caller does; an RNR too many is lost, and the long wait is over
+-- what is first under way to the caller meets its fate; an RNR too many is lost, and the long wait is over
 abbrev pub act_to_caller : Bool → CallFate → Act
 act_to_caller true fate = record { before = Some LoseToCaller; event = CallerT5 }
 act_to_caller false Comes = plainly DeliverToCaller
 act_to_caller false Lost = plainly LoseToCaller
 act_to_caller false Spoiled = plainly LoseToCaller
 
--- whose wait is over where nothing is under way, if anybody's: of a caller that runs, or of the answerer where a DIS is due
+-- if nothing is under way, the wait that is over, if anybody waits: the caller's while it runs, or the answerer's if a DIS is due
 abbrev pub act_waiting : Option End → Option End → Bool → Option Act
 act_waiting None ending due = Some (plainly (cond due AnswererT2 CallerTimeout))
 act_waiting (Some why) None due = Some (plainly AnswererT1)
@@ -174,8 +174,8 @@ and_entry (Some first) entry = first ∷ entry ∷ []
 abbrev pub entries_of : Step → List Entry
 entries_of step = and_entry step.before step.entry
 
--- a step of a driven call was made: it is its events, which lead to the next step's world where all is done of each, and in the last one
--- alone a growth may have been refused. The entries are theirs, and where none is marked the fields show the next step
+-- A step of a driven call was made: it is the events of `step_events`, which lead to the next step's world when all of each is done; a
+-- growth may have been refused in the last of them alone. The entries are theirs, and if none is marked the fields show the next step.
 pub record MakesStep (p : Patience) (new : DrivenFields) (d : Driven) (step : Step) : Type 0 where
   pub goes_on : is_over d ≡ false
   pub before : List Event
@@ -188,12 +188,12 @@ pub record MakesStep (p : Patience) (new : DrivenFields) (d : Driven) (step : St
   pub done : step.entry.refused ≡ false → (outcome ≡ Done) × ShowsDriven new p (next_of p d)
   pub marked : step.entry.refused ≡ true → outcome ≢ Done
 
--- the same, or the call is over
+-- a step of a driven call was made, or the call is over and nothing has changed
 abbrev pub Steps : Patience → DrivenFields → DrivenFields → Driven → Option Step → Type 0
 Steps p old new d None = (is_over d ≡ true) × (new ≡ old)
 Steps p old new d (Some step) = MakesStep p new d step
 
--- a growth was refused: `made` steps were made, and of the next one the events before one that was refused
+-- a growth was refused: `made` steps were made, and of the next one the events up to the refused one
 pub record Broken (p : Patience) (new : DrivenFields) (d : Driven) (most : ℕ) : Type 0 where
   pub made : ℕ
   pub few : made < most
@@ -206,27 +206,28 @@ pub record Broken (p : Patience) (new : DrivenFields) (d : Driven) (most : ℕ) 
   pub refused : outcome ≢ Done
   pub shows : Shows new.live (run (all_done before ++ (event, outcome) ∷ []) (drive made p d).world)
 
--- a driven call made `most` steps at most, or a growth was refused
+-- at most `most` steps of a driven call were made, and their number is returned; or the steps and events before a refused one
 abbrev pub DrivesAll : {E : Type 0} → Patience → DrivenFields → Driven → ℕ → Result ℕ E → Type 0
 DrivesAll p new d most (Ok number) = ShowsDriven new p (drive most p d) × (number ≡ steps_made most p d)
 DrivesAll p new d most (Err refusal) = Broken p new d most
 
--- a call that is driven from its start ends, whatever the fates
+-- A call that is driven from its start ends as `DrivenCallsEnd` says, whatever the fates.
 abbrev pub EndsDriven : DrivenFields → List Fate → ℕ → ℕ → Type 0
 EndsDriven old fates most number =
     (document : Document) (wish : Wish) (caps : Caps) (p : Patience) → ShowsDriven old p (new_driven document wish caps fates) →
     1 ≤ p.calls →
     Ends p most number document (drive most p (new_driven document wish caps fates))
 
--- a call that is driven from its start bears any two losses, where both stations agree on each page, each code fits a call, and enough DIS
--- are sent: it ends normally, with all pages stored and confirmed
+-- A call that is driven from its start bears two losses as `AnyTwoLossesAreBorne` says: if both stations agree on each page, each code fits
+-- a call and at least three DIS are sent in a wait, it ends normally with all pages stored and confirmed.
 abbrev pub BearsTwo : DrivenFields → DrivenFields → List Fate → ℕ → Type 0
 BearsTwo old new fates most =
     (document : Document) (wish : Wish) (caps : Caps) (p : Patience) → ShowsDriven old p (new_driven document wish caps fates) →
     CanBear document wish caps p (spoiling_fates fates) → bad_fates fates ≤ 2 → most_steps p document < most →
     (w : World) × Shows new.live w × IsBorne document w
 
--- the answerer of a driven call was set busy or ready, or a growth was refused, which the entry shows; the entry is the event's
+-- The answerer of a driven call was set busy or ready. The entry is that event's; if it isn't marked, the fields show the call that is set,
+-- else a growth was refused.
 pub record SetsBusy (p : Patience) (busy : Bool) (new : DrivenFields) (d : Driven) (entry : Entry) : Type 0 where
   pub outcome : Outcome
   pub shows : Shows new.live (happens d.world (Busy busy) outcome)

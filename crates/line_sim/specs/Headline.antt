@@ -27,8 +27,8 @@ use Rattle.line_sim.specs.PageMachine.{first_state, Moves, AtMostTwo, shown, IsB
 abbrev pub Promised : Type 0
 Promised = LayersHold × SignalsHold
 
--- what the sender, who deletes what was confirmed, and the owner of the store can rely on, of a document, the pages stored, how many are
--- confirmed, and how both stations ended
+-- What the sender, who deletes confirmed pages, and the owner of the store can rely on: a document, the pages stored of it, how many are
+-- confirmed, and how both stations ended. The headline says it of every run.
 pub record IsSafe (document : Document) (pages : List PagePixels) (confirms : ℕ) (caller_end answerer_end : Option End) : Type 0 where
   -- the stored pages are the first of the document, with equal width, fineness and pixels
   pub beginning : IsBeginning pages document
@@ -39,36 +39,36 @@ pub record IsSafe (document : Document) (pages : List PagePixels) (confirms : �
   pub caller_normal : caller_end ≡ Some Normal → (pages ≡ document) × (confirms ≡ length document)
   pub answerer_normal : answerer_end ≡ Some Normal → pages ≡ document
 
--- the same of a world
+-- a world is safe: its stored pages, its confirmed pages and its two ends are
 abbrev pub IsSafeWorld : Document → World → Type 0
 IsSafeWorld document w = IsSafe document w.answerer.pages (confirmed w.caller) w.caller.ending w.answerer.ending
 
--- the facts of the line hold of every world that events lead to, whatever each of them answered
+-- The law: the facts of the line hold of every world that events lead to, whatever the outcome of each event.
 abbrev pub LineHolds : Type 0
 LineHolds =
     (document : Document) (wish : Wish) (caps : Caps) (steps : List (Event × Outcome)) → Each IsFullPage document →
     LineFacts (run steps (new_world document wish caps))
 
--- so in each both stations are in step
+-- The law: in every world that events lead to both stations are in step.
 abbrev pub StationsInStep : Type 0
 StationsInStep =
     (document : Document) (wish : Wish) (caps : Caps) (steps : List (Event × Outcome)) → Each IsFullPage document →
     InStep (run steps (new_world document wish caps))
 
--- from such a world an event makes at most two moves of the page machine, whatever it answers
+-- The law: from a world that events lead to, an event makes at most two moves of the page machine, whatever its outcome.
 abbrev pub EventsMove : Type 0
 EventsMove =
     (document : Document) (wish : Wish) (caps : Caps) (steps : List (Event × Outcome)) → Each IsFullPage document →
     let w = run steps (new_world document wish caps) in
     (event : Event) (outcome : Outcome) → AtMostTwo (length document) (shown w) (shown (happens w event outcome))
 
--- and it shows a state that moves of the page machine lead to from the first one
+-- The law: moves of the page machine lead from its first state to the state that a run's world shows.
 abbrev pub RunsMove : Type 0
 RunsMove =
     (document : Document) (wish : Wish) (caps : Caps) (steps : List (Event × Outcome)) → Each IsFullPage document →
     Moves (length document) first_state (shown (run steps (new_world document wish caps)))
 
--- the headline itself
+-- the headline itself: every run leads to a safe world
 abbrev pub RunsAreSafe : Type 0
 RunsAreSafe =
     (document : Document) (wish : Wish) (caps : Caps) (steps : List (Event × Outcome)) → Each IsFullPage document →
@@ -80,7 +80,8 @@ pub record WholeBlockAccepted (w : World) (block : Block) : Type 0 where
   pub exactly : ((happens w DeliverToAnswerer Done).answerer.accepted ≡ Some (accepted_of block)) ↔ HoldsAll w.answerer.frames block.frames
   pub pages : IsBeginning (happens w DeliverToAnswerer Done).answerer.pages w.caller.document
 
--- so it is of every PPS that comes, in however many rounds the frames came
+-- The law: a PPS that comes for a block not yet accepted has the block accepted exactly if each of its frames is open, in however many
+-- rounds the frames came.
 abbrev pub WholeBlocksAccepted : Type 0
 WholeBlocksAccepted =
     (document : Document) (wish : Wish) (caps : Caps) (steps : List (Event × Outcome)) → Each IsFullPage document →
@@ -97,7 +98,7 @@ abbrev pub CanBeWritten : PlainItem → Type 0
 CanBeWritten (framed signal) = IsWritable signal
 CanBeWritten (checked octets) = Unit {0}
 
--- so can all that is ever under way
+-- The law: each signal under way, in every world that events lead to, has a content.
 abbrev pub LinesCanBeWritten : Type 0
 LinesCanBeWritten =
     (document : Document) (wish : Wish) (caps : Caps) (steps : List (Event × Outcome)) → Each IsFullPage document →

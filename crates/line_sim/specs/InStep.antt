@@ -16,7 +16,8 @@ use Rattle.line_sim.specs.PageMachine.{IsBeginning}
 abbrev pub IsUnderWay : PlainSignal → List PlainItem → Type 0
 IsUnderWay signal items = (before : List PlainItem) × (after : List PlainItem) × (items ≡ before ++ framed signal ∷ after)
 
--- both stations are in step
+-- Both stations are in step. It holds of every world that events lead to, and says in words how far the stations are apart and what may be
+-- under way.
 pub record InStep (w : World) : Type 0 where
   -- at most one of the two lists holds items
   pub one_way : (w.to_answerer ≡ []) ⊎ (w.to_caller ≡ [])

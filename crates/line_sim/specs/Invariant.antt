@@ -26,7 +26,9 @@ pub record LedTo (v : WorldFields) (w : World) : Type 0 where
   pub shows : Shows v.call w
   pub noted : v.entries ≡ entries steps (new_world v.call.caller.document wish caps)
 
--- what holds of the fields of every world
+-- What holds of the fields of every world: events lead to a world that they show; in each such world the facts of the line hold and both
+-- stations are in step; moves of the page machine lead to what the fields show; and that is safe. The fields may represent several worlds,
+-- since the parameters of the groups that are through are kept nowhere.
 pub record Holds (v : WorldFields) : Type 0 where
   -- there is a world that events lead to and that the fields represent
   pub world : World
@@ -41,7 +43,7 @@ pub record Holds (v : WorldFields) : Type 0 where
       IsSafe v.call.caller.document v.call.answerer.pages v.call.caller.page v.call.caller.ending
       v.call.answerer.ending
 
--- the fields of a new world: they show the page machine's first state, and no event has been
+-- the fields of a new world: they show the page machine's first state, and no event has happened yet
 pub record Begins (document : Document) (wish : Wish) (caps : Caps) (v : WorldFields) : Type 0 where
   pub document_is : v.call.caller.document ≡ document
   pub first : fields_state v.call ≡ first_state

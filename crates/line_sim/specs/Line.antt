@@ -14,15 +14,16 @@ use Rattle.line_sim.specs.declared.event.Event.{Event}
 use Rattle.line_sim.specs.declared.event.Event.TheVariants.{DeliverToAnswerer, DeliverToCaller, LoseToAnswerer, LoseToCaller, Spoil}
 use Rattle.line_sim.specs.declared.event.Event.TheVariants.{CallerTimeout, CallerT5, AnswererT1, AnswererT2, Busy}
 
--- both stations, and what is under way to each
+-- both stations, and the items under way to each, in the order in which they were sent
 pub record World : Type 0 where
   pub caller : Caller
   pub answerer : Answerer
   pub to_answerer : List PlainItem
   pub to_caller : List PlainItem
 
--- what became of an event: all of it; or a growth was refused, and nothing at all happened, or the input was lost,
--- or of the items of the turn only the first few were made
+-- What became of an event: all of it was done; or a growth was refused, and nothing at all happened, or the input was lost before the
+-- station's step, or only the first few items of the turn were sent. Refused memory isn't a choice of who reads a clause: the clauses say
+-- that an event has an outcome.
 pub data Outcome : Type 0 where
   Done Nothing InputLost : Outcome
   Cut : (made : ℕ) → Outcome
@@ -32,12 +33,14 @@ abbrev pub sent : Outcome → List PlainItem → List PlainItem
 sent (Cut made) items = take made items
 sent _ items = items
 
--- the caller has answered; a transmission empties the list that leads to it
+-- The caller has taken its step and sends the items of its turn. A turn that isn't silent drops what is under way to the caller, and puts
+-- its items behind those under way to the answerer.
 abbrev pub caller_sends : Turn → World → Caller → List PlainItem → World
 caller_sends Silent w next items = record w { caller = next }
 caller_sends _ w next items = record { caller = next; answerer = w.answerer; to_answerer = w.to_answerer ++ items; to_caller = [] }
 
--- the answerer has answered; a transmission empties the list that leads to it
+-- The answerer has taken its step and sends the items of its turn. A turn that isn't silent drops what is under way to the answerer, and
+-- puts its items behind those under way to the caller.
 abbrev pub answerer_sends : Turn → World → Answerer → List PlainItem → World
 answerer_sends Silent w next items = record w { answerer = next }
 answerer_sends _ w next items = record { caller = w.caller; answerer = next; to_answerer = []; to_caller = w.to_caller ++ items }
@@ -70,7 +73,7 @@ delivers_to_answerer w outcome [] = w
 delivers_to_answerer w InputLost (item ∷ items) = record w { to_answerer = items }
 delivers_to_answerer w outcome (item ∷ items) = comes_to_answerer (record w { to_answerer = items }) outcome item
 
--- the same of the list to the caller
+-- the first item under way to the caller is taken away, and comes to it unless its input is lost
 abbrev pub delivers_to_caller : World → Outcome → List PlainItem → World
 delivers_to_caller w outcome [] = w
 delivers_to_caller w InputLost (item ∷ items) = record w { to_caller = items }
@@ -96,7 +99,7 @@ abbrev pub answerer_timer : World → Outcome → AnswererInput → World
 answerer_timer w InputLost input = w
 answerer_timer w outcome input = answerer_acts w outcome input
 
--- what an event does that was not refused before anything happened
+-- what an event does if it wasn't refused before anything happened
 abbrev pub acts : World → Event → Outcome → World
 acts w DeliverToAnswerer outcome = delivers_to_answerer w outcome w.to_answerer
 acts w DeliverToCaller outcome = delivers_to_caller w outcome w.to_caller
@@ -109,7 +112,8 @@ acts w AnswererT1 outcome = answerer_timer w outcome t1
 acts w AnswererT2 outcome = answerer_timer w outcome t2
 acts w (Busy busy) outcome = answerer_timer w outcome (is_busy busy)
 
--- the world after an event with an outcome
+-- The world after an event with an outcome. The first item under way to a station is delivered or lost, a training check that is first gets
+-- octets FF, a station's timer runs out, or the answerer gets busy or ready. After `Nothing` the world is as it was.
 abbrev pub happens : World → Event → Outcome → World
 happens w event Nothing = w
 happens w event outcome = acts w event outcome
@@ -124,7 +128,7 @@ new_world document wish caps =
       to_caller = framed (dis caps) ∷ [];
     }
 
--- a whole run
+-- the world after a whole run: events with their outcomes, one after the other
 abbrev pub run : List (Event × Outcome) → World → World
 run [] w = w
 run (step ∷ steps) w = run steps (happens w step.0 step.1)

@@ -121,7 +121,7 @@ AskedFits None block place accepted = Unit {0}
 AskedFits (Some asked) None place accepted = ⊥
 AskedFits (Some asked) (Some block) place accepted = (asked ≡ asked_of block) × (accepted ≡ place)
 
--- the two stations, where the answerer has accepted `accepted` blocks
+-- what holds of the two stations when the answerer has accepted `accepted` blocks
 pub record StationFacts (c : Caller) (s : Answerer) (accepted : ℕ) : Type 0 where
   pub near : (accepted ≡ c.place) ⊎ (accepted ≡ suc c.place)
   pub phase : Phase c.state c accepted s
@@ -172,7 +172,7 @@ MayReachCaller place state accepted (framed rnr) = accepted ≡ suc place
 MayReachCaller place state accepted (framed (ppr map)) = (accepted ≡ place) × (length map ≡ 32)
 MayReachCaller place state accepted _ = ⊥
 
--- a DIS
+-- the item is a DIS
 abbrev pub IsDis : PlainItem → Type 0
 IsDis (framed (dis caps)) = Unit {0}
 IsDis _ = ⊥
@@ -182,7 +182,8 @@ abbrev pub OnlyDisAfterFirst : List PlainItem → Type 0
 OnlyDisAfterFirst [] = Unit {0}
 OnlyDisAfterFirst (item ∷ items) = Each IsDis items
 
--- the facts of the line
+-- What holds of every world that events lead to: the invariant of the line with all that its proof needs. How many blocks the answerer has
+-- accepted, how far both stations are, and what may be under way to each.
 pub record LineFacts (w : World) : Type 0 where
   -- blocks that the answerer has accepted
   pub accepted : ℕ

@@ -14,11 +14,11 @@ use Rattle.line_sim.specs.declared.live.Next.TheVariants.{Item, Group, Nothing}
 abbrev pub IsLive : Call → Type 0
 IsLive v = (noted : List Entry) × IsReached (record { call = v; entries = noted })
 
--- what holds of the fields of every world holds of them, with some entries
+-- what holds of the fields of every world holds of the fields of a call that keeps no transcript, with some entries
 abbrev pub HoldsLive : Call → Type 0
 HoldsLive v = (noted : List Entry) × Holds (record { call = v; entries = noted })
 
--- the steps that come next where nobody disturbs a call
+-- the steps that the call says come next if nobody disturbs it: those of a polite run's next delivery
 abbrev pub steps_in : Next → List (Event × Outcome)
 steps_in (Item event) = (event, Done) ∷ []
 steps_in Group = (AnswererT2, Done) ∷ (DeliverToCaller, Done) ∷ []

@@ -23,19 +23,20 @@ use Rattle.line_sim.specs.declared.event.Form.TheVariants.{Control, Page, Check}
 use Rattle.line_sim.specs.declared.event.Kind.TheVariants.{Training, Fcd, Rcp}
 use Rattle.line_sim.specs.declared.event.LineItem.{LineItem}
 
--- octets hold the frame of a content, and 0 bits to an octet
+-- octets are the frame of a content, filled up with 0 bits to a whole octet
 pub record IsFrameOf (octets content : List ℕ) : Type 0 where
   pub frame : List Bool
   pub is : IsFrame content frame
   pub filled : FillsOctets LsbFirst frame octets
 
--- a frame after which its station sends no other one in its turn, which its control field tells (T.30, 5.3.5): each but FCD and RCP
+-- The frame is the last that its station sends in a turn, which its control field says (T.30, 5.3.5): every frame but FCD and RCP.
 abbrev pub is_final : PlainSignal → Bool
 is_final (fcd number octets) = false
 is_final rcp = false
 is_final _ = true
 
--- an item is marked as the turn's last frame exactly if it is
+-- An item is marked as the turn's last frame exactly if it is. Neither this nor the bit X is part of a signal, so a frame without them
+-- would be heard alike, and the clauses of what is sent say both.
 abbrev pub TellsFinal : Item → Type 0
 TellsFinal (Frame signal last) = last ≡ is_final (plain signal)
 TellsFinal (CheckOf count) = Unit {0}
@@ -46,12 +47,13 @@ AreFinal [] = Unit {0}
 AreFinal (framed signal ∷ items) = (has_no_frame items ≡ is_final signal) × AreFinal items
 AreFinal (checked octets ∷ items) = AreFinal items
 
--- octets are the frame of what a station writes of a signal: with its own X, and marked as final where it is
+-- octets are the frame of what a station of this side writes of a signal: with the station's own X, and with the control field of a final
+-- frame if it is one
 pub record Carries (side : Side) (octets : List ℕ) (signal : PlainSignal) : Type 0 where
   pub writable : IsWritable signal
   pub sent : IsFrameOf octets (content_of signal side (is_final signal))
 
--- the signal that was read
+-- the signal that was read; DCN if the content was refused
 abbrev pub signal_in : Result PlainSignal SignalFault → PlainSignal
 signal_in (Ok signal) = signal
 signal_in (Err fault) = dcn
@@ -60,7 +62,7 @@ signal_in (Err fault) = dcn
 unfoldable pub signal_said : List ℕ → PlainSignal
 signal_said octets = signal_in (read_content (slice_index_or (good (bits_of LsbFirst octets)) 0 []))
 
--- what octets are
+-- the item that octets of this kind are: a training check, or the frame of a signal
 abbrev pub item_said : Kind → List ℕ → PlainItem
 item_said Training octets = checked octets
 item_said _ octets = framed (signal_said octets)
@@ -79,7 +81,9 @@ abbrev pub AreOctetsOf : Side → List ℕ → PlainItem → Type 0
 AreOctetsOf side octets (framed signal) = Carries side octets signal
 AreOctetsOf side octets (checked sent) = octets ≡ sent
 
--- the octets of the item that comes next of those that a station sends, and none where nothing is under way
+-- The octets that come next to a station, of the items that the other station, of this side, sends: the frame of the first item's signal,
+-- with that station's X and with the control field of a final frame if it is one; or the octets of its training check. None exactly if
+-- nothing is under way.
 abbrev pub ComeNext : Side → Option (List ℕ) → List PlainItem → Type 0
 ComeNext side None items = items ≡ []
 ComeNext side (Some octets) [] = ⊥
@@ -89,24 +93,25 @@ ComeNext side (Some octets) (item ∷ items) = AreOctetsOf side octets item
 abbrev pub IsLent : Side → LineItem → PlainItem → Type 0
 IsLent side lent item = (kind_of item ≡ Some lent.kind) × AreOctetsOf side lent.octets.now item
 
--- the first of the items that a station sends is lent, and none where there is none
+-- the first of the items that a station sends is lent, or none if there is none
 abbrev pub IsFirstLent : Side → Option LineItem → List PlainItem → Type 0
 IsFirstLent side None items = items ≡ []
 IsFirstLent side (Some lent) [] = ⊥
 IsFirstLent side (Some lent) (item ∷ items) = IsLent side lent item
 
--- the item at a place of those that a station sends is lent, and none past the last one
+-- The item at a place of those that a station sends is lent, with its kind and with its octets, which are fixed as the octets that come
+-- next are; none past the last item.
 abbrev pub IsLentAt : Side → ℕ → Option LineItem → List PlainItem → Type 0
 IsLentAt side place lent items = IsFirstLent side lent (drop place items)
 
--- how an item of a kind is sent: FCD and RCP at the speed of the page, so the training check, and each other frame at 300 bit/s
+-- how an item is sent: FCD and RCP at the speed of the page, a training check at that speed without flags, every other frame at 300 bit/s
 abbrev pub form_of : Kind → Form
 form_of Training = Check
 form_of (Fcd number) = Page
 form_of Rcp = Page
 form_of _ = Control
 
--- the other station, which sends what is under way to one
+-- the other station: the one that sends what is under way to a station
 abbrev pub sender_to : Side → Side
 sender_to Caller = Answerer
 sender_to Answerer = Caller

@@ -36,8 +36,8 @@ is_between_groups w =
     not (is_some w.caller.ending) && not (is_some w.answerer.ending) && waits_for_dis w.caller.state && nat_lt 0 w.caller.place &&
     waits_for_dcs w.answerer.state
 
--- the steps of the next delivery, if there is one: the first item under way comes; between groups the answerer's T2 sends a DIS, and it
--- comes
+-- The steps of a polite run's next delivery, if there is one: the first item under way comes; between two groups the answerer's T2 sends a
+-- DIS, and that comes.
 abbrev pub next_steps : World → List PlainItem → List PlainItem → List (Event × Outcome)
 next_steps w [] [] = cond (is_between_groups w) ((AnswererT2, Done) ∷ (DeliverToCaller, Done) ∷ []) []
 next_steps w [] (item ∷ items) = (DeliverToCaller, Done) ∷ []
@@ -48,12 +48,13 @@ abbrev pub and_on : List (Event × Outcome) → (World → List (Event × Outcom
 and_on [] rest w = []
 and_on (step ∷ steps) rest w = step ∷ steps ++ rest (run (step ∷ steps) w)
 
--- the steps of a polite run: delivery after delivery while there is one, and at most a number of them
+-- the events of a polite run of at most `most` deliveries: delivery after delivery, while there is one
 abbrev pub polite_steps : ℕ → World → List (Event × Outcome)
 polite_steps zero w = []
 polite_steps (suc most) w = and_on (next_steps w w.to_answerer w.to_caller) (polite_steps most) w
 
--- the world after a polite run
+-- the world after a polite run: it delivers what is first under way, to whichever station that is, and between two groups the answerer's T2
+-- comes before the delivery of its DIS
 abbrev pub polite : ℕ → World → World
 polite most w = run (polite_steps most w) w
 
@@ -68,22 +69,23 @@ abbrev pub count_deliveries : List (Event × Outcome) → ℕ
 count_deliveries [] = 0
 count_deliveries (step ∷ steps) = cond (is_delivery step.0) (suc (count_deliveries steps)) (count_deliveries steps)
 
--- the deliveries of a polite run; its T2 isn't counted
+-- how many deliveries a polite run makes; its T2 isn't counted
 abbrev pub deliveries : ℕ → World → ℕ
 deliveries most w = count_deliveries (polite_steps most w)
 
--- it makes no events but deliveries and the answerer's T2, and all of each
+-- the event is a delivery or the answerer's T2
 abbrev pub IsPoliteEvent : Event → Type 0
 IsPoliteEvent DeliverToAnswerer = Unit {0}
 IsPoliteEvent DeliverToCaller = Unit {0}
 IsPoliteEvent AnswererT2 = Unit {0}
 IsPoliteEvent _ = ⊥
 
--- a polite run makes such events alone, each of them whole
+-- The law: a polite run makes no events but deliveries and the answerer's T2, and all of each is done.
 abbrev pub PoliteEvents : Type 0
 PoliteEvents = (most : ℕ) (w : World) → Each (λ (step : Event × Outcome). IsPoliteEvent step.0 × (step.1 ≡ Done)) (polite_steps most w)
 
--- the groups' parameters are those that are agreed on for each page of theirs, and each page's code is short
+-- `groups` are the parameters that both stations agree on for the pages of each group, and the code of each page is within the limit of a
+-- call
 abbrev pub AreAgreed : Caps → Wish → List Params → List PagePixels → Type 0
 AreAgreed caps wish groups [] = length groups ≡ 1
 AreAgreed caps wish [] (page ∷ pages) = ⊥
@@ -91,11 +93,11 @@ AreAgreed caps wish (params ∷ groups) (page ∷ pages) =
     (agreed_for caps wish (Some page) ≡ Some params) × (code_within_limit params page ≡ true) ×
     AreAgreed caps wish (groups_after page pages (params ∷ groups)) pages
 
--- both stations agree on a page, and its code fits a call
+-- both stations agree on a page, and the page's code is within the limit of a call
 abbrev pub IsAgreedOn : Caps → Wish → PagePixels → Type 0
 IsAgreedOn caps wish page = (params : Params) × (agreed_for caps wish (Some page) ≡ Some params) × (code_within_limit params page ≡ true)
 
--- where that is so of each page of a document, there are such parameters of its groups
+-- The law: if both stations agree on each page of a document and its code is within the limit, the document's groups have such parameters.
 abbrev pub GroupsAreAgreed : Type 0
 GroupsAreAgreed =
     (caps : Caps) (wish : Wish) (document : Document) → 0 < length document → Each (IsAgreedOn caps wish) document →
@@ -106,24 +108,24 @@ abbrev pub blocks_length : List Block → ℕ
 blocks_length [] = 0
 blocks_length (block ∷ blocks) = (length block.frames + 5) + blocks_length blocks
 
--- the deliveries of a whole call: a group takes DIS, DCS, a training check and CFR, and the call a DCN
+-- how many deliveries an undisturbed call takes: 4 for each group (DIS, DCS, a training check, CFR), those of its blocks, and 1 for the DCN
 abbrev pub call_length : List Params → Document → ℕ
 call_length groups document = (4 * length groups + 1) + blocks_length (call_blocks groups 0 document)
 
--- both ended normally, and all is stored and confirmed
+-- both stations have ended normally, and all pages are stored and confirmed
 pub record IsThrough (document : Document) (w : World) : Type 0 where
   pub caller_end : w.caller.ending ≡ Some Normal
   pub answerer_end : w.answerer.ending ≡ Some Normal
   pub confirmed_all : confirmed w.caller ≡ length document
   pub stored_all : w.answerer.pages ≡ document
 
--- a polite run makes the lesser number of deliveries of the call's and those that it may make, and after all of them the call is
--- through
+-- A polite run of at most `most` deliveries makes the lesser of `most` and the call's length; after all of the call's the call is through.
 pub record IsPolite (groups : List Params) (document : Document) (w : World) (most : ℕ) : Type 0 where
   pub number : deliveries most w ≡ min (call_length groups document) most
   pub through : call_length groups document ≤ most → IsThrough document (polite most w)
 
--- so it is of every call that nobody disturbs
+-- The law of undisturbed calls: if both stations agree on each page and its code is within the limit, `IsPolite` holds of every polite run
+-- from the call's start.
 abbrev pub PoliteCalls : Type 0
 PoliteCalls =
     (document : Document) (wish : Wish) (caps : Caps) (groups : List Params) (most : ℕ) → 0 < length document → Each IsFullPage document →

@@ -17,7 +17,7 @@ abbrev pub caller_puts : Caller → Option CallerInput → List PlainItem
 caller_puts c None = []
 caller_puts c (Some input) = let answer = caller_step c input in caller_items answer.next answer.turn
 
--- the same of the answerer
+-- what the answerer sends to an input: the items of its turn, and none without an input
 abbrev pub answerer_puts : Answerer → Option AnswererInput → List PlainItem
 answerer_puts s None = []
 answerer_puts s (Some input) = let answer = answerer_step s input in answerer_items answer.next answer.turn
@@ -31,11 +31,12 @@ puts_to TheAnswerer w event = caller_puts w.caller (input_to_caller w event)
 abbrev pub put_to : Side → Call → Call → List PlainItem
 put_to to old new = drop (length (under_way_to to old)) (under_way_to to new)
 
--- all of the items were put under way, or where a growth was refused the first of them, or none
+-- all of the items were put under way; or, if a growth was refused, the first of them or none
 abbrev pub IsPut : Bool → List PlainItem → List PlainItem → Type 0
 IsPut false put items = put ≡ items
 IsPut true put items = (made : ℕ) × (put ≡ take made items)
 
--- what an event has put under way to each station is what the other one sends at it, whichever world the fields show
+-- What an event has put under way to each station. The items behind as many as there were before are all that the other station sends at
+-- the event or, if a growth was refused, the first of them; whichever world the fields show.
 abbrev pub Puts : Call → Call → Event → Bool → Type 0
 Puts old new event refused = (to : Side) (w : World) → Shows old w → IsPut refused (put_to to old new) (puts_to to w event)

@@ -18,12 +18,12 @@ pub record IsCall (document : Document) (w : World) : Type 0 where
   pub steps : List (Event × Outcome)
   pub comes : w ≡ run steps (new_world document wish caps)
 
--- the pages that a caller has not confirmed
+-- the pages of the document that a caller hasn't confirmed, which the next call sends
 abbrev pub unconfirmed : Caller → Document
 unconfirmed c = drop (confirmed c) c.document
 
--- the worlds that calls have come to, one call after the other: the first call is of the document, each further one of the pages that the
--- call before it has not confirmed
+-- Several calls, each over any line and with any answerer, and the worlds that they have come to. The first is of the document, each
+-- further one of the pages that the call before it hasn't confirmed.
 abbrev pub AreRedialled : Document → List World → Type 0
 AreRedialled document [] = Unit {0}
 AreRedialled document (w ∷ calls) = IsCall document w × AreRedialled (unconfirmed w.caller) calls
@@ -53,7 +53,10 @@ coming [] pages = []
 coming (number ∷ again) [] = []
 coming (number ∷ again) (page ∷ pages) = replicate (suc number) page ++ coming again pages
 
--- what the sender, who calls again after a failure, and the owners of the stores can rely on
+-- What the sender, who calls again after a failure, and the owners of the stores can rely on. The pages stored in all calls, joined in
+-- order, are the first of the document; at most one of them comes again for each call that failed and that another one follows. Each
+-- confirmed page is stored, and at most one page more; after a normal end of a station none is missing, after one of a caller all are
+-- confirmed too.
 pub record AreDelivered (document : Document) (calls : List World) : Type 0 where
   -- how many times each page that is stored comes again
   pub again : List ℕ
@@ -70,7 +73,7 @@ pub record AreDelivered (document : Document) (calls : List World) : Type 0 wher
       Each (λ w. w.caller.ending ≡ Some Normal → (length again ≡ length document) × (confirmed_in calls ≡ length document)) calls
   pub answerer_normal : Each (λ w. w.answerer.ending ≡ Some Normal → length again ≡ length document) calls
 
--- so it is of all calls of a document, over any lines
+-- The law: `AreDelivered` holds of all calls of a document, over any lines and with any answerers.
 abbrev pub CallsAreRedialled : Type 0
 CallsAreRedialled =
     (document : Document) (calls : List World) → Each IsFullPage document → AreRedialled document calls → AreDelivered document calls

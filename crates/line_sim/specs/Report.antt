@@ -19,12 +19,12 @@ use Rattle.line_sim.specs.declared.fault.WorldFault.{WorldFault}
 use Rattle.line_sim.specs.declared.fault.WorldFault.TheVariants.{NoMemory, WidthNotCallable}
 use Rattle.line_sim.specs.declared.report.Report.{Report}
 
--- the faults' numbers
+-- the number of each fault: 9 for refused memory, 26 for a width that no call can have
 abbrev pub number_of : WorldFault → ℕ
 number_of NoMemory = 9
 number_of WidthNotCallable = 26
 
--- a report tells a world and its entries
+-- the report says what a world and its entries are: pages, confirmed pages, both ends, the number of marks and the transcript
 pub record Tells (report : Report) (w : World) (entries : List Entry) : Type 0 where
   pub pages : report.pages.items ≡ w.answerer.pages
   pub confirmed : report.confirmed ≡ confirmed w.caller
@@ -33,13 +33,13 @@ pub record Tells (report : Report) (w : World) (entries : List Entry) : Type 0 w
   pub refused : report.refused ≡ marks entries
   pub transcript : report.transcript.items ≡ entries
 
--- a report of a run of such events, each with some outcome
+-- the report says what a run of these events, each with some outcome, leads to
 pub record TellsRun (document : Document) (wish : Wish) (caps : Caps) (events : List Event) (report : Report) : Type 0 where
   pub steps : List (Event × Outcome)
   pub given : map (λ step. step.0) steps ≡ events
   pub tells : Tells report (run steps (new_world document wish caps)) (entries steps (new_world document wish caps))
 
--- the report of a run, unless there is no world
+-- the report of a run, unless memory is refused or a page's width isn't callable
 abbrev pub RunsTo : Document → Wish → Caps → List Event → Result Report WorldFault → Type 0
 RunsTo document wish caps events (Ok report) = AreCallable document × TellsRun document wish caps events report
 RunsTo document wish caps events (Err fault) = IsWorldFault document fault
@@ -48,16 +48,16 @@ RunsTo document wish caps events (Err fault) = IsWorldFault document fault
 abbrev pub all_done : List Event → List (Event × Outcome)
 all_done events = map (λ event. (event, Done)) events
 
--- a report of a run that counts no event as left out and none as refused tells what the events lead to where each has done all that it is:
--- each has its entry, and nothing of any was lost
+-- A report of a run that counts no event as left out and none as refused says what the events lead to when all of each is done: each has
+-- its entry, and no part of any was lost.
 abbrev pub TellsWhole : Document → Wish → Caps → List Event → Report → Type 0
 TellsWhole document wish caps events report =
     report.left_out ≡ 0 → report.refused ≡ 0 →
     Tells report (run (all_done events) (new_world document wish caps)) (entries (all_done events) (new_world document wish caps))
 
--- what holds of a report of steps of a call: it tells them; in the world that they lead to the facts of the line hold, and both stations
--- are in step; the sender and the owner of the store can rely on it; moves of the page machine lead to what it shows; and the turns of
--- its transcript are counted by the groups that the caller has begun
+-- What holds of a report of steps of a call. It says what they lead to; in that world the facts of the line hold and both stations are in
+-- step; the sender and the owner of the store can rely on it; moves of the page machine lead to what it shows; and its transcript's turns
+-- are counted by the groups that the caller has begun.
 pub record KeepsSteps (document : Document) (wish : Wish) (caps : Caps) (steps : List (Event × Outcome)) (report : Report) : Type 0 where
   pub tells : Tells report (run steps (new_world document wish caps)) (entries steps (new_world document wish caps))
   pub facts : LineFacts (run steps (new_world document wish caps))
@@ -68,14 +68,14 @@ pub record KeepsSteps (document : Document) (wish : Wish) (caps : Caps) (steps :
       (page_state report.pages.items report.confirmed report.caller_end report.answerer_end)
   pub counted : IsCounted (groups_begun (run steps (new_world document wish caps))) report.transcript.items
 
--- what holds of every report of a call of a document: that it is of some steps of it
+-- what holds of every report of a call of a document: it is the report of some steps of a call with some wish and some capabilities
 pub record Keeps (document : Document) (report : Report) : Type 0 where
   pub wish : Wish
   pub caps : Caps
   pub steps : List (Event × Outcome)
   pub keeps : KeepsSteps document wish caps steps report
 
--- the same of a run of such events
+-- what holds of the report of a run of these events, with this wish and these capabilities
 pub record KeepsRun (document : Document) (wish : Wish) (caps : Caps) (events : List Event) (report : Report) : Type 0 where
   pub steps : List (Event × Outcome)
   pub given : map (λ step. step.0) steps ≡ events

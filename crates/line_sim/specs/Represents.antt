@@ -24,7 +24,7 @@ use Rattle.line_sim.specs.declared.event.Shown.{Shown}
 use Rattle.line_sim.specs.declared.fault.WorldFault.{WorldFault}
 use Rattle.line_sim.specs.declared.fault.WorldFault.TheVariants.{NoMemory, WidthNotCallable}
 
--- the stations and what is under way represent a world
+-- the fields of a call show a world of the definition: its caller, its answerer and what is under way
 pub record Shows (v : Call) (w : World) : Type 0 where
   pub caller : Represents v.caller w.caller
   pub answerer : w.answerer ≡ v.answerer
@@ -57,17 +57,17 @@ CallerWrites v turn = (t : Caller) × Represents v.caller t × Each CanBeWritten
 abbrev pub AnswererWrites : Call → Turn → Type 0
 AnswererWrites v turn = Each CanBeWritten (answerer_items v.answerer turn)
 
--- the same of the turn that the caller has answered, unless memory was refused
+-- a caller that the fields represent can write the items of the turn that it returned, unless memory was refused
 abbrev pub CallerMayAnswer : {E : Type 0} → Call → Result Turn E → Type 0
 CallerMayAnswer v (Ok turn) = CallerWrites v turn
 CallerMayAnswer v (Err refused) = Unit {0}
 
--- the same of the turn that the answerer has answered
+-- the answerer can write the items of the turn that it returned, unless memory was refused
 abbrev pub AnswererMayAnswer : {E : Type 0} → Call → Result Turn E → Type 0
 AnswererMayAnswer v (Ok turn) = AnswererWrites v turn
 AnswererMayAnswer v (Err refused) = Unit {0}
 
--- no item
+-- no item is shown
 abbrev pub none_shown : Shown
 none_shown = record { item = None; fields = field.Nothing }
 
@@ -97,7 +97,7 @@ CallerAnswers old new event shown (Ok turn) entry =
     ((t : Caller) → Represents old.caller t → entry ≡ entry_with event shown (caller_said turn (caller_items t turn)) entry.refused)
 CallerAnswers old new event shown (Err refused) entry = (new ≡ old) × (entry ≡ entry_with event shown (says Silent) true)
 
--- the same of the answerer
+-- the answerer has answered an event and sends its turn; or memory was refused before
 abbrev pub AnswererAnswers : {E : Type 0} → Call → Call → Event → Shown → Result Turn E → Entry → Type 0
 AnswererAnswers old new event shown (Ok turn) entry = AnswererSends old new turn entry.refused ×
     (entry ≡ entry_with event shown (says turn) entry.refused)
@@ -121,27 +121,28 @@ abbrev pub EventWrites : Call → Event → Type 0
 EventWrites v event = (w : World) × Shows v w × Each CanBeWritten (happens w event Done).to_answerer ×
     Each CanBeWritten (happens w event Done).to_caller
 
--- an event with an outcome and its entry
+-- An event of a call that keeps no transcript: it has one outcome, whichever world the fields show; the new fields show what the event
+-- makes of that world, and the entry is the event's.
 abbrev pub Acts : Call → Call → Event → Entry → Type 0
 Acts old new event entry = (outcome : Outcome) ×
     ((w : World) → Shows old w → Shows new (happens w event outcome) × (entry_of w event outcome ≡ Some entry))
 
--- the fields of a world
+-- the fields of a world: its call and the entries of its transcript
 pub record WorldFields : Type 0 where
   pub call : Call
   pub entries : List Entry
 
--- the state of the page machine that the stations show
+-- the state of the page machine that the stations of a call show
 abbrev pub fields_state : Call → PageState
 fields_state v = page_state v.answerer.pages v.caller.page v.caller.ending v.answerer.ending
 
--- whichever world the fields represent, they represent what an event with an outcome makes of it, and have its entry
+-- whichever world the old fields show, the new ones show what the event with this outcome makes of it, and have its entry at the end
 abbrev pub Becomes : WorldFields → WorldFields → Event → Outcome → Type 0
 Becomes old new event outcome =
     (w : World) → Shows old.call w → Shows new.call (happens w event outcome) ×
     (new.entries ≡ old.entries ++ and_entries (entry_of w event outcome) [])
 
--- events with outcomes lead from a new world to the fields
+-- events with outcomes lead from a new world to the fields, and the entries are those of the events
 pub record IsReached (v : WorldFields) : Type 0 where
   pub document : Document
   pub wish : Wish
@@ -151,7 +152,7 @@ pub record IsReached (v : WorldFields) : Type 0 where
   pub shows : Shows v.call (run steps (new_world document wish caps))
   pub noted : v.entries ≡ entries steps (new_world document wish caps)
 
--- what is left of a refused event: without room for its entry nothing at all has happened; else there is one entry more, which is marked
+-- What a refused event leaves. Without room for its entry nothing has changed; else there is one entry more, which is marked.
 abbrev pub Leaves : Outcome → WorldFields → WorldFields → Type 0
 Leaves Nothing old new = new ≡ old
 Leaves _ old new = (entry : Entry) × (entry.refused ≡ true) × (new.entries ≡ old.entries ++ entry ∷ [])
@@ -163,8 +164,8 @@ IsUnheard LoseToCaller = Unit {0}
 IsUnheard Spoil = Unit {0}
 IsUnheard _ = ⊥
 
--- a growth was refused: whichever world the fields represent, what they become has one and the same outcome, which the entries tell; an
--- event that no station hears of is refused for want of room alone
+-- A growth was refused. Whichever world the fields show, the event has one and the same outcome, which the entries show; an event that no
+-- station hears of is refused only if there is no room for its entry.
 abbrev pub BecomesSome : WorldFields → WorldFields → Event → Type 0
 BecomesSome old new event =
     (outcome : Outcome) × (outcome ≢ Done) × Becomes old new event outcome × Leaves outcome old new × (IsUnheard event → outcome ≡ Nothing)
@@ -179,7 +180,7 @@ abbrev pub NewCall : Document → Wish → Caps → Result Call WorldFault → T
 NewCall document wish caps (Ok call) = AreCallable document × Shows call (new_world document wish caps)
 NewCall document wish caps (Err fault) = IsWorldFault document fault
 
--- a new world, unless memory is refused or a page's width isn't callable
+-- a new world, unless memory is refused or the width of a page isn't callable: the call's start, with no entry
 abbrev pub NewWorld : Document → Wish → Caps → Result WorldFields WorldFault → Type 0
 NewWorld document wish caps (Ok world) = AreCallable document × Shows world.call (new_world document wish caps) × (world.entries ≡ [])
 NewWorld document wish caps (Err fault) = IsWorldFault document fault

@@ -26,14 +26,15 @@ use Rattle.line_sim.specs.declared.stream.Answered.{Answered}
 use Rattle.line_sim.specs.declared.stream.Feed.{Feed}
 use Rattle.line_sim.specs.declared.stream.Feed.TheVariants.{Octets, Training, T1, T2, Busy}
 
--- what an answerer is given: octets of the line, the octets of a training check, a timer, or whether it is busy
+-- a feed as plain values, which an answerer over a line is given: octets of the line, the octets of a training check, a timer that is over,
+-- or that it is busy or ready
 pub data PlainFeed : Type 0 where
   line : List ℕ → PlainFeed
   check : List ℕ → PlainFeed
   first_timer second_timer : PlainFeed
   busy : Bool → PlainFeed
 
--- the plain value of a feed
+-- the plain value of a feed of the code
 abbrev pub plain_feed : Feed → PlainFeed
 plain_feed (Octets octets) = line octets.now
 plain_feed (Training octets) = check octets.now
@@ -46,16 +47,16 @@ abbrev pub octets_in : PlainFeed → List ℕ
 octets_in (line octets) = octets
 octets_in _ = []
 
--- all octets of the line in feeds
+-- all octets of the line in feeds, joined in order
 abbrev pub line_octets : List PlainFeed → List ℕ
 line_octets [] = []
 line_octets (feed ∷ feeds) = octets_in feed ++ line_octets feeds
 
--- the contents of the good frames in octets of the line, which sends the least significant bit of each first
+-- the contents of the good frames in octets of the line, on which the least significant bit of each octet is sent first
 unfoldable pub contents : List ℕ → List (List ℕ)
 contents octets = good (bits_of LsbFirst octets)
 
--- the contents that become good by octets which come after those before
+-- the contents of frames that octets make good when they come after those before
 unfoldable pub new_contents : List ℕ → List ℕ → List (List ℕ)
 new_contents before octets = drop (length (contents before)) (contents (before ++ octets))
 
@@ -69,7 +70,8 @@ abbrev pub heard : List (List ℕ) → List AnswererInput
 heard [] = []
 heard (content ∷ contents) = heard_if (read_content content) ++ heard contents
 
--- the inputs that a feed is, after octets of the line
+-- The inputs that a feed is to the answerer, after octets of the line. Each signal that a new content says is heard at once, and a content
+-- that says none is left out.
 abbrev pub feed_inputs : List ℕ → PlainFeed → List AnswererInput
 feed_inputs before (line octets) = heard (new_contents before octets)
 feed_inputs before (check octets) = trains octets ∷ []
@@ -86,13 +88,13 @@ inputs_after before (feed ∷ feeds) = feed_inputs before feed ++ inputs_after (
 abbrev pub inputs_of : List PlainFeed → List AnswererInput
 inputs_of feeds = inputs_after [] feeds
 
--- what an answerer gives: its turns, the pages stored, and why the call has ended, if it has
+-- what an answerer gave back as plain values: its turns, the pages stored, and why the call has ended, if it has
 pub record PlainAnswered : Type 0 where
   pub turns : List Turn
   pub pages : List PagePixels
   pub ending : Option End
 
--- the plain value of what was answered
+-- the plain value of what the code's answerer gave back
 abbrev pub plain_answered : Answered → PlainAnswered
 plain_answered answered = record { turns = answered.turns.items; pages = answered.pages.items; ending = answered.ending }
 
@@ -100,7 +102,7 @@ plain_answered answered = record { turns = answered.turns.items; pages = answere
 abbrev pub starts : Caps → Answerer
 starts caps = new_answerer caps no_params
 
--- what it gives to feeds: its DIS, and a turn for each input
+-- what a new answerer makes of feeds: the turns are its DIS and one for each input; the pages that it has stored; and its end
 abbrev pub answers : Caps → List PlainFeed → PlainAnswered
 answers caps feeds = record {
   turns = Dis ∷ answerer_turns (inputs_of feeds) (starts caps);
@@ -108,7 +110,7 @@ answers caps feeds = record {
   ending = (answerer_after (inputs_of feeds) (starts caps)).ending;
 }
 
--- octets of the line that come in two feeds are answered as those that come in one
+-- The law: octets of the line that come in two feeds are answered as if they came in one.
 abbrev pub CutsChangeNothing : Type 0
 CutsChangeNothing =
     (caps : Caps) (before after : List PlainFeed) (front rest : List ℕ) →
@@ -124,13 +126,14 @@ pub record IsSaid (contents : List (List ℕ)) (signal : PlainSignal) : Type 0 w
 abbrev pub IsDataField : List (List ℕ) → List ℕ → Type 0
 IsDataField contents octets = (number : ℕ) × IsSaid contents (fcd number octets)
 
--- octets are joined from such data fields
+-- octets are joined from data fields of FCDs that are said by contents
 pub record AreFieldsJoined (contents : List (List ℕ)) (octets : List ℕ) : Type 0 where
   pub fields : List (List ℕ)
   pub said : Each (IsDataField contents) fields
   pub joined_is : octets ≡ joined fields
 
--- a page is that of such octets by the grammar of its code, by the parameters of a DCS among the contents that is allowed
+-- The page is what octets read as: octets joined from data fields of FCDs among the contents, by the grammar of their code and by the
+-- parameters of a DCS among the contents that the answerer allows.
 pub record IsStored (caps : Caps) (contents : List (List ℕ)) (page : PagePixels) : Type 0 where
   pub params : Params
   pub dcs_said : IsSaid contents (dcs params)
@@ -139,7 +142,8 @@ pub record IsStored (caps : Caps) (contents : List (List ℕ)) (page : PagePixel
   pub octets_joined : AreFieldsJoined contents octets
   pub reads : IsPageOf params octets page
 
--- each page that is stored is so, of the good contents in all octets of the line, whoever sent them
+-- The law, for any peer: each page stored is read from octets that are joined from data fields of FCDs in good frames among all octets of
+-- the line, by the parameters of an allowed DCS among them.
 abbrev pub StoredIsSaid : Type 0
 StoredIsSaid = (caps : Caps) (feeds : List PlainFeed) → Each (IsStored caps (contents (line_octets feeds))) (answers caps feeds).pages
 
@@ -152,7 +156,7 @@ pub record Hears (inputs : List AnswererInput) (old new : Answerer) (before turn
   pub station : new ≡ answerer_after inputs old
   pub turns_are : turns ≡ before ++ answerer_turns inputs old
 
--- a feed was taken
+-- a feed was taken: the deframer has taken its octets, and its inputs were heard
 pub record TakesFeed (octets : List ℕ) (feed : PlainFeed) (framing : DeframerState) (old new : Answerer) (before turns : List Turn) : Type 0
   where
     pub taken : HasHeard framing (octets ++ octets_in feed)

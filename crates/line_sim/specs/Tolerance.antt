@@ -18,17 +18,19 @@ use Rattle.line_sim.specs.Polite.{IsAgreedOn}
 use Rattle.line_sim.specs.Driving.{Fate, Patience, Driven, first_fate, is_rnr_item, drives, is_over, drive, new_driven, most_steps}
 use Rattle.line_sim.specs.Driving.Fate.{comes, lost, spoiled}
 
--- how many tries of the present phase were bad, whether the present one is, and how many training checks of it were spoiled
+-- How many tries of the present phase were bad, whether the present one is, and how many training checks of the phase were spoiled. A phase
+-- is the negotiation of a group, or a block. A try is one transmission of the caller, or one DIS, with its answer; it is bad if any item of
+-- it is lost or spoiled.
 pub record Tries : Type 0 where
   pub bad : ℕ
   pub now : Bool
   pub checks : ℕ
 
--- a phase begins
+-- the count at the beginning of a phase
 abbrev pub no_tries : Tries
 no_tries = record { bad = 0; now = false; checks = 0 }
 
--- a fate is bad
+-- a fate makes a try bad: the item is lost or spoiled
 abbrev pub is_bad : Fate → Bool
 is_bad comes = false
 is_bad lost = true
@@ -101,7 +103,7 @@ BadTriesAreFew (suc most) checks p t d =
     let next = drives p d.world.to_answerer d.world.to_caller d in
     (met.bad ≤ 2) × (met.checks ≤ checks) × BadTriesAreFew most checks p (tries_after d.world next.world met) next
 
--- both agree on each page of a document and its code fits a call, and at least `checks` common speeds are below the first
+-- a document has pages, both stations agree on each and its code fits a call, and at least `checks` common speeds are below the first
 pub record CanGoThrough (document : Document) (wish : Wish) (caps : Caps) (checks : ℕ) : Type 0 where
   pub some : 0 < length document
   pub full : Each IsFullPage document
@@ -109,7 +111,7 @@ pub record CanGoThrough (document : Document) (wish : Wish) (caps : Caps) (check
   pub speeds :
       (page : PagePixels) (params : Params) → agreed_for caps wish (Some page) ≡ Some params → checks ≤ speeds_left caps wish params
 
--- what a call needs to bear losses: the same, and at least three DIS come in a wait
+-- what a call needs to bear losses: it can go through, with `checks` lower common speeds, and at least three DIS are sent in a wait
 pub record CanBear (document : Document) (wish : Wish) (caps : Caps) (p : Patience) (checks : ℕ) : Type 0 where
   pub patient : 3 ≤ p.calls
   pub call : CanGoThrough document wish caps checks
@@ -121,7 +123,7 @@ tries_of (suc most) p t d =
     let next = drives p d.world.to_answerer d.world.to_caller d in
     cond (is_over d) t (tries_of most p (tries_after d.world next.world (noted p d.world.to_answerer d.world.to_caller d t)) next)
 
--- what an end has cost, in bad tries or spoiled checks of the last phase, where at most `most` DIS come in a wait
+-- what an end has cost, in bad tries or spoiled checks of the last phase, if at most `most` DIS are sent in a wait
 abbrev pub Costs : ℕ → ℕ → Tries → End → Type 0
 Costs most checks t Normal = Unit {0}
 Costs most checks t NoAnswer = most ≤ t.bad
@@ -130,7 +132,9 @@ Costs most checks t Unreadable = 4 ≤ t.bad
 Costs most checks t BadTraining = checks < t.checks
 Costs most checks t _ = ⊥
 
--- a driven call's caller ends normally; or for one of four reasons, each of which costs a number of bad tries of one phase
+-- The law: if both stations agree on each page and its code fits a call, the caller of a driven call ends with Normal, NoAnswer, NoReply,
+-- Unreadable or Training, and each of the last four has cost as many bad tries of one phase as its reason asks: `calls` for NoAnswer, 3 for
+-- NoReply, 4 for Unreadable; for Training more spoiled checks of a group than it has lower common speeds.
 abbrev pub DrivenCallsEndFor : Type 0
 DrivenCallsEndFor =
     (document : Document) (wish : Wish) (caps : Caps) (p : Patience) (checks : ℕ) (fates : List Fate) (most : ℕ) →
@@ -138,7 +142,7 @@ DrivenCallsEndFor =
     let first = new_driven document wish caps fates in
     (why : End) × ((drive most p first).world.caller.ending ≡ Some why) × Costs p.calls checks (tries_of most p no_tries first) why
 
--- where the caller has ended normally and the last try, its DCN, isn't bad, the answerer has ended normally too
+-- The law: if the caller has ended normally and no item of its last try, the DCN, was lost, the answerer has ended normally too.
 abbrev pub AnswerersEndWell : Type 0
 AnswerersEndWell =
     (document : Document) (wish : Wish) (caps : Caps) (p : Patience) (checks : ℕ) (fates : List Fate) (most : ℕ) →
@@ -147,26 +151,28 @@ AnswerersEndWell =
     (drive most p first).world.caller.ending ≡ Some Normal → (tries_of most p no_tries first).bad ≡ 0 →
     (drive most p first).world.answerer.ending ≡ Some Normal
 
--- a caller hasn't ended, or normally
+-- a caller has ended normally, or hasn't ended
 abbrev pub EndsWell : Option End → Type 0
 EndsWell None = Unit {0}
 EndsWell (Some Normal) = Unit {0}
 EndsWell (Some _) = ⊥
 
--- no caller of a driven call with so few bad tries ends otherwise than normally
+-- The law: a caller ends in no other way than normally if at most two tries of each phase are bad, no group has more spoiled training
+-- checks than lower common speeds, at least three DIS are sent in a wait, and both stations agree on each page, whose code fits a call.
 abbrev pub CallersEndWell : Type 0
 CallersEndWell =
     (document : Document) (wish : Wish) (caps : Caps) (p : Patience) (checks : ℕ) (fates : List Fate) (most : ℕ) →
     CanBear document wish caps p checks → BadTriesAreFew most checks p no_tries (new_driven document wish caps fates) →
     EndsWell (drive most p (new_driven document wish caps fates)).world.caller.ending
 
--- the caller has ended normally, and all is stored and confirmed
+-- the caller has ended normally, and all pages are stored and confirmed
 pub record IsBorne (document : Document) (w : World) : Type 0 where
   pub caller_end : w.caller.ending ≡ Some Normal
   pub confirmed_all : confirmed w.caller ≡ length document
   pub stored_all : w.answerer.pages ≡ document
 
--- so the whole call goes through
+-- The law: a driven call that can bear losses, and whose phases have few bad tries, ends normally with all pages stored and confirmed,
+-- after more steps than its document bounds.
 abbrev pub DrivenCallsBear : Type 0
 DrivenCallsBear =
     (document : Document) (wish : Wish) (caps : Caps) (p : Patience) (checks : ℕ) (fates : List Fate) (most : ℕ) →
@@ -181,14 +187,15 @@ bad_fates (comes ∷ fates) = bad_fates fates
 bad_fates (lost ∷ fates) = suc (bad_fates fates)
 bad_fates (spoiled ∷ fates) = suc (bad_fates fates)
 
--- and how many of them spoil
+-- how many fates of a list spoil
 abbrev pub spoiling_fates : List Fate → ℕ
 spoiling_fates [] = 0
 spoiling_fates (comes ∷ fates) = spoiling_fates fates
 spoiling_fates (lost ∷ fates) = spoiling_fates fates
 spoiling_fates (spoiled ∷ fates) = suc (spoiling_fates fates)
 
--- so a driven call bears any two losses, wherever they are; of them as many may spoil as common speeds are below the first
+-- The law: so a driven call bears any two losses, wherever they are. A spoiled training check counts as one, and needs a lower common
+-- speed.
 abbrev pub AnyTwoLossesAreBorne : Type 0
 AnyTwoLossesAreBorne =
     (document : Document) (wish : Wish) (caps : Caps) (p : Patience) (fates : List Fate) (most : ℕ) →

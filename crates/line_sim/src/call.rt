@@ -1,4 +1,4 @@
-//! Both stations and what is under way, and what one event does to them.
+//! Both stations, what is under way between them, and what one event does to them.
 
 ghost use Rattle.line_sim.specs.Entries.{caller_said, says};
 ghost use Rattle.line_sim.specs.Represents.{Acts, IsUnheard, EventWrites, NewCall, entry_with};
@@ -32,19 +32,19 @@ fn unanswered(event: Event, shown: Shown, refused: bool) -> Entry
     }
 }
 
-/// Whether a turn is silent.
+/// True if a turn sends nothing.
 fn is_silent(turn: &Turn) -> bool
     ensures { IsTrue result ↔ (turn.now ≡ Turn.Silent) }
 {
     matches!(turn, Turn::Silent)
 }
 
-/// A map of a burst has 32 octets. Nothing runs.
+/// The map of a burst has 32 octets. Nothing runs.
 fn has_32_octets(map: &[u8; 32])
     ensures { length map.now ≡ 32 }
 {}
 
-/// Both stations, and what is under way to each.
+/// Both stations, and the items under way to each.
 #[derive(Debug, Drop)]
 pub struct Call {
     pub(crate) caller: Caller,
@@ -54,8 +54,8 @@ pub struct Call {
 }
 
 impl Call {
-    /// The start of a call: the answerer's DIS is under way, and nothing is stored or confirmed. Errs where
-    /// memory is refused, and where the width of a page is none that a call can have.
+    /// A call at its start: the answerer's DIS is under way, and nothing is stored or confirmed. Errs with `NoMemory`, and with
+    /// `WidthNotCallable` if no call can have the width of a page.
     pub(crate) fn new(
         alloc: Global,
         document: Document,
@@ -79,7 +79,7 @@ impl Call {
         })
     }
 
-    /// How many FCDs a turn of the caller has.
+    /// The number of FCDs of a caller's turn; of a burst that is cut short by refused memory too, the number of the whole burst.
     fn fcds(&self, turn: &Turn) -> u16
         ensures { (t : CallerTuple) → Represents self.now.caller t → result ≡ (caller_said turn.now (caller_items t turn.now)).fcds }
     {
@@ -92,8 +92,8 @@ impl Call {
         }
     }
 
-    /// The caller transmits its items of a turn, which empties the list that leads to it. Answers
-    /// whether memory was refused: then the items that were made are under way.
+    /// Sends the items of the caller's turn, and drops what is under way to the caller. Returns true if memory was refused: then the items
+    /// made so far are under way.
     fn caller_sends(&mut self, turn: &Turn) -> bool
         requires { CallerWrites self.old turn.now }
         ensures { CallerSends self.old self.new turn.now result }
@@ -105,8 +105,8 @@ impl Call {
         self.to_answerer.send(self.caller.frames(turn)).is_err()
     }
 
-    /// The answerer transmits its items of a turn, which empties the list that leads to it. Answers
-    /// whether memory was refused: then the items that were made are under way.
+    /// Sends the items of the answerer's turn, and drops what is under way to the answerer. Returns true if memory was refused: then the
+    /// items made so far are under way.
     fn answerer_sends(&mut self, turn: &Turn) -> bool
         requires { AnswererWrites self.old turn.now }
         ensures { AnswererSends self.old self.new turn.now result }
@@ -118,7 +118,7 @@ impl Call {
         self.to_caller.send(self.answerer.frames(turn)).is_err()
     }
 
-    /// The caller has answered an event.
+    /// Sends the turn that the caller returned for an event, and returns the event's entry.
     fn caller_answers(
         &mut self,
         event: Event,
@@ -145,7 +145,7 @@ impl Call {
         }
     }
 
-    /// The answerer has answered an event.
+    /// Sends the turn that the answerer returned for an event, and returns the event's entry.
     fn answerer_answers(
         &mut self,
         event: Event,
@@ -171,7 +171,8 @@ impl Call {
         }
     }
 
-    /// The first item under way to the caller comes.
+    /// Delivers the first item under way to the caller, and returns the event's entry. A caller that has ended takes the item off the line
+    /// and is silent.
     fn deliver_to_caller(&mut self) -> Entry
         requires { EventWrites self.old Event.DeliverToCaller }
         ensures { Acts self.old self.new Event.DeliverToCaller result }
@@ -181,7 +182,8 @@ impl Call {
         self.caller_answers(Event::DeliverToCaller, shown, answered)
     }
 
-    /// The first item under way to the answerer comes.
+    /// Delivers the first item under way to the answerer, and returns the event's entry. An answerer that has ended takes the item off the
+    /// line and is silent.
     fn deliver_to_answerer(&mut self) -> Entry
         requires { EventWrites self.old Event.DeliverToAnswerer }
         ensures { Acts self.old self.new Event.DeliverToAnswerer result }
@@ -191,7 +193,7 @@ impl Call {
         self.answerer_answers(Event::DeliverToAnswerer, shown, answered)
     }
 
-    /// One of the caller's timers runs out.
+    /// One of the caller's timers runs out. Returns the event's entry.
     fn caller_timer(&mut self, event: Event, input: CallerIn<'_>) -> Entry
         requires timer { CallerTimer event (caller_input input) }
         requires writes { EventWrites self.old event }
@@ -201,7 +203,7 @@ impl Call {
         self.caller_answers(event, NONE_SHOWN, answered)
     }
 
-    /// One of the answerer's timers runs out, or it is said whether it can take pages.
+    /// One of the answerer's timers runs out, or it gets busy or ready. Returns the event's entry.
     fn answerer_timer(&mut self, event: Event, input: AnswererIn<'_>) -> Entry
         requires timer { AnswererTimer event (answerer_input input) }
         requires writes { EventWrites self.old event }
@@ -211,7 +213,7 @@ impl Call {
         self.answerer_answers(event, NONE_SHOWN, answered)
     }
 
-    /// The first item under way to the answerer is lost.
+    /// The first item under way to the answerer is lost. With nothing under way the entry shows no item.
     fn lose_to_answerer(&mut self) -> Entry
         ensures acts { Acts self.old self.new Event.LoseToAnswerer result }
         ensures whole { result.refused ≡ false }
@@ -221,7 +223,7 @@ impl Call {
         unanswered(Event::LoseToAnswerer, shown, false)
     }
 
-    /// The first item under way to the caller is lost.
+    /// The first item under way to the caller is lost. With nothing under way the entry shows no item.
     fn lose_to_caller(&mut self) -> Entry
         ensures acts { Acts self.old self.new Event.LoseToCaller result }
         ensures whole { result.refused ≡ false }
@@ -231,7 +233,7 @@ impl Call {
         unanswered(Event::LoseToCaller, shown, false)
     }
 
-    /// A training check that is first under way to the answerer is spoiled.
+    /// Spoils the training check that is first under way to the answerer. The entry shows no item, since it neither comes nor is lost.
     fn spoil(&mut self) -> Entry
         ensures acts { Acts self.old self.new Event.Spoil result }
         ensures whole { result.refused ≡ false }
@@ -240,7 +242,7 @@ impl Call {
         unanswered(Event::Spoil, NONE_SHOWN, false)
     }
 
-    /// What an event does, and its entry.
+    /// Does an event, and returns its entry.
     pub(crate) fn act(&mut self, event: Event) -> Entry
         requires { EventWrites self.old event }
         ensures acts { Acts self.old self.new event result }

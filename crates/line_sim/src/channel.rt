@@ -21,7 +21,7 @@ use std::alloc::{AllocError, Global};
 use std::collections::VecDeque;
 use std::marker::Model;
 
-/// Whether an item is an FCD.
+/// True if an item is an FCD.
 fn is_fcd(item: &Item<'_>) -> bool
     ensures { (items : List PlainItem) → count_fcds (plain_item item.now ∷ items) ≡ cond result 1 0 + count_fcds items }
 {
@@ -47,7 +47,8 @@ pub(crate) fn fcd_count(mut items: Items<'_>) -> u16
     count
 }
 
-/// What one station has sent and is under way to the other one, the first item first, and the deframer by which that one hears frames.
+/// The items that one station has sent and that are under way to the other, the first one first, and the deframer by which the other hears
+/// frames.
 #[derive(Debug, Drop)]
 pub(crate) struct Channel<S: Sender> {
     alloc: Global,
@@ -69,7 +70,7 @@ impl<S: Sender> Model for Channel<S> {
 }
 
 impl<S: Sender> Channel<S> {
-    /// Nothing is under way.
+    /// An empty channel.
     pub(crate) fn new(alloc: Global, sender: S) -> Channel<S>
         ensures { result ≡ [] }
     {
@@ -82,14 +83,14 @@ impl<S: Sender> Channel<S> {
         }
     }
 
-    /// Whether nothing is under way.
+    /// True if nothing is under way.
     pub(crate) fn is_empty(&self) -> bool
         ensures { IsTrue result ↔ (self.now ≡ []) }
     {
         self.items.is_empty()
     }
 
-    /// What the first item is.
+    /// The kind of the first item.
     pub(crate) fn head(&self) -> Option<Kind>
         ensures { result ≡ head_kind self.now }
     {
@@ -97,7 +98,7 @@ impl<S: Sender> Channel<S> {
         Some(first.kind())
     }
 
-    /// What is shown of the first item.
+    /// What the transcript shows of the first item.
     pub(crate) fn shown(&self) -> Shown
         ensures { result ≡ head_shown self.now }
     {
@@ -117,7 +118,7 @@ impl<S: Sender> Channel<S> {
         self.items.len()
     }
 
-    /// The item at a place; none past the last one.
+    /// The item at a place, from 0; None past the last one.
     pub(crate) fn item(&self, place: usize) -> Option<LineItem<'_>>
         ensures { IsLentAt S.sends place result self.now }
     {
@@ -125,7 +126,7 @@ impl<S: Sender> Channel<S> {
         Some(item.lend())
     }
 
-    /// The octets of the first item.
+    /// The octets of the first item, with its flags if it is a frame.
     pub(crate) fn next_octets(&self) -> Option<&[u8]>
         ensures { ComeNext S.sends (option_map (λ octets. octets.now) result) self.now }
     {
@@ -133,21 +134,21 @@ impl<S: Sender> Channel<S> {
         Some(first.octets())
     }
 
-    /// Nothing is under way any more.
+    /// Drops all items.
     pub(crate) fn clear(&mut self)
         ensures { self.new ≡ [] }
     {
         self.items.truncate(0);
     }
 
-    /// The first item is lost.
+    /// Drops the first item.
     pub(crate) fn lose(&mut self)
         ensures { self.new ≡ after_first self.old }
     {
         let _lost = self.items.pop_front();
     }
 
-    /// Spoils the first item where it is a training check: all its octets become FF.
+    /// Spoils the first item if it is a training check: all its octets become FF.
     pub(crate) fn spoil(&mut self)
         ensures { self.new ≡ spoiled self.old }
     {
@@ -156,7 +157,7 @@ impl<S: Sender> Channel<S> {
         }
     }
 
-    /// The first item comes to the caller. Errs where memory is refused: the caller has not heard it.
+    /// Delivers the first item to the caller, and returns its turn. Errs if memory is refused: the caller hasn't heard the item.
     pub(crate) fn deliver_to_caller(&mut self, caller: &mut Caller) -> Result<Turn, AllocError>
         ensures left { self.new ≡ after_first self.old }
         ensures heard { HearsFirst CallerHears self.old caller.old caller.new result }
@@ -167,7 +168,7 @@ impl<S: Sender> Channel<S> {
         }
     }
 
-    /// The first item comes to the answerer. Errs where memory is refused: the answerer has not heard it.
+    /// Delivers the first item to the answerer, and returns its turn. Errs if memory is refused: the answerer hasn't heard the item.
     pub(crate) fn deliver_to_answerer(
         &mut self,
         answerer: &mut Answerer,
@@ -181,7 +182,7 @@ impl<S: Sender> Channel<S> {
         }
     }
 
-    /// One item more is under way.
+    /// Puts one item behind the others. Errs if memory is refused.
     fn push(&mut self, item: Item<'_>) -> Result<(), AllocError>
         requires can { CanBeWritten (plain_item item) }
         requires told { TellsFinal item }
@@ -193,7 +194,7 @@ impl<S: Sender> Channel<S> {
         Ok(())
     }
 
-    /// Items are sent. Errs where memory is refused: the items that were made are under way.
+    /// Puts items behind the others. Errs if memory is refused: the items made so far are under way.
     pub(crate) fn send(&mut self, mut items: Items<'_>) -> Result<(), AllocError>
         requires can { Each CanBeWritten items }
         requires told { AreFinal items }

@@ -21,7 +21,7 @@ use stations::Turn;
 use std::alloc::{AllocError, Global};
 use std::marker::Model;
 
-/// What becomes of what is first under way.
+/// What becomes of the item that is first under way.
 #[derive(Clone, Copy, Debug, PartialEq, Eq)]
 pub enum Fate {
     /// It comes.
@@ -32,25 +32,25 @@ pub enum Fate {
     Spoiled,
 }
 
-/// How patient the stations of a driven call are.
+/// The retry limits of a driven call.
 #[derive(Clone, Copy, Debug, PartialEq, Eq)]
 pub struct Patience {
-    /// How many DIS are sent in one wait for a DIS, and at least the first one.
+    /// How many DIS are sent in one wait for a DIS; the first one always is.
     pub calls: u64,
-    /// How many RNRs may come for one block. The next one is lost, and the caller's wait for a busy answerer is over, T5 of ITU-T T.30.
+    /// How many RNRs may come for one block. The next one is lost, and the caller's wait for a busy answerer, T5 of ITU-T T.30, is over.
     pub busy: u64,
 }
 
 /// What one step of a driven call was.
 #[derive(Clone, Copy, Debug, PartialEq, Eq)]
 pub struct Step {
-    /// What comes before the step's own event, where there is one: the training check is spoiled, or an RNR too many is lost.
+    /// An event before the step's own, if there is one: a training check is spoiled, or an RNR too many is lost.
     pub before: Option<Entry>,
-    /// The step's own event. It shows whether a growth was refused.
+    /// The step's own event; it shows if a growth was refused.
     pub entry: Entry,
 }
 
-/// What comes next in a driven call: an event, and another one before it, which no station hears of.
+/// The next event, and a change to the line before it.
 #[derive(Clone, Copy, Debug, PartialEq, Eq)]
 pub(crate) struct Act {
     pub(crate) before: Option<Event>,
@@ -67,7 +67,7 @@ fn alone(event: Event) -> Act
     }
 }
 
-/// What is first under way to the answerer meets its fate.
+/// The act by which what is first under way to the answerer meets its fate.
 fn to_answerer(fate: Fate, check: bool) -> Act
     ensures { result ≡ act_to_answerer fate check }
 {
@@ -86,7 +86,7 @@ fn to_answerer(fate: Fate, check: bool) -> Act
     }
 }
 
-/// What is first under way to the caller meets its fate; an RNR too many is lost, and T5 is over.
+/// The act by which what is first under way to the caller meets its fate. An RNR too many is lost, and T5 is over, so it takes no fate.
 fn to_caller(fate: Fate, many: bool) -> Act
     ensures { result ≡ act_to_caller many fate }
 {
@@ -116,8 +116,8 @@ fn dis_after(waits: bool, dis: u64, event: Event) -> u64
     }
 }
 
-/// How many RNRs came for the caller's present block, after an event: by the first item that was under way to it, and by whether it
-/// was sending a block.
+/// How many RNRs came for the caller's present block, after an event. It depends on the first item that was under way to the caller, and on
+/// its sending a block or not: the count begins anew when an MCF confirms the block.
 fn rnrs_after(event: Event, kind: Option<Kind>, sending: bool, rnrs: u64) -> u64
     requires { event ≡ Event.DeliverToCaller → kind ≡ Some Kind.Rnr → rnrs + 1 < 2 ^ 64 }
     ensures { result ≡ rnrs_after event kind sending rnrs }
@@ -128,7 +128,7 @@ fn rnrs_after(event: Event, kind: Option<Kind>, sending: bool, rnrs: u64) -> u64
     }
 }
 
-/// The same after an item came to it.
+/// How many RNRs came for the caller's present block, after an item came to it.
 fn rnrs_heard(kind: Option<Kind>, sending: bool, rnrs: u64) -> u64
     requires { kind ≡ Some Kind.Rnr → rnrs + 1 < 2 ^ 64 }
     ensures { result ≡ rnrs_heard kind sending rnrs }
@@ -145,7 +145,7 @@ fn rnrs_heard(kind: Option<Kind>, sending: bool, rnrs: u64) -> u64
     }
 }
 
-/// The fate at a place; all after the last one come.
+/// The fate at a place; Comes past the last one.
 fn fate_at(fates: &[Fate], at: usize) -> Fate
     ensures { plain_fate result ≡ first_fate (drop at (map plain_fate fates.now)) }
 {
@@ -155,7 +155,7 @@ fn fate_at(fates: &[Fate], at: usize) -> Fate
     }
 }
 
-/// The place of the next fate, where one was due or not.
+/// The place of the next fate, after a step that took one or didn't.
 fn past(due: bool, at: usize) -> usize
     requires { at + 1 < 2 ^ 64 }
     ensures { result ≡ cond due (at + 1) at }
@@ -164,14 +164,14 @@ fn past(due: bool, at: usize) -> usize
 }
 
 impl Call {
-    /// Whether a training check is first under way to the answerer.
+    /// True if a training check is first under way to the answerer.
     fn has_check(&self) -> bool
         ensures { IsTrue result ↔ (head_kind self.now.to_answerer ≡ Some Kind.Training) }
     {
         matches!(self.to_answerer.head(), Some(Kind::Training))
     }
 
-    /// Whether an RNR is first under way to the caller that is one too many, as few may come yet or not.
+    /// True if an RNR is first under way to the caller and exceeds the RNR limit; `few` says that the limit isn't reached.
     fn has_one_too_many(&self, few: bool) -> bool
         ensures { result ≡ is_one_too_many few self.now.to_caller }
     {
@@ -181,7 +181,7 @@ impl Call {
         matches!(self.to_caller.head(), Some(Kind::Rnr))
     }
 
-    /// Whether a fate is due: something is under way that is no RNR too many.
+    /// True if a step takes a fate: something is under way, and it isn't an RNR too many.
     fn takes_fate(&self, few: bool) -> bool
         ensures { result ≡ is_fate_due few self.now.to_answerer self.now.to_caller }
     {
@@ -194,7 +194,8 @@ impl Call {
         !self.has_one_too_many(few)
     }
 
-    /// Whether the caller is sending a block, which an MCF would confirm: there is a PPS that it could send.
+    /// True if the caller is sending a block, which an MCF would confirm. The caller's fields don't have the block's place in the call, so
+    /// this is known from the PPS that it could send.
     fn is_sending(&self) -> bool
         ensures { (w : WorldValue) → Shows self.now w → result ≡ is_sending w.caller }
     {
@@ -202,7 +203,7 @@ impl Call {
         items.take_next().is_some()
     }
 
-    /// Whether the answerer's T2 is due: the caller waits for a DIS, the answerer for a DCS, and few DIS were sent.
+    /// True if the answerer's T2 is due: the caller waits for a DIS, the answerer for a DCS, and the DIS of this wait are few.
     fn dis_is_due(&self, few: bool) -> bool
         ensures is { (w : WorldValue) → Shows self.now w → result ≡ dis_is_due w.caller.state w.answerer.state w.answerer.ending few }
         ensures at_few { result ≡ true → few ≡ true }
@@ -219,7 +220,7 @@ impl Call {
         few
     }
 
-    /// Whose wait is over where nothing is under way, if anybody's.
+    /// If nothing is in transit, the timer that expires next.
     fn wait_over(&self, few: bool) -> Option<Act>
         ensures may { (few_rnrs : Bool) → MayAct few few_rnrs (head_kind self.now.to_caller) result }
         ensures is { (w : WorldValue) → Shows self.now w →
@@ -237,7 +238,7 @@ impl Call {
         None
     }
 
-    /// What comes next by a fate; none where the call is over. At few DIS another one may be sent, at few RNRs another one may come.
+    /// The next act by a fate; None if the call is over. `few_dis` allows another DIS, `few_rnrs` another RNR.
     fn driven_by(&self, fate: Fate, few_dis: bool, few_rnrs: bool) -> Option<Act>
         ensures next { (p : PatienceValue) (d : Driven) → Shows self.now d.world → first_fate d.fates ≡ plain_fate fate →
             nat_lt d.dis p.calls ≡ few_dis → nat_lt d.rnrs p.busy ≡ few_rnrs → ComesNext p d.world.to_answerer d.world.to_caller d result }
@@ -254,35 +255,35 @@ impl Call {
 }
 
 impl LiveCall {
-    /// Whether the caller waits for a DIS.
+    /// True if the caller waits for a DIS.
     fn waits_for_dis(&self) -> bool
         ensures { (w : WorldValue) → Shows self.now w → IsTrue result ↔ (w.caller.state ≡ WaitDis) }
     {
         self.call.caller.waits_for_dis()
     }
 
-    /// Whether a fate is due.
+    /// True if a step takes a fate.
     fn takes_fate(&self, few: bool) -> bool
         ensures { result ≡ is_fate_due few self.now.to_answerer self.now.to_caller }
     {
         self.call.takes_fate(few)
     }
 
-    /// What the first item under way to the caller is.
+    /// The kind of the first item under way to the caller.
     fn head_to_caller(&self) -> Option<Kind>
         ensures { result ≡ head_kind self.now.to_caller }
     {
         self.call.to_caller.head()
     }
 
-    /// Whether the caller is sending a block.
+    /// True if the caller is sending a block.
     fn is_sending(&self) -> bool
         ensures { (w : WorldValue) → Shows self.now w → result ≡ is_sending w.caller }
     {
         self.call.is_sending()
     }
 
-    /// What comes next by a fate.
+    /// The next act by a fate.
     fn driven_by(&self, fate: Fate, few_dis: bool, few_rnrs: bool) -> Option<Act>
         ensures next { (p : PatienceValue) (d : Driven) → Shows self.now d.world → first_fate d.fates ≡ plain_fate fate →
             nat_lt d.dis p.calls ≡ few_dis → nat_lt d.rnrs p.busy ≡ few_rnrs → ComesNext p d.world.to_answerer d.world.to_caller d result }
@@ -291,7 +292,7 @@ impl LiveCall {
         self.call.driven_by(fate, few_dis, few_rnrs)
     }
 
-    /// An event that no station hears of, if there is one.
+    /// Does an event that no station hears of, if there is one, and returns its entry.
     fn event_if(&mut self, event: Option<Event>) -> Option<Entry>
         requires { IsUnheardIf event }
         ensures { ActsIf event self.old self.new result }
@@ -303,11 +304,11 @@ impl LiveCall {
     }
 }
 
-/// A call over a bad line, with no script: what is first under way comes, is lost or is spoiled, as its fate says; where nothing
-/// is under way a wait is over. Waits are over in a fixed order, which is a scheduler's choice and no duration of T.30: while the
-/// caller waits for a DIS the answerer's T2, until `calls` DIS were sent in this wait; then, and in each other wait, the caller's; and
-/// once the caller has ended the answerer's T1. Where the answerer was set busy, `busy` RNRs may come for a block; the next one is lost,
-/// and the caller's T5 is over. It keeps no transcript: each step answers its entries.
+/// A call over a bad line, without a script: the item that is first under way comes, is lost or is spoiled, as its fate says; if nothing is
+/// under way a wait is over. The order of the waits is a scheduler's choice and no duration of T.30. While the caller waits for a DIS it is
+/// the answerer's T2, until `calls` DIS were sent in this wait; in each other wait it is the caller's; once the caller has ended it is the
+/// answerer's T1. If the answerer was set busy, `busy` RNRs may come for a block; the next one is lost, and the caller's T5 is over. It
+/// keeps no transcript: each step returns its entries.
 #[derive(Debug, Drop)]
 pub struct DrivenCall {
     live: LiveCall,
@@ -325,8 +326,8 @@ impl Model for DrivenCall {
 }
 
 impl DrivenCall {
-    /// A call at its start: the answerer's DIS is under way, it isn't busy, and nothing is stored or confirmed. Errs where memory is
-    /// refused, and where the width of a page is none that a call can have.
+    /// A call at its start: the answerer's DIS is under way, it isn't busy, and nothing is stored or confirmed. Errs with `NoMemory`, and
+    /// with `WidthNotCallable` if no call can have the width of a page.
     pub fn new(
         alloc: Global,
         document: Document,
@@ -347,22 +348,22 @@ impl DrivenCall {
         })
     }
 
-    /// Sets the answerer busy or ready: a busy one answers RNR where it would answer MCF. Answers the event's entry, which shows whether
-    /// a growth was refused. By the law `busy_calls_end` a call in which this is done before any of its steps ends all the same.
+    /// Sets the answerer busy or ready before the next step: a busy one answers RNR instead of MCF. Returns the event's entry, which shows
+    /// if a growth was refused. By the law `busy_calls_end` a call in which this is done before any of its steps ends all the same.
     pub fn set_busy(&mut self, busy: bool) -> Entry
         ensures sets { (p : PatienceValue) (d : Driven) → ShowsDriven self.old p d → SetsBusy p busy self.new d result }
     {
         self.live.event(Event::Busy(busy))
     }
 
-    /// Whether fewer RNRs came for the present block than may.
+    /// True if fewer RNRs came for the present block than may.
     fn few_rnrs(&self) -> bool
         ensures { result ≡ nat_lt self.now.rnrs self.now.patience.busy }
     {
         self.rnrs < self.patience.busy
     }
 
-    /// Whether a PPS or an RR is first under way to the answerer, to which a busy one answers RNR.
+    /// True if a PPS or an RR is first under way to the answerer, to which a busy one answers RNR.
     pub fn asks_ready(&self) -> bool
         ensures { result ≡ asks_ready (head_kind self.now.live.to_answerer) }
     {
@@ -373,22 +374,22 @@ impl DrivenCall {
         }
     }
 
-    /// Whether the caller is sending a block: from the block's first burst on, until it is confirmed or the call ends for the caller.
+    /// True if the caller is sending a block: from the block's first burst until it is confirmed or the call ends for the caller.
     pub fn sends_block(&self) -> bool
         ensures { (w : WorldValue) → Shows self.now.live w → result ≡ is_sending w.caller }
     {
         self.live.is_sending()
     }
 
-    /// Whether the next step takes a fate: something is under way that is no RNR too many.
+    /// True if the next step takes a fate: something is under way, and it isn't an RNR too many.
     pub fn is_fate_due(&self) -> bool
         ensures { result ≡ is_fate_due (nat_lt self.now.rnrs self.now.patience.busy) self.now.live.to_answerer self.now.live.to_caller }
     {
         self.live.takes_fate(self.few_rnrs())
     }
 
-    /// One step, with the fate of what is first under way; where none is due, the fate counts for nothing. None where the call is over.
-    /// Where a growth was refused in the step, its entry shows it.
+    /// Makes one step with the fate of the item that is first under way, and returns its events' entries; None if the call is over. The
+    /// fate is ignored if none is due. If a growth was refused in the step, its entry shows it, and the event before it was done.
     pub fn step(&mut self, fate: Fate) -> Option<Step>
         ensures { (p : PatienceValue) (d : Driven) → ShowsDriven self.old p d → first_fate d.fates ≡ plain_fate fate →
             Steps p self.old self.new d result }
@@ -408,8 +409,9 @@ impl DrivenCall {
         Some(Step { before, entry })
     }
 
-    /// Makes steps by fates, in order, until the call is over or `most` steps were made; after the last fate all comes. Answers the
-    /// number of steps. Errs at the first step in which a growth was refused.
+    /// Makes steps by fates, in order, until the call is over or `most` steps were made; after the last fate all items come. Returns the
+    /// number of steps. Errs at the first step in which a growth was refused. Clause `ends`: from the call's start it makes no more steps
+    /// than the document bounds. Clause `bears`: it bears any two losses.
     pub fn drive(&mut self, fates: &[Fate], most: u64) -> Result<u64, AllocError>
         ensures drives { (p : PatienceValue) (d : Driven) → ShowsDriven self.old p d → d.fates ≡ map plain_fate fates.now →
             DrivesAll p self.new d most result }
@@ -421,6 +423,7 @@ impl DrivenCall {
         let mut made = 0;
         let mut at = 0;
         while made < most {
+            // `drive` sets nobody busy: its clause `ends` is of fates alone. With `set_busy` between steps the law `busy_calls_end` holds.
             let due = self.is_fate_due();
             let Some(step) = self.step(fate_at(fates, at)) else {
                 return Ok(made);
@@ -434,14 +437,14 @@ impl DrivenCall {
         Ok(made)
     }
 
-    /// The call, of which the items under way can be asked for.
+    /// A borrowed call, whose items under way can be read.
     pub fn live(&self) -> &LiveCall
         ensures { result.now ≡ self.now.live }
     {
         &self.live
     }
 
-    /// The call as it stands: any event can be passed to it, and it says what it leaves.
+    /// The call, to continue it by hand: it takes any event, and its ending has the headline.
     pub fn into_live(self) -> LiveCall
         ensures { result ≡ self.live }
     {

@@ -8,7 +8,7 @@ ghost use Rattle.std.specs.Prelude.{◌≡◌};
 use signals::{Caps, PageEnd, Params, Signal};
 use stations::Turn;
 
-/// What happens on the line or to one of its stations.
+/// What happens on the line, or to one of its stations.
 #[derive(Clone, Copy, Debug, PartialEq, Eq)]
 pub enum Event {
     /// The first item under way to the answerer comes.
@@ -21,50 +21,50 @@ pub enum Event {
     LoseToCaller,
     /// The training check that is first under way to the answerer is spoiled: all its octets become FF.
     Spoil,
-    /// The caller's wait for an answer is over.
+    /// The caller's wait for an answer is over: T4, or T1 while it waits for a DIS.
     CallerTimeout,
-    /// The caller's wait for a busy answerer is over.
+    /// The caller's wait for a busy answerer, T5, is over.
     CallerT5,
-    /// The answerer's wait for a caller is over.
+    /// The answerer's wait for a caller, T1, is over.
     AnswererT1,
-    /// The answerer's wait for a command or a training check is over.
+    /// The answerer's wait for a command or a training check, T2, is over.
     AnswererT2,
-    /// Whether the answerer can't take pages for now.
+    /// The answerer can't take pages for now (true), or can again (false).
     Busy(bool),
 }
 
-/// What an item is that travels on the line: a frame by its signal, or a training check.
+/// The kind of an item on the line: the signal of a frame, or a training check.
 #[derive(Clone, Copy, Debug, PartialEq, Eq)]
 pub enum Kind {
-    /// DIS.
+    /// A frame with DIS: what the answerer can do.
     Dis,
-    /// DCS.
+    /// A frame with DCS: how pages will be sent.
     Dcs,
-    /// A training check.
+    /// A training check: 1.5 s of 0 bits, without flags.
     Training,
-    /// CFR.
+    /// A frame with CFR: the training check was good.
     Cfr,
-    /// FTT.
+    /// A frame with FTT: the training check was bad.
     Ftt,
-    /// FCD with the number of its frame.
+    /// A frame with FCD, page data, and its number in the block, 0 to 255.
     Fcd(u8),
-    /// RCP.
+    /// A frame with RCP: the end of a burst.
     Rcp,
-    /// PPS.
+    /// A frame with PPS: the end of a block.
     Pps,
-    /// MCF.
+    /// A frame with MCF: the block is confirmed.
     Mcf,
-    /// PPR.
+    /// A frame with PPR: which frames are to be sent again.
     Ppr,
-    /// RNR.
+    /// A frame with RNR: the answerer is busy.
     Rnr,
-    /// RR.
+    /// A frame with RR: the caller asks a busy answerer again.
     Rr,
-    /// DCN.
+    /// A frame with DCN: its station hangs up.
     Dcn,
 }
 
-/// What the information field of a frame says: of a DIS, a DCS, a PPS and a PPR. ITU-T T.30, 5.3.6.2 and A.4.
+/// What a frame's information field says: of a DIS, a DCS, a PPS and a PPR (ITU-T T.30, 5.3.6.2 and A.4).
 #[derive(Clone, Copy, Debug, PartialEq, Eq)]
 pub enum Fields {
     /// Nothing: another frame, a training check, or no item.
@@ -73,7 +73,7 @@ pub enum Fields {
     Dis(Caps),
     /// A DCS: how pages will be sent.
     Dcs(Params),
-    /// A PPS.
+    /// A PPS: the block that it ends.
     Pps {
         /// What ends with the block.
         ends: PageEnd,
@@ -88,19 +88,19 @@ pub enum Fields {
     Ppr([u8; 32]),
 }
 
-/// How an item is sent.
+/// How an item is sent: the carrier, its speed, and flags or none.
 #[derive(Clone, Copy, Debug, PartialEq, Eq)]
 pub enum Form {
-    /// A frame of the control channel, at 300 bit/s: each but FCD and RCP. ITU-T T.30, 5.3.
+    /// A frame of the control channel, at 300 bit/s: each but FCD and RCP (ITU-T T.30, 5.3).
     Control,
-    /// A frame of a page, FCD or RCP, at the speed that the DCS before it says. ITU-T T.30, A.4.
+    /// A frame of a page, FCD or RCP, at the speed that the DCS before it says (ITU-T T.30, A.4).
     Page,
-    /// A training check, at that speed too: 1.5 s of 0 bits with no flags. ITU-T T.30, 5.3.6.1.3.
+    /// A training check, at the page's speed too: 1.5 s of 0 bits without flags (ITU-T T.30, 5.3.6.1.3).
     Check,
 }
 
 impl Kind {
-    /// What a signal is; none where it isn't known. No station sends such a one.
+    /// The kind of a signal; None if the signal isn't known, and no station sends one like that.
     pub fn of(signal: &Signal) -> Option<Kind>
         ensures { result ≡ signal_kind (plain signal.now) }
     {
@@ -133,13 +133,13 @@ impl Kind {
     }
 }
 
-/// An item under way, lent.
+/// A borrowed item in transit.
 #[derive(Clone, Copy, Debug, PartialEq, Eq)]
 pub struct LineItem<'a> {
-    /// What it is, and so how it is sent.
+    /// Its kind, which says how it is sent.
     pub kind: Kind,
-    /// Its octets as they are on the line, the least significant bit of each first: those of a frame with its flags, or of a
-    /// training check.
+    /// Its octets as they are on the line, the least significant bit of each first: those of a frame with its flags, or of a training
+    /// check.
     pub octets: &'a [u8],
 }
 
@@ -168,16 +168,16 @@ impl Fields {
     }
 }
 
-/// What is shown of the item that an event delivers or loses.
+/// What the transcript shows of the item that an event delivers or loses.
 #[derive(Clone, Copy, Debug)]
 pub(crate) struct Shown {
-    /// What it is, if there is one.
+    /// Its kind, if there is an item.
     pub(crate) item: Option<Kind>,
     /// What its information field says.
     pub(crate) fields: Fields,
 }
 
-/// No item.
+/// Shows no item.
 pub(crate) const NONE_SHOWN: Shown = Shown {
     item: None,
     fields: Fields::Nothing,
@@ -186,16 +186,16 @@ pub(crate) const NONE_SHOWN: Shown = Shown {
 /// What the transcript shows of an event.
 #[derive(Clone, Copy, Debug, PartialEq, Eq)]
 pub struct Entry {
-    /// The event.
+    /// The event itself.
     pub event: Event,
     /// The item that was delivered or lost, if there was one.
     pub item: Option<Kind>,
     /// What that item's information field says, as it was sent.
     pub fields: Fields,
-    /// What the station that the event acts on transmits: `Silent` where it took no step.
+    /// The turn of the station that the event acts on; `Silent` if it took no step.
     pub turn: Turn,
-    /// The number of FCDs of a burst, whole also where its transmission was cut; 0 for any other turn.
+    /// How many FCDs a burst has, of the whole burst even if its transmission was cut; 0 for any other turn.
     pub fcds: u16,
-    /// A growth was refused in the event.
+    /// True if a growth was refused in the event.
     pub refused: bool,
 }

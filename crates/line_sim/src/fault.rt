@@ -7,19 +7,19 @@ use stations::CallerFault;
 use std::alloc::AllocError;
 use thiserror::Error;
 
-/// Why there is no world of a document.
+/// Why a call of a document can't be set up.
 #[derive(Debug, PartialEq, Eq, Drop, Error)]
 pub enum WorldFault {
     /// Memory was refused.
     #[error("no memory")]
     NoMemory,
-    /// The width of a page is none that a call can have.
+    /// No call can have the width of one of the pages.
     #[error("a page's width is none that a call can have")]
     WidthNotCallable,
 }
 
 impl WorldFault {
-    /// The number under which a program reports the fault.
+    /// The number under which a program reports the fault: 9 for `NoMemory`, 26 for `WidthNotCallable`.
     pub fn number(&self) -> u8
         ensures { result ≡ number_of self.now }
     {

@@ -23,7 +23,7 @@ use stations::{Answerer, AnswererIn, Caller, CallerIn, Item, Turn};
 use std::alloc::{AllocError, Global};
 use std::marker::Model;
 
-/// What a signal is that a station sends.
+/// The kind of a signal that a station sends.
 fn kind_of(signal: &Signal) -> Kind
     requires { IsWritable (plain signal.now) }
     ensures { signal_kind (plain signal.now) ≡ Some result }
@@ -31,14 +31,14 @@ fn kind_of(signal: &Signal) -> Kind
     Kind::of(signal).unwrap_or(Kind::Dcn)
 }
 
-/// Whether an item is a training check.
+/// True if an item is a training check.
 fn is_check(kind: Kind) -> bool
     ensures { IsTrue result ↔ (kind ≡ Kind.Training) }
 {
     matches!(kind, Kind::Training)
 }
 
-/// The octets of the frame that says a signal, as a station sends it. Errs where memory is refused.
+/// The octets of the frame of a signal, with its flags, as a station sends it. Errs if memory is refused.
 fn frame_octets(
     alloc: Global,
     signal: &Signal,
@@ -55,7 +55,7 @@ fn frame_octets(
     Ok(writer.into_octets())
 }
 
-/// The octets of a training check. Errs where memory is refused.
+/// The octets of a training check: `count` octets 0. Errs if memory is refused.
 fn training_octets(alloc: Global, count: u32) -> Result<Vec<u8>, AllocError>
     ensures { IfOk result (λ octets. octets.items ≡ replicate count 0) }
 {
@@ -64,7 +64,7 @@ fn training_octets(alloc: Global, count: u32) -> Result<Vec<u8>, AllocError>
     Ok(octets)
 }
 
-/// The signal that a frame's content says, where there is a frame and it says a signal.
+/// The signal that a frame's content says; None without a frame, or if its content says none.
 fn signal_in(content: Option<&[u8]>) -> Option<Signal<'_>>
     ensures said { IfSome content.entry (λ octets. (signal : PlainSignal) → read_content octets.now ≡ Ok signal
         → option_map plain result ≡ Some signal) }
@@ -74,7 +74,7 @@ fn signal_in(content: Option<&[u8]>) -> Option<Signal<'_>>
     signals::read(content?).ok()
 }
 
-/// An item under way, of the station that sends it: the octets of a frame or of a training check.
+/// An item in transit, of the station that sends it: the octets of a frame or of a training check.
 #[derive(Debug, Drop)]
 pub(crate) struct InTransit<S: Sender> {
     sender: S,
@@ -95,7 +95,7 @@ impl<S: Sender> Model for InTransit<S> {
 }
 
 impl<S: Sender> InTransit<S> {
-    /// An item as a station sends it. Errs where memory is refused.
+    /// An item as a station sends it. Errs if memory is refused.
     pub(crate) fn new(alloc: Global, sender: S, item: Item<'_>) -> Result<InTransit<S>, AllocError>
         requires can { CanBeWritten (plain_item item) }
         requires told { TellsFinal item }
@@ -128,7 +128,7 @@ impl<S: Sender> InTransit<S> {
         }
     }
 
-    /// What it is.
+    /// The kind of the item.
     pub(crate) fn kind(&self) -> Kind
         ensures { kind_of self.now ≡ Some result }
     {
@@ -137,14 +137,14 @@ impl<S: Sender> InTransit<S> {
         self.kind
     }
 
-    /// What its information field says.
+    /// What the item's information field says.
     pub(crate) fn fields(&self) -> Fields
         ensures { result ≡ fields_of self.now }
     {
         self.fields
     }
 
-    /// Its octets, as they are on the line.
+    /// The octets of the item, as they are on the line.
     pub(crate) fn octets(&self) -> &[u8]
         ensures { AreOctetsOf S.sends result.now self.now }
     {
@@ -153,7 +153,7 @@ impl<S: Sender> InTransit<S> {
         &self.octets
     }
 
-    /// It is lent.
+    /// Borrows the item: its kind and its octets.
     pub(crate) fn lend(&self) -> LineItem<'_>
         ensures kind { kind_of self.now ≡ Some result.kind }
         ensures octets { AreOctetsOf S.sends result.octets.now self.now }
@@ -164,7 +164,8 @@ impl<S: Sender> InTransit<S> {
         }
     }
 
-    /// Comes to the caller. Errs where memory is refused: the caller has not heard it.
+    /// Delivers the item to the caller, and returns its turn. A training check is silent: a caller takes none. Errs if memory is refused:
+    /// the caller hasn't heard the item.
     pub(crate) fn come_to_caller(
         &self,
         deframer: &mut Deframer,
@@ -187,7 +188,7 @@ impl<S: Sender> InTransit<S> {
         caller.step(CallerIn::Heard(signal))
     }
 
-    /// Comes to the answerer. Errs where memory is refused: the answerer has not heard it.
+    /// Delivers the item to the answerer, and returns its turn. Errs if memory is refused: the answerer hasn't heard the item.
     pub(crate) fn come_to_answerer(
         &self,
         deframer: &mut Deframer,
@@ -210,7 +211,7 @@ impl<S: Sender> InTransit<S> {
         answerer.step(AnswererIn::Heard(signal))
     }
 
-    /// All octets of a training check become FF.
+    /// Spoils a training check: all its octets become FF. A frame stays as it is.
     pub(crate) fn spoil(&mut self)
         ensures { self.new ∷ [] ≡ spoiled (self.old ∷ []) }
     {

@@ -12,11 +12,10 @@ ghost use Rattle.line_sim.specs.Headline.{WholeBlocksAccepted};
 ghost use Rattle.line_sim.specs.Redialling.{CallsAreRedialled};
 ghost use Rattle.line_sim.specs.Streams.{CutsChangeNothing, StoredIsSaid};
 
-/// What holds over every schedule of losses, spoiled training checks, time-outs, waits and refused
-/// growths: the facts of the line, with which both stations stay in step; each event is at most two moves
-/// of the page machine, and each run from a new world is moves from its first state; the pages stored are
-/// the first of the document, each confirmed page is stored once, and whoever ended Normal has them all;
-/// and a block is accepted exactly if each of its frames is open. All that travels can be written.
+/// Over every schedule of losses, spoiled training checks, time-outs, waits and refused growths: the facts of the line hold, and both
+/// stations stay in step; each event is at most two moves of the page machine, and each run from a new world is moves from its first state;
+/// the pages stored are the first of the document, each confirmed page is stored once, and a station that ended Normal has them all; and a
+/// block is accepted exactly if each of its frames is open. All that travels can be written.
 pub fn headline()
     ensures facts { LineHolds }
     ensures steps { StationsInStep }
@@ -30,11 +29,10 @@ pub fn headline()
     stations::laws::signals_hold();
 }
 
-/// A polite run makes deliveries alone, and between groups the answerer's T2. An undisturbed call of any
-/// number of groups, where both stations agree on each page and each page's code fits a call, takes 4
-/// deliveries for each group, the frames and 5 for each block, and one more; a polite run makes as many of
-/// them as it may, and after all of them each page is stored and confirmed, and both stations have ended
-/// normally.
+/// A polite run makes deliveries alone, and between groups the answerer's T2. An undisturbed call of any number of groups, in which both
+/// stations agree on each page and each page's code is within the limit, takes 4 deliveries for each group, the frames and 5 for each
+/// block, and one more. A polite run makes as many of them as it may; after all of them each page is stored and confirmed, and both
+/// stations have ended normally.
 pub fn polite_calls()
     ensures events { PoliteEvents }
     ensures groups { GroupsAreAgreed }
@@ -44,9 +42,9 @@ pub fn polite_calls()
     stations::laws::signals_hold();
 }
 
-/// Of several calls, each over any line, to whoever answers, and each further one of the pages that the call before it has not
-/// confirmed: the pages stored in all of them, in order, are the first of the document; at most one of them comes again for each
-/// call that failed, since a page that was stored may not have been confirmed; and after a normal end none is missing.
+/// Several calls send a document, each over any line and to any answerer, and each further one sends the pages that the call before it has
+/// not confirmed. The pages stored in all of them, in order, are the first of the document; at most one of them comes again for each call
+/// that failed, since a page that was stored may not have been confirmed; and after a normal end none is missing.
 pub fn redialled()
     ensures { CallsAreRedialled }
 {
@@ -55,10 +53,9 @@ pub fn redialled()
     stations::laws::signals_hold();
 }
 
-/// In the transcript of every run the caller has at most 18 turns DCS for each group begun, and as many
-/// between one entry into the wait for DIS and the next, so also before the first MCF that it answers in
-/// silence and after each; one DCN; 3 RR for each RNR that it answers so; and 12 PPS and bursts together for
-/// each burst that answers a CFR or an MCF.
+/// In the transcript of every run the caller has at most 18 turns DCS for each group begun, and as many between one entry into the wait for
+/// a DIS and the next, so also before the first MCF that it answers in silence and after each; one DCN; 3 RR for each RNR that it answers
+/// with RR; and 12 PPS and bursts together for each burst that answers a CFR or an MCF.
 pub fn counted()
     ensures runs { RunsAreCounted }
     ensures groups { DcsBetweenGroups }
@@ -66,9 +63,9 @@ pub fn counted()
     stations::laws::steps_spend();
 }
 
-/// Whoever is on a line, an answerer of its octets answers the same wherever they are cut; and each page
-/// that it stores is the reading, by the grammar of its code, of octets that are joined from data fields of
-/// FCDs among the good contents of all bits, by the parameters of a DCS among them that it allows.
+/// Whoever is on a line, an answerer of its octets returns the same wherever they are cut; and each page that it stores is read, by the
+/// grammar of its code, from octets joined from data fields of FCDs in good frames, by the parameters of a DCS in one of these frames that
+/// it allows.
 pub fn foreign_peers()
     ensures cut { CutsChangeNothing }
     ensures stored { StoredIsSaid }
@@ -78,8 +75,8 @@ pub fn foreign_peers()
     stations::laws::stored_is_read();
 }
 
-/// A driven call ends, whatever the fates, within a number of steps that its document bounds; and what it has come to is safe. Each of
-/// its steps is a run of one or two events, by its fate.
+/// A driven call ends, whatever the fates, within a number of steps that its document bounds; and at each of its steps the headline holds.
+/// Each step is a run of one or two events, by its fate.
 pub fn driven_calls_end()
     ensures driven { DrivenCallsEnd }
     ensures safe { DrivenCallsAreSafe }
@@ -90,9 +87,9 @@ pub fn driven_calls_end()
     stations::laws::callers_end();
 }
 
-/// So does a driven call in which the answerer is set busy and ready before any of its steps, within the same number of steps: for each
-/// block as many RNRs as the caller's patience allows take 8 each. It is safe too, and each of its steps is a run of the setting's
-/// event and the step's own.
+/// A driven call in which the answerer is set busy or ready before any of its steps ends within the same number of steps: for each block as
+/// many RNRs as the caller's patience allows take 8 steps each. At each step the headline holds, and the step is a run of the setting's
+/// event and its own.
 pub fn busy_calls_end()
     ensures busy { BusyCallsEnd }
     ensures safe { BusyCallsAreSafe }
@@ -103,9 +100,9 @@ pub fn busy_calls_end()
     stations::laws::callers_end();
 }
 
-/// Where both stations agree on each page and its code fits a call, the caller of a driven call ends normally or for
-/// one of four reasons, each of which costs a number of bad tries or spoiled checks of one phase; so a call with at
-/// most two bad tries in each phase goes through, and one with any two losses.
+/// If both stations agree on each page and its code fits a call, the caller of a driven call ends normally or for one of four reasons, each
+/// of which costs a number of bad tries or spoiled checks of one phase; so a call with at most two bad tries in each phase goes through,
+/// and so does one with any two losses.
 pub fn calls_bear()
     ensures ends { CallersEndWell }
     ensures bear { DrivenCallsBear }
@@ -120,18 +117,19 @@ pub fn calls_bear()
     signals::laws::lowered_is_allowed();
 }
 
-/// The fewest losses that break a call before its first page, each of a kind, whatever its document is: three lost DIS, where three are sent
-/// in a wait; a DCS that is lost three times; and the training check of stations with one common speed, spoiled once. So of what
-/// `calls_bear` allows none can be more.
+// Losses of a block need its page's code, whose logic takes minutes for one white row: for these `call_tests` has tests.
+/// The fewest losses that break a call before its first page, each of a kind, whatever its document is: three lost DIS, if three are sent
+/// in a wait; a DCS that is lost three times; and the training check of stations with one common speed, spoiled once. So `calls_bear` can't
+/// allow one loss more of any of these.
 pub fn calls_break()
     ensures dis { LostDisBreak }
     ensures dcs { LostDcsBreak }
     ensures check { SpoiledCheckBreaks }
 {}
 
-/// What each event may change: a station at the events that it hears of alone, the list of what is under way from it at these
-/// alone, and then what is under way to it is lost; and what each event makes of the first item under way, or of a wait that
-/// is over. An event that was refused before anything happened changes nothing.
+/// What each event may change: a station changes only at the events that it hears of, what is under way from it grows only at these, and
+/// then what is under way to it is lost; and what each event makes of the first item under way, or of a wait that is over. An event that
+/// was refused before anything happened changes nothing.
 pub fn events_mean()
     ensures touch { EventsTouch }
     ensures make { EventsMake }

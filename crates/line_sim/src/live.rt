@@ -27,8 +27,7 @@ use stations::laws::{layers_hold, signals_hold};
 use std::alloc::Global;
 use std::marker::Model;
 
-/// A caller and an answerer, and what is under way between them, with no transcript: who passes it an event has
-/// the event's entry.
+/// A caller and an answerer, and what is under way between them, without a transcript: each event returns its entry.
 #[derive(Debug, Drop)]
 pub struct LiveCall {
     pub(crate) call: Call,
@@ -45,18 +44,18 @@ impl Model for LiveCall {
     ghost invariant = { λ l. IsLive l.call };
 }
 
-/// What comes next in a call that nobody disturbs.
+/// The next event of a call that nobody disturbs.
 #[derive(Clone, Copy, Debug, PartialEq, Eq)]
 pub enum Next {
     /// The first item under way comes, by this event.
     Item(Event),
     /// A group of pages is through and another one follows: the answerer's T2, and its DIS comes.
     Group,
-    /// Nothing.
+    /// Nothing is left to happen.
     Nothing,
 }
 
-/// What a call leaves.
+/// The final state of a call.
 #[derive(Debug, Drop)]
 pub struct Ending {
     /// The pages that the answerer has stored, in order.
@@ -70,8 +69,8 @@ pub struct Ending {
 }
 
 impl LiveCall {
-    /// A call at its start: the answerer's DIS is under way, and nothing is stored or confirmed. Errs where
-    /// memory is refused, and where the width of a page is none that a call can have.
+    /// A call at its start: the answerer's DIS is under way, and nothing is stored or confirmed. Errs with `NoMemory`, and with
+    /// `WidthNotCallable` if no call can have the width of a page.
     pub fn new(
         alloc: Global,
         document: Document,
@@ -91,7 +90,7 @@ impl LiveCall {
         Ok(LiveCall { call })
     }
 
-    /// What comes next where nobody disturbs the call.
+    /// What comes next if nobody disturbs the call: the next step of a polite run.
     pub fn next_delivery(&self) -> Next
         ensures { (w : WorldValue) → Shows self.now w → next_steps w w.to_answerer w.to_caller ≡ steps_in result }
     {
@@ -107,7 +106,7 @@ impl LiveCall {
         Next::Nothing
     }
 
-    /// How many items are under way to a station. Of those to the caller the first one is no training check: a caller sends these.
+    /// How many items are under way to a station. The first item to the caller is never a training check, since only a caller sends these.
     pub fn count_to(&self, to: Side) -> usize
         ensures count { result ≡ length (under_way_to to self.now) }
         ensures no_check { head_kind self.now.to_caller ≢ Some Training }
@@ -119,11 +118,10 @@ impl LiveCall {
         }
     }
 
-    /// The item at a place of those under way to a station, of which the one at place 0 comes next; none past the last one.
-    /// Takes no memory. An event puts items after those that are there. So what it has put under way to a station are the items
-    /// from the place on that `count_to` answered before it, in order: there are none where it has taken some away, as
-    /// a delivery, a loss, or a transmission of that station does. A new call has put the item at place 0. A training check that an
-    /// event spoils stays at its place, with octets FF.
+    /// The item at a place, from 0, of those under way to a station; the one at place 0 comes next; None past the last one. Takes no
+    /// memory. An event puts its items behind those that are there: they are the items from the place on that `count_to` returned before
+    /// it, in order, and there are none if it has taken some away, as a delivery, a loss or a transmission of that station does. A new call
+    /// has put the item at place 0. A training check that an event spoils stays at its place, with octets FF.
     pub fn item_to(&self, to: Side, place: usize) -> Option<LineItem<'_>>
         ensures { IsLentAt (sender_to to) place result (under_way_to to self.now) }
     {
@@ -133,8 +131,9 @@ impl LiveCall {
         }
     }
 
-    /// One event, and its entry, which shows whether a growth was refused in it. Both stations are in step before and
-    /// after it.
+    /// Does one event, and returns its entry, which shows if a growth was refused in it. Both stations are in step before and after it
+    /// (clauses `before` and `after`), and what it has put under way is what its station sends (clause `puts`), or the first items of that
+    /// if a growth was refused.
     pub fn event(&mut self, event: Event) -> Entry
         ensures acts { Acts self.old self.new event result }
         ensures whole { IsUnheard event → result.refused ≡ false }
@@ -150,8 +149,8 @@ impl LiveCall {
         self.call.act(event)
     }
 
-    /// What has become of the call: the pages stored are the first of the document, each confirmed page is stored once,
-    /// and a station's normal end means that all are.
+    /// The final state of the call: the pages stored are the first of the document, each confirmed page is stored once, and a station's
+    /// normal end means that all are stored (clause `safe`).
     pub fn into_ending(self) -> Ending
         ensures pages { (w : WorldValue) → Shows self w → result.pages.items ≡ w.answerer.pages }
         ensures confirmed { (w : WorldValue) → Shows self w → result.confirmed ≡ confirmed w.caller }

@@ -1,4 +1,4 @@
-//! A call in which all that is under way comes.
+//! An undisturbed call: all that is under way comes.
 
 ghost use Rattle.line_sim.specs.Delivering.{DeliversAll, DeliversNext, GoesThrough};
 ghost use Rattle.line_sim.specs.Invariant.{Holds};
@@ -16,8 +16,8 @@ use stations::laws::{layers_hold, signals_hold};
 use std::alloc::AllocError;
 
 impl Call {
-    /// Whether a group is through and another one follows: neither station has ended, the caller waits
-    /// for another DIS and the answerer for a DCS.
+    /// True if a group is through and another one follows: neither station has ended, the caller waits for another DIS and the answerer for
+    /// a DCS.
     pub(crate) fn is_between_groups(&self) -> bool
         ensures { (w : WorldValue) → Shows self.now w → result ≡ is_between_groups w }
     {
@@ -35,29 +35,29 @@ impl Call {
 }
 
 impl World {
-    /// Whether nothing is under way to the answerer.
+    /// True if nothing is under way to the answerer.
     fn is_clear_to_answerer(&self) -> bool
         ensures { IsTrue result ↔ (self.now.call.to_answerer ≡ []) }
     {
         self.call.to_answerer.is_empty()
     }
 
-    /// Whether nothing is under way to the caller.
+    /// True if nothing is under way to the caller.
     fn is_clear_to_caller(&self) -> bool
         ensures { IsTrue result ↔ (self.now.call.to_caller ≡ []) }
     {
         self.call.to_caller.is_empty()
     }
 
-    /// Whether a group is through and another one follows.
+    /// True if a group is through and another one follows.
     fn is_between_groups(&self) -> bool
         ensures { (w : WorldValue) → Shows self.now.call w → result ≡ is_between_groups w }
     {
         self.call.is_between_groups()
     }
 
-    /// The next delivery, if there is one; between groups the answerer sends its DIS again, which is
-    /// delivered. Answers whether there was one. Errs where a growth is refused.
+    /// Makes the next delivery, if there is one, and returns true if there was; between groups the answerer sends its DIS again, and that
+    /// is delivered. Errs if a growth is refused.
     fn deliver_next(&mut self) -> Result<bool, AllocError>
         ensures { (w : WorldValue) → Shows self.old.call w → DeliversNext self.old self.new w result }
     {
@@ -77,7 +77,7 @@ impl World {
         Ok(true)
     }
 
-    /// Delivers what is under way, in order, at most `most` items.
+    /// Delivers what is under way, in order, at most `most` items, and returns their number.
     fn deliver(&mut self, most: u64) -> Result<u64, AllocError>
         ensures { (w : WorldValue) → Shows self.old.call w → DeliversAll self.old self.new w most result }
     {
@@ -91,10 +91,9 @@ impl World {
         Ok(delivered)
     }
 
-    /// Delivers what is under way, in order, until nothing is under way or `most` items were delivered. Where a group
-    /// of pages is through and another one follows, the answerer's T2 begins it, which has its entry and isn't counted.
-    /// Answers the number of deliveries. Errs at the first refused event. Both stations are in step before and after
-    /// it, whatever it answers.
+    /// Delivers what is under way, in order, until nothing is under way or `most` items were delivered, and returns the number of
+    /// deliveries. If a group of pages is through and another one follows, the answerer's T2 begins it; that has an entry and isn't
+    /// counted. Errs at the first refused event. Both stations are in step before and after it, whatever it returns.
     pub fn polite(&mut self, most: u64) -> Result<u64, AllocError>
         ensures delivers { (w : WorldValue) → Shows self.old.call w → DeliversAll self.old self.new w most result }
         ensures through { IfOk result (λ number. GoesThrough self.old self.new most number) }
@@ -108,6 +107,7 @@ impl World {
         layers_hold();
         signals_hold();
         let _ = &self.call; // for the proof: what holds of every world
+        // Of a refused event the clauses say less than those of `event`: who needs to know its outcome makes the events one by one.
         self.deliver(most)
     }
 }

@@ -1,10 +1,10 @@
-//! What a call leaves.
+//! The report of a call.
 
 use crate::event::Entry;
 use raster::Page;
 use stations::End;
 
-/// What has become of a call.
+/// The final state of a call, with its transcript.
 #[derive(Debug, Drop)]
 pub struct Report {
     /// The pages that the answerer has stored, in order.
@@ -17,9 +17,9 @@ pub struct Report {
     pub answerer_end: Option<End>,
     /// In how many events of the transcript a growth was refused.
     pub refused: u64,
-    /// How many events of a run found no room for their entry: nothing happened in them. A world that is given its
-    /// events one by one answers each that found none, and doesn't count them: then it is 0.
+    /// How many events of a run found no room for their entry: nothing happened in them. It is 0 for a world that is given its events one
+    /// by one, which reports each of these events to its caller and doesn't count them.
     pub left_out: u64,
-    /// What the events were, in order; an event that found no room for its entry isn't among them.
+    /// The entries of the events, in order; an event that found no room for its entry isn't among them.
     pub transcript: Vec<Entry>,
 }

@@ -9,7 +9,7 @@ use signals::Side;
 pub(crate) trait Sender: Copy + Drop {
     ghost sends: { Side };
 
-    /// Which one it is.
+    /// The side of the sending station.
     fn side(self) -> Side
         ensures { result ≡ sends };
 }

@@ -14,26 +14,26 @@ use signals::Caps;
 use stations::{Answerer, AnswererIn, End, Turn};
 use std::alloc::{AllocError, Global};
 
-/// What an answerer is given next.
+/// What an answerer over the octets of a line is given. It has no signals: these come by octets alone.
 #[derive(Clone, Copy, Debug, PartialEq, Eq)]
 pub enum Feed<'a> {
-    /// Octets of the line, on which the least significant bit of each is the first.
+    /// Octets of the line, the least significant bit of each first; they may be cut anywhere.
     Octets(&'a [u8]),
-    /// The octets of a training check.
+    /// The octets of a training check, without flags.
     Training(&'a [u8]),
     /// The wait for a caller is over.
     T1,
     /// The wait for a command is over.
     T2,
-    /// Whether pages can't be taken for now.
+    /// Pages can't be taken for now (true), or can again (false).
     Busy(bool),
 }
 
-/// What an answerer has made of a line.
+/// What an answerer has made of the octets of a line.
 #[derive(Debug, Drop)]
 pub struct Answered {
-    /// The first DIS, and then a turn for each signal heard and for each feed that isn't octets of the
-    /// line, in order.
+    /// The first DIS, and then a turn for each signal heard and for each feed that isn't octets of the line, in order; silent ones after
+    /// the call has ended.
     pub turns: Vec<Turn>,
     /// The pages stored, in order.
     pub pages: Vec<Page>,
@@ -41,7 +41,7 @@ pub struct Answered {
     pub ending: Option<End>,
 }
 
-/// The answerer has an input. Errs where memory is refused.
+/// The answerer takes an input, and its turn is added. Errs if memory is refused.
 fn hear(
     answerer: &mut Answerer,
     turns: &mut Vec<Turn>,
@@ -54,8 +54,7 @@ fn hear(
     Ok(())
 }
 
-/// The answerer hears what a content says; a content that says no signal is left out. Errs where memory
-/// is refused.
+/// The answerer hears the signal that a content says; a content that says none is left out. Errs if memory is refused.
 fn hear_content(
     answerer: &mut Answerer,
     turns: &mut Vec<Turn>,
@@ -69,7 +68,7 @@ fn hear_content(
     hear(answerer, turns, AnswererIn::Heard(signal))
 }
 
-/// The answerer hears what each content that waits says. Errs where memory is refused.
+/// The answerer hears the signals of all contents that wait. Errs if memory is refused.
 fn hear_waiting(
     deframer: &mut Deframer,
     answerer: &mut Answerer,
@@ -84,7 +83,7 @@ fn hear_waiting(
     Ok(())
 }
 
-/// The answerer is given a feed. Errs where memory is refused.
+/// The answerer takes a feed. Errs if memory is refused.
 fn take_feed(
     deframer: &mut Deframer,
     answerer: &mut Answerer,
@@ -96,6 +95,7 @@ fn take_feed(
 {
     match feed {
         Feed::Octets(octets) => {
+            // The whole feed goes to the deframer before its contents are read; by the clause on cutting nothing shows where a feed ends.
             deframer.feed(octets)?;
             hear_waiting(deframer, answerer, turns)
         }
@@ -106,11 +106,10 @@ fn take_feed(
     }
 }
 
-/// What a new answerer of these capabilities makes of feeds, whoever is on the line. All octets of the
-/// line go to one deframer. The content of each good frame is read as soon as the frame has ended; a
-/// signal is heard, and a content that says none is left out. So it doesn't matter where the octets of the
-/// line are cut; and each page stored is read from the data fields of FCDs that came in good frames. Errs
-/// where memory is refused.
+/// What a new answerer of these capabilities makes of feeds, whoever is on the line: its turns, the pages stored and its end. All octets of
+/// the line go to one deframer. The content of each good frame is read as soon as the frame has ended; its signal is heard, and a content
+/// that says none is left out. So it doesn't matter where the octets of the line are cut, and each page stored is read from the data fields
+/// of FCDs that came in good frames (clause `stored`). Errs if memory is refused.
 pub fn answer_stream(alloc: Global, caps: Caps, feeds: &[Feed<'_>]) -> Result<Answered, AllocError>
     requires receiver { caps.receiver ≡ true }
     requires ecm { caps.ecm ≡ true }

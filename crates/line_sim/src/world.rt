@@ -1,4 +1,4 @@
-//! A world: a caller, an answerer and the half-duplex line between them.
+//! A world: a caller, an answerer, the half-duplex line between them, and a transcript.
 
 ghost use Rattle.line_sim.specs.Invariant.{Begins, Holds, TakesWholeBlock};
 ghost use Rattle.line_sim.specs.Line.{World as WorldValue, Outcome, new_world};
@@ -21,8 +21,8 @@ use stations::laws::{layers_hold, signals_hold};
 use std::alloc::{AllocError, Global};
 use std::marker::Model;
 
-/// A caller and an answerer, what is under way between them, and a transcript of all events. Each event is passed to it, so every
-/// schedule can be run.
+/// A caller and an answerer, what is under way between them, and a transcript of all events. It is given each event, so every schedule can
+/// be run.
 #[derive(Debug, Drop)]
 pub struct World {
     pub(crate) call: Call,
@@ -47,8 +47,8 @@ impl Model for World {
 }
 
 impl World {
-    /// A world at the start of a call: the answerer's DIS is under way, and nothing is stored or
-    /// confirmed. Errs where memory is refused, and where the width of a page is none that a call can have.
+    /// A world at the start of a call: the answerer's DIS is under way, and nothing is stored or confirmed. Errs with `NoMemory`, and with
+    /// `WidthNotCallable` if no call can have the width of a page.
     pub fn new(
         alloc: Global,
         document: Document,
@@ -72,12 +72,14 @@ impl World {
         })
     }
 
-    /// What an event does.
+    /// Does an event, and notes its entry.
     fn apply(&mut self, event: Event) -> Result<(), AllocError>
         ensures ok { OnOk result (Becomes self.old self.new event Outcome.Done) }
         ensures err { OnErr result (BecomesSome self.old self.new event) }
     {
         headline();
+        // The clauses can't say that memory was there: a body that lost a timer's input without need, and marked its entry, would meet
+        // them.
         let Ok(()) = self.transcript.reserve(1) else {
             return Err(AllocError);
         };
@@ -90,10 +92,10 @@ impl World {
         Ok(())
     }
 
-    /// One event. Errs where a growth is refused: without room for its entry nothing happens; else a
-    /// delivery or another input is lost, or of what is sent only what was made is under way, which the
-    /// entry marks. Whatever it answers, both stations are in step before and after it, and a block whose
-    /// PPS is delivered is accepted exactly if each of its frames is open.
+    /// Does one event. Errs if a growth is refused: without room for its entry nothing happens; else the entry is marked, and the input was
+    /// lost before the station's step, or the step was made and only the first items of its turn are under way. The loss of an item and a
+    /// spoiled training check need memory for their entry alone. Whatever it returns, both stations are in step before and after it, and a
+    /// block whose PPS is delivered is accepted exactly if each of its frames is open (clause `whole`).
     pub fn event(&mut self, event: Event) -> Result<(), AllocError>
         ensures ok { OnOk result (Becomes self.old self.new event Outcome.Done) }
         ensures err { OnErr result (BecomesSome self.old self.new event) }
@@ -110,9 +112,9 @@ impl World {
         self.apply(event)
     }
 
-    /// The octets that come next to a station over the line, the least significant bit of each first: those of
-    /// a frame with its flags, as the other station writes it, or of a training check. None where nothing is under way to
-    /// it. Takes no memory.
+    /// The octets that come next to a station over the line, the least significant bit of each first: those of a frame with its flags, as
+    /// the other station writes it, or of a training check. The frame has the sender's X, and the control field of a final frame if it
+    /// isn't an FCD or an RCP. None if nothing is under way to the station. Takes no memory.
     pub fn next_octets(&self, to: Side) -> Option<&[u8]>
         ensures { ComeNext (sender_to to) (option_map (λ octets. octets.now) result) (under_way_to to self.now.call) }
     {
@@ -122,7 +124,7 @@ impl World {
         }
     }
 
-    /// What has become of the call.
+    /// The report of the call.
     fn into_report(self) -> Report
         ensures tells { (w : WorldValue) → Shows self.call w → Tells result w self.entries }
         ensures none { result.left_out ≡ 0 }
@@ -146,14 +148,14 @@ impl World {
         }
     }
 
-    /// How many entries there are.
+    /// The number of entries.
     fn noted(&self) -> u64
         ensures { result ≡ length self.now.entries }
     {
         self.transcript.len() as u64
     }
 
-    /// One event of a run. Answers 1 where it found no room for its entry, and else 0.
+    /// Does one event of a run. Returns 1 if it found no room for its entry, else 0.
     fn leaves_out(&mut self, event: Event) -> u64
         ensures becomes { (outcome : Outcome) × Becomes self.old self.new event outcome }
         ensures counted { length self.new.entries + result ≡ length self.old.entries + 1 }
@@ -163,8 +165,8 @@ impl World {
         if self.noted() == before { 1 } else { 0 }
     }
 
-    /// What has become of the call. Whatever the events were, the pages stored are the first of the
-    /// document, each confirmed page is stored once, and a station's normal end means that all are.
+    /// The report of the call. Whatever the events were, the pages stored are the first of the document, each confirmed page is stored
+    /// once, and a station's normal end means that all are stored (clause `keeps`).
     pub fn report(self) -> Report
         ensures tells { (w : WorldValue) → Shows self.call w → Tells result w self.entries }
         ensures keeps { Keeps self.call.caller.document result }
@@ -188,7 +190,7 @@ pub(crate) fn has_full_pages(document: &Document)
     }
 }
 
-/// An entry more, for which there is room.
+/// Adds an entry, for which there is room.
 fn note(transcript: &mut Vec<Entry>, entry: Entry)
     requires { vec_len transcript.old < vec_capacity transcript.old }
     ensures { transcript.new.items ≡ transcript.old.items ++ entry ∷ [] }
@@ -198,9 +200,9 @@ fn note(transcript: &mut Vec<Entry>, entry: Entry)
     };
 }
 
-/// Runs a call: a new world is given each event, in order, and goes on after a refused one. Errs only
-/// where there is no new world. Each event has its entry or is counted as left out; where none is, and none
-/// was refused, each has done all that it is.
+/// Runs a call: a new world is given each event, in order, and goes on after a refused one. Returns its report. Errs with `NoMemory` or
+/// `WidthNotCallable` if there is no new world. Each event has its entry or is counted as left out (clause `each`); if none is left out and
+/// none was refused, all of each is done (clause `whole`).
 pub fn run(
     alloc: Global,
     document: Document,
@@ -221,6 +223,7 @@ pub fn run(
     let mut world = World::new(alloc, document, wish, caps)?;
     let mut left_out = 0;
     for event in events {
+        // A world doesn't count an event without room for its entry, so that `refused` is the number of marks; a run counts it here.
         left_out += world.leaves_out(*event);
     }
     let mut report = world.report();

@@ -3,20 +3,20 @@
 ghost use Rattle.conversations.specs.LineLaws.{AnswerersFitLines, CallersFitLines, ChannelsHaveNames, KindsHaveNames, ReadsWhatIsSent};
 ghost use Rattle.conversations.specs.LineLaws.{SaysOneThing, SentFitsALine};
 
-/// Two carriers have two names, and so have the two kinds.
+/// Two carriers have two names, and so do the two kinds of bits.
 pub fn names_differ()
     ensures channels { ChannelsHaveNames }
     ensures kinds { KindsHaveNames }
 {}
 
-/// A line says one thing at most, at one time.
+/// A line says at most one thing, at one time.
 pub fn says_one_thing()
     ensures { SaysOneThing }
 {}
 
-/// The words in which a burst is sent, `CARRIER KIND BITS HEX`, say at the other station, after `rx` and a time, its carrier, its kind,
-/// its number of bits and its octets, where it has at most 1,599,824 bits. A burst that a terminal sends has as many octets as its bits
-/// need.
+/// Two stations can be joined by their lines: the words in which a burst is sent, `CARRIER KIND BITS HEX`, say at the other station, after
+/// `rx` and a time, its carrier, its kind, its number of bits and its octets, if it has at most 1,599,824 bits. A burst that a terminal
+/// sends has as many octets as its bits need.
 pub fn reads_what_is_sent()
     ensures reads { ReadsWhatIsSent }
     ensures fits { SentFitsALine }
