@@ -216,13 +216,19 @@ unfoldable pub hears_all : List (List ℕ) → Capture → Step
 hears_all [] s = finds_none s
 hears_all (content ∷ contents) s = hears_read (read_content content) s >>> hears_all contents
 
--- the pages that contents carry, in order, with what is missing of others
+-- The pages that contents carry, in their order, and between them what is missing of others (T.30, Annex A). A DCS says how pages are sent,
+-- and what is open before it is left; a block before any DCS is only named. The data of FCDs, if they aren't longer than agreed, are kept
+-- under their numbers until a PPS: they are its block, together with the frames that are kept of the same block from before. For one number
+-- the later data count, and the greatest last frame counts. A whole block is joined to its page once: the same PPS again changes nothing. A
+-- PPS with another end than NULL ends the page, which is read by its DCS, or named with its fault. If another block, a DCS or the end comes
+-- before a block is whole, each missing frame is named; a block that isn't the next one of its page is named; a page with a missing block
+-- isn't read. What no PPS ends is named at a DCS and at the end. Other signals, and contents that are none, change nothing.
 unfoldable pub captured : List (List ℕ) → List Captured
 captured contents =
     let heard = hears_all contents (empty_capture None) in
     heard.found ++ at_end heard.then
 
--- what a step leaves, and the list of what was found with what it finds
+-- the state after a step, and what was found so far with what the step finds after it
 pub record Takes (step : Step) (new : Capture) (before after : List Captured) : Type 0 where
   pub is : new ≡ step.then
   pub found : after ≡ before ++ step.found

@@ -17,7 +17,7 @@ abbrev pub hears_signals : List PlainSignal → Capture → Step
 hears_signals [] s = finds_none s
 hears_signals (signal ∷ signals) s = hears signal s >>> hears_signals signals
 
--- what is found in the signals of a line
+-- what is found in the signals of a line, from the beginning to its end
 abbrev pub found_in : List PlainSignal → List Captured
 found_in signals = (hears_signals signals (empty_capture None)).found ++ at_end (hears_signals signals (empty_capture None)).then
 
@@ -75,7 +75,7 @@ pub record SequencesMean (params next : Params) (a b : List ℕ) : Type 0 where
   -- before any DCS nothing can be read
   pub no_dcs : (ends : PageEnd) → found_in (fcd 0 a ∷ pps ends 0 0 0 ∷ []) ≡ BlockBeforeDcs (mark_of 0 0) ∷ []
 
--- what is found in these sequences, whatever the parameters and the data are
+-- law: what is found in the 19 sequences of `SequencesMean`, whatever the parameters and the data are
 abbrev pub CapturesMean : Type 0
 CapturesMean = (params next : Params) (a b : List ℕ) → length a ≤ 64 → length b ≤ 64 → SequencesMean params next a b
 
@@ -86,11 +86,12 @@ IsOfNoPage (fcd number octets) = ⊥
 IsOfNoPage (pps ends page block last) = ⊥
 IsOfNoPage signal = Unit {0}
 
--- every other signal changes nothing and ends nothing, a DCN too
+-- law: in every state, each signal but DCS, FCD and PPS changes nothing and ends nothing; so does a DCN
 abbrev pub OthersChangeNothing : Type 0
 OthersChangeNothing = (signal : PlainSignal) (s : Capture) → IsOfNoPage signal → hears signal s ≡ finds_none s
 
--- data that aren't too long are kept under their number, and nothing else changes; longer ones change nothing
+-- law: in every state, an FCD's data are kept under their number if they aren't too long, and nothing else changes; longer data change
+-- nothing
 abbrev pub FramesAreKept : Type 0
 FramesAreKept = (params : Params) (number : ℕ) (octets : List ℕ) (s : Capture) → s.params ≡ Some params → number < length s.coming →
     ((IsTooLong params octets → ⊥) → (coming : List (Option (List ℕ))) × IsKept s.coming number octets coming
@@ -109,8 +110,8 @@ pub record IsAwaited (ends : PageEnd) (mark : Mark) (last : ℕ) (before after :
   pub new : last ≤ counts
   pub old : (waiting : Pps) → before ≡ Some waiting → is_waiting before mark ≡ true → waiting.last ≤ counts
 
--- a PPS of a block that wasn't whole before takes the frames since the PPS before it: the block waits for others, or it is whole, and then
--- its end says what comes
+-- law: in every state, a PPS of a block that wasn't whole before takes the frames since the PPS before it. The block waits for its missing
+-- frames, and the greatest last frame counts; or it is whole, and then its page goes on with the next block (0 after 255) or is over.
 abbrev pub BlocksEnd : Type 0
 BlocksEnd = (params : Params) (ends : PageEnd) (mark : Mark) (last : ℕ) (s : Capture) → s.params ≡ Some params →
     is_taken s.taken mark ≡ false → let t = (hears (pps ends mark.page mark.block last) s).then in

@@ -72,7 +72,7 @@ IsFrontOfSignal (dcs params) s octets = IsOpenFront s octets
 IsFrontOfSignal (pps ends page block last) s octets = IsFrontAt (goes_on (record { page = page; block = block }) s) s octets
 IsFrontOfSignal signal s octets = octets ≡ []
 
--- the same of a content; one that says no signal leaves none
+-- the same for a content: if it isn't a signal, it leaves no octets
 abbrev pub IsFrontBefore : Result PlainSignal SignalFault → Capture → List ℕ → Type 0
 IsFrontBefore (Ok signal) s octets = IsFrontOfSignal signal s octets
 IsFrontBefore (Err fault) s octets = octets ≡ []
@@ -89,7 +89,7 @@ pub record IsFrontPage (params : Params) (octets : List ℕ) (page : PagePixels)
 abbrev pub FrontStep : Type 0 → Type 1
 FrontStep S = S → PagePixels → S → Type 0
 
--- the page of the rows before a gap is taken, where there is a row
+-- the store takes the page of the rows before a gap, if that has a row
 abbrev pub GivesFront : {S : Type 0} → FrontStep S → Option Params → List ℕ → S → S → Type 0
 GivesFront fronts None octets old new = new ≡ old
 GivesFront fronts (Some params) octets old new = (page : PagePixels) × IsFrontPage params octets page
@@ -106,7 +106,7 @@ pub record Salvages {S : Type 0} (takes : FoundStep S) (fronts : FrontStep S) (h
   pub given : GivesFront fronts s.params octets old mid
   pub found : TakesEach takes mid (hears_read heard s).found new
 
--- contents, one after the other
+-- contents, one after the other, each by `Salvages`
 abbrev pub SalvagesEach : {S : Type 0} → FoundStep S → FrontStep S → List (List ℕ) → Capture → S → S → Type 0
 SalvagesEach takes fronts [] s old new = new ≡ old
 SalvagesEach {S} takes fronts (content ∷ contents) s old new = (mid : S) × Salvages takes fronts (read_content content) s old mid
@@ -120,7 +120,9 @@ pub record SalvagesEnd {S : Type 0} (takes : FoundStep S) (fronts : FrontStep S)
   pub given : GivesFront fronts s.params octets old mid
   pub found : TakesEach takes mid (at_end s) new
 
--- all contents of a line, and its end
+-- All contents of a line were heard. For each, the store took first the page of the rows before the gap that it leaves, if that has a row,
+-- and then what was found. A gap is left by a DCS, by a PPS that gives up the open page, and by the end of the line. The rows are all whole
+-- rows in the octets of the page's whole blocks, followed by the open block's frames before its first missing one.
 pub record SalvagesAll {S : Type 0} (takes : FoundStep S) (fronts : FrontStep S) (contents : List (List ℕ)) (old new : S) : Type 0 where
   pub mid : S
   pub each : SalvagesEach takes fronts contents (empty_capture None) old mid

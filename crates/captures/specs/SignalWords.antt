@@ -152,7 +152,7 @@ ppr_words map = codes "    again: frames" ++ (texts_below (frame_text map) 256 +
 
 -- ---- a content
 
--- the line of a signal, of its information field too, and none of other signals
+-- the line of words of a signal that was read, and of its information field, as in `content_words`
 abbrev pub words_of : List ℕ → PlainSignal → List ℕ
 words_of fields (dis caps) = dis_words caps ++ (others_text false fields ++ 10 ∷ [])
 words_of fields (dcs params) = dcs_words params ++ (others_text true fields ++ 10 ∷ [])
@@ -173,7 +173,8 @@ abbrev pub words_read : List ℕ → Result PlainSignal SignalFault → List ℕ
 words_read fields (Ok signal) = words_of fields signal
 words_read fields (Err fault) = []
 
--- The line of words of a content, none where it says nothing to explain. The information field comes after the address, the control and
--- the facsimile control field.
+-- The line of words of a content: what a DIS, DCS, PPS or PPR says, by the bit numbers of T.30, table 2. A DIS or DCS also lists the
+-- numbers of its other bits that are 1; a PPR has its frames as ranges. Other signals have none. The information field follows the address,
+-- the control and the facsimile control field.
 abbrev pub content_words : List ℕ → List ℕ
 content_words content = words_read (drop 3 content) (read_content content)

@@ -37,7 +37,7 @@ use Rattle.faxtool.specs.declared.words.Outcome.TheVariants.{Done, Fault, Incomp
 
 -- ---- the commands
 
--- an option whose name is its id, with one value
+-- an option for `clap`: its name is its id, and it has one value
 abbrev pub option_rule : Text → Rule
 option_rule name = record (new_rule name) {
   long = Some name;
@@ -50,7 +50,7 @@ abbrev pub coding_rule : ValueParser → Rule
 coding_rule codings =
     record (option_rule (codes "code")) { required = true; parser = Some codings }
 
--- `--order`, which is `msb` where it isn't given
+-- `--order`, `msb` if it isn't given
 abbrev pub order_rule : ValueParser → Rule
 order_rule orders = record (option_rule (codes "order")) {
   parser = Some orders;
@@ -64,7 +64,7 @@ width_rule = record (option_rule (codes "width")) {
   parser = Some (vp.Signed (pos 1) (pos 2432));
 }
 
--- an option that is one of several names, with the one that holds where it isn't given
+-- an option that is one of several names, with the one used if it isn't given
 abbrev pub choice_rule : Text → ValueParser → Text → Rule
 choice_rule id names default = record (option_rule id) {
   parser = Some names;
@@ -248,7 +248,7 @@ pub record BeginsFaxtool (a : App) : Type 0 where
   pub takes_ends : TakesNames ends (codes "normal" ∷ [])
   pub commands : a ≡ call_and_page_app codings orders sizes modems ends
 
--- the command that the program hands to clap
+-- the command that the program hands to `clap`
 pub record IsFaxtool (a : App) : Type 0 where
   pub begun : App
   pub first : BeginsFaxtool begun
@@ -368,7 +368,7 @@ pub record ArePagesIn (rows : List Row) (pages : Option Text) (salvage : Bool) :
   pub salvage_is : salvage ≡ is_named (codes "true") (first_of (codes "salvage") rows)
   pub in_folder : (salvage && not (is_some pages)) ≡ false
 
--- the options are those that the values give
+-- the options of a call are those that the values of its command give
 pub record AreOptionsIn (rows : List Row) (options : CallOptions) : Type 0 where
   pub coding_is : coding_named (first_of (codes "code") rows) ≡ Some options.coding
   pub small_is : options.small ≡ is_named (codes "64") (first_of (codes "frame") rows)
@@ -406,7 +406,8 @@ abbrev pub calls_of : Option ℕ → ℕ
 calls_of None = 3
 calls_of (Some calls) = calls
 
--- the line is the one that the values give: its rates are 1 at most together, and its seed is below 2 ^ 32
+-- The bad line that the values of `call` give: its rates, 1 at most together, its seed, below 2^32, and the number of DIS in a wait, 3 if
+-- none is given.
 pub record IsLineIn (rows : List Row) (line : BadLine) : Type 0 where
   pub lose_is : IsRateIn (codes "lose") rows line.lose
   pub spoil_is : IsSpoilIn rows line.spoil
@@ -439,7 +440,8 @@ abbrev pub IsTimesIn : List Row → Option ℕ → Type 0
 IsTimesIn rows None = first_of (codes "times") rows ≡ None
 IsTimesIn rows (Some times) = AreManyIn rows times
 
--- the values of the command `call` are those of a call over a bad line, or of many, with no script
+-- The values of `call` are those of a call over a bad line, or of many calls: the line, the options, the files of `--out` and `--diagram`
+-- and the folder of `--bits`; and there is no script.
 pub record IsDriveOf (rows : List Row) (line : BadLine) (times : Option ℕ) (options : CallOptions)
     (out bits : Option Text) (normal : Bool) (diagram : Option Text) (input : Text) : Type 0 where
   pub script_is : first_of (codes "script") rows ≡ None
@@ -452,7 +454,8 @@ pub record IsDriveOf (rows : List Row) (line : BadLine) (times : Option ℕ) (op
   pub diagram_is : first_of (codes "diagram") rows ≡ diagram
   pub input_is : first_of (codes "in") rows ≡ Some input
 
--- the values of the command `call` are those of the job, which has a script and no bad line, and reads standard input once at most
+-- The values of `call` are those of a call by a script: the script, the options, the files of `--out` and `--diagram` and the folder of
+-- `--bits`. There is no bad line, and standard input is read once at most.
 pub record IsCallOf (rows : List Row) (script : Text) (options : CallOptions) (out bits : Option Text) (normal : Bool)
     (diagram : Option Text) (input : Text) : Type 0 where
   pub script_is : first_of (codes "script") rows ≡ Some script
@@ -555,7 +558,7 @@ pub record IsDialOf (rows : List Row) (options : CallOptions) (waits : GivenWait
   pub input_is : first_of (codes "in") rows ≡ Some input
   pub apart : bytes_eq input (codes "-") ≡ false
 
--- the job of a command's name and values
+-- the job that a command's name and its values give
 abbrev pub IsJobOf : Option (Text × List Row) → Job → Type 0
 IsJobOf met (Code coding order input output) = (rows : List Row)
     × (met ≡ Some (codes "code", rows))
@@ -602,7 +605,8 @@ abbrev pub asks : Text → Option (Text × List Row) → Bool
 asks id None = false
 asks id (Some met) = is_named (codes "true") (first_of id met.1)
 
--- clap takes the words, and the job is of the command and the values that it states
+-- `clap` takes the words, and the job is that of the command and the values that it gives. A fault is explained in words if `--explain` is
+-- among them, and messages are records if `--json` is.
 abbrev pub ReadsAs : List Text → Request → Type 0
 ReadsAs words request = (a : App) × IsFaxtool a × (fault_of a words ≡ []) × IsJobOf (subcommand_of a words) request.job
     × (request.explain ≡ asks (codes "explain") (subcommand_of a words))
@@ -610,7 +614,7 @@ ReadsAs words request = (a : App) × IsFaxtool a × (fault_of a words ≡ []) ×
 
 -- ---- refusals
 
--- memory was refused, or clap refuses the words by this kind of error, or they have no job
+-- why there is no job: memory was refused, `clap` refuses the words with an error of this kind, or no job has these values
 abbrev pub IsRefusalOf : List Text → Outcome → Type 0
 IsRefusalOf words Done = ⊥
 IsRefusalOf words Incomplete = ⊥
@@ -619,7 +623,7 @@ IsRefusalOf words (Words error) = (a : App) × IsFaxtool a
     × (IsAmong (kind_of error) (fault_of a words)
     ⊎ HasNoJob (subcommand_of a words))
 
--- the outcome where clap gives this error
+-- what an error of `clap` becomes: `NoMemory` (9) if memory was refused, otherwise an error of the command line
 abbrev pub IsOutcomeOf : Error → Outcome → Type 0
 IsOutcomeOf error Done = ⊥
 IsOutcomeOf error Incomplete = ⊥
@@ -628,14 +632,14 @@ IsOutcomeOf error (Words given) = (kind_of error ≢ OutOfMemory) × (given ≡ 
 
 -- ---- the exit status
 
--- 0 where the job is done, 1 for a fault or where something is missing, 2 for the words
+-- the exit status: 0 if the job is done, 1 for a fault or if something is missing, 2 for a wrong command line
 abbrev pub status_of : Outcome → ℕ
 status_of Done = 0
 status_of Incomplete = 1
 status_of (Fault fault) = 1
 status_of (Words error) = 2
 
--- the width of a job that shows or decodes a page is one that a page may have
+-- the width of a job that shows or decodes a page is 1 to 2,432
 abbrev pub HasWidth : Job → Type 0
 HasWidth (Code coding order input output) = Unit {0}
 HasWidth (Show coding order width input) = IsWidth width

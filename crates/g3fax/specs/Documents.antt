@@ -25,8 +25,8 @@ pub record IsMoved (status : ℕ) (old new : Option Kept) : Type 0 where
   pub done : status ≡ ok → new ≡ None
   pub kept : status ≢ ok → new ≡ old
 
--- the page of a handle moves to the end of a document, whose handle was and is so; an empty handle is answered by 100, one of another kind
--- by 101, the page's first, and both stay
+-- The page of a handle moves to the end of a document, and its handle is empty then. 4 exactly if the page has no rows; 100 and 101 for
+-- either handle, the page's first; else 0, or 9. By any status above 0 both stay.
 abbrev pub MovesPage : Option Kept → Option Kept → Option Kept → Option Kept → ℕ → Type 0
 MovesPage None left old new status = (status ≡ empty_handle) × (left ≡ None) × (new ≡ old)
 MovesPage (Some (Octets octets)) left old new status = (status ≡ other_handle) × (left ≡ Some (Octets octets)) × (new ≡ old)

@@ -18,7 +18,7 @@ use Rattle.stations.specs.declared.waiting.Wait.{Wait}
 use Rattle.stations.specs.declared.waiting.Wait.TheVariants.{T1, T2, T4, T5}
 use Rattle.terminals.specs.Timing.{wait_millis}
 
--- the waits by their numbers: those of their names
+-- the waits by their numbers, those of their names in T.30: T1, T2, T4 and T5
 abbrev pub wait_of : ℕ → Option Wait
 wait_of number =
     if nat_eq number 1 then Some T1 else (if nat_eq number 2 then Some T2 else (if nat_eq number 4 then Some T4 else

@@ -1,7 +1,7 @@
 -- The numbers of the statuses that aren't faults of rows, pages, images or codes.
 use Rattle.std.specs.Prelude.{ℕ}
 
--- it is done
+-- the call is done
 abbrev pub ok : ℕ
 ok = 0
 
@@ -33,7 +33,7 @@ full_handle = 102
 abbrev pub no_room : ℕ
 no_room = 103
 
--- a number that stands for no choice
+-- a number that isn't one of those allowed
 abbrev pub bad_choice : ℕ
 bad_choice = 104
 
@@ -41,7 +41,7 @@ bad_choice = 104
 abbrev pub bad_length : ℕ
 bad_length = 105
 
--- nothing is there: no such row, no frame that waits
+-- nothing is there: no such row, no frame that waits, no page to hand out
 abbrev pub nothing_there : ℕ
 nothing_there = 106
 

@@ -10,7 +10,7 @@ use Rattle.run_tables.specs.declared.fault.CodeFault.{CodeFault}
 use Rattle.faults.specs.declared.expected.Expected.{Expected}
 use Rattle.faults.specs.declared.expected.Expected.TheVariants.{RunOf, Eol}
 
--- the row after all whole rows of the bits, counted from 1
+-- the row after all whole rows of the coded bits, counted from 1
 abbrev pub IsRefusedRow : Coding → ℕ → List Bool → ℕ → Type 0
 IsRefusedRow coding width bits row =
     (rows : List (List Color)) × AreWholeRows coding width bits rows × (row ≡ length rows + 1)
