@@ -12,8 +12,8 @@ use calls::{CallOptions, call_to_end, ended_normally, read_script};
 use faults::{NO_MEMORY, ToolFault};
 use raster::{Page, write_pbm};
 
-/// Runs a call by a script's file, and prints what has become of it. The file of the stored pages is
-/// opened last, and only where there are any. Answers whether the call ended normally for both stations.
+/// Runs a call by a script's file, and prints its transcript and its end. The file of the stored pages is opened last, and only if there
+/// are any. Returns whether the call ended normally for both stations.
 pub fn call_file(
     rt: &HostRuntime,
     script: &str,
@@ -36,7 +36,7 @@ pub fn call_file(
     Ok(ended_normally(&ending))
 }
 
-/// Writes the pages that a call has stored into a file, one after the other, where one is named and there are any.
+/// Writes the pages that a call has stored into a file, one after the other, if a file is named and there are any.
 pub fn write_pages(
     rt: &HostRuntime,
     out: Option<&str>,

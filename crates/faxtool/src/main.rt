@@ -70,7 +70,7 @@ fn run_words(rt: &HostRuntime) -> Outcome {
     }
 }
 
-/// The words that the program is called with. Errs where one of them is no text, and where memory was refused.
+/// Returns the words that the program is called with. Errors: one of them isn't UTF-8, or memory was refused.
 fn given_words(rt: &HostRuntime) -> io::Result<Vec<String>> {
     let words = env::args(rt)?.collect(rt.alloc())?;
     Ok(words)

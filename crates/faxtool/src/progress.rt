@@ -6,7 +6,7 @@ use std::time::Instant;
 /// The seconds after which progress is shown.
 const QUIET: u64 = 2;
 
-/// How far the reading of a file is. It is shown on a terminal alone, once a second, after the first two.
+/// How far a file is read. Shown on a terminal only, once a second, after the first two.
 #[derive(Drop)]
 pub struct Progress<'a> {
     rt: &'a HostRuntime,
@@ -31,7 +31,7 @@ impl<'a> Progress<'a> {
         }
     }
 
-    /// More octets were read, this number.
+    /// Counts octets that were read.
     pub fn read(&mut self, octets: usize) {
         self.octets = self.octets.saturating_add(octets as u64);
         let Some(begun) = self.begun else {
@@ -48,7 +48,7 @@ impl<'a> Progress<'a> {
         }
     }
 
-    /// Reading has ended: what was shown is wiped out.
+    /// Reading has ended: clears what was shown.
     pub fn end(&self) {
         if self.shown > QUIET {
             let _shown = eprint!(self.rt; "\r\x1b[K");

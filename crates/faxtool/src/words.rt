@@ -34,7 +34,7 @@ pub enum Job {
     Code {
         /// The code.
         coding: Coding,
-        /// Which bit of an octet of the output comes first.
+        /// Which bit of an octet of the output is first.
         order: Order,
         /// The name of the image's file.
         input: String,
@@ -45,7 +45,7 @@ pub enum Job {
     Show {
         /// The code of the page.
         coding: Coding,
-        /// Which bit of an octet of the file comes first.
+        /// Which bit of an octet of the file is first.
         order: Order,
         /// The page's width in pixels, 1 to 2,432.
         width: u32,
@@ -67,13 +67,13 @@ pub enum Job {
     },
     /// Lists the frames in a file of bits.
     Frames {
-        /// At most how many octets of a content are shown, where it isn't all of them.
+        /// How many octets of a content are shown at most; None for all.
         most: Option<u32>,
-        /// Which bit of an octet of the file comes first.
+        /// Which bit of an octet of the file is first.
         order: Order,
         /// What is written of each frame.
         form: ListForm,
-        /// The name of the folder that the pages in the frames go to, where one is given.
+        /// The name of the folder that the pages in the frames go to, if one is given.
         pages: Option<String>,
         /// Whether the rows before the gap of a page that isn't whole go there too.
         salvage: bool,
@@ -82,9 +82,9 @@ pub enum Job {
     },
     /// Draws the frames in two files of bits, one of each station of a call.
     Captures {
-        /// Which bit of an octet of the files comes first.
+        /// Which bit of an octet of the files is first.
         order: Order,
-        /// Whether what is told is records, for programs.
+        /// Whether messages are written as JSON.
         records: bool,
         /// The name of the file that the frames are drawn in.
         diagram: String,
@@ -104,13 +104,13 @@ pub enum Job {
         script: String,
         /// What the call is run with.
         options: CallOptions,
-        /// The name of the file that the stored pages go to, where one is given.
+        /// The name of the file that the stored pages go to, if one is given.
         out: Option<String>,
-        /// The name of the folder that the octets on the line go to, where one is given.
+        /// The name of the folder that the octets on the line go to, if one is given.
         bits: Option<String>,
         /// Whether the call is to end normally for both stations.
         normal: bool,
-        /// The name of the file that the call is drawn in, where one is given.
+        /// The name of the file that the call is drawn in, if one is given.
         diagram: Option<String>,
         /// The name of the document's file.
         input: String,
@@ -119,17 +119,17 @@ pub enum Job {
     Drive {
         /// How bad the line is.
         line: BadLine,
-        /// How many calls are run, where that is said.
+        /// How many calls are run, if given.
         times: Option<u32>,
         /// What the call is run with.
         options: CallOptions,
-        /// The name of the file that the stored pages go to, where one is given.
+        /// The name of the file that the stored pages go to, if one is given.
         out: Option<String>,
-        /// The name of the folder that the octets on the line go to, where one is given.
+        /// The name of the folder that the octets on the line go to, if one is given.
         bits: Option<String>,
         /// Whether the call is to end normally for both stations.
         normal: bool,
-        /// The name of the file that the call is drawn in, where one is given.
+        /// The name of the file that the call is drawn in, if one is given.
         diagram: Option<String>,
         /// The name of the document's file.
         input: String,
@@ -144,7 +144,7 @@ pub enum Job {
         waits: GivenWaits,
         /// The name of the folder that the stored pages go to.
         out: String,
-        /// The name of the file that the trace goes to, where one is given.
+        /// The name of the file that the trace goes to, if one is given.
         trace: Option<String>,
     },
     /// Runs a caller by lines of text.
@@ -153,7 +153,7 @@ pub enum Job {
         options: CallOptions,
         /// How long its waits run.
         waits: GivenWaits,
-        /// The name of the file that the trace goes to, where one is given.
+        /// The name of the file that the trace goes to, if one is given.
         trace: Option<String>,
         /// The name of the document's file.
         input: String,
@@ -172,7 +172,7 @@ pub struct Request {
     pub job: Job,
     /// Whether a fault is explained in words too.
     pub explain: bool,
-    /// Whether what is told for programs is asked for: records.
+    /// Whether messages are records for programs.
     pub json: bool,
 }
 
@@ -181,7 +181,7 @@ pub struct Request {
 pub enum Outcome {
     /// The job is done.
     Done,
-    /// The job is done as far as it can be, and what is missing was named; or a call was run, and didn't end as it was to.
+    /// The job is done as far as possible and what is missing was named; or a call was run and didn't end as expected.
     Incomplete,
     /// The job failed.
     Fault(ToolFault),
@@ -189,8 +189,8 @@ pub enum Outcome {
     Words(Error),
 }
 
-/// The exit status of the program: 0 where the job is done, 1 for a fault or where something is missing, and 2 for the
-/// words.
+/// Returns the program's exit status: 0 if the job is done, 1 for a fault or if something is missing, 2 if the command line is wrong, and
+/// for `--help`.
 pub fn status(outcome: &Outcome) -> u8
     ensures { result ≡ status_of outcome.now }
 {
@@ -226,10 +226,8 @@ impl From<Error> for Outcome {
     }
 }
 
-/// What the words ask for, of which the first is the program's name.
-///
-/// An `Err` is the fault 9 where memory was refused, and else has the text for the user: what is
-/// wrong with the words, or the help that they ask for.
+/// Reads the words of the command line, of which the first is the program's name. An `Err` is `NoMemory` (9), or the text for the user:
+/// what is wrong with the words, or the help that they ask for.
 pub fn read_words(alloc: Global, words: &[&str]) -> Result<Request, Outcome>
     ensures { let texts = map (λ word. word.now) words.now in
         MatchResult result (ReadsAs texts) (IsRefusalOf texts) }

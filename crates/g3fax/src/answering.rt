@@ -5,7 +5,7 @@ use stations::LimitedAnswerer;
 use std::marker::Model;
 use terminals::Terminal;
 
-/// The terminal of an answerer, and the pages that were taken out of it and not handed out yet.
+/// The terminal of an answerer, and the pages taken out of it that wait to be handed out.
 #[derive(Drop)]
 pub struct Answering {
     pub(crate) terminal: Terminal<LimitedAnswerer>,

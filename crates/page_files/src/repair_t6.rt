@@ -26,9 +26,9 @@ fn tell_no_eofb<W: Write>(rows: usize, bit: u128, writer: &mut W) -> Result<(), 
     Ok(())
 }
 
-/// Decodes octets that begin with a page of this form, of a width of 1 to 2,432 pixels, in T.6 whatever the form's code is. Where they are
-/// refused, the whole rows are given; and where no row begins after them, so that only EOFB is missing or broken, a line says so,
-/// and that is no fault. Errs with 9 where memory is refused, and with 8.
+/// Decodes octets that begin with a page of T.6, of the width and lines of `form` (1 to 2,432 pixels). If they are refused, returns the
+/// whole rows. It is no fault if no row begins after them, so that only EOFB is missing or broken: then a line says so. Errors: `NoMemory`
+/// (9), and `Io` (8).
 pub(crate) fn repair_t6(alloc: Global, octets: &[u8], form: PageForm) -> Result<Decoded, ToolFault>
     requires { IsWidth form.width }
     ensures given { IfOk result (λ given. (image : List ℕ) → WritesPage given.page (Some []) (Some image)
