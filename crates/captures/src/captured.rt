@@ -256,6 +256,7 @@ impl Capture {
     fn counted(&self, pps: Pps) -> Pps
         ensures { result ≡ record pps { last = last_counted (option_map asked_by self.now.waiting) pps.mark pps.last } }
     {
+        // some senders count in the PPS of a resend only what they send again, so the greatest last frame counts
         self.block.counted(pps)
     }
 
@@ -275,6 +276,7 @@ impl Capture {
         self.octets.clear();
         match waiting.ends {
             PageEnd::Null => {
+                // the page's code can't go on after the gap, so it isn't read
                 self.next = waiting.mark.block.wrapping_add(1);
                 self.spoiled = true;
             }
@@ -331,6 +333,7 @@ impl Capture {
         ensures gathered { OnOk result (self.new ≡ gathers self.old) }
         ensures fault { IfErr result IsOutside }
     {
+        // A lost PPS mixes the frames of two blocks. The blocks' numbers then show that one is missing, except in a page of one block.
         overlay(&mut self.block.frames, &self.coming)?;
         self.drop_coming();
         Ok(())
@@ -503,6 +506,7 @@ impl Capture {
     {
         match self.block.asked {
             Some(_) => append_front(&self.block.frames, octets),
+            // Taken to be the next block: if a whole block is sent again and then cut off, its rows come twice.
             None => append_front(&self.coming, octets),
         }
     }

@@ -192,6 +192,7 @@ pub fn feed_in(deframer: &mut Deframer, order: Order, piece: &[u8]) -> Result<()
 pub(crate) fn has_no_frame(octets: u64, number: u64) -> bool
     ensures { IsTrue result ↔ ((64 < octets) × (number ≡ 1)) }
 {
+    // a few octets may well have no frame in the right order
     octets > 64 && number == 1
 }
 

@@ -52,7 +52,7 @@ fn lines_words(fine: bool) -> &'static str
     if fine { "fine lines" } else { "standard lines" }
 }
 
-/// Returns whether T.6 is read too.
+/// Returns the words that say whether T.6 is read too.
 fn code_words(t6: bool) -> &'static str
     ensures { result.now ≡ code_words t6 }
 {
@@ -69,7 +69,7 @@ fn coding_words(coding: Coding) -> &'static str
     }
 }
 
-/// Returns whether a station receives.
+/// Returns the words that say whether a station receives.
 fn receiver_words(receiver: bool) -> &'static str
     ensures { result.now ≡ receiver_words receiver }
 {
@@ -80,7 +80,7 @@ fn receiver_words(receiver: bool) -> &'static str
     }
 }
 
-/// Returns whether errors are corrected.
+/// Returns the words that say whether errors are corrected.
 fn correction_words(ecm: bool) -> &'static str
     ensures { result.now ≡ correction_words ecm }
 {
@@ -162,6 +162,7 @@ fn is_other(of_dcs: bool, fields: &[u8], at: u128) -> bool
     requires { at < 8 * length fields.now }
     ensures { result ≡ is_other of_dcs fields.now at }
 {
+    // up to the end of the field, whatever its extension bits say
     if !bit_of(Order::LsbFirst, fields, at) {
         return false;
     }
@@ -291,6 +292,7 @@ fn write_map<W: Write>(map: &[u8; 32], writer: &mut W) -> Result<(), ToolFault>
     ensures fault { IfErr result IsOutside }
 {
     let mut some = false;
+    // all frames that it marks, also past the last one of its block
     for number in 0u16..256 {
         write_marked(map, number, some, writer)?;
         some = is_in_map(map, number) || some;

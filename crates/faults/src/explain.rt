@@ -77,6 +77,7 @@ impl fmt::Display for NameText<'_> {
     ghost output = { λ text. Some (name_text text.0.now) };
 
     fn fmt<W: fmt::Write>(&self, f: &mut fmt::Formatter<W>) -> fmt::Result {
+        // so no file name makes a second line or moves a terminal's cursor
         if is_shown(self.0) {
             write!(f, "{}", self.0)
         } else {
@@ -185,6 +186,7 @@ fn reason_words(reason: Option<ErrorKind>) -> &'static str
     ensures { result.now ≡ reason_words reason }
 {
     match reason {
+        // the kind in our own words: no contract speaks of the text of the C library
         Some(ErrorKind::NotFound) => "no such file or folder",
         Some(ErrorKind::PermissionDenied) => "permission denied",
         Some(ErrorKind::IsADirectory) => "it is a folder",
@@ -219,6 +221,7 @@ fn try_words(kind: FaultKind, row: Option<usize>, read_as: Option<(Coding, Order
     ensures { result.now ≡ try_words kind row read_as }
 {
     match (row, read_as) {
+        // both are named, since nothing says which one is more likely
         (Some(1), Some((coding, order))) if !is_at_end(kind) => other_words(coding, order),
         _ => "",
     }

@@ -68,6 +68,8 @@ pub enum FaultKind {
     BadLine,
 }
 
+// The number alone names no kind: 4 is an image without rows, and at a bit a page that ends before its first row. The matches have no
+// catch-all, so that a new kind needs a number and words.
 impl FaultKind {
     /// Returns the number of the fault, as the fault line shows it.
     pub fn number(self) -> u8

@@ -1,6 +1,6 @@
 //! What is wrong with a line of a script.
 
-/// What is wrong with a line of a script.
+/// What is wrong with a line of a script: the first of these that holds, so each line has one fault.
 #[derive(Clone, Copy, Debug, PartialEq, Eq)]
 pub enum LineFault {
     /// It isn't UTF-8.

@@ -22,7 +22,7 @@ pub fn call_file(
     notes: &mut Notes,
 ) -> Result<bool, ToolFault> {
     notes.script = read_file(rt, script, Part::Script, notes)?;
-    // a script that is refused is so before anything waits for images
+    // a wrong script is refused before the document is read
     let _commands = read_script(rt.alloc(), notes.script.as_slice())?;
     read_input(rt, files.input, notes)?;
     let mut writer = diagram::open(rt, files, notes)?;

@@ -16,7 +16,7 @@ pub(crate) fn has_captures(matches: &ArgMatches<'_>) -> bool
         || text_in(matches, "answerer").is_some()
 }
 
-// Whether a value is of one capture that is listed.
+// Whether an option for listing one capture was given.
 fn has_listing(matches: &ArgMatches<'_>) -> bool
     ensures { result ≡ has_listing (rows_of (found_of matches.now)) }
 {

@@ -171,6 +171,7 @@ pub fn refused_place(
         let (row, expected) = refused_in(rt.alloc(), octets, form, refused);
         return (Some(row), expected);
     }
+    // `--repair` doesn't keep how far it read: the page is read again, and only if the words are shown
     refused_at(rt.alloc(), octets, coding, order, width, place)
 }
 

@@ -9,7 +9,7 @@ use faults::ToolFault;
 use std::io::{BufWriter, ErrorKind, Read, Write};
 use std::{fs, io};
 
-/// The name of standard input and of standard output.
+/// The name of standard input and of standard output; a file of that name is `./-`.
 pub const STANDARD: &str = "-";
 
 /// The name of the file that a command reads, and that of the file that it writes.

@@ -82,6 +82,7 @@ fn check_output(rt: &HostRuntime, job: &Job, notes: &mut Notes) -> Result<(), To
         return Ok(());
     };
     match job {
+        // before a line is printed, or IN is read
         Job::Frames { .. } | Job::Answer { .. } => {
             outputs::check_folder(rt, name, Part::Output, notes)
         }

@@ -46,7 +46,7 @@ fn main(rt: HostRuntime) -> ExitCode {
 fn run_words(rt: &HostRuntime) -> Outcome {
     let words = match given_words(rt) {
         Ok(words) => words,
-        // a word that is no text names no file that can be opened
+        // an argument that isn't UTF-8 can't name a file
         Err(error) => {
             let reason = Some(error.kind());
             return refused(rt, ToolFault::from(error), "a word of the command", reason);

@@ -81,6 +81,7 @@ pub fn write(
 ) -> Result<(), ToolFault>
     ensures { IfErr result IsOutside }
 {
+    // OUT is a new file: it belongs to who runs the program, and other names of the old one (hard links) keep the old content.
     noted(put(rt, name, octets), part, notes)
 }
 
@@ -200,6 +201,7 @@ fn make_beside(rt: &HostRuntime, name: &str, private: bool) -> io::Result<Made> 
         Some((folder, _)) => format!(in rt.alloc(); "{folder}/")?,
         None => String::new(rt.alloc()),
     };
+    // a file that is there is never written; one that a killed run has left stays
     for number in 1..=MOST_NAMES {
         let beside = format!(in rt.alloc(); "{folder}faxtool-{process}-{number}.part")?;
         if let Some(file) = make(rt, beside.as_str(), private)? {

@@ -18,6 +18,8 @@ pub struct Progress<'a> {
 impl<'a> Progress<'a> {
     /// Nothing was read yet. `is_shown` says whether it is shown how far the reading is.
     pub fn new(rt: &'a HostRuntime, is_shown: bool) -> Progress<'a> {
+        // Only reading is shown: coding, decoding and a call's events are single calls of proved functions, which neither read nor write
+        // meanwhile.
         let begun = if is_shown && rt.stderr().is_terminal() {
             Instant::now(rt).ok()
         } else {

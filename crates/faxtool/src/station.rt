@@ -114,7 +114,7 @@ impl PageStore for Folder<'_> {
 
     type Refused = ToolFault;
 
-    // The file is on disk then. Standard error says so where it has another number than the page.
+    // The file is on disk then. Standard error says so if it has another number than the page.
     fn store(&mut self, page: Page) -> Result<(), ToolFault> {
         let Some(number) = self.stored.checked_add(1) else {
             return Err(FAILED);

@@ -104,7 +104,7 @@ fn is_standard(input: &str) -> bool
     input == "-"
 }
 
-// Whether a value is of an answerer alone.
+// Whether an option for an answerer only was given.
 fn has_answerer(matches: &ArgMatches<'_>) -> bool
     ensures { result ≡ has_answerer (rows_of (found_of matches.now)) }
 {
@@ -114,7 +114,7 @@ fn has_answerer(matches: &ArgMatches<'_>) -> bool
         || text_in(matches, "limit").is_some()
 }
 
-// Whether a value is of a caller alone.
+// Whether an option for a caller only was given.
 fn has_caller(matches: &ArgMatches<'_>) -> bool
     ensures { result ≡ has_caller (rows_of (found_of matches.now)) }
 {

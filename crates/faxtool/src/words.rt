@@ -260,7 +260,7 @@ fn asks(matches: &ArgMatches<'_>, id: &str) -> bool
     }
 }
 
-// The job, where no value of it is missing and its options go together.
+// The job, if all its values are given and its options go together.
 fn job_in(alloc: Global, matches: &ArgMatches<'_>) -> Result<Option<Job>, AllocError>
     ensures { let met = subcommand_rows_of matches.now in
         IfOk result (λ job. MatchOption job (HasNoJob met) (IsJobOf met)) }
@@ -384,7 +384,7 @@ fn page_of(given: Option<u32>) -> u32
     given.unwrap_or(1)
 }
 
-// What is asked for of a page that is decoded.
+// What is wanted of a page that is decoded.
 fn decode_options(matches: &ArgMatches<'_>) -> DecodeOptions
     ensures { AreDecodeOptionsIn (rows_of (found_of matches.now)) result }
 {
@@ -397,7 +397,7 @@ fn decode_options(matches: &ArgMatches<'_>) -> DecodeOptions
     }
 }
 
-// Records where they are asked for, else lines, with words where those are.
+// Records if they are asked for, otherwise lines, with words if those are.
 fn list_form(records: bool, words: bool) -> ListForm
     ensures { result ≡ list_form records words }
 {
@@ -498,7 +498,7 @@ fn is_normal_wanted(matches: &ArgMatches<'_>) -> bool
     is_named(text_in(matches, "expect"), "normal")
 }
 
-// Whether a value is of a bad line.
+// Whether any option that needs `--lose` was given.
 fn has_line(matches: &ArgMatches<'_>) -> bool
     ensures { result ≡ has_line (rows_of (found_of matches.now)) }
 {
@@ -510,7 +510,7 @@ fn has_line(matches: &ArgMatches<'_>) -> bool
         || text_in(matches, "times").is_some()
 }
 
-// The bad line, where its rates and its seed are there and say one.
+// The bad line, if its rates and its seed are given and valid.
 fn line_in(matches: &ArgMatches<'_>) -> Option<BadLine>
     ensures { let rows = rows_of (found_of matches.now) in
         MatchOption result ((line : LineValue) → IsLineIn rows line → ⊥) (IsLineIn rows) }
@@ -539,11 +539,12 @@ fn line_in(matches: &ArgMatches<'_>) -> Option<BadLine>
     })
 }
 
-// How many calls are asked for, where that is said; their pages and octets are not kept, no end is wanted of them, and no records.
+// The value of `--times`; it excludes `--out`, `--bits`, `--expect`, `--diagram` and `--json`.
 fn times_in(matches: &ArgMatches<'_>) -> Option<Option<u32>>
     ensures { let rows = rows_of (found_of matches.now) in
         MatchOption result ((times : Option ℕ) → IsTimesIn rows times → ⊥) (IsTimesIn rows) }
 {
+    // many calls keep no pages; the table is no record and says how many calls ended how
     if text_in(matches, "times").is_none() {
         return Some(None);
     }
@@ -589,7 +590,7 @@ fn rate_in(matches: &ArgMatches<'_>, id: &str) -> Option<u64>
     }
 }
 
-// The rate of spoiled items, 0 where none is given.
+// The rate of spoiled items, 0 if none is given.
 fn spoil_in(matches: &ArgMatches<'_>) -> Option<u64>
     ensures is { IfSome result (IsSpoilIn (rows_of (found_of matches.now))) }
     ensures only { (share : ℕ) → IsSpoilIn (rows_of (found_of matches.now)) share → result ≡ Some share }
@@ -600,7 +601,7 @@ fn spoil_in(matches: &ArgMatches<'_>) -> Option<u64>
     }
 }
 
-// The rate at which the answerer is busy, 0 where none is given.
+// The rate at which the answerer is busy, 0 if none is given.
 fn busy_in(matches: &ArgMatches<'_>) -> Option<u64>
     ensures is { IfSome result (IsBusyIn (rows_of (found_of matches.now))) }
     ensures only { (share : ℕ) → IsBusyIn (rows_of (found_of matches.now)) share → result ≡ Some share }
@@ -618,7 +619,7 @@ pub(crate) fn are_both_standard(script: &str, input: &str) -> bool
     script == "-" && input == "-"
 }
 
-// The options of a call, where the code of its pages isn't missing.
+// The options of a call, if the code of its pages is given.
 pub(crate) fn options_in(matches: &ArgMatches<'_>) -> Option<CallOptions>
     ensures { let rows = rows_of (found_of matches.now) in
         MatchOption result (HasNoOptions rows) (AreOptionsIn rows) }
@@ -656,7 +657,7 @@ pub(crate) fn modems_named(name: Option<&str>) -> Modems
     }
 }
 
-// A copy of the text, where there is one.
+// A copy of the text, if there is one.
 pub(crate) fn copy_of(alloc: Global, text: Option<&str>) -> Result<Option<String>, AllocError>
     ensures { IfOk result (λ copy. option_map string_bytes copy ≡ option_map (λ text. text.now) text.entry) }
 {
@@ -688,7 +689,7 @@ fn order_in(matches: &ArgMatches<'_>) -> Order
     order_named(text_in(matches, "order"))
 }
 
-// The order of the bits on a line, which is `lsb` but for `msb`.
+// The bit order on a line: `lsb`, unless `msb` is given.
 pub(crate) fn line_order_in(matches: &ArgMatches<'_>) -> Order
     ensures { result ≡ line_order_named (first_of (codes "order") (rows_of (found_of matches.now))) }
 {
@@ -738,7 +739,8 @@ pub(crate) fn number_in(matches: &ArgMatches<'_>, id: &str) -> Option<u32>
     matches.get_one::<u32>(id)
 }
 
-// What is wrong with words whose options don't go together, which a parse doesn't refuse by itself.
+// What is wrong with options that don't go together. `clap`'s exact contracts hold for commands without conflicting arguments, so the
+// program refuses them itself.
 fn unfit_text(matches: &ArgMatches<'_>) -> &'static str {
     match matches.subcommand() {
         Some((name, inner)) if name == "call" => unfit_call(inner),
@@ -748,7 +750,7 @@ fn unfit_text(matches: &ArgMatches<'_>) -> &'static str {
     }
 }
 
-// The same of the words of a call.
+// What is wrong with the options of `call`.
 fn unfit_call(matches: &ArgMatches<'_>) -> &'static str {
     let has_script = text_in(matches, "script").is_some();
     let has_lose = text_in(matches, "lose").is_some();
@@ -789,7 +791,7 @@ fn unfit_call(matches: &ArgMatches<'_>) -> &'static str {
     "--lose and --spoil are more than 100% together"
 }
 
-// The error for words whose options don't go together, or that miss a value.
+// The error for options that don't go together, or for a missing value.
 fn unfit(command: &mut Command<'_>, text: &'static str) -> Result<Error, AllocError>
     ensures { IfOk result (λ error. kind_of error ≡ ErrorKind.ArgumentConflict) }
 {

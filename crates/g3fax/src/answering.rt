@@ -9,6 +9,7 @@ use terminals::Terminal;
 #[derive(Drop)]
 pub struct Answering {
     pub(crate) terminal: Terminal<LimitedAnswerer>,
+    // a terminal gives all its pages at once and is free for others then: with a limit of n there are never more than 2n - 1
     pub(crate) waiting: Vec<Page>,
 }
 

@@ -44,6 +44,7 @@ fn append(alloc: Global, document: &mut Option<Document>, page: &Page) -> u32
     if page.rows().is_empty() {
         return NO_ROWS;
     }
+    // `Document::push` drops its page if memory is refused, so a copy is pushed, and the page in the handle stays until it is done
     let copy = match copied(alloc, page) {
         Ok(copy) => copy,
         Err(status) => return status,

@@ -92,6 +92,7 @@ pub extern "C" fn g3_core_deframer_next(
     ensures { OnDeframer (λ old new. NextContent old new buffer.old buffer.new count.new result) deframer.old.value deframer.new.value
         result }
 {
+    // room for the longest content, so that none is lost to a small buffer
     opened!(alloc, deframer, Deframer, deframer => next(deframer, buffer, count))
 }
 

@@ -43,6 +43,7 @@ pub enum Kept {
 pub struct G3Handle {
     at: *mut u8,
     alloc: Global,
+    // no type with a `Vec`, nor a pointer to one, crosses to C: the box at the pointer is the value
     ghost value: { Option Kept },
 }
 

@@ -50,6 +50,7 @@ fn hear_frame<S: Station>(alloc: Global, terminal: &mut Terminal<S>, content: &[
     if content.len() < 3 || content.len() > LONGEST_CONTENT {
         return BAD_LENGTH;
     }
+    // terminals take octets alone, and count frames by them
     match framed(alloc, content) {
         Ok((octets, _)) => hear(terminal, &octets),
         Err(_) => NO_MEMORY,

@@ -125,6 +125,7 @@ fn end_rows(alloc: Global, coder: &mut RowCoder, out: &mut G3Handle) -> u32
     let Some(mut kept) = room(alloc) else {
         return NO_MEMORY;
     };
+    // the box is made first, so that nothing is lost if memory is refused
     match coder.end(alloc) {
         Ok(octets) => {
             *kept = Kept::Octets(octets);

@@ -64,6 +64,7 @@ pub struct G3Block {
 #[repr(C)]
 #[derive(Clone, Copy)]
 pub struct G3Signal {
+    // one struct for all kinds, since no enum crosses to C; the octets go by a slice of their own
     /// How many octets belong to it: an FCD's data, or the 32 of a PPR's bits.
     pub length: u64,
     /// The kind: 1 for DIS, 2 DCS, 3 CFR, 4 FTT, 5 FCD, 6 RCP, 7 PPS, 8 PPR, 9 MCF, 10 RNR, 11 RR, 12 DCN, 13 for any other.

@@ -111,6 +111,7 @@ fn salvage_refused(
         width,
         fine,
     } = form;
+    // the pixels before the refused bit in its own row are given up
     let page = coding.salvage(alloc, octets, order, width, fine)?;
     let lines = Vec::new(alloc);
     let fault = ToolFault::from(code.fault);

@@ -140,6 +140,7 @@ fn try_widths(
             width: *width,
             fine: false,
         };
+        // only its counts are kept: one page at a time is in memory
         let one = try_way(alloc, octets, form)?;
         if tried.push(one).is_err() {
             return Err(NO_MEMORY);
@@ -357,6 +358,7 @@ pub fn identify_engine<W: Write>(
     ensures identified { IfOk result (Identifies octets.now (W.contents writer.old) (W.contents writer.new)) }
     ensures refused { IfErr result IsOutside }
 {
+    // pages are tried even if a format is known, since a page may begin so by chance
     let format = format_of(octets);
     let tried = try_ways(alloc, octets)?;
     tell_format(format, writer)?;
@@ -366,6 +368,7 @@ pub fn identify_engine<W: Write>(
     if format.is_some() || has_page(&tried) {
         return Ok(None);
     }
+    // octets of no fax at all have a few rows of T.6 by chance, so these lines don't say that it is a page
     tell_those(Fit::Begun, octets, &tried, writer)?;
     Ok(Some(no_page(octets)))
 }

@@ -67,6 +67,7 @@ fn later_one_dim(octets: &[u8], order: Order, used: u128) -> Option<u128>
 {
     let end = 8 * octets.len() as u128;
     let mut place = used;
+    // An EOL may follow at the next bit, in the next octet or after fill; earlier EOLs, as the seventh of pbmtog3, are passed over.
     let mut start = 8 * used.div_ceil(8);
     while place < end {
         let Some(zeros) = zeros_at(octets, order, place) else {
@@ -88,6 +89,7 @@ fn later_t6(octets: &[u8], from: usize) -> Option<u128>
 {
     let mut at = from;
     while at < octets.len() {
+        // EOFB is filled up to an octet (T.6, 2.4), and no page begins with eight 0 bits
         if octets[at] != 0 {
             return Some(8 * at as u128);
         }
@@ -151,6 +153,7 @@ fn skip_page(
     ensures refused { IfErr result (RefusesKept kept.new form octets.old.items) }
     ensures stays { OnErr result (octets.new.items ≡ octets.old.items) }
 {
+    // only reading a page to its end shows where the next one begins, in whatever way that is decoded; the page isn't kept
     let (_page, used) = read_code(alloc, octets, form, kept)?;
     let Some(start) = later_in(octets, form, used) else {
         return Ok(false);

@@ -54,6 +54,7 @@ fn ends_by_rtc(octets: &[u8], order: Order, bits: u128) -> bool
     ensures { IsTrue result ↔ EndsByRtc (take bits (bits_of order octets.now)) }
 {
     let end = bits.min(8 * octets.len() as u128);
+    // from the last bit back, so that a page with RTC costs some 72 bits more
     let code = without_zeros(octets, order, end);
     let mut place = code;
     for eols in 0..RTC_EOLS {

@@ -56,6 +56,7 @@ pub(crate) fn repair_t6(alloc: Global, octets: &[u8], form: PageForm) -> Result<
     };
     let RowsToEnd { page, bit, at_end } = T6::rows_to_end(alloc, octets, order, width, fine)?;
     let rows = page.rows().len();
+    // ghostscript's faxg4 leaves EOFB out; after a row that can't be read no later one can be
     if at_end && rows > 0 {
         tell_no_eofb(rows, bit, &mut lines)?;
         let read_to = ReadTo::NoEnd(bit);
