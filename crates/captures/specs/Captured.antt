@@ -107,7 +107,7 @@ turns_to mark s = cond (nat_eq mark.block s.next) (finds_none s) (record {
   found = MissingBlocks mark ∷ [];
 })
 
--- of two frames of one number the later one, where there is one
+-- the later of two frames with one number, if there is a later one
 abbrev pub later_one : Option (List ℕ) → Option (List ℕ) → Option (List ℕ)
 later_one old (Some octets) = Some octets
 later_one old None = old
@@ -163,7 +163,7 @@ judges params ends mark last s =
 
 -- ---- signals
 
--- a page or a block that has no end, where there is one
+-- a page or a block that has no end, if there is one
 unfoldable pub left_open : Capture → List Captured
 left_open s = cond (s.begun || not (nat_eq (length s.octets) 0)) (Unfinished ∷ []) []
 
@@ -175,7 +175,7 @@ at_end s = (gives_up s s.waiting).found ++ left_open (gives_up s s.waiting).then
 abbrev pub hears_dcs : Params → Capture → Step
 hears_dcs params s = record { then = empty_capture (Some params); found = at_end s }
 
--- an FCD: data no longer than agreed are kept under their number; none before a DCS
+-- an FCD: data that aren't longer than agreed are kept under their number; before a DCS nothing is kept
 abbrev pub hears_fcd : Option Params → ℕ → List ℕ → Capture → Step
 hears_fcd None number octets s = finds_none s
 hears_fcd (Some params) number octets s = finds_none (cond (within_frame_size params octets)

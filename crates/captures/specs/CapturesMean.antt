@@ -25,7 +25,7 @@ found_in signals = (hears_signals signals (empty_capture None)).found ++ at_end 
 abbrev pub mark_of : ℕ → ℕ → Mark
 mark_of page block = record { page = page; block = block }
 
--- What is found where data of at most 64 octets are sent, which frames of either size may have: `a` and `b` in frames, after a DCS. Pages,
+-- What is found if data of at most 64 octets are sent, which frames of either size may have: `a` and `b` in frames, after a DCS. Pages,
 -- blocks and frames are counted from 0, and of a block with one frame the PPS has 0 as its last one.
 pub record SequencesMean (params next : Params) (a b : List ℕ) : Type 0 where
   -- each end but NULL ends the page
@@ -55,7 +55,7 @@ pub record SequencesMean (params next : Params) (a b : List ℕ) : Type 0 where
   pub later_frame : found_in (dcs params ∷ fcd 0 a ∷ fcd 0 b ∷ pps Eop 0 0 0 ∷ []) ≡ page_in params (mark_of 0 0) b ∷ []
   pub later_block : found_in (dcs params ∷ fcd 0 a ∷ pps Eop 0 0 1 ∷ fcd 0 b ∷ fcd 1 a ∷ pps Eop 0 0 1 ∷ []) ≡
       page_in params (mark_of 0 0) (b ++ a) ∷ []
-  -- a frame that never comes is named, where the signals end and where another page comes, which is found
+  -- a frame that never comes is named when the signals end, or when another page comes, which is found
   pub never_came : (ends : PageEnd) → found_in (dcs params ∷ fcd 1 b ∷ pps ends 0 0 1 ∷ []) ≡ MissingFrame (mark_of 0 0) 0 ∷ []
   pub page_after : found_in (dcs params ∷ fcd 1 b ∷ pps Mps 0 0 1 ∷ fcd 0 a ∷ pps Eop 1 0 0 ∷ []) ≡
       MissingFrame (mark_of 0 0) 0 ∷ page_in params (mark_of 1 0) a ∷ []
@@ -63,13 +63,13 @@ pub record SequencesMean (params next : Params) (a b : List ℕ) : Type 0 where
   pub block_after : found_in (dcs params ∷ fcd 1 b ∷ pps Null 0 0 1 ∷ fcd 0 a ∷ pps Eop 0 1 0 ∷ []) ≡ MissingFrame (mark_of 0 0) 0 ∷ []
   pub no_block : found_in (dcs params ∷ fcd 0 a ∷ pps Mps 0 1 0 ∷ fcd 0 b ∷ pps Eop 1 0 0 ∷ []) ≡
       MissingBlocks (mark_of 0 1) ∷ page_in params (mark_of 1 0) b ∷ []
-  -- what no PPS ends is named at a DCS, which begins anew, and where the signals end
+  -- what no PPS ends is named at a DCS, which begins anew, and when the signals end
   pub no_end : found_in (dcs params ∷ fcd 0 a ∷ []) ≡ Unfinished ∷ []
   pub dcs_in_block : found_in (dcs params ∷ fcd 0 a ∷ dcs next ∷ fcd 0 b ∷ pps Eop 0 0 0 ∷ []) ≡
       Unfinished ∷ page_in next (mark_of 0 0) b ∷ []
   pub dcs_in_page : 0 < length a → found_in (dcs params ∷ fcd 0 a ∷ pps Null 0 0 0 ∷ dcs next ∷ fcd 0 b ∷ pps Eop 0 0 0 ∷ []) ≡
       Unfinished ∷ page_in next (mark_of 0 0) b ∷ []
-  -- frames before a DCS are none of a block after it
+  -- frames before a DCS aren't part of a block after it
   pub dcs_in_resend : found_in (dcs params ∷ fcd 0 a ∷ pps Eop 0 0 1 ∷ dcs next ∷ fcd 1 b ∷ pps Eop 0 0 1 ∷ []) ≡
       MissingFrame (mark_of 0 0) 1 ∷ MissingFrame (mark_of 0 0) 0 ∷ []
   -- before any DCS nothing can be read
@@ -79,7 +79,7 @@ pub record SequencesMean (params next : Params) (a b : List ℕ) : Type 0 where
 abbrev pub CapturesMean : Type 0
 CapturesMean = (params next : Params) (a b : List ℕ) → length a ≤ 64 → length b ≤ 64 → SequencesMean params next a b
 
--- a signal has nothing to do with pages: it is none of DCS, FCD and PPS
+-- a signal has nothing to do with pages: it isn't DCS, FCD or PPS
 abbrev pub IsOfNoPage : PlainSignal → Type 0
 IsOfNoPage (dcs params) = ⊥
 IsOfNoPage (fcd number octets) = ⊥

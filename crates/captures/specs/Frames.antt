@@ -22,7 +22,7 @@ use Rattle.captures.specs.declared.frames.ListOptions.{ListOptions}
 abbrev pub line : List (List ℕ) → List ℕ
 line words = spaced words ++ 10 ∷ []
 
--- a content in lower-case hex: the whole of it, or its first `most` octets and `..` where it has more
+-- a content in lower-case hex: all of it, or its first `most` octets and `..`
 abbrev pub shown : Option ℕ → List ℕ → List ℕ
 shown None content = encode_lower content
 shown (Some most) content = encode_lower (take most content) ++ (if nat_lt most (length content) then codes ".." else [])
@@ -31,7 +31,7 @@ shown (Some most) content = encode_lower (take most content) ++ (if nat_lt most 
 abbrev pub plain_line : Option ℕ → ℕ → List ℕ → List ℕ
 plain_line most number content = line (decimal number ∷ shown most content ∷ content_text content ∷ [])
 
--- the same, and after it in words what the frame says; or its record, for programs
+-- what is written of a good frame in this form: its line; its line and a line of words; or its record
 abbrev pub line_in : ListForm → Option ℕ → ℕ → List ℕ → List ℕ
 line_in Plain most number content = plain_line most number content
 line_in Explained most number content = plain_line most number content ++ content_words content

@@ -74,7 +74,7 @@ abbrev pub params_text : Params → List ℕ
 params_text params = spaced (speed_text params.speed ∷ lines_text params.fine ∷ decimal (pixels_of params.width)
     ∷ coding_text params.coding ∷ cond params.small (codes "64") (codes "256") ∷ [])
 
--- one more where the bit is 1
+-- one more if the bit is 1
 abbrev pub and_bit : ℕ → Bool → ℕ
 and_bit count bit = count + cond bit 1 0
 

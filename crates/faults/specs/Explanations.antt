@@ -25,8 +25,8 @@ use Rattle.faults.specs.declared.fault.ToolFault.TheVariants.{No, AtBit, AtLine}
 abbrev pub is_plain : ℕ → Bool
 is_plain octet = nat_le 32 octet && nat_lt octet 127
 
--- An octet after another one is no control character, and none ends with it: U+0000 to U+001F and U+007F are an octet each, and U+0080 to
--- U+009F are C2 and one of 80 to 9F in UTF-8.
+-- An octet after another one neither is a control character nor ends one. U+0000 to U+001F and U+007F are one octet each; U+0080 to U+009F
+-- are C2 and then one of 80 to 9F in UTF-8.
 abbrev pub is_shown : ℕ → ℕ → Bool
 is_shown before octet = nat_le 32 octet && not (octet == 127 || (nat_le 128 octet && nat_lt octet 160 && before == 194))
 
@@ -88,14 +88,14 @@ reason_words (Some io.ExecutableFileBusy) = codes "it is a program that is runni
 reason_words (Some io.InvalidData) = codes "it isn't UTF-8"
 reason_words reason = codes "it can't be read or written"
 
--- what was expected where no code word begins: that of a run of the color, an EOL, or any code
+-- what was expected at the bit where no code word begins: a run of a color, an EOL, or any code
 abbrev pub missing_code : Option Expected → List ℕ
 missing_code (Some (RunOf White)) = codes "no code word of a white run begins here"
 missing_code (Some (RunOf Black)) = codes "no code word of a black run begins here"
 missing_code (Some Eol) = codes "an EOL is expected here, and no EOL begins here"
 missing_code None = codes "no valid code begins here"
 
--- the row, counted from 1, where it is known
+-- the row, counted from 1, if it is known
 abbrev pub row_text : Option ℕ → List ℕ
 row_text (Some row) = codes "row " ++ (decimal row ++ codes ": ")
 row_text None = []
@@ -107,7 +107,7 @@ other_words (OneDim, LsbFirst) = codes " (try --order msb, or --code mmr)"
 other_words (T6, MsbFirst) = codes " (try --order lsb, or --code mh)"
 other_words (T6, LsbFirst) = codes " (try --order msb, or --code mh)"
 
--- the file ends where the page is refused
+-- the page is refused because the file ends
 abbrev pub is_at_end : FaultKind → Bool
 is_at_end Truncated = true
 is_at_end MissingEofb = true
@@ -119,7 +119,7 @@ try_words kind (Some row) (Some read_as) = if row == 1 && not (is_at_end kind) t
 try_words kind (Some row) None = []
 try_words kind None read_as = []
 
--- what is wrong with a line of a script, where it is known
+-- what is wrong with a line of a script, if it is known
 abbrev pub line_words : Option LineFault → List ℕ
 line_words (Some NotUtf8) = codes "it isn't UTF-8"
 line_words (Some Blank) = codes "a blank is wrong: a line is a word, or a word, one space and a count"

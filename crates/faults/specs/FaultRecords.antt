@@ -1,4 +1,4 @@
--- Faults, and what else is told beside what was asked for, as JSON for programs.
+-- Faults, and other messages, as JSON for programs.
 use Rattle.std.specs.Prelude.{ℕ, ◌-◌, ◌^◌, List, codes, min}
 use Rattle.serde_json.specs.Data.{Data, member, no_members, object}
 use Rattle.faults.specs.RecordLines.{count, words}

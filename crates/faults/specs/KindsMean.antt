@@ -1,4 +1,4 @@
--- The laws of the kinds of faults: the same said another way.
+-- Laws of the kinds of faults.
 use Rattle.std.specs.Prelude.{ℕ, ◌≡◌, ◌⊎◌}
 use Rattle.raster.specs.Faults.{number_of as number_of_raster}
 use Rattle.raster.specs.declared.fault.RasterFault.{RasterFault}

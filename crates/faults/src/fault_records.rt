@@ -1,4 +1,4 @@
-//! Faults, and what else is told beside what was asked for, as JSON for programs.
+//! Faults, and other messages, as JSON for programs.
 
 ghost use Rattle.faults.specs.Faults.{IsOutside};
 ghost use Rattle.faults.specs.FaultRecords.{fault_record, line_fault_record, notice_record};

@@ -130,8 +130,8 @@ abbrev pub with_captures : App → App
 with_captures app = with_rule (with_rule (with_rule app (file_option_rule (codes "diagram"))) (file_option_rule (codes "caller")))
     (file_option_rule (codes "answerer"))
 
--- `frames`: how many octets of a content are shown, 0 to 300, the order, which is `lsb` where it isn't given, the folder of the pages,
--- the rows before gaps or not, records or not, and the file of the bits; or the files of a picture
+-- `frames`: how many octets of a content are shown, 0 to 300, the bit order, `lsb` if it isn't given, the folder of the pages, the rows
+-- before gaps or not, records or not, and the file of the bits; or the files of a picture
 abbrev pub frames_app : ValueParser → App
 frames_app orders = with_explain (with_rule (with_captures (with_rule (with_rule (with_rule (with_rule (with_rule
     (new_app (codes "frames")) (record (option_rule (codes "data")) { parser = Some (vp.Signed (pos 0) (pos 300)) }))
@@ -180,7 +180,7 @@ with_station app codings modems = with_rule (with_rule (with_rule (with_rule (wi
     (flag_rule (codes "call"))) (file_option_rule (codes "out"))) (choice_rule (codes "code") codings (codes "mmr")))
     (choice_rule (codes "modems") modems (codes "v17"))
 
--- the command with what an answerer alone is told, and a caller alone
+-- the command with the options for an answerer only, and those for a caller only
 abbrev pub with_station_choices : App → ValueParser → ValueParser → App
 with_station_choices app sizes widths = with_rule (with_rule (with_rule (with_rule (with_rule app (flag_rule (codes "standard")))
     (named_rule (codes "widest") widths)) (number_rule (codes "limit") 1 1000)) (named_rule (codes "frame") sizes))
@@ -191,7 +191,7 @@ abbrev pub with_waits : App → App
 with_waits app = with_rule (with_rule (with_rule (with_rule app (millis_rule (codes "t1"))) (millis_rule (codes "t2")))
     (millis_rule (codes "t4"))) (millis_rule (codes "t5"))
 
--- `station`: which station it is, what it is told, its waits, the file of its trace, records or not, and the file of the document
+-- `station`: which station it is, its options, its waits, the file of its trace, records or not, and the file of the document
 abbrev pub station_app : ValueParser → ValueParser → ValueParser → ValueParser → App
 station_app codings sizes modems widths = with_explain (with_rule (with_rule (with_rule (with_waits (with_station_choices (with_station
     (new_app (codes "station")) codings modems) sizes widths)) (file_option_rule (codes "trace"))) (flag_rule (codes "json")))
@@ -272,11 +272,11 @@ abbrev pub order_named : Option Text → Order
 order_named None = MsbFirst
 order_named (Some name) = if bytes_eq name (codes "lsb") then LsbFirst else MsbFirst
 
--- what is written of each frame: records where they are asked for, else lines, with words where those are
+-- what is written of each frame: records if they are asked for, otherwise lines, with words if those are
 abbrev pub list_form : Bool → Bool → ListForm
 list_form records words = if records then Records else (if words then Explained else Plain)
 
--- the same of the bits on a line: `lsb` but for `msb`
+-- the bit order on a line: `lsb`, unless `msb` is given
 abbrev pub line_order_named : Option Text → Order
 line_order_named None = LsbFirst
 line_order_named (Some name) = if bytes_eq name (codes "msb") then MsbFirst else LsbFirst
@@ -292,7 +292,7 @@ modems_named None = V17
 modems_named (Some name) = if bytes_eq name (codes "v27v29") then V27V29 else if bytes_eq name (codes "v29") then V29
     else if bytes_eq name (codes "v27") then V27 else if bytes_eq name (codes "fallback") then Fallback else V17
 
--- the text is a number in decimal digits, after a plus or none
+-- the text is a number in decimal digits, perhaps after a plus
 abbrev pub IsNumberText : Text → ℕ → Type 0
 IsNumberText text n = IsNumeral 10 (without_leading_plus text)
     × (n ≡ digits_value 10 (without_leading_plus text))
@@ -305,7 +305,7 @@ pub record IsWidthIn (rows : List Row) (width : ℕ) : Type 0 where
   pub least : 1 ≤ width
   pub most : width ≤ 2432
 
--- the number that is read of an option's value, and none where there is no value or its text is no number below 2 ^ 32
+-- the number in an option's value; None without a value, or if its text isn't a number below 2^32
 abbrev pub ReadsNumber : Text → List Row → Option ℕ → Type 0
 ReadsNumber id rows (Some n) = (text : Text) × (one_of id rows ≡ Some text) × IsNumberText text n
 ReadsNumber id rows None = (text : Text) → one_of id rows ≡ Some text
@@ -336,7 +336,7 @@ pub record AreDecodeOptionsIn (rows : List Row) (options : DecodeOptions) : Type
   pub verbose_is : options.verbose ≡ is_named (codes "true") (first_of (codes "verbose") rows)
   pub records_is : options.records ≡ is_named (codes "true") (first_of (codes "json") rows)
 
--- the number of the page that is decoded: the first one, where no number is given
+-- the number of the page that is decoded: 1 if no number is given
 abbrev pub page_of : Option ℕ → ℕ
 page_of None = 1
 page_of (Some page) = page
@@ -393,15 +393,15 @@ has_line rows = is_some (first_of (codes "lose") rows) || (is_some (first_of (co
 abbrev pub IsRateIn : Text → List Row → ℕ → Type 0
 IsRateIn id rows share = (text : Text) × (first_of id rows ≡ Some text) × IsRate text share
 
--- the share of spoiled items, 0 where no rate is given
+-- the share of spoiled items, 0 if no rate is given
 abbrev pub IsSpoilIn : List Row → ℕ → Type 0
 IsSpoilIn rows share = ((first_of (codes "spoil") rows ≡ None) × (share ≡ 0)) ⊎ IsRateIn (codes "spoil") rows share
 
--- the share of words that make the answerer busy, 0 where no rate is given
+-- the share of words that make the answerer busy, 0 if no rate is given
 abbrev pub IsBusyIn : List Row → ℕ → Type 0
 IsBusyIn rows share = ((first_of (codes "busy") rows ≡ None) × (share ≡ 0)) ⊎ IsRateIn (codes "busy") rows share
 
--- how many DIS are sent in one wait: three, where no number is given
+-- how many DIS are sent in one wait: three if no number is given
 abbrev pub calls_of : Option ℕ → ℕ
 calls_of None = 3
 calls_of (Some calls) = calls
@@ -423,8 +423,7 @@ pub record IsLineIn (rows : List Row) (line : BadLine) : Type 0 where
 abbrev pub is_normal_wanted : List Row → Bool
 is_normal_wanted rows = is_named (codes "normal") (first_of (codes "expect") rows)
 
--- the number is that of the calls that are asked for, whose pages and octets are not kept, of which no end is wanted, and which are
--- not drawn and no records
+-- The value of `--times`, 1 or more and below 2^32. It excludes `--out`, `--bits`, `--expect`, `--diagram` and `--json`.
 pub record AreManyIn (rows : List Row) (times : ℕ) : Type 0 where
   pub given : ReadsNumber (codes "times") rows (Some times)
   pub least : 1 ≤ times
@@ -435,7 +434,7 @@ pub record AreManyIn (rows : List Row) (times : ℕ) : Type 0 where
   pub undrawn : first_of (codes "diagram") rows ≡ None
   pub unrecorded : is_named (codes "true") (first_of (codes "json") rows) ≡ false
 
--- how many calls are asked for, where that is said
+-- the value of `--times`, if it is given
 abbrev pub IsTimesIn : List Row → Option ℕ → Type 0
 IsTimesIn rows None = first_of (codes "times") rows ≡ None
 IsTimesIn rows (Some times) = AreManyIn rows times
@@ -489,7 +488,7 @@ pub record AreCapturesOf (rows : List Row) (order : Order) (records : Bool) (dia
   pub apart : are_both_standard caller answerer ≡ false
   pub alone : has_listing rows ≡ false
 
--- the widest page that a value of `--widest` names: 2432 pixels but for the others
+-- the widest page that `--widest` names, 2,432 pixels if it isn't given
 abbrev pub widest_named : Option Text → PageWidth
 widest_named None = W2432
 widest_named (Some name) = if bytes_eq name (codes "1728") then W1728 else if bytes_eq name (codes "2048") then W2048 else W2432
@@ -499,22 +498,22 @@ abbrev pub takes_t6 : Coding → Bool
 takes_t6 OneDim = false
 takes_t6 T6 = true
 
--- how many pages wait in memory at most: two, where no number is given
+-- how many pages wait in memory at most: two if no number is given
 abbrev pub limit_of : Option ℕ → ℕ
 limit_of None = 2
 limit_of (Some limit) = limit
 
--- a value is of an answerer alone
+-- an option for an answerer only was given
 abbrev pub has_answerer : List Row → Bool
 has_answerer rows = is_some (first_of (codes "out") rows) || (is_named (codes "true") (first_of (codes "standard") rows) ||
     (is_some (first_of (codes "widest") rows) || is_some (first_of (codes "limit") rows)))
 
--- a value is of a caller alone
+-- an option for a caller only was given
 abbrev pub has_caller : List Row → Bool
 has_caller rows = is_some (first_of (codes "frame") rows) || (is_named (codes "true") (first_of (codes "fine") rows) ||
     is_some (first_of (codes "in") rows))
 
--- how long the waits run, where that is said
+-- the lengths of the waits, if given
 pub record AreWaitsIn (rows : List Row) (waits : GivenWaits) : Type 0 where
   pub t1_is : ReadsNumber (codes "t1") rows waits.t1
   pub t2_is : ReadsNumber (codes "t2") rows waits.t2
@@ -547,7 +546,7 @@ pub record IsAnswerOf (rows : List Row) (caps : Caps) (limit : ℕ) (waits : Giv
   pub out_is : first_of (codes "out") rows ≡ Some out
   pub trace_is : first_of (codes "trace") rows ≡ trace
 
--- the values of the command `station` are those of a caller, whose document isn't standard input, where its lines come
+-- The values of `station` are those of a caller. Its document isn't standard input, from which its lines come.
 pub record IsDialOf (rows : List Row) (options : CallOptions) (waits : GivenWaits) (trace : Option Text) (input : Text) : Type 0 where
   pub calls : is_named (codes "true") (first_of (codes "call") rows) ≡ true
   pub answers : is_named (codes "true") (first_of (codes "answer") rows) ≡ false

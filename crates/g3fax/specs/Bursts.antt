@@ -26,14 +26,14 @@ caller_bursts = λ v turn bursts. CallerLends v.station turn bursts
 abbrev pub answerer_bursts : BurstsOf LimitedFields
 answerer_bursts = λ v turn bursts. AnswererLends v.station turn bursts
 
--- what is told of a burst: how many bits it has, what it goes out on, and whether it is the turn's last
+-- what is told of a burst: its number of bits, its carrier, and whether it is the turn's last
 pub record TellsBurst (sent : SentBurst) (burst : G3Burst) : Type 0 where
   pub bits : Tells sent.bits burst.bits
   pub carrier : burst.carrier ≡ carrier_number sent.carrier
   pub check : burst.check ≡ check_number sent.carrier
   pub last : burst.last ≡ flag_number sent.last
 
--- a burst was taken of the turn, its octets fill a handle, and it is told
+-- a burst was taken of the turn: its octets fill a handle, and its details are told
 pub record GivesBurst (S : Type 0) (side : Side) (lends : BurstsOf S) (old new : TerminalFields S) (octets : Option Kept) (burst : G3Burst) : Type 0 where
   pub sent : SentBurst
   pub sends : Sends {E = AllocError} side lends old.speaking new.speaking (Ok (Some sent))

@@ -29,7 +29,7 @@ coding_of number = if nat_eq number 1 then Some OneDim else (if nat_eq number 2 
 abbrev pub order_of : ℕ → Option Order
 order_of number = if nat_eq number 0 then Some MsbFirst else (if nat_eq number 1 then Some LsbFirst else None)
 
--- a number of bits is told, where it is one of 64 bits
+-- a number of bits is told, if it fits 64 bits
 abbrev pub Tells : ℕ → ℕ → Type 0
 Tells bits told = bits < 2 ^ 64 → told ≡ bits
 

@@ -8,12 +8,12 @@ use Rattle.g3fax.specs.Statuses.{ok, no_memory, empty_handle, other_handle}
 use Rattle.g3fax.specs.declared.handle.Kept.{Kept}
 use Rattle.g3fax.specs.declared.handle.Kept.TheVariants.{Octets, Page, Deframer, Document, Caller, Answerer, RowCoder, RowReader}
 
--- the pages of a document that has some, or none yet
+-- the pages of a document; none before the first is pushed
 abbrev pub pages_of : Option (List PagePixels) → List PagePixels
 pages_of None = []
 pages_of (Some pages) = pages
 
--- a page is appended; one of no rows is answered by 4
+-- a page is appended; 4 exactly if it has no rows
 pub record AppendsPage (old : Option (List PagePixels)) (page : PagePixels) (new : Option (List PagePixels)) (status : ℕ) : Type 0 where
   pub done : status ≡ ok → new ≡ Some (pages_of old ++ page ∷ [])
   pub kept : status ≢ ok → new ≡ old

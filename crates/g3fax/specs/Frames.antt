@@ -14,7 +14,7 @@ use Rattle.g3fax.specs.Statuses.{ok, no_memory, no_room, bad_length, nothing_the
 use Rattle.g3fax.specs.declared.frames.G3Counts.{G3Counts}
 use Rattle.g3fax.specs.declared.handle.Kept.{Kept}
 
--- a deframer has taken the bits of octets, the least significant of each first; where memory is refused it stays
+-- a deframer has taken the bits of octets, the least significant of each first; if memory is refused it stays
 pub record Feeds (octets : List ℕ) (old new : DeframerState) (status : ℕ) : Type 0 where
   pub done : status ≡ ok → (bits : List Bool) (handed : ℕ) → IsAfter old bits handed → IsAfter new (bits ++ bits_of LsbFirst octets) handed
   pub kept : status ≢ ok → new ≡ old

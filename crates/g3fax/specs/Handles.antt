@@ -158,7 +158,7 @@ OfDocument Answers (Some (Answerer answering)) status = status ≡ other_handle
 OfDocument Answers (Some (RowCoder coder)) status = status ≡ other_handle
 OfDocument Answers (Some (RowReader reader)) status = status ≡ other_handle
 
--- what is made of the page of a handle; an empty handle is answered by 100, one of another kind by 101, and both stay
+-- what happens to the page in a handle; an empty handle is 100, another kind is 101, and the handle stays
 abbrev pub OnPage : (PagePixels → PagePixels → Type 0) → Option Kept → Option Kept → ℕ → Type 0
 OnPage Makes None new status = (status ≡ empty_handle) × (new ≡ None)
 OnPage Makes (Some (Octets octets)) new status = (status ≡ other_handle) × (new ≡ Some (Octets octets))
@@ -178,7 +178,7 @@ OnPage Makes (Some (Answerer answering)) new status = (status ≡ other_handle) 
 OnPage Makes (Some (RowCoder coder)) new status = (status ≡ other_handle) × (new ≡ Some (RowCoder coder))
 OnPage Makes (Some (RowReader reader)) new status = (status ≡ other_handle) × (new ≡ Some (RowReader reader))
 
--- what is made of the deframer of a handle; an empty handle is answered by 100, one of another kind by 101, and both stay
+-- what happens to the deframer in a handle; an empty handle is 100, another kind is 101, and the handle stays
 abbrev pub OnDeframer : (DeframerState → DeframerState → Type 0) → Option Kept → Option Kept → ℕ → Type 0
 OnDeframer Makes None new status = (status ≡ empty_handle) × (new ≡ None)
 OnDeframer Makes (Some (Octets octets)) new status = (status ≡ other_handle) × (new ≡ Some (Octets octets))
@@ -198,7 +198,7 @@ OnDeframer Makes (Some (Answerer answering)) new status = (status ≡ other_hand
 OnDeframer Makes (Some (RowCoder coder)) new status = (status ≡ other_handle) × (new ≡ Some (RowCoder coder))
 OnDeframer Makes (Some (RowReader reader)) new status = (status ≡ other_handle) × (new ≡ Some (RowReader reader))
 
--- what is made of the document of a handle; an empty handle is answered by 100, one of another kind by 101, and both stay
+-- what happens to the document in a handle; an empty handle is 100, another kind is 101, and the handle stays
 abbrev pub OnDocument :
     (Option (List PagePixels) → Option (List PagePixels) → Type 0) → Option Kept → Option Kept → ℕ → Type 0
 OnDocument Makes None new status = (status ≡ empty_handle) × (new ≡ None)
@@ -219,7 +219,7 @@ OnDocument Makes (Some (Answerer answering)) new status = (status ≡ other_hand
 OnDocument Makes (Some (RowCoder coder)) new status = (status ≡ other_handle) × (new ≡ Some (RowCoder coder))
 OnDocument Makes (Some (RowReader reader)) new status = (status ≡ other_handle) × (new ≡ Some (RowReader reader))
 
--- what is made of the answerer of a handle; an empty handle is answered by 100, one of another kind by 101, and both stay
+-- what happens to the answerer in a handle; an empty handle is 100, another kind is 101, and the handle stays
 abbrev pub OnAnswerer : (AnsweringFields → AnsweringFields → Type 0) → Option Kept → Option Kept → ℕ → Type 0
 OnAnswerer Makes None new status = (status ≡ empty_handle) × (new ≡ None)
 OnAnswerer Makes (Some (Octets octets)) new status = (status ≡ other_handle) × (new ≡ Some (Octets octets))
@@ -239,7 +239,7 @@ OnAnswerer Makes (Some (Answerer old)) (Some (RowReader reader)) status = ⊥
 OnAnswerer Makes (Some (RowCoder coder)) new status = (status ≡ other_handle) × (new ≡ Some (RowCoder coder))
 OnAnswerer Makes (Some (RowReader reader)) new status = (status ≡ other_handle) × (new ≡ Some (RowReader reader))
 
--- what is made of the coder of rows of a handle; an empty handle is answered by 100, one of another kind by 101, and both stay
+-- what happens to the row coder in a handle; an empty handle is 100, another kind is 101, and the handle stays
 abbrev pub OnRowCoder : (RowCoding → RowCoding → Type 0) → Option Kept → Option Kept → ℕ → Type 0
 OnRowCoder Makes None new status = (status ≡ empty_handle) × (new ≡ None)
 OnRowCoder Makes (Some (Octets octets)) new status = (status ≡ other_handle) × (new ≡ Some (Octets octets))
@@ -259,7 +259,7 @@ OnRowCoder Makes (Some (RowCoder old)) (Some (RowCoder new)) status = Makes old 
 OnRowCoder Makes (Some (RowCoder old)) (Some (RowReader reader)) status = ⊥
 OnRowCoder Makes (Some (RowReader reader)) new status = (status ≡ other_handle) × (new ≡ Some (RowReader reader))
 
--- what is made of the reader of rows of a handle; an empty handle is answered by 100, one of another kind by 101, and both stay
+-- what happens to the row reader in a handle; an empty handle is 100, another kind is 101, and the handle stays
 abbrev pub OnRowReader : (RowReading → RowReading → Type 0) → Option Kept → Option Kept → ℕ → Type 0
 OnRowReader Makes None new status = (status ≡ empty_handle) × (new ≡ None)
 OnRowReader Makes (Some (Octets octets)) new status = (status ≡ other_handle) × (new ≡ Some (Octets octets))
@@ -323,7 +323,7 @@ OnTerminal Calls Answers (Some (Answerer old)) (Some (RowReader reader)) status 
 OnTerminal Calls Answers (Some (RowCoder coder)) new status = (status ≡ other_handle) × (new ≡ Some (RowCoder coder))
 OnTerminal Calls Answers (Some (RowReader reader)) new status = (status ≡ other_handle) × (new ≡ Some (RowReader reader))
 
--- an empty handle is filled with something of this kind; a full one is answered by 102, and by any status above 0 it stays
+-- an empty handle is filled with something of this kind, status 0; a full one is 102; by any status above 0 it stays
 pub record Fills (Holds : Option Kept → Type 0) (old : Option Kept) (status : ℕ) (new : Option Kept) : Type 0 where
   pub done : status ≡ ok → (old ≡ None) × Holds new
   pub kept : status ≢ ok → new ≡ old

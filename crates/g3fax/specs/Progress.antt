@@ -32,7 +32,7 @@ calling_without far = record {
   accepted_block = 0;
 }
 
--- the block that a caller sends, from 1, of how many, and how often frames of it were asked for again; 0 where it sends none
+-- the block that a caller sends, from 1, of how many, and how often frames of it were asked for again; 0 if it sends none
 abbrev pub with_block : Option BlockProgress → G3Progress → G3Progress
 with_block None told = told
 with_block (Some far) told = record told { block = far.number; blocks = far.blocks; resends = far.resends }

@@ -37,8 +37,8 @@ raster_page raster octets = record {
 abbrev pub raster_size : G3Raster → ℕ
 raster_size raster = raster_octets (stride raster.width) raster.stride raster.rows
 
--- an empty handle is filled with the page of a raster. The first that fits is answered: 1 where the width isn't 1 to 2,432; 3 where there
--- are more than 20,000 rows; 105 where rows begin closer than a row is long, or the octets end before the last row does; else 0, or 9
+-- An empty handle is filled with the page of a raster. The first that holds: 1 if the width isn't 1 to 2,432; 3 if there are more than
+-- 20,000 rows; 105 if rows begin closer than a row is long, or the octets end before the last row does; else 0, or 9.
 pub record ReadsRaster (raster : G3Raster) (octets : List ℕ) (old : Option Kept) (status : ℕ) (new : Option Kept) : Type 0 where
   pub fills : Fills (HasPage (λ page. page ≡ raster_page raster octets)) old status new
   pub width : old ≡ None → ¬ IsWidth raster.width → status ≡ bad_width

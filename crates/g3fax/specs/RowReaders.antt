@@ -39,7 +39,7 @@ pub record FeedsRows (octets : List ℕ) (old new : RowReading) (taken status : 
 abbrev pub IsRowLength : ℕ → ℕ → Type 0
 IsRowLength width count = (width ≤ 8 * count) × (8 * count < width + 8)
 
--- the row is copied; or the end is told, or the refusal by its number and bit
+-- the row is copied; or the end is told; or the refusal, by its number and bit
 abbrev pub TellsRow : {E : Type 0} → Result NextRow E → List ℕ → List ℕ → ℕ → ℕ → ℕ → Type 0
 TellsRow (Ok (Row row)) before after count place status = (octets : List ℕ) × HoldsRow row octets × Copies octets before after count status
 TellsRow (Ok (End used)) before after count place status = (status ≡ nothing_there) × (after ≡ before) × Tells used place

@@ -19,7 +19,7 @@ use Rattle.g3fax.specs.Beginning.{modems_of}
 use Rattle.g3fax.specs.declared.signal.Kind.{Kind}
 use Rattle.g3fax.specs.declared.signal.Kind.TheVariants.{Dis, Dcs, Cfr, Ftt, Fcd, Rcp, Pps, Ppr, Mcf, Rnr, Rr, Dcn}
 
--- a choice where a number is this one, and else another choice
+-- a choice if a number is this one, and otherwise another choice
 abbrev pub at_number : {A : Type 0} → ℕ → ℕ → A → Option A → Option A
 at_number wanted number choice others = if nat_eq number wanted then Some choice else others
 

@@ -84,7 +84,7 @@ octets_of rr = []
 octets_of dcn = []
 octets_of (other octet) = []
 
--- a signal is told, and its octets are at the beginning of a buffer; or that has too little room
+-- a signal is told, and its octets are copied to the beginning of a buffer; 103 if that is too small
 pub record TellsSignal (signal : PlainSignal) (old new : G3Signal) (before after : List ℕ) (status : ℕ) : Type 0 where
   pub done : length (octets_of signal) ≤ length before → (status ≡ ok) × (new ≡ told signal)
       × (after ≡ octets_of signal ++ drop (length (octets_of signal)) before)

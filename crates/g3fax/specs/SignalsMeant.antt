@@ -67,12 +67,12 @@ abbrev pub params_meant : G3Params → Option Params
 params_meant given =
     params_with given (speed_of_number given.carrier) (width_of_pixels given.width) (coding_of given.coding) (small_of given.frame)
 
--- the DIS of capabilities that numbers say; 104 where they say none
+-- the DIS of capabilities given by numbers; 104 if they give none
 abbrev pub dis_signal : Option Caps → Result PlainSignal ℕ
 dis_signal None = Err bad_choice
 dis_signal (Some caps) = Ok (dis caps)
 
--- the DCS of parameters that numbers say; 104 where they say none
+-- the DCS of parameters given by numbers; 104 if they give none
 abbrev pub dcs_signal : Option Params → Result PlainSignal ℕ
 dcs_signal None = Err bad_choice
 dcs_signal (Some params) = Ok (dcs params)
@@ -119,7 +119,7 @@ meant_as Rnr given octets = Ok rnr
 meant_as Rr given octets = Ok rr
 meant_as Dcn given octets = Ok dcn
 
--- the signal of a kind, if it is one that can be written
+-- the signal of a kind, if it is one that can be written; 104 otherwise
 abbrev pub meant_if : Option Kind → G3Signal → List ℕ → Result PlainSignal ℕ
 meant_if None given octets = Err bad_choice
 meant_if (Some kind) given octets = meant_as kind given octets

@@ -14,7 +14,7 @@ use Rattle.g3fax.specs.Numbers.{end_number, listens_carrier, listens_number, wai
 use Rattle.g3fax.specs.Statuses.{ok}
 use Rattle.g3fax.specs.declared.states.G3State.{G3State}
 
--- what a station shows of its call is told by numbers
+-- the numbers of what a station shows of its call
 pub record TellsShown (shown : Shown) (state : G3State) : Type 0 where
   pub listens : state.listens ≡ listens_number shown.listens
   pub carrier : state.carrier ≡ listens_carrier shown.listens

@@ -9,7 +9,7 @@ ok = 0
 abbrev pub no_memory : ℕ
 no_memory = 9
 
--- the width of a page is none that a call can have
+-- a call can't have a page of this width
 abbrev pub not_callable : ℕ
 not_callable = 26
 
@@ -29,7 +29,7 @@ other_handle = 101
 abbrev pub full_handle : ℕ
 full_handle = 102
 
--- the buffer has too little room
+-- the buffer is too small
 abbrev pub no_room : ℕ
 no_room = 103
 

@@ -13,7 +13,7 @@ use Rattle.g3fax.specs.declared.handle.Kept.{Kept}
 abbrev pub pages_left : AnsweringFields → List PagePixels
 pages_left answering = answering.waiting ++ answering.terminal.speaking.station.station.pages
 
--- the oldest page was handed out; where none waited, all stored pages were taken out of the station for that
+-- the oldest page was handed out; if none waited, all stored pages were taken out of the station for that
 pub record HandsOutPage (old : AnsweringFields) (page : PagePixels) (new : AnsweringFields) : Type 0 where
   pub oldest : pages_left old ≡ page ∷ pages_left new
   pub framing : new.terminal.framing ≡ old.terminal.framing

@@ -1,4 +1,4 @@
-//! What exported functions answer.
+//! The statuses that exported functions return.
 
 /// It is done.
 pub(crate) const OK: u32 = 0;

@@ -1,4 +1,4 @@
--- What `decode` gives of octets: an image, what is told of it, and whether all is there that is asked for.
+-- What `decode` gives of octets: an image, the messages about it, and whether the result is complete.
 use Rattle.std.specs.Prelude.{ℕ, ◌≡◌, ◌-◌, ◌↔◌, Bool, true, not, ◌||◌, List, [], ◌++◌, length, Result, Ok, Err, IsTrue, codes, cond, nat_eq}
 use Rattle.std.specs.Fmt.{decimal}
 use Rattle.std.specs.Int.{div_ceil}
@@ -28,7 +28,7 @@ rows_line rows = codes "rows " ++ (decimal rows ++ codes "\n")
 abbrev pub page_text : Bool → ℕ → ℕ → List ℕ
 page_text records rows bits = cond records (record_line (page_record rows bits)) (page_line rows bits)
 
--- the octets after a page, where there are any, as a line, or as a record
+-- the octets after a page, if there are any, as a line or a record
 abbrev pub after_text : Bool → ℕ → List ℕ
 after_text records count = cond (nat_eq count 0) [] (cond records (record_line (after_record count)) (after_line count))
 

@@ -112,21 +112,21 @@ order_name LsbFirst = codes "least significant bit first"
 abbrev pub form_words : PageForm → List ℕ
 form_words form = coding_name form.coding ++ (codes ", " ++ (order_name form.order ++ (codes ", width " ++ decimal form.width)))
 
--- the octets after a page, where there are any
+-- the octets after a page, if there are any
 abbrev pub after_words : ℕ → List ℕ
 after_words count = cond (nat_eq count 0) [] (codes ", " ++ (decimal count ++ codes " octets after it"))
 
--- the fault is that after whole rows only 0 bits are left, or none, and no EOFB
+-- the fault says that only 0 bits, or nothing, follow the whole rows, and no EOFB
 abbrev pub is_missing_eofb : FaultKind → Bool
 is_missing_eofb MissingEofb = true
 is_missing_eofb kind = false
 
--- of a page in T.6 all is there but its EOFB: after one row or more only 0 bits are left, or none
+-- a page of T.6 is complete except for its EOFB: it has a row or more, and then only 0 bits or nothing
 abbrev pub lacks_eofb : ℕ → Result ℕ ToolFault → Bool
 lacks_eofb rows (Ok bits) = false
 lacks_eofb rows (Err fault) = not (nat_eq rows 0) && is_missing_eofb (kind_of fault)
 
--- how far the octets read to no page's end: to the last row, where only EOFB is missing; or up to a bit, with the rows before it
+-- how far octets read that have no page's end: all rows, if only EOFB is missing; or up to a bit, with the rows before it
 abbrev pub fault_words : Bool → ℕ → ToolFault → List ℕ
 fault_words true rows fault = codes ", " ++ (decimal rows ++ codes " rows, without EOFB\n")
 fault_words false rows fault = codes ": " ++ (fault_text fault ++ (codes " after " ++ (decimal rows ++ codes " rows\n")))
@@ -149,7 +149,7 @@ fits Early octets rows (Ok bits) = not (nat_eq (octets_after octets bits) 0)
 fits Begun octets rows (Err fault) = not (nat_eq rows 0)
 fits fit octets rows end = false
 
--- the line of a way, where the octets fit it so far
+-- the line of a way, if the octets fit it so far
 abbrev pub line_of : Fit → List ℕ → Tried → List ℕ
 line_of fit octets tried = cond (fits fit octets tried.rows tried.end) (tried_line octets tried) []
 
@@ -161,7 +161,7 @@ lines_of fit octets tried = flat_map (line_of fit octets) tried
 abbrev pub is_page : Tried → Bool
 is_page tried = is_ok tried.end || lacks_eofb tried.rows tried.end
 
--- the line of a format, where it is known
+-- the line of a format, if it is known
 abbrev pub format_line : Option (List ℕ) → List ℕ
 format_line None = []
 format_line (Some name) = name ++ codes ", by its first octets\n"

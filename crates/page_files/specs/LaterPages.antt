@@ -26,8 +26,8 @@ use Rattle.page_files.specs.declared.later_pages.Reached.TheVariants.{Page, End,
 use Rattle.page_files.specs.declared.options.DecodeOptions.{DecodeOptions}
 use Rattle.page_files.specs.declared.options.PageForm.{PageForm}
 
--- The bits begin with EOLs, with fill, and after the last of them comes neither an EOL nor only 0 bits: a page begins with the last
--- one (ITU-T T.4, 4.1.2), without its fill, where the bits themselves begin at the bit `used`
+-- The bits begin with EOLs, fill included, and after the last of them comes neither an EOL nor only 0 bits. A page begins with that last
+-- EOL (ITU-T T.4, 4.1.2), without its fill. The bits themselves begin at the bit `used`.
 pub record BeginsByEol (used start : ℕ) (x : List Bool) : Type 0 where
   pub before : List ℕ
   pub last : ℕ
@@ -38,29 +38,30 @@ pub record BeginsByEol (used start : ℕ) (x : List Bool) : Type 0 where
   pub code : CodeBegins rest
   pub start_is : start ≡ used + length (eol_words before) + (last - 11)
 
--- EOLs, or none, and then only 0 bits or nothing
+-- any number of EOLs, and then only 0 bits or nothing
 abbrev pub NothingLeft : List Bool → Type 0
 NothingLeft x = (eols : List ℕ) × (rest : List Bool) × AllByRecursion (λ count. 11 ≤ count) eols × (x ≡ eol_words eols ++ rest) × AreZeros
     rest
 
--- Where the page begins that comes after one of T.4, of the bits from the bit `used` on: with the last of the EOLs that they begin
--- with; where they begin with none, in the next octet. None comes where only EOLs and 0 bits are left.
+-- The bit at which the page begins that follows one of T.4, if the bits from `used` on are these: that of the last EOL that they begin
+-- with, without its fill; in the next octet if they begin with no EOL. No page follows if only EOLs and 0 bits are left.
 abbrev pub IsLaterOneDim : ℕ → List Bool → Option ℕ → Type 0
 IsLaterOneDim used x (Some start) = BeginsByEol used start x ⊎ (CodeBegins x × (start ≡ 8 * div_ceil used 8))
 IsLaterOneDim used x None = NothingLeft x
 
--- where the page begins that comes after one of T.6: in the first octet from this one on that isn't 0, if there is one
+-- The bit at which the page begins that follows one of T.6: that of the first octet from this one on that isn't 0. No page follows if there
+-- is none.
 abbrev pub IsLaterT6 : ℕ → List ℕ → Option ℕ → Type 0
 IsLaterT6 from octets (Some start) = (at : ℕ) × (start ≡ 8 * at) × (from ≤ at) × (at < length octets) × (slice_index octets at ≢ 0)
     × ((k : ℕ) → from ≤ k → k < at → slice_index octets k ≡ 0)
 IsLaterT6 from octets None = (k : ℕ) → from ≤ k → k < length octets → slice_index octets k ≡ 0
 
--- the same of a page in a code, which has the first `used` bits of the octets
+-- the bit at which the page begins that follows one of this code with the first `used` bits of the octets
 abbrev pub IsLaterIn : Coding → Order → List ℕ → ℕ → Option ℕ → Type 0
 IsLaterIn OneDim order octets used start = IsLaterOneDim used (drop used (bits_of order octets)) start
 IsLaterIn T6 order octets used start = IsLaterT6 (div_ceil used 8) octets start
 
--- where the page begins that comes after the one of the first `used` bits, if one comes
+-- the bit at which the page begins that follows the page of the first `used` bits, if one follows
 abbrev pub IsLater : PageForm → List ℕ → ℕ → Option ℕ → Type 0
 IsLater form octets used start = IsLaterIn form.coding form.order octets used start
 

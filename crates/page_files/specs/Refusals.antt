@@ -29,7 +29,7 @@ pub record HasNoEol (width : ℕ) (bits : List Bool) (place : ℕ) : Type 0 wher
   pub ends : start + used ≡ place
   pub none : ¬ EolBegins (drop place bits)
 
--- what is expected at the place where bits are refused: a run of the color, or an EOL
+-- what is expected at the bit where bits are refused: a run of the color, or an EOL
 abbrev pub IsExpected : ℕ → List Bool → ℕ → Expected → Type 0
 IsExpected width bits place (RunOf color) = IsRefusedRun bits place color
 IsExpected width bits place Eol = HasNoEol width bits place

@@ -1,4 +1,4 @@
-//! What `decode` gives of octets in memory: a page, what is told of it, and whether all is there that is asked for.
+//! What `decode` gives of octets in memory: a page, the messages about it, and whether the result is complete.
 ghost use Rattle.page_files.specs.Answers.{AnswersDecode, after_text, end_text, no_rtc_line, octets_after, page_text, rows_text};
 ghost use Rattle.page_files.specs.CodedPages.{WritesPage};
 ghost use Rattle.page_files.specs.Decodings.{IsKept, RefusesDecoding, broken_asked};

@@ -1,4 +1,4 @@
-//! What `decode` tells of a page as JSON for programs.
+//! The messages of `decode` as JSON for programs.
 
 ghost use Rattle.page_files.specs.DecodeRecords.{after_record, as_told, begins_record, notices, page_record, rows_record};
 ghost use Rattle.faults.specs.Faults.{IsOutside};
