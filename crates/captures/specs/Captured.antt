@@ -107,7 +107,7 @@ turns_to mark s = cond (nat_eq mark.block s.next) (finds_none s) (record {
   found = MissingBlocks mark ∷ [];
 })
 
--- of two frames of one number the later one, where there is one
+-- the later of two frames with one number, if there is a later one
 abbrev pub later_one : Option (List ℕ) → Option (List ℕ) → Option (List ℕ)
 later_one old (Some octets) = Some octets
 later_one old None = old
@@ -163,7 +163,7 @@ judges params ends mark last s =
 
 -- ---- signals
 
--- a page or a block that has no end, where there is one
+-- a page or a block that has no end, if there is one
 unfoldable pub left_open : Capture → List Captured
 left_open s = cond (s.begun || not (nat_eq (length s.octets) 0)) (Unfinished ∷ []) []
 
@@ -175,7 +175,7 @@ at_end s = (gives_up s s.waiting).found ++ left_open (gives_up s s.waiting).then
 abbrev pub hears_dcs : Params → Capture → Step
 hears_dcs params s = record { then = empty_capture (Some params); found = at_end s }
 
--- an FCD: data no longer than agreed are kept under their number; none before a DCS
+-- an FCD: data that aren't longer than agreed are kept under their number; before a DCS nothing is kept
 abbrev pub hears_fcd : Option Params → ℕ → List ℕ → Capture → Step
 hears_fcd None number octets s = finds_none s
 hears_fcd (Some params) number octets s = finds_none (cond (within_frame_size params octets)
@@ -216,13 +216,19 @@ unfoldable pub hears_all : List (List ℕ) → Capture → Step
 hears_all [] s = finds_none s
 hears_all (content ∷ contents) s = hears_read (read_content content) s >>> hears_all contents
 
--- the pages that contents carry, in order, with what is missing of others
+-- The pages that contents carry, in their order, and between them what is missing of others (T.30, Annex A). A DCS says how pages are sent,
+-- and what is open before it is left; a block before any DCS is only named. The data of FCDs, if they aren't longer than agreed, are kept
+-- under their numbers until a PPS: they are its block, together with the frames that are kept of the same block from before. For one number
+-- the later data count, and the greatest last frame counts. A whole block is joined to its page once: the same PPS again changes nothing. A
+-- PPS with another end than NULL ends the page, which is read by its DCS, or named with its fault. If another block, a DCS or the end comes
+-- before a block is whole, each missing frame is named; a block that isn't the next one of its page is named; a page with a missing block
+-- isn't read. What no PPS ends is named at a DCS and at the end. Other signals, and contents that are none, change nothing.
 unfoldable pub captured : List (List ℕ) → List Captured
 captured contents =
     let heard = hears_all contents (empty_capture None) in
     heard.found ++ at_end heard.then
 
--- what a step leaves, and the list of what was found with what it finds
+-- the state after a step, and what was found so far with what the step finds after it
 pub record Takes (step : Step) (new : Capture) (before after : List Captured) : Type 0 where
   pub is : new ≡ step.then
   pub found : after ≡ before ++ step.found

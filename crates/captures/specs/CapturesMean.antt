@@ -17,7 +17,7 @@ abbrev pub hears_signals : List PlainSignal → Capture → Step
 hears_signals [] s = finds_none s
 hears_signals (signal ∷ signals) s = hears signal s >>> hears_signals signals
 
--- what is found in the signals of a line
+-- what is found in the signals of a line, from the beginning to its end
 abbrev pub found_in : List PlainSignal → List Captured
 found_in signals = (hears_signals signals (empty_capture None)).found ++ at_end (hears_signals signals (empty_capture None)).then
 
@@ -25,7 +25,7 @@ found_in signals = (hears_signals signals (empty_capture None)).found ++ at_end 
 abbrev pub mark_of : ℕ → ℕ → Mark
 mark_of page block = record { page = page; block = block }
 
--- What is found where data of at most 64 octets are sent, which frames of either size may have: `a` and `b` in frames, after a DCS. Pages,
+-- What is found if data of at most 64 octets are sent, which frames of either size may have: `a` and `b` in frames, after a DCS. Pages,
 -- blocks and frames are counted from 0, and of a block with one frame the PPS has 0 as its last one.
 pub record SequencesMean (params next : Params) (a b : List ℕ) : Type 0 where
   -- each end but NULL ends the page
@@ -55,7 +55,7 @@ pub record SequencesMean (params next : Params) (a b : List ℕ) : Type 0 where
   pub later_frame : found_in (dcs params ∷ fcd 0 a ∷ fcd 0 b ∷ pps Eop 0 0 0 ∷ []) ≡ page_in params (mark_of 0 0) b ∷ []
   pub later_block : found_in (dcs params ∷ fcd 0 a ∷ pps Eop 0 0 1 ∷ fcd 0 b ∷ fcd 1 a ∷ pps Eop 0 0 1 ∷ []) ≡
       page_in params (mark_of 0 0) (b ++ a) ∷ []
-  -- a frame that never comes is named, where the signals end and where another page comes, which is found
+  -- a frame that never comes is named when the signals end, or when another page comes, which is found
   pub never_came : (ends : PageEnd) → found_in (dcs params ∷ fcd 1 b ∷ pps ends 0 0 1 ∷ []) ≡ MissingFrame (mark_of 0 0) 0 ∷ []
   pub page_after : found_in (dcs params ∷ fcd 1 b ∷ pps Mps 0 0 1 ∷ fcd 0 a ∷ pps Eop 1 0 0 ∷ []) ≡
       MissingFrame (mark_of 0 0) 0 ∷ page_in params (mark_of 1 0) a ∷ []
@@ -63,34 +63,35 @@ pub record SequencesMean (params next : Params) (a b : List ℕ) : Type 0 where
   pub block_after : found_in (dcs params ∷ fcd 1 b ∷ pps Null 0 0 1 ∷ fcd 0 a ∷ pps Eop 0 1 0 ∷ []) ≡ MissingFrame (mark_of 0 0) 0 ∷ []
   pub no_block : found_in (dcs params ∷ fcd 0 a ∷ pps Mps 0 1 0 ∷ fcd 0 b ∷ pps Eop 1 0 0 ∷ []) ≡
       MissingBlocks (mark_of 0 1) ∷ page_in params (mark_of 1 0) b ∷ []
-  -- what no PPS ends is named at a DCS, which begins anew, and where the signals end
+  -- what no PPS ends is named at a DCS, which begins anew, and when the signals end
   pub no_end : found_in (dcs params ∷ fcd 0 a ∷ []) ≡ Unfinished ∷ []
   pub dcs_in_block : found_in (dcs params ∷ fcd 0 a ∷ dcs next ∷ fcd 0 b ∷ pps Eop 0 0 0 ∷ []) ≡
       Unfinished ∷ page_in next (mark_of 0 0) b ∷ []
   pub dcs_in_page : 0 < length a → found_in (dcs params ∷ fcd 0 a ∷ pps Null 0 0 0 ∷ dcs next ∷ fcd 0 b ∷ pps Eop 0 0 0 ∷ []) ≡
       Unfinished ∷ page_in next (mark_of 0 0) b ∷ []
-  -- frames before a DCS are none of a block after it
+  -- frames before a DCS aren't part of a block after it
   pub dcs_in_resend : found_in (dcs params ∷ fcd 0 a ∷ pps Eop 0 0 1 ∷ dcs next ∷ fcd 1 b ∷ pps Eop 0 0 1 ∷ []) ≡
       MissingFrame (mark_of 0 0) 1 ∷ MissingFrame (mark_of 0 0) 0 ∷ []
   -- before any DCS nothing can be read
   pub no_dcs : (ends : PageEnd) → found_in (fcd 0 a ∷ pps ends 0 0 0 ∷ []) ≡ BlockBeforeDcs (mark_of 0 0) ∷ []
 
--- what is found in these sequences, whatever the parameters and the data are
+-- law: what is found in the 19 sequences of `SequencesMean`, whatever the parameters and the data are
 abbrev pub CapturesMean : Type 0
 CapturesMean = (params next : Params) (a b : List ℕ) → length a ≤ 64 → length b ≤ 64 → SequencesMean params next a b
 
--- a signal has nothing to do with pages: it is none of DCS, FCD and PPS
+-- a signal has nothing to do with pages: it isn't DCS, FCD or PPS
 abbrev pub IsOfNoPage : PlainSignal → Type 0
 IsOfNoPage (dcs params) = ⊥
 IsOfNoPage (fcd number octets) = ⊥
 IsOfNoPage (pps ends page block last) = ⊥
 IsOfNoPage signal = Unit {0}
 
--- every other signal changes nothing and ends nothing, a DCN too
+-- law: in every state, each signal but DCS, FCD and PPS changes nothing and ends nothing; so does a DCN
 abbrev pub OthersChangeNothing : Type 0
 OthersChangeNothing = (signal : PlainSignal) (s : Capture) → IsOfNoPage signal → hears signal s ≡ finds_none s
 
--- data that aren't too long are kept under their number, and nothing else changes; longer ones change nothing
+-- law: in every state, an FCD's data are kept under their number if they aren't too long, and nothing else changes; longer data change
+-- nothing
 abbrev pub FramesAreKept : Type 0
 FramesAreKept = (params : Params) (number : ℕ) (octets : List ℕ) (s : Capture) → s.params ≡ Some params → number < length s.coming →
     ((IsTooLong params octets → ⊥) → (coming : List (Option (List ℕ))) × IsKept s.coming number octets coming
@@ -109,8 +110,8 @@ pub record IsAwaited (ends : PageEnd) (mark : Mark) (last : ℕ) (before after :
   pub new : last ≤ counts
   pub old : (waiting : Pps) → before ≡ Some waiting → is_waiting before mark ≡ true → waiting.last ≤ counts
 
--- a PPS of a block that wasn't whole before takes the frames since the PPS before it: the block waits for others, or it is whole, and then
--- its end says what comes
+-- law: in every state, a PPS of a block that wasn't whole before takes the frames since the PPS before it. The block waits for its missing
+-- frames, and the greatest last frame counts; or it is whole, and then its page goes on with the next block (0 after 255) or is over.
 abbrev pub BlocksEnd : Type 0
 BlocksEnd = (params : Params) (ends : PageEnd) (mark : Mark) (last : ℕ) (s : Capture) → s.params ≡ Some params →
     is_taken s.taken mark ≡ false → let t = (hears (pps ends mark.page mark.block last) s).then in

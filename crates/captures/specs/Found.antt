@@ -7,7 +7,7 @@ use Rattle.captures.specs.declared.captured.Captured.{Captured}
 abbrev pub FoundStep : Type 0 → Type 1
 FoundStep S = S → Captured → S → Type 0
 
--- all that was found is taken, in order, each one by what the one before it left
+-- a store takes all that was found, in order: each from the state that the one before it left
 abbrev pub TakesEach : {S : Type 0} → FoundStep S → S → List Captured → S → Type 0
 TakesEach takes old [] new = new ≡ old
 TakesEach {S} takes old (found ∷ rest) new = (mid : S) × takes old found mid × TakesEach takes mid rest new

@@ -12,7 +12,7 @@ use Rattle.captures.specs.declared.captured.Captured.{Captured}
 use Rattle.captures.specs.declared.numbers.PageNumbers.{PageNumbers}
 use Rattle.captures.specs.declared.captured.Captured.TheVariants.{Page, Unread, MissingFrame, MissingBlocks, Unfinished, BlockBeforeDcs}
 
--- a page that is in a file: the file's name, its rows and its width in pixels, its lines and its number from 1
+-- The record of a page that is in a file: `file` its name, `height` in rows, `lines`, `page` its number from 1, `width` in pixels.
 abbrev pub stored_record : PageNumbers → PagePixels → Data
 stored_record numbers page = object (member (codes "file") (words (codes "page-" ++ (decimal numbers.file ++ codes ".pbm")))
     (member (codes "height") (count (length page.rows))
@@ -20,7 +20,7 @@ stored_record numbers page = object (member (codes "file") (words (codes "page-"
     (member (codes "page") (count numbers.page)
     (member (codes "width") (count page.width) no_members)))))
 
--- the rows of a page before a gap that are in a file: the same, and that it is those rows
+-- the record of the rows of a page before a gap: that of a page, with `salvaged` true
 abbrev pub stored_front_record : PageNumbers → PagePixels → Data
 stored_front_record numbers page = object (member (codes "file") (words (codes "page-" ++ (decimal numbers.file ++ codes ".pbm")))
     (member (codes "height") (count (length page.rows))
@@ -35,7 +35,8 @@ block_record what page mark = object (member (codes "block") (count mark.block)
     (member (codes "missing") (words what)
     (member (codes "page") (count page) no_members)))
 
--- what is missing: of a page that can't be read the bit where it is refused, up to 2 ^ 64 - 1, and the fault; of a page that is there nothing
+-- The record of what is missing: a frame, the blocks before one, a page that can't be read (with its bit, 2^64 - 1 at most, and its fault),
+-- the end of a page, or a DCS. A page that is there has the empty record.
 abbrev pub missing_record : Captured → Data
 missing_record (Page page) = null
 missing_record (Unread mark fault) = object (member (codes "bit") (count (min (2 ^ 64 - 1) fault.place))

@@ -22,7 +22,7 @@ use Rattle.captures.specs.declared.frames.ListOptions.{ListOptions}
 abbrev pub line : List (List ℕ) → List ℕ
 line words = spaced words ++ 10 ∷ []
 
--- a content in lower-case hex: the whole of it, or its first `most` octets and `..` where it has more
+-- a content in lower-case hex: all of it, or its first `most` octets and `..`
 abbrev pub shown : Option ℕ → List ℕ → List ℕ
 shown None content = encode_lower content
 shown (Some most) content = encode_lower (take most content) ++ (if nat_lt most (length content) then codes ".." else [])
@@ -31,13 +31,14 @@ shown (Some most) content = encode_lower (take most content) ++ (if nat_lt most 
 abbrev pub plain_line : Option ℕ → ℕ → List ℕ → List ℕ
 plain_line most number content = line (decimal number ∷ shown most content ∷ content_text content ∷ [])
 
--- the same, and after it in words what the frame says; or its record, for programs
+-- what is written of a good frame in this form: its line; its line and a line of words; or its record
 abbrev pub line_in : ListForm → Option ℕ → ℕ → List ℕ → List ℕ
 line_in Plain most number content = plain_line most number content
 line_in Explained most number content = plain_line most number content ++ content_words content
 line_in Records most number content = record_line (frame_record most number content)
 
--- what is written of a good frame
+-- What is written of a good frame: its number, its content in lower-case hex (at most the given number of octets, and `..` if it has more),
+-- and its text; if asked for, its line of words after that. As records: the frame's record.
 abbrev pub frame_line : ListOptions → ℕ → List ℕ → List ℕ
 frame_line how number content = line_in how.form how.most number content
 
@@ -61,7 +62,7 @@ counts_of bits = record {
   damaged = counted bits Damaged;
 }
 
--- the line of the counts
+-- the line, or the record, of how many gaps there were of each class
 abbrev pub counts_line : Counts → List ℕ
 counts_line counts = line (codes "good" ∷ decimal counts.good ∷ codes "aborted" ∷ decimal counts.aborted
     ∷ codes "ragged" ∷ decimal counts.ragged ∷ codes "short" ∷ decimal counts.short
@@ -73,14 +74,14 @@ last_line Plain counts = counts_line counts
 last_line Explained counts = counts_line counts
 last_line Records counts = record_line (counts_record counts)
 
--- a line for each good frame of bits, numbered from 1, and the line of the counts
+-- A line for each good frame in the bits, numbered from 1, and the line of the counts. Each number is 2^64 - 1 at most.
 abbrev pub listing : ListOptions → List Bool → List ℕ
 listing how bits = frame_lines how 1 (good bits) ++ last_line how.form (counts_of bits)
 
--- frames are listed with no words, of bits the least significant of an octet first
+-- frames are listed without words, and the least significant bit of each octet was the first on the line
 abbrev pub plain_list : Option ℕ → ListOptions
 plain_list most = record { most = most; order = LsbFirst; form = Plain }
 
--- more than 64 octets have no good frame, so that the other order of bits is worth a try
+-- more than 64 octets have no good frame in this bit order, so the other one is worth a try
 abbrev pub IsOtherOrderWorth : Order → List ℕ → Type 0
 IsOtherOrderWorth order octets = (64 < length octets) × (length (good (bits_of order octets)) ≡ 0)

@@ -32,21 +32,21 @@ pub record IsFrontOf (frames : Frames) (octets : List ℕ) : Type 0 where
 abbrev pub AppendsFront : Frames → List ℕ → List ℕ → Type 0
 AppendsFront frames old new = (front : List ℕ) × IsFrontOf frames front × (new ≡ old ++ front)
 
--- the frames of the open block: those that are kept of the block that waits for others; and where none waits, those since the last PPS
+-- the frames of the open block: those kept of the block that waits for others; if none waits, those since the last PPS
 abbrev pub open_frames : Option Pps → Capture → Frames
 open_frames (Some waiting) s = s.kept
 open_frames None s = s.coming
 
--- none where a block of the page is missing; else the octets of its whole blocks, with the front of the open one after them
+-- nothing if a block of the page is missing; otherwise the octets of its whole blocks, and then the front of the open one
 abbrev pub IsFrontBy : Bool → Capture → List ℕ → Type 0
 IsFrontBy true s octets = octets ≡ []
 IsFrontBy false s octets = AppendsFront (open_frames s.waiting s) s.octets octets
 
--- the octets of the open page before its first gap, where nothing of it comes any more
+-- the octets of the open page before its first gap, when no more of it follows
 abbrev pub IsOpenFront : Capture → List ℕ → Type 0
 IsOpenFront s octets = IsFrontBy s.spoiled s octets
 
--- a block is the one that waits for frames, or where none waits the next one of the page
+-- a block is the one that waits for frames, or if none waits the next one of the page
 abbrev pub is_its_turn : Option Pps → Mark → ℕ → Bool
 is_its_turn (Some waiting) mark next = same_mark waiting.mark mark
 is_its_turn None mark next = nat_eq mark.block next
@@ -55,13 +55,13 @@ is_its_turn None mark next = nat_eq mark.block next
 abbrev pub goes_on : Mark → Capture → Bool
 goes_on mark s = is_taken s.taken mark || is_its_turn s.waiting mark s.next
 
--- the octets before the gap of a page that a PPS gives up: where another block waits for frames, those before the first one that is
--- missing; where none waits, those of the whole blocks
+-- The octets before the gap of a page that a PPS gives up: if another block waits for frames, those before its first missing one; if none
+-- waits, those of the whole blocks.
 abbrev pub IsLostFront : Option Pps → Capture → List ℕ → Type 0
 IsLostFront (Some waiting) s octets = IsOpenFront s octets
 IsLostFront None s octets = octets ≡ cond s.spoiled [] s.octets
 
--- the octets that a PPS leaves: none where the page goes on
+-- the octets that a PPS leaves: none if the page goes on
 abbrev pub IsFrontAt : Bool → Capture → List ℕ → Type 0
 IsFrontAt true s octets = octets ≡ []
 IsFrontAt false s octets = IsLostFront s.waiting s octets
@@ -72,7 +72,7 @@ IsFrontOfSignal (dcs params) s octets = IsOpenFront s octets
 IsFrontOfSignal (pps ends page block last) s octets = IsFrontAt (goes_on (record { page = page; block = block }) s) s octets
 IsFrontOfSignal signal s octets = octets ≡ []
 
--- the same of a content; one that says no signal leaves none
+-- the octets that a content leaves before a gap of the open page: those of its signal; none if it isn't a signal
 abbrev pub IsFrontBefore : Result PlainSignal SignalFault → Capture → List ℕ → Type 0
 IsFrontBefore (Ok signal) s octets = IsFrontOfSignal signal s octets
 IsFrontBefore (Err fault) s octets = octets ≡ []
@@ -89,7 +89,7 @@ pub record IsFrontPage (params : Params) (octets : List ℕ) (page : PagePixels)
 abbrev pub FrontStep : Type 0 → Type 1
 FrontStep S = S → PagePixels → S → Type 0
 
--- the page of the rows before a gap is taken, where there is a row
+-- the store takes the page of the rows before a gap, if that has a row
 abbrev pub GivesFront : {S : Type 0} → FrontStep S → Option Params → List ℕ → S → S → Type 0
 GivesFront fronts None octets old new = new ≡ old
 GivesFront fronts (Some params) octets old new = (page : PagePixels) × IsFrontPage params octets page
@@ -106,7 +106,7 @@ pub record Salvages {S : Type 0} (takes : FoundStep S) (fronts : FrontStep S) (h
   pub given : GivesFront fronts s.params octets old mid
   pub found : TakesEach takes mid (hears_read heard s).found new
 
--- contents, one after the other
+-- contents, one after the other, each by `Salvages`
 abbrev pub SalvagesEach : {S : Type 0} → FoundStep S → FrontStep S → List (List ℕ) → Capture → S → S → Type 0
 SalvagesEach takes fronts [] s old new = new ≡ old
 SalvagesEach {S} takes fronts (content ∷ contents) s old new = (mid : S) × Salvages takes fronts (read_content content) s old mid
@@ -120,7 +120,9 @@ pub record SalvagesEnd {S : Type 0} (takes : FoundStep S) (fronts : FrontStep S)
   pub given : GivesFront fronts s.params octets old mid
   pub found : TakesEach takes mid (at_end s) new
 
--- all contents of a line, and its end
+-- All contents of a line were heard. For each, the store took first the page of the rows before the gap that it leaves, if that has a row,
+-- and then what was found. A gap is left by a DCS, by a PPS that gives up the open page, and by the end of the line. The rows are all whole
+-- rows in the octets of the page's whole blocks, followed by the open block's frames before its first missing one.
 pub record SalvagesAll {S : Type 0} (takes : FoundStep S) (fronts : FrontStep S) (contents : List (List ℕ)) (old new : S) : Type 0 where
   pub mid : S
   pub each : SalvagesEach takes fronts contents (empty_capture None) old mid

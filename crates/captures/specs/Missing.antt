@@ -16,7 +16,8 @@ page_words page = codes "page " ++ decimal page
 abbrev pub block_words : ℕ → ℕ → List ℕ
 block_words page block = page_words page ++ (codes " block " ++ decimal block)
 
--- what is missing, in words
+-- What is missing of a page in a capture, in words: `page 1 block 0: frame 3 is missing`. The page's number is counted from 1, those of
+-- block and frame from 0, as in PPS and FCD.
 abbrev pub missing_text : Captured → List ℕ
 missing_text (Page page) = []
 missing_text (Unread mark fault) = page_words (page_missing (Unread mark fault))
@@ -27,16 +28,17 @@ missing_text (MissingBlocks mark) = block_words (page_missing (MissingBlocks mar
 missing_text Unfinished = codes "a page has no end"
 missing_text (BlockBeforeDcs mark) = block_words (page_missing (BlockBeforeDcs mark)) mark.block ++ codes ": no DCS before it"
 
--- the lines of a page
+-- the word for 7.7 or 3.85 lines a millimeter
 abbrev pub lines_word : Bool → List ℕ
 lines_word true = codes "fine"
 lines_word false = codes "standard"
 
--- a page that is in a file: its number, the file's, its size and its lines
+-- A page that is in a file, in words: `page 1: page-1.pbm, 1728 x 2292 pixels, fine lines`: its number, the number of its file, its width
+-- and rows, and `fine` or `standard`.
 abbrev pub stored_text : PageNumbers → PagePixels → List ℕ
 stored_text numbers page = page_words numbers.page ++ (codes ": page-" ++ (decimal numbers.file ++ (codes ".pbm, " ++ (decimal page.width
     ++ (codes " x " ++ (decimal (length page.rows) ++ (codes " pixels, " ++ (lines_word page.fine ++ codes " lines"))))))))
 
--- the rows of a page before a gap that are in a file: the same, and that it is those rows
+-- the rows of a page before a gap that are in a file, in words: what `stored_text` says, and `, rows before a gap`
 abbrev pub stored_front_text : PageNumbers → PagePixels → List ℕ
 stored_front_text numbers page = stored_text numbers page ++ codes ", rows before a gap"

@@ -4,15 +4,15 @@ use Rattle.captures.specs.declared.captured.Captured.{Captured}
 use Rattle.captures.specs.declared.captured.Captured.TheVariants.{Page, Unread, MissingFrame, MissingBlocks, Unfinished, BlockBeforeDcs}
 use Rattle.captures.specs.declared.numbers.PageNumbers.{PageNumbers}
 
--- the number after one, up to 2^64 - 1
+-- the next number, 2^64 - 1 at most
 abbrev pub after : ℕ → ℕ
 after number = min (number + 1) (2 ^ 64 - 1)
 
--- the first number that the file of the last page may have: the page's own, and one that no file before it has
+-- the first number that the file of the page found last may have: the page's own, or the one after the last file if that is greater
 abbrev pub file_from : PageNumbers → ℕ
 file_from numbers = max numbers.page (after numbers.file)
 
--- the number of a page of which something is missing: one more than that of its PPS; 0 where it isn't known
+-- the number of a page of which something is missing: one more than the number in its PPS; 0 if it isn't known
 abbrev pub page_missing : Captured → ℕ
 page_missing (Page page) = 0
 page_missing (Unread mark fault) = mark.page + 1

@@ -17,11 +17,11 @@ use Rattle.faults.specs.RecordLines.{count, words}
 use Rattle.captures.specs.SignalWords.{is_in_map}
 use Rattle.captures.specs.Texts.{coding_text, lines_text, modems_text, page_end_text, speed_text}
 
--- a signal of which only the name is said
+-- the record of a signal that has no fields: its name as `signal`
 abbrev pub named : List ℕ → Data
 named name = object (member (codes "signal") (words name) no_members)
 
--- what a station can do
+-- the record of a DIS: what a station can do
 abbrev pub dis_record : Caps → Data
 dis_record caps = object (member (codes "code") (words (cond caps.t6 (codes "t6") (codes "mh")))
     (member (codes "error_correction") (boolean caps.ecm)
@@ -31,7 +31,7 @@ dis_record caps = object (member (codes "code") (words (cond caps.t6 (codes "t6"
     (member (codes "signal") (words (codes "DIS"))
     (member (codes "width") (count (pixels_of caps.widest)) no_members)))))))
 
--- how pages are sent
+-- the record of a DCS: how pages are sent
 abbrev pub dcs_record : Params → Data
 dcs_record params = object (member (codes "code") (words (coding_text params.coding))
     (member (codes "frame_octets") (count (cond params.small 64 256))
@@ -69,7 +69,7 @@ abbrev pub other_record : ℕ → Data
 other_record octet = object (member (codes "control_field") (words (encode_lower (octet ∷ [])))
     (member (codes "signal") (words (codes "other")) no_members))
 
--- what a signal says
+-- the record of what a signal says: its name as `signal`, and its fields, if it has any
 abbrev pub signal_record : PlainSignal → Data
 signal_record (dis caps) = dis_record caps
 signal_record (dcs params) = dcs_record params

@@ -62,7 +62,7 @@ lines_words fine = cond fine (codes "fine lines") (codes "standard lines")
 abbrev pub code_words : Bool → List ℕ
 code_words t6 = cond t6 (codes "T.6") (codes "T.4 one-dimensional")
 
--- the same of a page's code
+-- the words for a page's code
 abbrev pub coding_words : Coding → List ℕ
 coding_words OneDim = code_words false
 coding_words T6 = code_words true
@@ -108,7 +108,7 @@ abbrev pub other_after : Bool → Bool → List ℕ → ℕ → List ℕ
 other_after some of_dcs fields at =
     cond (is_other of_dcs fields at) (cond some (codes ", ") (codes "; other bits ") ++ decimal (at + 1)) []
 
--- the same, after those of the places before it
+-- what the bit at a place adds to the list, by the bits before it
 abbrev pub other_text : Bool → List ℕ → ℕ → List ℕ
 other_text of_dcs fields at = other_after (some_below (is_other of_dcs fields) at) of_dcs fields at
 
@@ -142,7 +142,7 @@ frame_after some map number = cond (is_in_map map number)
     (cond (is_in_map map (number + 1)) [] (codes " to " ++ decimal number))
     (cond some (codes ", ") (codes " ") ++ decimal number)) []
 
--- the same, after those before it
+-- what a frame adds to the list, by the frames before it
 abbrev pub frame_text : List ℕ → ℕ → List ℕ
 frame_text map number = frame_after (some_below (is_in_map map) number) map number
 
@@ -152,7 +152,7 @@ ppr_words map = codes "    again: frames" ++ (texts_below (frame_text map) 256 +
 
 -- ---- a content
 
--- the line of a signal, of its information field too, and none of other signals
+-- the line of words of a signal that was read, and of its information field, as in `content_words`
 abbrev pub words_of : List ℕ → PlainSignal → List ℕ
 words_of fields (dis caps) = dis_words caps ++ (others_text false fields ++ 10 ∷ [])
 words_of fields (dcs params) = dcs_words params ++ (others_text true fields ++ 10 ∷ [])
@@ -168,12 +168,13 @@ words_of fields rr = []
 words_of fields dcn = []
 words_of fields (other octet) = []
 
--- the same of what was read
+-- the line of words of a signal that was read; none of a content that is refused
 abbrev pub words_read : List ℕ → Result PlainSignal SignalFault → List ℕ
 words_read fields (Ok signal) = words_of fields signal
 words_read fields (Err fault) = []
 
--- The line of words of a content, none where it says nothing to explain. The information field comes after the address, the control and
--- the facsimile control field.
+-- The line of words of a content: what a DIS, DCS, PPS or PPR says, by the bit numbers of T.30, table 2. A DIS or DCS also lists the
+-- numbers of its other bits that are 1; a PPR has its frames as ranges. Other signals have none. The information field follows the address,
+-- the control and the facsimile control field.
 abbrev pub content_words : List ℕ → List ℕ
 content_words content = words_read (drop 3 content) (read_content content)

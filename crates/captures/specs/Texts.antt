@@ -24,7 +24,7 @@ use Rattle.signals.specs.declared.fault.SignalFault.{SignalFault}
 use Rattle.faults.specs.Faults.{fault_text}
 use Rattle.faults.specs.declared.fault.ToolFault.TheVariants.{No}
 
--- words with a space between each two
+-- the words, with a space between each two
 abbrev pub spaced : List (List ℕ) → List ℕ
 spaced words = join_with_byte 32 words
 
@@ -32,7 +32,7 @@ spaced words = join_with_byte 32 words
 abbrev pub lines_text : Bool → List ℕ
 lines_text fine = cond fine (codes "fine") (codes "standard")
 
--- the modems of a station
+-- the modems of a station, as a word
 abbrev pub modems_text : Modems → List ℕ
 modems_text Fallback = codes "fallback"
 modems_text V27 = codes "v27"
@@ -51,30 +51,30 @@ speed_text V17At9600 = codes "v17-9600"
 speed_text V17At12000 = codes "v17-12000"
 speed_text V17At14400 = codes "v17-14400"
 
--- the code of pages
+-- the code of the pages, as a word
 abbrev pub coding_text : Coding → List ℕ
 coding_text OneDim = codes "mh"
 coding_text T6 = codes "t6"
 
--- what ends with a block
+-- the name of what ends with a block
 abbrev pub page_end_text : PageEnd → List ℕ
 page_end_text Null = codes "NULL"
 page_end_text Mps = codes "MPS"
 page_end_text Eom = codes "EOM"
 page_end_text Eop = codes "EOP"
 
--- what a station can do
+-- what a station can do, as words
 abbrev pub caps_text : Caps → List ℕ
 caps_text caps = spaced (cond caps.receiver (codes "receiver") (codes "noreceiver") ∷ modems_text caps.modems
     ∷ lines_text caps.fine ∷ decimal (pixels_of caps.widest) ∷ cond caps.t6 (codes "t6") (codes "mh")
     ∷ cond caps.ecm (codes "ecm") (codes "noecm") ∷ [])
 
--- how pages are sent
+-- how pages are sent, as words
 abbrev pub params_text : Params → List ℕ
 params_text params = spaced (speed_text params.speed ∷ lines_text params.fine ∷ decimal (pixels_of params.width)
     ∷ coding_text params.coding ∷ cond params.small (codes "64") (codes "256") ∷ [])
 
--- one more where the bit is 1
+-- one more if the bit is 1
 abbrev pub and_bit : ℕ → Bool → ℕ
 and_bit count bit = count + cond bit 1 0
 
@@ -82,8 +82,8 @@ and_bit count bit = count + cond bit 1 0
 abbrev pub marked_frames : List ℕ → ℕ
 marked_frames map = fold and_bit 0 (bits_of LsbFirst map)
 
--- A signal's name and what it says: of FCD its number and how many octets of data it has, of PPR how many frames it asks
--- for, of another signal its facsimile control field in hex.
+-- A signal's name and what it says, words with a space between each two. An FCD: its number and how many octets of data it has. A PPR: how
+-- many frames it asks for. A signal that isn't read: its facsimile control field in hex.
 abbrev pub signal_text : PlainSignal → List ℕ
 signal_text (dis caps) = spaced (codes "DIS" ∷ caps_text caps ∷ [])
 signal_text (dcs params) = spaced (codes "DCS" ∷ params_text params ∷ [])
@@ -105,6 +105,6 @@ abbrev pub read_text : Result PlainSignal SignalFault → List ℕ
 read_text (Ok signal) = signal_text signal
 read_text (Err fault) = fault_text (No (number_of fault))
 
--- what a content says, or the fault for which it is refused
+-- what a content says; if it is no signal, `fault` and the number of its fault
 abbrev pub content_text : List ℕ → List ℕ
 content_text content = read_text (read_content content)

@@ -10,15 +10,15 @@ abbrev pub traced : ℕ → Bool → Data → Data
 traced at true says = object (member (codes "at") (count at) (member (codes "said") says no_members))
 traced at false says = object (member (codes "at") (count at) (member (codes "heard") says no_members))
 
--- a frame's content that was heard or said
+-- the record of a frame's content that was heard or said at a time in milliseconds, with what it says
 abbrev pub traced_record : ℕ → Bool → List ℕ → Data
 traced_record at said content = traced at said (says_record (read_content content))
 
--- a training check that was heard or said
+-- the record of a training check that was heard or said at a time in milliseconds
 abbrev pub check_record : ℕ → Bool → Data
 check_record at said = traced at said (named (codes "TRAINING"))
 
--- why a call ended for a station, with how many pages a caller counts as confirmed, or how many an answerer has stored
+-- the record of why a station's call ended, with the pages that the caller counts as confirmed or the answerer has stored
 abbrev pub ended_record : List ℕ → Bool → ℕ → Data
 ended_record why true pages = object (member (codes "confirmed") (count pages) (member (codes "end") (words why) no_members))
 ended_record why false pages = object (member (codes "end") (words why) (member (codes "pages") (count pages) no_members))

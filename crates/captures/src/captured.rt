@@ -38,7 +38,7 @@ pub enum Captured {
     Unread {
         /// The mark of its last block.
         mark: Mark,
-        /// Why it can't be read, at a bit of its code.
+        /// The refusal, at a bit of its code.
         fault: CodeFault,
     },
     /// A frame that is missing.
@@ -126,7 +126,7 @@ fn read_page(
     }
 }
 
-/// Puts the later frame of a number over the one that is there, where there is a later one.
+/// Replaces the frame of a number by the later one, if there is a later one.
 fn overlay_one(frames: &mut BlockStore, later: &BlockStore, number: u8) -> Result<(), ToolFault>
     requires { frames.old.small ≡ later.now.small }
     ensures small { frames.new.small ≡ frames.old.small }
@@ -157,7 +157,7 @@ fn overlay(frames: &mut BlockStore, later: &BlockStore) -> Result<(), ToolFault>
     Ok(())
 }
 
-/// Names a frame where it is missing.
+/// Names a frame if it is missing.
 fn name_one(
     frames: &BlockStore,
     mark: Mark,
@@ -232,7 +232,7 @@ impl Capture {
         self.spoiled = false;
     }
 
-    /// Whether the block with this mark is the one that waits for frames.
+    /// Returns whether the block with this mark is the one that waits for frames.
     fn is_waiting(&self, mark: Mark) -> bool
         ensures { result ≡ is_waiting self.now.waiting mark }
     {
@@ -242,7 +242,7 @@ impl Capture {
         }
     }
 
-    /// Whether the block with this mark was whole already.
+    /// Returns whether the block with this mark was whole already.
     fn is_taken(&self, mark: Mark) -> bool
         ensures { result ≡ is_taken self.now.taken mark }
     {
@@ -256,6 +256,7 @@ impl Capture {
     fn counted(&self, pps: Pps) -> Pps
         ensures { result ≡ record pps { last = last_counted (option_map asked_by self.now.waiting) pps.mark pps.last } }
     {
+        // some senders count in the PPS of a resend only what they send again, so the greatest last frame counts
         self.block.counted(pps)
     }
 
@@ -275,6 +276,7 @@ impl Capture {
         self.octets.clear();
         match waiting.ends {
             PageEnd::Null => {
+                // the page's code can't go on after the gap, so it isn't read
                 self.next = waiting.mark.block.wrapping_add(1);
                 self.spoiled = true;
             }
@@ -310,7 +312,7 @@ impl Capture {
         self.give_up(out)
     }
 
-    /// A block comes: its page can't be read where blocks before it are missing.
+    /// A block comes: if blocks before it are missing, its page can't be read.
     fn turn_to(&mut self, mark: Mark, out: &mut Vec<Captured>) -> Result<(), ToolFault>
         ensures taken { OnOk result (Takes (turns_to mark self.old) self.new out.old.items out.new.items) }
         ensures fault { IfErr result IsOutside }
@@ -331,6 +333,7 @@ impl Capture {
         ensures gathered { OnOk result (self.new ≡ gathers self.old) }
         ensures fault { IfErr result IsOutside }
     {
+        // A lost PPS mixes the frames of two blocks. The blocks' numbers then show that one is missing, except in a page of one block.
         overlay(&mut self.block.frames, &self.coming)?;
         self.drop_coming();
         Ok(())
@@ -503,11 +506,12 @@ impl Capture {
     {
         match self.block.asked {
             Some(_) => append_front(&self.block.frames, octets),
+            // Taken to be the next block: if a whole block is sent again and then cut off, its rows come twice.
             None => append_front(&self.coming, octets),
         }
     }
 
-    /// The octets of the open page before its first gap, where nothing of it comes any more.
+    /// Returns the octets of the open page before its first gap, when no more of it follows.
     pub(crate) fn open_front(&self) -> Result<Vec<u8>, ToolFault>
         ensures front { IfOk result (λ octets. IsOpenFront self.now octets.items) }
         ensures fault { IfErr result IsOutside }
@@ -545,7 +549,7 @@ impl Capture {
         }
     }
 
-    /// Whether the open page goes on with the block of this mark, or that was whole already.
+    /// Returns whether the open page goes on with the block of this mark, or that was whole already.
     fn goes_on(&self, mark: Mark) -> bool
         ensures { result ≡ goes_on mark self.now }
     {
@@ -558,7 +562,7 @@ impl Capture {
         }
     }
 
-    /// The octets before the gap of the open page that a PPS with this mark leaves: none where the page goes on.
+    /// Returns the octets that a PPS with this mark leaves before the gap of the open page; none if the page goes on.
     fn front_at(&self, mark: Mark) -> Result<Vec<u8>, ToolFault>
         ensures front { IfOk result (λ octets. IsFrontAt (goes_on mark self.now) self.now octets.items) }
         ensures fault { IfErr result IsOutside }
@@ -653,11 +657,10 @@ impl Capture {
     }
 }
 
-/// The pages in the octets of a line, whose bits have this order: those that the data of
-/// its FCDs join to by the PPSs, read by the width, the lines and the code of the DCS before, one after the other; and
-/// between them what is missing of others, in the order of the line. No station answers. Each page comes once, however
-/// often its blocks were sent. Errs with 8 where the reader fails, or doesn't end in 2^64 reads, and with 9. ITU-T
-/// T.30, Annex A.
+/// Reads the octets of a line, in this bit order, and returns what its signals carry, in their order (ITU-T T.30, Annex A): the pages, each
+/// joined from the data of FCDs by the PPSs and read by the width, lines and code of the DCS before; and what is missing of others. No
+/// station is needed. Each page comes once, however often its blocks were sent. Errors: `Io` (8) from the reader, or if it doesn't end in
+/// 2^64 reads; `NoMemory` (9).
 pub fn captured_in<R: Read>(
     alloc: Global,
     reader: &mut R,
@@ -683,7 +686,7 @@ pub fn captured_in<R: Read>(
     Err(FAILED)
 }
 
-/// Does what `captured_in` does, of bits the least significant of each octet first.
+/// Does what `captured_in` does, the least significant bit of each octet first.
 pub fn captured_pages<R: Read>(alloc: Global, reader: &mut R) -> Result<Vec<Captured>, ToolFault>
     ensures found { IfOk result (λ found. IfSome (R.remaining reader.old) (λ octets.
         found.items ≡ captured (good (bits_of LsbFirst octets)))) }

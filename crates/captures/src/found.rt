@@ -20,18 +20,18 @@ use hdlc::Deframer;
 use std::alloc::Global;
 use std::io::{Read, Write};
 
-/// Where what is found in a capture goes, one after the other.
+/// Takes what is found in a capture, in order.
 pub trait FoundStore {
     // What it is that something found is taken: the store before, what was found, and the store after.
     ghost takes: { Self → Captured → Self → Type 0 };
 
-    /// Takes what was found. Errs with 8 where it can't be stored, and with 9.
+    /// Takes one finding. Errors: `Io` (8) if it can't be stored, `NoMemory` (9).
     fn take(&mut self, found: Captured) -> Result<(), ToolFault>
         ensures taken { OnOk result (takes self.old found self.new) }
         ensures fault { IfErr result IsOutside };
 }
 
-/// Gives on all that was found, in order.
+/// Gives all findings to the store, in order.
 pub(crate) fn give_all<S: FoundStore>(found: Vec<Captured>, store: &mut S) -> Result<(), ToolFault>
     ensures given { OnOk result (TakesEach S.takes store.old found.items store.new) }
     ensures fault { IfErr result IsOutside }
@@ -42,7 +42,7 @@ pub(crate) fn give_all<S: FoundStore>(found: Vec<Captured>, store: &mut S) -> Re
     Ok(())
 }
 
-/// Writes the line of a good frame, and gives on what its signal says of pages; before that the writer is flushed.
+/// Writes the line of a good frame and flushes the writer, then gives the store what its signal completes.
 fn take_frame<W: Write, S: FoundStore>(
     capture: &mut Capture,
     number: u64,
@@ -64,8 +64,7 @@ fn take_frame<W: Write, S: FoundStore>(
     give_all(found, store)
 }
 
-/// Writes a line for each content that waits, the first with this number, and gives on what its signal says of pages. Answers the
-/// number that follows.
+/// Writes a line for each waiting content, the first with this number, and gives the store what each completes. Returns the next number.
 fn take_frames<W: Write, S: FoundStore>(
     capture: &mut Capture,
     deframer: &mut Deframer,
@@ -88,7 +87,7 @@ fn take_frames<W: Write, S: FoundStore>(
     Ok(number)
 }
 
-/// Gives on what there is to say of pages at the end of the bits.
+/// Reports unfinished pages at the end of the input.
 fn end_capture<S: FoundStore>(capture: &mut Capture, store: &mut S) -> Result<(), ToolFault>
     ensures given { OnOk result (TakesEach S.takes store.old (at_end capture.old) store.new) }
     ensures fault { IfErr result IsOutside }
@@ -98,10 +97,9 @@ fn end_capture<S: FoundStore>(capture: &mut Capture, store: &mut S) -> Result<()
     give_all(found, store)
 }
 
-/// Reads bits and lists the frames in them, as `list_engine` does, and gives the pages that they carry, and what is missing of others, to
-/// a store: what `captured_in` finds, each as soon as it is found and after its frame's line. No more is kept than the open page. Answers
-/// what `list_engine` does. Errs with 8 where the reader, the writer or the store fails, or the reader doesn't end in 2^64 reads, and
-/// with 9.
+/// Reads bits and lists their frames, as `list_engine` does, and gives the store what `captured_in` finds: pages, and what is missing of
+/// others, each as soon as it is found and after its frame's line. Only the open page is kept. Returns what `list_engine` returns. Errors:
+/// `Io` (8) from the reader, the writer or the store, or if the reader doesn't end in 2^64 reads; `NoMemory` (9).
 pub fn pages_engine<R: Read, W: Write, S: FoundStore>(
     alloc: Global,
     reader: &mut R,

@@ -38,7 +38,7 @@ fn stored_record(alloc: Global, stored: &Stored<'_>) -> Result<Value, AllocError
     })
 }
 
-/// The rows of a page before a gap that are in a file: the same, and that it is those rows.
+/// The record of the rows of a page before a gap that are in a file: that of a page, with `salvaged` true.
 fn stored_front_record(alloc: Global, stored: &Stored<'_>) -> Result<Value, AllocError>
     ensures { IfOk result (λ value. view value ≡ stored_front_record stored.now.numbers stored.now.page.now) }
 {
@@ -61,7 +61,7 @@ fn block_record(alloc: Global, what: &str, page: u64, mark: Mark) -> Result<Valu
     json!(in alloc; {"missing": what, "page": page, "block": mark.block})
 }
 
-/// What is missing of a page; of one that is there nothing.
+/// The record of what is missing of a page; that of a whole page is empty.
 fn missing_record(alloc: Global, found: &Captured) -> Result<Value, AllocError>
     ensures { IfOk result (λ value. view value ≡ missing_record found.now) }
 {
@@ -86,8 +86,8 @@ fn missing_record(alloc: Global, found: &Captured) -> Result<Value, AllocError>
     }
 }
 
-/// Writes the record of a page that is in a file as a line: the file's name, its rows and its width in pixels, its lines and its number
-/// from 1. Errs with 8 where the writer fails, and with 9.
+/// Writes the record of a page that is in a file as one line: the file's name, its rows and its width in pixels, its lines, and its number
+/// from 1. Errors: `Io` (8) from the writer, `NoMemory` (9).
 pub fn write_stored<W: Write>(
     alloc: Global,
     stored: &Stored<'_>,
@@ -101,8 +101,8 @@ pub fn write_stored<W: Write>(
     write_record(alloc, &record, writer)
 }
 
-/// Writes the record of the rows of a page before a gap that are in a file as a line: what `write_stored` writes of a page, and that it
-/// is those rows. Errs with 8 where the writer fails, and with 9.
+/// Writes the record of the rows before a gap that are in a file as one line: what `write_stored` writes, with `salvaged` true. Errors:
+/// `Io` (8) from the writer, `NoMemory` (9).
 pub fn write_stored_front<W: Write>(
     alloc: Global,
     stored: &Stored<'_>,
@@ -116,7 +116,8 @@ pub fn write_stored_front<W: Write>(
     write_record(alloc, &record, writer)
 }
 
-/// Writes the record of what is missing of a page as a line. Errs with 8 where the writer fails, and with 9.
+/// Writes the record of what is missing of a page as one line: page numbers from 1, blocks and frames from 0. Errors: `Io` (8) from the
+/// writer, `NoMemory` (9).
 pub fn write_missing<W: Write>(
     alloc: Global,
     found: &Captured,

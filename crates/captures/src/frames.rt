@@ -19,33 +19,32 @@ use std::alloc::{AllocError, Global};
 use std::io;
 use std::io::{Read, Write};
 
-/// What is written of each frame.
+/// How each frame is written.
 #[derive(Clone, Copy, Debug, PartialEq, Eq)]
 pub enum ListForm {
-    /// A line.
+    /// As a line.
     Plain,
-    /// A line, and after that of a DIS, a DCS, a PPS or a PPR another one that says in words what it says.
+    /// As a line; after that of a DIS, DCS, PPS or PPR a second one that says in words what it says.
     Explained,
-    /// A record: an object of JSON in a line, for programs.
+    /// As a record: an object of JSON on one line, for programs.
     Records,
 }
 
 /// How frames are listed.
 #[derive(Clone, Copy, Debug, PartialEq, Eq)]
 pub struct ListOptions {
-    /// At most how many octets of a content are shown, where it isn't all of them.
+    /// How many octets of a content are shown at most; None for all.
     pub most: Option<usize>,
-    /// Which bit of an octet comes first on the line.
+    /// Which bit of an octet came first on the line.
     pub order: Order,
-    /// What is written of each frame.
+    /// How each frame is written.
     pub form: ListForm,
 }
 
 /// How many octets are read at a time.
 pub(crate) const PIECE: usize = 4096;
 
-/// Writes the line of a good frame, with no words: its number, its content in hex, of which at most `most` octets are shown, and
-/// what it says.
+/// Writes the line of a good frame: its number, its content in hex (`most` octets at most), and what it says.
 fn write_content<W: Write>(
     alloc: Global,
     number: u64,
@@ -66,8 +65,7 @@ fn write_content<W: Write>(
     Ok(())
 }
 
-/// Writes a good frame in the form that is asked for: its number, its content in hex, of which at most `most` octets are shown,
-/// and what it says.
+/// Writes a good frame in this form: its number, its content in hex (`most` octets at most), and what it says.
 pub(crate) fn write_frame<W: Write>(
     alloc: Global,
     number: u64,
@@ -88,8 +86,7 @@ pub(crate) fn write_frame<W: Write>(
     }
 }
 
-/// Writes a line for each content that waits, the first with this number. Answers the number that
-/// follows.
+/// Writes a line for each waiting content, the first with this number. Returns the next number.
 fn write_frames<W: Write>(
     alloc: Global,
     deframer: &mut Deframer,
@@ -139,8 +136,8 @@ pub(crate) fn write_counts<W: Write>(
     }
 }
 
-/// Reads octets into the front of a piece that has room, and answers how many: none at the reader's
-/// end alone. Reads again where it is interrupted.
+/// Reads octets into the front of a buffer that isn't empty and returns how many: 0 only at the reader's end. An interrupted read is tried
+/// again.
 pub fn read_some<R: Read>(reader: &mut R, piece: &mut [u8]) -> Result<usize, ToolFault>
     requires { 0 < length piece.old }
     ensures room { IfOk result (λ count. count ≤ length piece.new) }
@@ -161,7 +158,7 @@ pub fn read_some<R: Read>(reader: &mut R, piece: &mut [u8]) -> Result<usize, Too
     Err(FAILED)
 }
 
-/// The octet whose bits, the least significant first, are those of this one with the most significant first.
+/// Returns the octet with its bits in the opposite order.
 fn turned(octet: u8) -> u8
     ensures { bits_of LsbFirst (result ∷ []) ≡ bits_of MsbFirst (octet ∷ []) }
 {
@@ -169,7 +166,7 @@ fn turned(octet: u8) -> u8
     word_octets(Order::LsbFirst, word)[0]
 }
 
-/// A deframer takes the bits of octets, the most significant of each first. Errs where memory is refused for a content.
+/// Feeds a deframer the bits of octets, the most significant of each first. Errors: memory is refused for a content.
 fn feed_turned(deframer: &mut Deframer, piece: &[u8]) -> Result<(), AllocError>
     ensures ok { OnOk result ((bits : List Bool) (handed : ℕ) → IsAfter deframer.old bits handed
         → IsAfter deframer.new (bits ++ bits_of MsbFirst piece.now) handed) }
@@ -180,7 +177,7 @@ fn feed_turned(deframer: &mut Deframer, piece: &[u8]) -> Result<(), AllocError>
     Ok(())
 }
 
-/// A deframer takes the bits of octets, in their order. Errs where memory is refused for a content.
+/// Feeds a deframer the bits of octets in this order. Errors: memory is refused for a content.
 pub fn feed_in(deframer: &mut Deframer, order: Order, piece: &[u8]) -> Result<(), AllocError>
     ensures ok { OnOk result ((bits : List Bool) (handed : ℕ) → IsAfter deframer.old bits handed
         → IsAfter deframer.new (bits ++ bits_of order piece.now) handed) }
@@ -191,19 +188,19 @@ pub fn feed_in(deframer: &mut Deframer, order: Order, piece: &[u8]) -> Result<()
     }
 }
 
-/// Whether more than 64 octets have no good frame, where the next one would have this number.
+/// Returns whether over 64 octets gave no frame; `number` is that of the next frame.
 pub(crate) fn has_no_frame(octets: u64, number: u64) -> bool
     ensures { IsTrue result ↔ ((64 < octets) × (number ≡ 1)) }
 {
+    // a few octets may well have no frame in the right order
     octets > 64 && number == 1
 }
 
-/// Reads bits, and writes a line for each good frame in them, with its number from 1, its content in hex and what it says, and then
-/// a line with the counts of all gaps. At most `how.most` octets of a content are shown, and a line has `..` after them where it has
-/// more; the line of a DIS, a DCS, a PPS or a PPR is followed by one that says it in words, or each line is a record, as `how.form` says.
-/// Each line is written, and the writer flushed, as soon as its frame was read. Answers whether the other order of bits is worth a try:
-/// more than 64 octets had no good frame. Errs with 8 where the reader or the writer fails, or the reader doesn't end in 2^64 reads, and
-/// with 9.
+/// Reads bits and writes a line for each good frame, numbered from 1, with its content in lower-case hex (`how.most` octets at most, then
+/// `..`) and what it says; at the end a line with the counts of all gaps. `how.form` asks for a second line of words, or for records. Each
+/// line is flushed as soon as its frame is read, so memory doesn't grow with the input. A content that is no signal has the number of its
+/// fault. Returns whether over 64 octets gave no frame, so that the other bit order is worth a try. Errors: `Io` (8) from the reader or the
+/// writer, or if the reader doesn't end in 2^64 reads; `NoMemory` (9).
 pub fn list_engine<R: Read, W: Write>(
     alloc: Global,
     reader: &mut R,
@@ -233,7 +230,7 @@ pub fn list_engine<R: Read, W: Write>(
     Err(FAILED)
 }
 
-/// Reads bits, the least significant of each octet first, and lists the frames in them as `list_engine` does, with no words.
+/// Reads bits, the least significant of each octet first, and lists their frames as `list_engine` does, without words.
 pub fn frames_engine<R: Read, W: Write>(
     alloc: Global,
     reader: &mut R,

@@ -25,12 +25,12 @@ use signals::Params;
 use std::alloc::{AllocError, Global};
 use std::io::{Read, Write};
 
-/// Where the rows before the gaps of pages in a capture go.
+/// Takes the rows of pages before their gaps.
 pub trait FrontStore {
     // What it is that rows before a gap are taken: the store before, the page of the rows, and the store after.
     ghost fronts: { Self → PagePixels → Self → Type 0 };
 
-    /// Takes the page of the rows before a gap, which has a row. Errs with 8 where it can't be stored, and with 9.
+    /// Takes the page of the rows before a gap, at least one. Errors: `Io` (8) if it can't be stored, `NoMemory` (9).
     fn take_front(&mut self, page: Page) -> Result<(), ToolFault>
         ensures taken { OnOk result (fronts self.old page self.new) }
         ensures fault { IfErr result IsOutside };
@@ -46,7 +46,7 @@ fn front_page(alloc: Global, params: Params, octets: &[u8]) -> Result<Page, Allo
         .salvage(alloc, octets, Order::LsbFirst, width, params.fine)
 }
 
-/// Gives on the rows before a gap, where there is one.
+/// Gives the store the rows before a gap, if there are any.
 fn give_front<S: FrontStore>(
     alloc: Global,
     params: Option<Params>,
@@ -66,8 +66,8 @@ fn give_front<S: FrontStore>(
     store.take_front(page)
 }
 
-/// Writes the line of a good frame, and gives on the rows before the gap that it leaves, and then what its signal says of pages; before
-/// that the writer is flushed.
+/// Writes the line of a good frame and flushes the writer, then gives the store the rows before the gap that it leaves, and what its signal
+/// completes.
 fn salvage_frame<W: Write, S: FoundStore + FrontStore>(
     capture: &mut Capture,
     number: u64,
@@ -93,8 +93,8 @@ fn salvage_frame<W: Write, S: FoundStore + FrontStore>(
     give_all(found, store)
 }
 
-/// Writes a line for each content that waits, the first with this number, and gives on what each says of pages, with the rows before a
-/// gap. Answers the number that follows.
+/// Writes a line for each waiting content, the first with this number, and gives the store what each completes, with the rows before gaps.
+/// Returns the next number.
 fn salvage_frames<W: Write, S: FoundStore + FrontStore>(
     capture: &mut Capture,
     deframer: &mut Deframer,
@@ -118,7 +118,7 @@ fn salvage_frames<W: Write, S: FoundStore + FrontStore>(
     Ok(number)
 }
 
-/// Gives on the rows of the open page before its gap, and what there is to say of pages at the end of the bits.
+/// Gives the store the rows of the open page before its gap, and reports unfinished pages at the end of the input.
 fn salvage_end<S: FoundStore + FrontStore>(
     capture: &mut Capture,
     store: &mut S,
@@ -134,8 +134,8 @@ fn salvage_end<S: FoundStore + FrontStore>(
     give_all(found, store)
 }
 
-/// Does what `pages_engine` does; and where a page isn't whole, gives the whole rows before its first gap to the store, before what is
-/// missing of it. Errs as `pages_engine` does.
+/// Does what `pages_engine` does, and gives the store also the whole rows before the first gap of a page that isn't whole, before what is
+/// missing of it. A gap shows at a DCS, at a PPS that gives up the open page, or at the end. Errors are those of `pages_engine`.
 pub fn salvage_pages_engine<R: Read, W: Write, S: FoundStore + FrontStore>(
     alloc: Global,
     reader: &mut R,

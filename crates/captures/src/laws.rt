@@ -2,8 +2,8 @@
 
 ghost use Rattle.captures.specs.CapturesMean.{BlocksEnd, CapturesMean, FramesAreKept, OthersChangeNothing};
 
-/// What is found in a capture: in whole sequences of signals, with each end of a PPS, resends, frames and blocks that are missing,
-/// and a DCS in the middle; which signals change nothing, as a DCN; which data of an FCD are kept; and what a PPS leaves.
+/// What is found in 19 sequences of signals, whatever the parameters and data: each end of a PPS, resends, missing frames and blocks, a DCS
+/// in the middle. Every signal but DCS, FCD and PPS changes nothing. Which data of an FCD are kept, and what a PPS leaves.
 pub fn captures_mean()
     ensures sequences { CapturesMean }
     ensures others { OthersChangeNothing }

@@ -38,8 +38,8 @@ impl fmt::Display for BlockText {
     }
 }
 
-/// What is missing of a page in a capture, in a line with no LF: the page's number from 1, and the numbers of block and frame as
-/// PPS and FCD have them, from 0. Of a page that is there, nothing.
+/// What is missing of a page in a capture, on a line without its LF. The page's number is counted from 1, those of block and frame from 0,
+/// as in PPS and FCD. Empty for a whole page.
 #[derive(Clone, Copy, Drop)]
 pub struct Missing<'a>(pub &'a Captured);
 
@@ -75,8 +75,8 @@ impl fmt::Display for Missing<'_> {
     }
 }
 
-/// A page of a capture that is in a file, in a line with no LF: its number and that of its file, which is named `page-N.pbm`, its width
-/// and its rows in pixels, and whether its lines are fine.
+/// A page of a capture that is in a file, on a line without its LF: its number, its file `page-N.pbm`, its width in pixels, its rows, and
+/// whether its lines are fine.
 #[derive(Clone, Copy, Drop)]
 pub struct Stored<'a> {
     /// The numbers of the page and of its file.
@@ -104,7 +104,7 @@ impl fmt::Display for Stored<'_> {
     }
 }
 
-/// The rows of a page before a gap that are in a file, in a line with no LF: what `Stored` says of a page, and that it is those rows.
+/// The rows of a page before a gap that are in a file, on a line without its LF: as `Stored`, and that they are the rows before a gap.
 #[derive(Clone, Copy, Drop)]
 pub struct StoredFront<'a>(pub Stored<'a>);
 

@@ -4,7 +4,7 @@ ghost use Rattle.std.specs.Prelude.{◌≡◌, max, nat_eq, not};
 
 use crate::captured::Captured;
 
-/// The numbers of the last page that was found and of the last file that was written, from 1, and 0 before the first.
+/// The numbers of the last page found and of the last file written, from 1; 0 before the first.
 #[derive(Clone, Copy, Debug, PartialEq, Eq)]
 pub struct PageNumbers {
     /// The last page's number.
@@ -14,14 +14,14 @@ pub struct PageNumbers {
 }
 
 impl PageNumbers {
-    /// Before any page.
+    /// Returns the numbers before any page.
     pub fn new() -> PageNumbers
         ensures { result ≡ record { page = 0; file = 0 } }
     {
         PageNumbers { page: 0, file: 0 }
     }
 
-    /// A page was found: it has the next number. Answers the first number that its file may have, its own or the one after the last file.
+    /// Counts a page, and returns the first number that its file may have: its own, or the one after the last file.
     pub fn found(&mut self) -> u64
         ensures new { self.new ≡ record self.old { page = after self.old.page } }
         ensures from { result ≡ file_from self.new }
@@ -30,7 +30,7 @@ impl PageNumbers {
         self.page.max(self.file.saturating_add(1))
     }
 
-    /// The last page went to the file of this number. Answers whether that isn't the page's own.
+    /// Notes that the last page is in the file with this number, and returns whether that isn't the page's own.
     pub fn written(&mut self, file: u64) -> bool
         ensures new { self.new ≡ record self.old { file = file } }
         ensures other { result ≡ not (nat_eq file self.old.page) }
@@ -39,8 +39,8 @@ impl PageNumbers {
         file != self.page
     }
 
-    /// Something is missing of a page. Answers the page's number, as the PPS has it, and 0 where that isn't known; pages after it
-    /// have greater ones.
+    /// Notes that something is missing of a page, and returns its number by its PPS, 0 if that isn't known. Later pages have greater
+    /// numbers.
     pub fn missing(&mut self, found: &Captured) -> u64
         ensures number { result ≡ page_missing found.now }
         ensures new { self.new ≡ record self.old { page = max self.old.page result } }
@@ -51,7 +51,7 @@ impl PageNumbers {
     }
 }
 
-/// The number of a page of which something is missing, from 1, and 0 where it isn't known.
+/// Returns the number of a page of which something is missing, from 1; 0 if it isn't known.
 pub(crate) fn missing_page(found: &Captured) -> u64
     ensures { result ≡ page_missing found.now }
 {

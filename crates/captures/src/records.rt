@@ -80,7 +80,7 @@ fn pps_record(
     })
 }
 
-/// Appends a number where it is marked in a map.
+/// Appends a number if it is marked in a map.
 fn push_marked(marks: &[u8; 32], number: u16, numbers: &mut Vec<Value>) -> Result<(), AllocError>
     ensures { OnOk result (map view numbers.new.items
         ≡ map view numbers.old.items ++ cond (is_in_map marks.now number) (count number ∷ []) []) }
@@ -125,7 +125,7 @@ pub(crate) fn named(alloc: Global, name: &str) -> Result<Value, AllocError>
     json!(in alloc; {"signal": name})
 }
 
-/// What a signal says, as the object that `frames --json` has for it.
+/// Returns what a signal says as an object of JSON, as in `frames --json`: its name as `signal`, and its fields.
 pub fn signal_record(alloc: Global, signal: &Signal<'_>) -> Result<Value, AllocError>
     ensures { IfOk result (λ value. view value ≡ signal_record (plain signal.now)) }
 {
@@ -204,7 +204,7 @@ fn counts_record(alloc: Global, gaps: Counts) -> Result<Value, AllocError>
     })
 }
 
-/// Writes the record of a good frame as a line. Errs with 8 where the writer fails, and with 9.
+/// Writes the record of a good frame as a line. Errors: `Io` (8) from the writer, `NoMemory` (9).
 pub(crate) fn write_frame_record<W: Write>(
     alloc: Global,
     number: u64,
@@ -220,7 +220,7 @@ pub(crate) fn write_frame_record<W: Write>(
     write_record(alloc, &record, writer)
 }
 
-/// Writes the record of how many gaps there were of each class as a line. Errs with 8 where the writer fails, and with 9.
+/// Writes the record of how many gaps there were of each class as a line. Errors: `Io` (8) from the writer, `NoMemory` (9).
 pub(crate) fn write_counts_record<W: Write>(
     alloc: Global,
     gaps: Counts,

@@ -52,7 +52,7 @@ fn lines_words(fine: bool) -> &'static str
     if fine { "fine lines" } else { "standard lines" }
 }
 
-/// Whether T.6 is read too.
+/// Returns the words that say whether T.6 is read too.
 fn code_words(t6: bool) -> &'static str
     ensures { result.now ≡ code_words t6 }
 {
@@ -69,7 +69,7 @@ fn coding_words(coding: Coding) -> &'static str
     }
 }
 
-/// Whether a station receives.
+/// Returns the words that say whether a station receives.
 fn receiver_words(receiver: bool) -> &'static str
     ensures { result.now ≡ receiver_words receiver }
 {
@@ -80,7 +80,7 @@ fn receiver_words(receiver: bool) -> &'static str
     }
 }
 
-/// Whether errors are corrected.
+/// Returns the words that say whether errors are corrected.
 fn correction_words(ecm: bool) -> &'static str
     ensures { result.now ≡ correction_words ecm }
 {
@@ -138,7 +138,7 @@ fn write_dcs<W: Write>(params: Params, writer: &mut W) -> Result<(), ToolFault>
     Ok(())
 }
 
-/// Whether a bit of a DIS is read, by its number.
+/// Returns whether a bit of a DIS is read, by its number.
 fn is_read_of_dis(number: u128) -> bool
     ensures { result ≡ is_read_of_dis number }
 {
@@ -150,18 +150,19 @@ fn is_read_of_dis(number: u128) -> bool
         || number == 31
 }
 
-/// Whether a bit of a DCS is read, by its number.
+/// Returns whether a bit of a DCS is read, by its number.
 fn is_read_of_dcs(number: u128) -> bool
     ensures { result ≡ is_read_of_dcs number }
 {
     (10 < number && number < 19) || number == 24 || number == 27 || number == 28 || number == 31
 }
 
-/// Whether the bit at a place of an information field is 1 and isn't read, of a DCS or of a DIS.
+/// Returns whether this bit of the information field of a DCS or DIS is 1 and isn't read.
 fn is_other(of_dcs: bool, fields: &[u8], at: u128) -> bool
     requires { at < 8 * length fields.now }
     ensures { result ≡ is_other of_dcs fields.now at }
 {
+    // up to the end of the field, whatever its extension bits say
     if !bit_of(Order::LsbFirst, fields, at) {
         return false;
     }
@@ -182,8 +183,7 @@ fn write_other<W: Write>(number: u128, some: bool, writer: &mut W) -> Result<(),
     Ok(())
 }
 
-/// Writes what the bit at a place adds to the list of those that are 1 and not read, after some of them or as the first. Answers
-/// whether there are some now.
+/// Adds this bit to the list of bits that are 1 and not read, if it is one. Returns whether the list has any now.
 fn add_other<W: Write>(
     of_dcs: bool,
     fields: &[u8],
@@ -244,7 +244,7 @@ fn write_pps<W: Write>(
     Ok(())
 }
 
-/// Whether a frame is marked in a map.
+/// Returns whether a frame is marked in a map.
 pub(crate) fn is_in_map(map: &[u8; 32], number: u16) -> bool
     ensures { result ≡ is_in_map map.now number }
 {
@@ -262,7 +262,7 @@ fn write_first<W: Write>(number: u16, some: bool, writer: &mut W) -> Result<(), 
     Ok(())
 }
 
-/// Writes what a frame adds to the list of those that are marked; `some` where one before it is.
+/// Writes what a frame adds to the list of marked frames; `some` if a frame before it is marked.
 fn write_marked<W: Write>(
     map: &[u8; 32],
     number: u16,
@@ -292,6 +292,7 @@ fn write_map<W: Write>(map: &[u8; 32], writer: &mut W) -> Result<(), ToolFault>
     ensures fault { IfErr result IsOutside }
 {
     let mut some = false;
+    // all frames that it marks, also past the last one of its block
     for number in 0u16..256 {
         write_marked(map, number, some, writer)?;
         some = is_in_map(map, number) || some;
@@ -310,15 +311,15 @@ fn write_ppr<W: Write>(map: &[u8; 32], writer: &mut W) -> Result<(), ToolFault>
     Ok(())
 }
 
-/// The information field of a content, after its address, its control and its facsimile control field.
+/// Returns the information field of a content: what follows the address, the control and the facsimile control field.
 fn fields_of(content: &[u8]) -> &[u8]
     ensures { result.now ≡ drop 3 content.now }
 {
     content.get(3..).unwrap_or(&[])
 }
 
-/// Writes the line of words of a signal, of a DIS, a DCS, a PPS or a PPR, and none of others. A DIS and a DCS with the bits of
-/// such an information field that are 1 and not read, by their numbers (T.30, table 2). Errs with 8 where the writer fails, and with 9.
+/// Writes the line of words of a DIS, DCS, PPS or PPR, and nothing for other signals. A DIS or DCS lists the bits of this information field
+/// that are 1 and not read, by their numbers (T.30, table 2). Errors: `Io` (8) from the writer, `NoMemory` (9).
 pub fn write_signal<W: Write>(
     signal: &Signal<'_>,
     fields: &[u8],
@@ -347,7 +348,7 @@ pub fn write_signal<W: Write>(
     }
 }
 
-/// Writes the line of words of a content, of a DIS, a DCS, a PPS or a PPR, and none of others.
+/// Writes the line of words of a content that is a DIS, DCS, PPS or PPR, and nothing for others.
 pub(crate) fn write_words<W: Write>(content: &[u8], writer: &mut W) -> Result<(), ToolFault>
     ensures text { OnOk result (Appends (W.contents writer.old) (W.contents writer.new) (content_words content.now)) }
     ensures fault { IfErr result IsOutside }

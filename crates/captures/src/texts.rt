@@ -150,7 +150,7 @@ impl fmt::Display for SignalText<'_> {
     }
 }
 
-/// What a frame's content says, or the fault for which it is refused.
+/// What a frame's content says; if it is no signal, `fault` and the number of its fault.
 #[derive(Debug, Drop)]
 pub struct ContentText<'a>(pub &'a [u8]);
 

@@ -35,8 +35,8 @@ fn ended_record(alloc: Global, why: &str, calls: bool, pages: u64) -> Result<Val
     json!(in alloc; {"end": why, "pages": pages})
 }
 
-/// Writes the record of a frame's content that a station said or heard at a time in milliseconds. Errs with 8 where the writer fails, and
-/// with 9.
+/// Writes the record of a frame's content that a station said or heard, with the time in milliseconds, as one line. Errors: `Io` (8) from
+/// the writer, `NoMemory` (9).
 pub fn write_traced<W: Write>(
     alloc: Global,
     at: u64,
@@ -53,8 +53,8 @@ pub fn write_traced<W: Write>(
     write_record(alloc, &record, writer)
 }
 
-/// Writes the record of a training check that a station said or heard at a time in milliseconds. Errs with 8 where the writer fails, and
-/// with 9.
+/// Writes the record of a training check that a station said or heard, with the time in milliseconds, as one line. Errors: `Io` (8) from
+/// the writer, `NoMemory` (9).
 pub fn write_traced_check<W: Write>(
     alloc: Global,
     at: u64,
@@ -69,8 +69,8 @@ pub fn write_traced_check<W: Write>(
     write_record(alloc, &record, writer)
 }
 
-/// Writes the record of why a call ended for a station, with how many pages a caller counts as confirmed, or how many an answerer has
-/// stored. Errs with 8 where the writer fails, and with 9.
+/// Writes the record of why a station's call ended, as one line, with the pages that a caller counts as confirmed or an answerer has
+/// stored. Errors: `Io` (8) from the writer, `NoMemory` (9).
 pub fn write_ended<W: Write>(
     alloc: Global,
     why: &str,

@@ -21,25 +21,26 @@ use Rattle.faults.specs.declared.fault_kind.FaultKind.TheVariants.{BadHeader, Io
 use Rattle.faults.specs.declared.fault.ToolFault.{ToolFault}
 use Rattle.faults.specs.declared.fault.ToolFault.TheVariants.{No, AtBit, AtLine}
 
--- the octet is a character of ASCII, and no control character: from the space to the tilde
+-- the octet is a printable ASCII character: from the space to the tilde
 abbrev pub is_plain : ℕ → Bool
 is_plain octet = nat_le 32 octet && nat_lt octet 127
 
--- An octet after another one is no control character, and none ends with it: U+0000 to U+001F and U+007F are an octet each, and U+0080 to
--- U+009F are C2 and one of 80 to 9F in UTF-8.
+-- An octet after another one neither is a control character nor ends one. U+0000 to U+001F and U+007F are one octet each; U+0080 to U+009F
+-- are C2 and then one of 80 to 9F in UTF-8.
 abbrev pub is_shown : ℕ → ℕ → Bool
 is_shown before octet = nat_le 32 octet && not (octet == 127 || (nat_le 128 octet && nat_lt octet 160 && before == 194))
 
--- octets after another one have no control character
+-- The octets have no control character, and end none that begins with the octet before them: no octet below 20, no 7F, and no C2 followed
+-- by one of 80 to 9F (hex). So they have no LF.
 abbrev pub are_shown : ℕ → List ℕ → Bool
 are_shown before [] = true
 are_shown before (octet ∷ octets) = is_shown before octet && are_shown octet octets
 
--- the text has no control character, LF among them
+-- the text has no control character, thus no LF: it is one line
 abbrev pub IsOneLine : List ℕ → Type 0
 IsOneLine text = are_shown 0 text ≡ true
 
--- the name of a file, where it has no control character
+-- the file's name; `a file` if the name has a control character
 abbrev pub name_text : List ℕ → List ℕ
 name_text name = cond (are_shown 0 name) name (codes "a file")
 
@@ -87,38 +88,38 @@ reason_words (Some io.ExecutableFileBusy) = codes "it is a program that is runni
 reason_words (Some io.InvalidData) = codes "it isn't UTF-8"
 reason_words reason = codes "it can't be read or written"
 
--- what was expected where no code word begins: that of a run of the color, an EOL, or any code
+-- what was expected at the bit where no code word begins: a run of a color, an EOL, or any code
 abbrev pub missing_code : Option Expected → List ℕ
 missing_code (Some (RunOf White)) = codes "no code word of a white run begins here"
 missing_code (Some (RunOf Black)) = codes "no code word of a black run begins here"
 missing_code (Some Eol) = codes "an EOL is expected here, and no EOL begins here"
 missing_code None = codes "no valid code begins here"
 
--- the row, counted from 1, where it is known
+-- the row, counted from 1, if it is known
 abbrev pub row_text : Option ℕ → List ℕ
 row_text (Some row) = codes "row " ++ (decimal row ++ codes ": ")
 row_text None = []
 
--- what to try in place of a code and an order of bits: the other ones
+-- the suggestion for a page read with this code and bit order: the other bit order, or the other code
 abbrev pub other_words : Coding × Order → List ℕ
 other_words (OneDim, MsbFirst) = codes " (try --order lsb, or --code mmr)"
 other_words (OneDim, LsbFirst) = codes " (try --order msb, or --code mmr)"
 other_words (T6, MsbFirst) = codes " (try --order lsb, or --code mh)"
 other_words (T6, LsbFirst) = codes " (try --order msb, or --code mh)"
 
--- the file ends where the page is refused
+-- the page is refused because the file ends
 abbrev pub is_at_end : FaultKind → Bool
 is_at_end Truncated = true
 is_at_end MissingEofb = true
 is_at_end kind = false
 
--- what to try where the first row of a page is refused, and not because the file ends
+-- what to try if the first row of a page is refused, unless the file ends there: the other bit order, the other code
 abbrev pub try_words : FaultKind → Option ℕ → Option (Coding × Order) → List ℕ
 try_words kind (Some row) (Some read_as) = if row == 1 && not (is_at_end kind) then other_words read_as else []
 try_words kind (Some row) None = []
 try_words kind None read_as = []
 
--- what is wrong with a line of a script, where it is known
+-- what is wrong with a line of a script, if it is known
 abbrev pub line_words : Option LineFault → List ℕ
 line_words (Some NotUtf8) = codes "it isn't UTF-8"
 line_words (Some Blank) = codes "a blank is wrong: a line is a word, or a word, one space and a count"
@@ -126,7 +127,8 @@ line_words (Some Word) = codes "no command of a script begins with this word"
 line_words (Some Count) = codes "the count is missing or isn't 1 to 1000000"
 line_words None = codes "no command of a script, or no count that it takes"
 
--- what is wrong, by the kind of the fault and by what is known of it
+-- What is wrong. A file that is no raw PBM is described by its first octets, a system error by its reason, a bad code by the code expected,
+-- a bad line of a script by what is wrong with it; any other fault by the words of its kind.
 abbrev pub wrong_words : FaultKind → Known → List ℕ
 wrong_words BadHeader known = no_raw_pbm known.begins.now
 wrong_words Io known = reason_words known.reason
@@ -134,11 +136,12 @@ wrong_words BadCode known = missing_code known.expected
 wrong_words BadLine known = line_words known.line
 wrong_words kind known = words_of kind
 
--- nothing more is known of a fault than the file and the places
+-- nothing more is known of the fault: no first octets, no system reason, no expected code, nothing about the script's line
 abbrev pub IsBare : Known → Type 0
 IsBare known = (known.begins.now ≡ []) × (known.reason ≡ None) × (known.expected ≡ None) × (known.line ≡ None)
 
--- a fault in words: the file, the place in it, and what is wrong there
+-- A fault in words: the file's name, the row or the line if it is known, and what is wrong there. If the first row of a page is refused
+-- (but not because the file ends), the other bit order and the other code are suggested.
 abbrev pub explained : ToolFault → Known → List ℕ
 explained (No number) known = name_text known.file.now ++ (codes ": " ++ wrong_words (kind_of (No number)) known)
 explained (AtBit number place) known = name_text known.file.now ++ (codes ": " ++ (row_text known.row

@@ -10,7 +10,7 @@ use Rattle.faults.specs.declared.fault_kind.FaultKind.TheVariants.{NoCodedRows, 
 use Rattle.faults.specs.declared.fault_kind.FaultKind.TheVariants.{Truncated, RunTooLong, Backwards, PastEnd, EmptyHorizontal}
 use Rattle.faults.specs.declared.fault_kind.FaultKind.TheVariants.{Extension, MissingEofb, TooManyCodedRows, UnknownAtBit, BadLine}
 
--- the number of a kind in the list of all faults
+-- the number of each kind, as the fault line shows it
 abbrev pub number_of : FaultKind → ℕ
 number_of BadWidth = 1
 number_of WrongRowWidth = 2
@@ -42,7 +42,7 @@ number_of TooManyCodedRows = 18
 number_of (UnknownAtBit number) = number
 number_of BadLine = 30
 
--- what is wrong, in words, where nothing more is known of it
+-- the words of each kind, used when nothing more is known of the fault
 abbrev pub words_of : FaultKind → List ℕ
 words_of BadWidth = codes "the width isn't 1 to 2432 pixels"
 words_of WrongRowWidth = codes "a row isn't as wide as its page"
@@ -97,7 +97,8 @@ whole_kind number = kind_among whole_kinds (Unknown number) number
 abbrev pub page_kind : ℕ → FaultKind
 page_kind number = kind_among page_kinds (UnknownAtBit number) number
 
--- the kind of a fault
+-- The kind of a fault. Without a place, the kind with its number among those of a whole file; at a bit, the kind with its number among
+-- those of a coded page; if no kind has the number, an unknown kind with that number. At a line of a script, `BadLine`.
 abbrev pub kind_of : ToolFault → FaultKind
 kind_of (No number) = whole_kind number
 kind_of (AtBit number place) = page_kind number

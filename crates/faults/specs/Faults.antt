@@ -17,20 +17,20 @@ fault_text (AtBit number place) =
     codes "fault " ++ (decimal number ++ (codes " at bit " ++ decimal place))
 fault_text (AtLine number) = codes "fault 30 at line " ++ decimal number
 
--- the fault that the program tells of coded bits: that of memory has no place
+-- a refusal at a bit as a fault: the bit is kept, except that `NoMemory` (9) has none
 abbrev pub fault_at : ℕ → CodeFaultKind → ToolFault
 fault_at place NoMemory = No 9
 fault_at place kind = AtBit (number_of kind) place
 
--- the fault that the program tells of a fault of coded bits
+-- the fault of refused bits: the refusal's number, and its bit
 abbrev pub fault_of_code : CodeFault → ToolFault
 fault_of_code fault = fault_at fault.place fault.kind
 
--- a fault of reading or writing, or memory that was refused
+-- the fault is `Io` (8) or `NoMemory` (9): reading, writing or memory failed, whatever the input is
 abbrev pub IsOutside : ToolFault → Type 0
 IsOutside fault = (fault ≡ No 8) ⊎ (fault ≡ No 9)
 
--- the fault of a reader or a writer that fails: 9 where memory was refused in it, else 8
+-- the fault of a reader or writer that fails: `NoMemory` (9) if memory was refused in it, otherwise `Io` (8)
 abbrev pub fault_of_io : ErrorKind → ToolFault
 fault_of_io OutOfMemory = No 9
 fault_of_io kind = No 8

@@ -1,4 +1,4 @@
--- The laws of the kinds of faults: the same said another way.
+-- Laws of the kinds of faults.
 use Rattle.std.specs.Prelude.{ℕ, ◌≡◌, ◌⊎◌}
 use Rattle.raster.specs.Faults.{number_of as number_of_raster}
 use Rattle.raster.specs.declared.fault.RasterFault.{RasterFault}
@@ -17,18 +17,18 @@ use Rattle.faults.specs.declared.fault_kind.FaultKind.TheVariants.{NoPages, Io, 
 use Rattle.faults.specs.declared.fault_kind.FaultKind.TheVariants.{Truncated, RunTooLong, Backwards, PastEnd, EmptyHorizontal}
 use Rattle.faults.specs.declared.fault_kind.FaultKind.TheVariants.{Extension, MissingEofb, TooManyCodedRows, UnknownAtBit, BadLine}
 
--- the kind of a fault has the number of its line
+-- law: a fault's kind has the number that the fault line shows
 abbrev pub KindsHaveNumbers : Type 0
 KindsHaveNumbers = (fault : ToolFault) → number_of (kind_of fault) ≡ number_in fault
 
--- the fault with the kind's number, of a whole file or at the bit or the line, has the kind; an unknown one has any number
+-- a fault with the kind's number, without a place, at this bit or at this line, has this kind; an unknown kind may have any number
 abbrev pub IsOfItsNumber : FaultKind → ℕ → Type 0
 IsOfItsNumber (Unknown number) at = Unit {0}
 IsOfItsNumber (UnknownAtBit number) at = Unit {0}
 IsOfItsNumber BadLine at = kind_of (AtLine at) ≡ BadLine
 IsOfItsNumber kind at = (kind_of (No (number_of kind)) ≡ kind) ⊎ (kind_of (AtBit (number_of kind) at) ≡ kind)
 
--- of each kind that isn't unknown, a fault with its number has the kind
+-- law: a fault with the number of a known kind has that kind, for a whole file or at any bit or line
 abbrev pub NumbersHaveKinds : Type 0
 NumbersHaveKinds = (kind : FaultKind) (at : ℕ) → IsOfItsNumber kind at
 
@@ -58,14 +58,14 @@ kind_of_code code.Extension = Extension
 kind_of_code code.MissingEofb = MissingEofb
 kind_of_code code.TooManyCodedRows = TooManyCodedRows
 
--- the faults of images have the kinds of their names
+-- law: the faults of `raster` have the kinds of the same names
 abbrev pub ImagesHaveKinds : Type 0
 ImagesHaveKinds = (fault : RasterFault) → kind_of (No (number_of_raster fault)) ≡ kind_of_raster fault
 
--- the faults of coded bits have the kinds of their names
+-- law: the faults of `run_tables`, at any bit, have the kinds of the same names
 abbrev pub PagesHaveKinds : Type 0
 PagesHaveKinds = (fault : CodeFaultKind) (place : ℕ) → kind_of (fault_at place fault) ≡ kind_of_code fault
 
--- where nothing more is known of a fault, what is said of it is the words of its kind
+-- law: if nothing more is known of a fault, it is described by the words of its kind
 abbrev pub BareWords : Type 0
 BareWords = (kind : FaultKind) (known : Known) → IsBare known → wrong_words kind known ≡ words_of kind

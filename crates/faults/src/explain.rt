@@ -14,32 +14,32 @@ use run_tables::Order;
 use std::fmt;
 use std::io::ErrorKind;
 
-/// What is known of a fault beside the fault line.
+/// What is known of a fault beside the fault line; `None` or empty for what isn't known.
 #[derive(Clone, Copy, Debug, PartialEq, Eq)]
 pub struct Known<'a> {
     /// The name of the file that the fault is about.
     pub file: &'a str,
-    /// Why the system refused to read or to write it, where it did.
+    /// Why the system refused to read or write the file, if it did.
     pub reason: Option<ErrorKind>,
-    /// The first octets of the file, where it is an image.
+    /// The first octets of the file, if it is an image.
     pub begins: &'a [u8],
-    /// The row of a coded page in which the refused bit lies, counted from 1.
+    /// The row of a coded page that has the refused bit, counted from 1.
     pub row: Option<usize>,
     /// What was expected at the refused bit.
     pub expected: Option<Expected>,
-    /// The code and the order of bits that a coded page was read by.
+    /// The code and the bit order with which a coded page was read.
     pub read_as: Option<(Coding, Order)>,
     /// What is wrong with the refused line of a script.
     pub line: Option<LineFault>,
 }
 
-/// A fault in words: one line, with no LF and no other control character, that depends on the fault and on what is
-/// known of it alone.
+/// A fault in words, on one line: no LF and no other control character, whatever the file's name is. The words depend on `fault` and
+/// `known` alone.
 #[derive(Clone, Copy, Debug, PartialEq, Eq)]
 pub struct Explained<'a> {
     /// The fault.
     pub fault: ToolFault,
-    /// What is known of it.
+    /// What else is known of it.
     pub known: Known<'a>,
 }
 
@@ -66,7 +66,7 @@ impl fmt::Display for Explained<'_> {
     }
 }
 
-/// The name of a file, where it has no control character.
+/// The name of a file; `a file` if the name has a control character.
 #[derive(Clone, Copy, Drop)]
 struct NameText<'a>(&'a str);
 
@@ -77,6 +77,7 @@ impl fmt::Display for NameText<'_> {
     ghost output = { λ text. Some (name_text text.0.now) };
 
     fn fmt<W: fmt::Write>(&self, f: &mut fmt::Formatter<W>) -> fmt::Result {
+        // so no file name makes a second line or moves a terminal's cursor
         if is_shown(self.0) {
             write!(f, "{}", self.0)
         } else {
@@ -85,7 +86,7 @@ impl fmt::Display for NameText<'_> {
     }
 }
 
-/// Whether a text has no control character: none of U+0000 to U+001F and U+007F to U+009F.
+/// Returns whether a text has no control character: none of U+0000 to U+001F and U+007F to U+009F.
 pub fn is_shown(text: &str) -> bool
     ensures { result ≡ are_shown 0 text.now }
 {
@@ -99,7 +100,7 @@ pub fn is_shown(text: &str) -> bool
     true
 }
 
-/// Whether an octet after another one is no control character and doesn't end one, which is C2 and 80 to 9F.
+/// Returns whether an octet after another one neither is a control character nor ends one (C2 and then 80 to 9F).
 fn is_shown_after(before: u8, octet: u8) -> bool
     ensures { result ≡ is_shown before octet }
 {
@@ -185,6 +186,7 @@ fn reason_words(reason: Option<ErrorKind>) -> &'static str
     ensures { result.now ≡ reason_words reason }
 {
     match reason {
+        // the kind in our own words: no contract speaks of the text of the C library
         Some(ErrorKind::NotFound) => "no such file or folder",
         Some(ErrorKind::PermissionDenied) => "permission denied",
         Some(ErrorKind::IsADirectory) => "it is a folder",
@@ -202,7 +204,7 @@ fn reason_words(reason: Option<ErrorKind>) -> &'static str
     }
 }
 
-/// What was expected where no code word begins.
+/// Returns what was expected at the bit where no code word begins.
 fn missing_code(expected: Option<Expected>) -> &'static str
     ensures { result.now ≡ missing_code expected }
 {
@@ -214,17 +216,18 @@ fn missing_code(expected: Option<Expected>) -> &'static str
     }
 }
 
-/// What to try where the first row of a page is refused, and not because the file ends.
+/// Returns what to try if the first row of a page is refused, unless the file ends there.
 fn try_words(kind: FaultKind, row: Option<usize>, read_as: Option<(Coding, Order)>) -> &'static str
     ensures { result.now ≡ try_words kind row read_as }
 {
     match (row, read_as) {
+        // both are named, since nothing says which one is more likely
         (Some(1), Some((coding, order))) if !is_at_end(kind) => other_words(coding, order),
         _ => "",
     }
 }
 
-/// Whether a fault of a coded page is that its file ends.
+/// Returns whether a fault of a coded page is that its file ends.
 fn is_at_end(kind: FaultKind) -> bool
     ensures { result ≡ is_at_end kind }
 {

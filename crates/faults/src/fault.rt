@@ -6,33 +6,33 @@ use std::alloc::AllocError;
 use std::error::Error;
 use std::{fmt, io};
 
-/// A fault of data, files or memory, as the program's fault line shows it.
+/// A fault of data, files or memory, as the fault line shows it. `kind` gives its name.
 #[derive(Clone, Copy, Debug, PartialEq, Eq)]
 pub enum ToolFault {
-    /// The fault of this number.
+    /// A fault with this number, without a place.
     No(u8),
-    /// The fault of this number, at a bit of the input.
+    /// A fault with this number, at a bit of the input.
     AtBit {
         /// The fault's number.
         no: u8,
-        /// The bit at which it was found, counted from 0 at the first bit of the input.
+        /// The bit, counted from 0 at the first bit of the input.
         place: u128,
     },
-    /// The fault of a script, number 30, at this line, counted from 1.
+    /// The fault of a script, `BadLine` (30), at this line, counted from 1.
     AtLine(u64),
 }
 
-/// A reader, a writer or a file failed.
+/// `Io` (8): a reader, a writer or a file failed.
 pub const FAILED: ToolFault = ToolFault::No(8);
 
-/// Memory was refused.
+/// `NoMemory` (9): memory was refused.
 pub const NO_MEMORY: ToolFault = ToolFault::No(9);
 
 impl ToolFault {
     ghost use Rattle.std.specs.Prelude.{◌≡◌};
     ghost use Rattle.faults.specs.FaultKinds.{kind_of};
 
-    /// What the fault is, by its number and by what it is of: `Unknown` or `UnknownAtBit` where no fault has the number.
+    /// Returns the kind of the fault, by its number and its place. If no fault has the number: `Unknown`, or `UnknownAtBit` at a bit.
     pub fn kind(self) -> FaultKind
         ensures { result ≡ kind_of self }
     {

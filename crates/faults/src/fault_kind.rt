@@ -16,7 +16,7 @@ pub enum FaultKind {
     TooManyRows,
     /// An image has no row.
     NoRows,
-    /// A file is no raw PBM, or the header of one of its images is wrong.
+    /// A file isn't a raw PBM, or the header of one of its images is wrong.
     BadHeader,
     /// An image is cut short.
     ShortData,
@@ -26,21 +26,21 @@ pub enum FaultKind {
     Io,
     /// Memory was refused.
     NoMemory,
-    /// A frame's content whose address isn't FF.
+    /// The address of a frame's content isn't FF.
     BadAddress,
-    /// A frame's content whose control field is neither 03 nor 13.
+    /// The control field of a frame's content is neither 03 nor 13.
     BadControl,
-    /// A frame's content of which a field is missing or cut short.
+    /// A field of a frame's content is missing or cut short.
     ShortField,
-    /// A page's width is none that a call carries.
+    /// A call can't carry a page of this width: it isn't 1,728, 2,048 or 2,432 pixels.
     WidthNotCallable,
-    /// Several images where one is taken.
+    /// Several images, though one is wanted.
     SeveralPages,
-    /// Fewer pages than the number of the one that is asked for.
+    /// The file has fewer pages than the number of the page asked for.
     FewerPages,
-    /// Octets that read as no page in any way that is tried, and begin as no known format.
+    /// Not a page in any of the ways tried, and no known format.
     Unidentified,
-    /// A fault of a whole file with a number that none of the others has.
+    /// A fault without a place whose number no other kind has.
     Unknown(u8),
     /// A coded page ends before its first row.
     NoCodedRows,
@@ -56,20 +56,22 @@ pub enum FaultKind {
     PastEnd,
     /// A horizontal mode of two runs of 0 pixels.
     EmptyHorizontal,
-    /// An extension code.
+    /// An extension code, for example of uncompressed mode.
     Extension,
-    /// The page's end, EOFB, is missing.
+    /// The page's end, EOFB, is missing (T.6, 2.4).
     MissingEofb,
-    /// One row more than 20,000.
+    /// The page has a 20,001st row.
     TooManyCodedRows,
-    /// A fault of a coded page, at a bit, with a number that none of the others has.
+    /// A fault at a bit whose number no other kind has.
     UnknownAtBit(u8),
     /// A line of a script is no command.
     BadLine,
 }
 
+// The number alone names no kind: 4 is an image without rows, and at a bit a page that ends before its first row. The matches have no
+// catch-all, so that a new kind needs a number and words.
 impl FaultKind {
-    /// The number of the fault, as the fault line shows it.
+    /// Returns the number of the fault, as the fault line shows it.
     pub fn number(self) -> u8
         ensures { result ≡ number_of self }
     {
@@ -104,7 +106,7 @@ impl FaultKind {
         }
     }
 
-    /// What is wrong, in words, where nothing more is known of it.
+    /// Returns the words of this kind, for a fault of which nothing more is known.
     pub(crate) fn words(self) -> &'static str
         ensures { result.now ≡ words_of self }
     {

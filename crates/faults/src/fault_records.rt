@@ -1,4 +1,4 @@
-//! Faults, and what else is told beside what was asked for, as JSON for programs.
+//! Faults, and other messages, as JSON for programs.
 
 ghost use Rattle.faults.specs.Faults.{IsOutside};
 ghost use Rattle.faults.specs.FaultRecords.{fault_record, line_fault_record, notice_record};
@@ -13,7 +13,7 @@ use serde_json::{Value, json};
 use std::alloc::{AllocError, Global};
 use std::io::Write;
 
-/// A place in bits, up to 2^64 - 1.
+/// Returns a place in bits, 2^64 - 1 at most.
 pub fn short_place(place: u128) -> u64
     ensures { result ≡ min (2 ^ 64 - 1) place }
 {
@@ -23,14 +23,14 @@ pub fn short_place(place: u128) -> u64
     place as u64
 }
 
-/// A fault at a line, counted from 1, with what it says in words.
+/// The record of a fault at a line, counted from 1: its number, its line and its words.
 fn line_fault_record(alloc: Global, no: u8, line: u64, words: &str) -> Result<Value, AllocError>
     ensures { IfOk result (λ value. view value ≡ line_fault_record no line words.now) }
 {
     json!(in alloc; {"fault": no, "line": line, "words": words})
 }
 
-/// A fault with what it says in words: its number, and its bit or its line.
+/// The record of a fault: its number, its words, and its bit or line.
 fn fault_record(alloc: Global, fault: ToolFault, words: &str) -> Result<Value, AllocError>
     ensures { IfOk result (λ value. view value ≡ fault_record fault words.now) }
 {
@@ -44,14 +44,15 @@ fn fault_record(alloc: Global, fault: ToolFault, words: &str) -> Result<Value, A
     }
 }
 
-/// What is told beside what was asked for.
+/// The record of another message.
 fn notice_record(alloc: Global, words: &str) -> Result<Value, AllocError>
     ensures { IfOk result (λ value. view value ≡ notice_record words.now) }
 {
     json!(in alloc; {"notice": words})
 }
 
-/// Writes the record of a fault as a line, with what it says in words. Errs with 8 where the writer fails, and with 9.
+/// Writes a fault and its words as one line, an object of JSON: number, bit or line, words. Errors: `Io` (8) from the writer, `NoMemory`
+/// (9).
 pub fn write_fault<W: Write>(
     alloc: Global,
     fault: ToolFault,
@@ -65,8 +66,8 @@ pub fn write_fault<W: Write>(
     write_record(alloc, &record, writer)
 }
 
-/// Writes the record of a fault of this number at a line, counted from 1, with what it says in words. Errs with 8 where the writer fails,
-/// and with 9.
+/// Writes a fault of any number at a line, counted from 1, and its words as one line, an object of JSON. Errors: `Io` (8) from the writer,
+/// `NoMemory` (9).
 pub fn write_line_fault<W: Write>(
     alloc: Global,
     no: u8,
@@ -82,7 +83,7 @@ pub fn write_line_fault<W: Write>(
     write_record(alloc, &record, writer)
 }
 
-/// Writes the record of what is told beside what was asked for as a line. Errs with 8 where the writer fails, and with 9.
+/// Writes another message as one line, an object of JSON with `notice`. Errors: `Io` (8) from the writer, `NoMemory` (9).
 pub fn write_notice<W: Write>(alloc: Global, words: &str, writer: &mut W) -> Result<(), ToolFault>
     ensures line { OnOk result (Appends (W.contents writer.old) (W.contents writer.new) (record_line (notice_record words.now))) }
     ensures fault { IfErr result IsOutside }

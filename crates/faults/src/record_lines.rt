@@ -12,7 +12,8 @@ use serde_json::Value;
 use std::alloc::Global;
 use std::io::Write;
 
-/// Writes a record as a line. Errs with 8 where the writer fails, and with 9.
+/// Writes a value as one line: its JSON without spaces outside texts, its members in the order of their names. Errors: `Io` (8) from the
+/// writer, `NoMemory` (9).
 pub fn write_record<W: Write>(alloc: Global, value: &Value, writer: &mut W) -> Result<(), ToolFault>
     requires integers { has_float (view value.now) ≡ false }
     ensures line { OnOk result (Appends (W.contents writer.old) (W.contents writer.new) (record_line (view value.now))) }

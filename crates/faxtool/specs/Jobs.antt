@@ -37,7 +37,7 @@ use Rattle.faxtool.specs.declared.words.Outcome.TheVariants.{Done, Fault, Incomp
 
 -- ---- the commands
 
--- an option whose name is its id, with one value
+-- an option for `clap`: its name is its id, and it has one value
 abbrev pub option_rule : Text → Rule
 option_rule name = record (new_rule name) {
   long = Some name;
@@ -50,7 +50,7 @@ abbrev pub coding_rule : ValueParser → Rule
 coding_rule codings =
     record (option_rule (codes "code")) { required = true; parser = Some codings }
 
--- `--order`, which is `msb` where it isn't given
+-- `--order`, `msb` if it isn't given
 abbrev pub order_rule : ValueParser → Rule
 order_rule orders = record (option_rule (codes "order")) {
   parser = Some orders;
@@ -64,7 +64,7 @@ width_rule = record (option_rule (codes "width")) {
   parser = Some (vp.Signed (pos 1) (pos 2432));
 }
 
--- an option that is one of several names, with the one that holds where it isn't given
+-- an option that is one of several names, with the one used if it isn't given
 abbrev pub choice_rule : Text → ValueParser → Text → Rule
 choice_rule id names default = record (option_rule id) {
   parser = Some names;
@@ -130,8 +130,8 @@ abbrev pub with_captures : App → App
 with_captures app = with_rule (with_rule (with_rule app (file_option_rule (codes "diagram"))) (file_option_rule (codes "caller")))
     (file_option_rule (codes "answerer"))
 
--- `frames`: how many octets of a content are shown, 0 to 300, the order, which is `lsb` where it isn't given, the folder of the pages,
--- the rows before gaps or not, records or not, and the file of the bits; or the files of a picture
+-- `frames`: how many octets of a content are shown, 0 to 300, the bit order, `lsb` if it isn't given, the folder of the pages, the rows
+-- before gaps or not, records or not, and the file of the bits; or the files of a picture
 abbrev pub frames_app : ValueParser → App
 frames_app orders = with_explain (with_rule (with_captures (with_rule (with_rule (with_rule (with_rule (with_rule
     (new_app (codes "frames")) (record (option_rule (codes "data")) { parser = Some (vp.Signed (pos 0) (pos 300)) }))
@@ -180,7 +180,7 @@ with_station app codings modems = with_rule (with_rule (with_rule (with_rule (wi
     (flag_rule (codes "call"))) (file_option_rule (codes "out"))) (choice_rule (codes "code") codings (codes "mmr")))
     (choice_rule (codes "modems") modems (codes "v17"))
 
--- the command with what an answerer alone is told, and a caller alone
+-- the command with the options for an answerer only, and those for a caller only
 abbrev pub with_station_choices : App → ValueParser → ValueParser → App
 with_station_choices app sizes widths = with_rule (with_rule (with_rule (with_rule (with_rule app (flag_rule (codes "standard")))
     (named_rule (codes "widest") widths)) (number_rule (codes "limit") 1 1000)) (named_rule (codes "frame") sizes))
@@ -191,7 +191,7 @@ abbrev pub with_waits : App → App
 with_waits app = with_rule (with_rule (with_rule (with_rule app (millis_rule (codes "t1"))) (millis_rule (codes "t2")))
     (millis_rule (codes "t4"))) (millis_rule (codes "t5"))
 
--- `station`: which station it is, what it is told, its waits, the file of its trace, records or not, and the file of the document
+-- `station`: which station it is, its options, its waits, the file of its trace, records or not, and the file of the document
 abbrev pub station_app : ValueParser → ValueParser → ValueParser → ValueParser → App
 station_app codings sizes modems widths = with_explain (with_rule (with_rule (with_rule (with_waits (with_station_choices (with_station
     (new_app (codes "station")) codings modems) sizes widths)) (file_option_rule (codes "trace"))) (flag_rule (codes "json")))
@@ -248,7 +248,7 @@ pub record BeginsFaxtool (a : App) : Type 0 where
   pub takes_ends : TakesNames ends (codes "normal" ∷ [])
   pub commands : a ≡ call_and_page_app codings orders sizes modems ends
 
--- the command that the program hands to clap
+-- the command that the program hands to `clap`
 pub record IsFaxtool (a : App) : Type 0 where
   pub begun : App
   pub first : BeginsFaxtool begun
@@ -272,11 +272,11 @@ abbrev pub order_named : Option Text → Order
 order_named None = MsbFirst
 order_named (Some name) = if bytes_eq name (codes "lsb") then LsbFirst else MsbFirst
 
--- what is written of each frame: records where they are asked for, else lines, with words where those are
+-- what is written of each frame: records if they are asked for, otherwise lines, with words if those are
 abbrev pub list_form : Bool → Bool → ListForm
 list_form records words = if records then Records else (if words then Explained else Plain)
 
--- the same of the bits on a line: `lsb` but for `msb`
+-- the bit order on a line: `lsb`, unless `msb` is given
 abbrev pub line_order_named : Option Text → Order
 line_order_named None = LsbFirst
 line_order_named (Some name) = if bytes_eq name (codes "msb") then MsbFirst else LsbFirst
@@ -292,7 +292,7 @@ modems_named None = V17
 modems_named (Some name) = if bytes_eq name (codes "v27v29") then V27V29 else if bytes_eq name (codes "v29") then V29
     else if bytes_eq name (codes "v27") then V27 else if bytes_eq name (codes "fallback") then Fallback else V17
 
--- the text is a number in decimal digits, after a plus or none
+-- the text is a number in decimal digits, perhaps after a plus
 abbrev pub IsNumberText : Text → ℕ → Type 0
 IsNumberText text n = IsNumeral 10 (without_leading_plus text)
     × (n ≡ digits_value 10 (without_leading_plus text))
@@ -305,7 +305,7 @@ pub record IsWidthIn (rows : List Row) (width : ℕ) : Type 0 where
   pub least : 1 ≤ width
   pub most : width ≤ 2432
 
--- the number that is read of an option's value, and none where there is no value or its text is no number below 2 ^ 32
+-- the number in an option's value; None without a value, or if its text isn't a number below 2^32
 abbrev pub ReadsNumber : Text → List Row → Option ℕ → Type 0
 ReadsNumber id rows (Some n) = (text : Text) × (one_of id rows ≡ Some text) × IsNumberText text n
 ReadsNumber id rows None = (text : Text) → one_of id rows ≡ Some text
@@ -336,7 +336,7 @@ pub record AreDecodeOptionsIn (rows : List Row) (options : DecodeOptions) : Type
   pub verbose_is : options.verbose ≡ is_named (codes "true") (first_of (codes "verbose") rows)
   pub records_is : options.records ≡ is_named (codes "true") (first_of (codes "json") rows)
 
--- the number of the page that is decoded: the first one, where no number is given
+-- the number of the page that is decoded: 1 if no number is given
 abbrev pub page_of : Option ℕ → ℕ
 page_of None = 1
 page_of (Some page) = page
@@ -368,7 +368,7 @@ pub record ArePagesIn (rows : List Row) (pages : Option Text) (salvage : Bool) :
   pub salvage_is : salvage ≡ is_named (codes "true") (first_of (codes "salvage") rows)
   pub in_folder : (salvage && not (is_some pages)) ≡ false
 
--- the options are those that the values give
+-- the options of a call are those that the values of its command give
 pub record AreOptionsIn (rows : List Row) (options : CallOptions) : Type 0 where
   pub coding_is : coding_named (first_of (codes "code") rows) ≡ Some options.coding
   pub small_is : options.small ≡ is_named (codes "64") (first_of (codes "frame") rows)
@@ -393,20 +393,21 @@ has_line rows = is_some (first_of (codes "lose") rows) || (is_some (first_of (co
 abbrev pub IsRateIn : Text → List Row → ℕ → Type 0
 IsRateIn id rows share = (text : Text) × (first_of id rows ≡ Some text) × IsRate text share
 
--- the share of spoiled items, 0 where no rate is given
+-- the share of spoiled items, 0 if no rate is given
 abbrev pub IsSpoilIn : List Row → ℕ → Type 0
 IsSpoilIn rows share = ((first_of (codes "spoil") rows ≡ None) × (share ≡ 0)) ⊎ IsRateIn (codes "spoil") rows share
 
--- the share of words that make the answerer busy, 0 where no rate is given
+-- the share of words that make the answerer busy, 0 if no rate is given
 abbrev pub IsBusyIn : List Row → ℕ → Type 0
 IsBusyIn rows share = ((first_of (codes "busy") rows ≡ None) × (share ≡ 0)) ⊎ IsRateIn (codes "busy") rows share
 
--- how many DIS are sent in one wait: three, where no number is given
+-- how many DIS are sent in one wait: three if no number is given
 abbrev pub calls_of : Option ℕ → ℕ
 calls_of None = 3
 calls_of (Some calls) = calls
 
--- the line is the one that the values give: its rates are 1 at most together, and its seed is below 2 ^ 32
+-- The bad line that the values of `call` give: its rates, 1 at most together, its seed, below 2^32, and the number of DIS in a wait, 3 if
+-- none is given.
 pub record IsLineIn (rows : List Row) (line : BadLine) : Type 0 where
   pub lose_is : IsRateIn (codes "lose") rows line.lose
   pub spoil_is : IsSpoilIn rows line.spoil
@@ -422,8 +423,7 @@ pub record IsLineIn (rows : List Row) (line : BadLine) : Type 0 where
 abbrev pub is_normal_wanted : List Row → Bool
 is_normal_wanted rows = is_named (codes "normal") (first_of (codes "expect") rows)
 
--- the number is that of the calls that are asked for, whose pages and octets are not kept, of which no end is wanted, and which are
--- not drawn and no records
+-- The value of `--times`, 1 or more and below 2^32. It excludes `--out`, `--bits`, `--expect`, `--diagram` and `--json`.
 pub record AreManyIn (rows : List Row) (times : ℕ) : Type 0 where
   pub given : ReadsNumber (codes "times") rows (Some times)
   pub least : 1 ≤ times
@@ -434,12 +434,13 @@ pub record AreManyIn (rows : List Row) (times : ℕ) : Type 0 where
   pub undrawn : first_of (codes "diagram") rows ≡ None
   pub unrecorded : is_named (codes "true") (first_of (codes "json") rows) ≡ false
 
--- how many calls are asked for, where that is said
+-- the value of `--times`, if it is given
 abbrev pub IsTimesIn : List Row → Option ℕ → Type 0
 IsTimesIn rows None = first_of (codes "times") rows ≡ None
 IsTimesIn rows (Some times) = AreManyIn rows times
 
--- the values of the command `call` are those of a call over a bad line, or of many, with no script
+-- The values of `call` are those of a call over a bad line, or of many calls: the line, the options, the files of `--out` and `--diagram`
+-- and the folder of `--bits`; and there is no script.
 pub record IsDriveOf (rows : List Row) (line : BadLine) (times : Option ℕ) (options : CallOptions)
     (out bits : Option Text) (normal : Bool) (diagram : Option Text) (input : Text) : Type 0 where
   pub script_is : first_of (codes "script") rows ≡ None
@@ -452,7 +453,8 @@ pub record IsDriveOf (rows : List Row) (line : BadLine) (times : Option ℕ) (op
   pub diagram_is : first_of (codes "diagram") rows ≡ diagram
   pub input_is : first_of (codes "in") rows ≡ Some input
 
--- the values of the command `call` are those of the job, which has a script and no bad line, and reads standard input once at most
+-- The values of `call` are those of a call by a script: the script, the options, the files of `--out` and `--diagram` and the folder of
+-- `--bits`. There is no bad line, and standard input is read once at most.
 pub record IsCallOf (rows : List Row) (script : Text) (options : CallOptions) (out bits : Option Text) (normal : Bool)
     (diagram : Option Text) (input : Text) : Type 0 where
   pub script_is : first_of (codes "script") rows ≡ Some script
@@ -486,7 +488,7 @@ pub record AreCapturesOf (rows : List Row) (order : Order) (records : Bool) (dia
   pub apart : are_both_standard caller answerer ≡ false
   pub alone : has_listing rows ≡ false
 
--- the widest page that a value of `--widest` names: 2432 pixels but for the others
+-- the widest page that `--widest` names, 2,432 pixels if it isn't given
 abbrev pub widest_named : Option Text → PageWidth
 widest_named None = W2432
 widest_named (Some name) = if bytes_eq name (codes "1728") then W1728 else if bytes_eq name (codes "2048") then W2048 else W2432
@@ -496,22 +498,22 @@ abbrev pub takes_t6 : Coding → Bool
 takes_t6 OneDim = false
 takes_t6 T6 = true
 
--- how many pages wait in memory at most: two, where no number is given
+-- how many pages wait in memory at most: two if no number is given
 abbrev pub limit_of : Option ℕ → ℕ
 limit_of None = 2
 limit_of (Some limit) = limit
 
--- a value is of an answerer alone
+-- an option for an answerer only was given
 abbrev pub has_answerer : List Row → Bool
 has_answerer rows = is_some (first_of (codes "out") rows) || (is_named (codes "true") (first_of (codes "standard") rows) ||
     (is_some (first_of (codes "widest") rows) || is_some (first_of (codes "limit") rows)))
 
--- a value is of a caller alone
+-- an option for a caller only was given
 abbrev pub has_caller : List Row → Bool
 has_caller rows = is_some (first_of (codes "frame") rows) || (is_named (codes "true") (first_of (codes "fine") rows) ||
     is_some (first_of (codes "in") rows))
 
--- how long the waits run, where that is said
+-- the lengths of the waits, if given
 pub record AreWaitsIn (rows : List Row) (waits : GivenWaits) : Type 0 where
   pub t1_is : ReadsNumber (codes "t1") rows waits.t1
   pub t2_is : ReadsNumber (codes "t2") rows waits.t2
@@ -544,7 +546,7 @@ pub record IsAnswerOf (rows : List Row) (caps : Caps) (limit : ℕ) (waits : Giv
   pub out_is : first_of (codes "out") rows ≡ Some out
   pub trace_is : first_of (codes "trace") rows ≡ trace
 
--- the values of the command `station` are those of a caller, whose document isn't standard input, where its lines come
+-- The values of `station` are those of a caller. Its document isn't standard input, from which its lines come.
 pub record IsDialOf (rows : List Row) (options : CallOptions) (waits : GivenWaits) (trace : Option Text) (input : Text) : Type 0 where
   pub calls : is_named (codes "true") (first_of (codes "call") rows) ≡ true
   pub answers : is_named (codes "true") (first_of (codes "answer") rows) ≡ false
@@ -555,7 +557,7 @@ pub record IsDialOf (rows : List Row) (options : CallOptions) (waits : GivenWait
   pub input_is : first_of (codes "in") rows ≡ Some input
   pub apart : bytes_eq input (codes "-") ≡ false
 
--- the job of a command's name and values
+-- the job that a command's name and its values give
 abbrev pub IsJobOf : Option (Text × List Row) → Job → Type 0
 IsJobOf met (Code coding order input output) = (rows : List Row)
     × (met ≡ Some (codes "code", rows))
@@ -602,7 +604,8 @@ abbrev pub asks : Text → Option (Text × List Row) → Bool
 asks id None = false
 asks id (Some met) = is_named (codes "true") (first_of id met.1)
 
--- clap takes the words, and the job is of the command and the values that it states
+-- `clap` takes the words, and the job is that of the command and the values that it gives. A fault is explained in words if `--explain` is
+-- among them, and messages are records if `--json` is.
 abbrev pub ReadsAs : List Text → Request → Type 0
 ReadsAs words request = (a : App) × IsFaxtool a × (fault_of a words ≡ []) × IsJobOf (subcommand_of a words) request.job
     × (request.explain ≡ asks (codes "explain") (subcommand_of a words))
@@ -610,7 +613,7 @@ ReadsAs words request = (a : App) × IsFaxtool a × (fault_of a words ≡ []) ×
 
 -- ---- refusals
 
--- memory was refused, or clap refuses the words by this kind of error, or they have no job
+-- why there is no job: memory was refused, `clap` refuses the words with an error of this kind, or no job has these values
 abbrev pub IsRefusalOf : List Text → Outcome → Type 0
 IsRefusalOf words Done = ⊥
 IsRefusalOf words Incomplete = ⊥
@@ -619,7 +622,7 @@ IsRefusalOf words (Words error) = (a : App) × IsFaxtool a
     × (IsAmong (kind_of error) (fault_of a words)
     ⊎ HasNoJob (subcommand_of a words))
 
--- the outcome where clap gives this error
+-- what an error of `clap` becomes: `NoMemory` (9) if memory was refused, otherwise an error of the command line
 abbrev pub IsOutcomeOf : Error → Outcome → Type 0
 IsOutcomeOf error Done = ⊥
 IsOutcomeOf error Incomplete = ⊥
@@ -628,14 +631,14 @@ IsOutcomeOf error (Words given) = (kind_of error ≢ OutOfMemory) × (given ≡ 
 
 -- ---- the exit status
 
--- 0 where the job is done, 1 for a fault or where something is missing, 2 for the words
+-- the exit status: 0 if the job is done, 1 for a fault or if something is missing, 2 for a wrong command line
 abbrev pub status_of : Outcome → ℕ
 status_of Done = 0
 status_of Incomplete = 1
 status_of (Fault fault) = 1
 status_of (Words error) = 2
 
--- the width of a job that shows or decodes a page is one that a page may have
+-- the width of a job that shows or decodes a page is 1 to 2,432
 abbrev pub HasWidth : Job → Type 0
 HasWidth (Code coding order input output) = Unit {0}
 HasWidth (Show coding order width input) = IsWidth width

@@ -21,11 +21,11 @@ const WRITTEN_AT_ONCE: usize = 65536;
 pub(crate) struct CallFiles<'a> {
     /// The name of the document's file.
     pub(crate) input: &'a str,
-    /// The name of the file that the stored pages go to, where one is given.
+    /// The name of the file that the stored pages go to, if one is given.
     pub(crate) out: Option<&'a str>,
-    /// The name of the folder that the octets on the line go to, where one is given.
+    /// The name of the folder that the octets on the line go to, if one is given.
     pub(crate) bits: Option<&'a str>,
-    /// The name of the file that the call is drawn in, where one is given.
+    /// The name of the file that the call is drawn in, if one is given.
     pub(crate) diagram: Option<&'a str>,
 }
 
@@ -92,10 +92,10 @@ impl Write for Direction {
     }
 }
 
-/// What a call is written to: standard output, and the files of both directions where they are asked for.
+/// A call's outputs: standard output, and if asked for the files of both directions.
 pub(crate) type CallOutput<'a> = InForm<BufWriter<Printed<'a>>, Direction>;
 
-/// Opens the file of one direction. Errs with 8 where it can't be made, which is noted, and with 9.
+/// Opens the file of one direction. Errors: `Io` (8) if it can't be made, and that is noted; `NoMemory` (9).
 fn open_file(
     rt: &HostRuntime,
     folder: Option<&str>,
@@ -114,7 +114,7 @@ fn open_file(
     Ok(Direction(Some(OpenFile { writer, growing })))
 }
 
-/// Errs with 8 where standard output is closed, which is noted: a file would be opened in its place then.
+/// Checks that standard output isn't closed, as a file would be opened in its place. Errors: `Io` (8), and that is noted.
 fn check_printed(rt: &HostRuntime, notes: &mut Notes) -> Result<(), ToolFault>
     ensures { IfErr result IsOutside }
 {
@@ -126,7 +126,7 @@ fn check_printed(rt: &HostRuntime, notes: &mut Notes) -> Result<(), ToolFault>
     Ok(())
 }
 
-/// Opens what a call is written to. Errs with 8 where a file can't be made or standard output is closed, which is noted, and with 9.
+/// Opens a call's outputs. Errors: `Io` (8) if a file can't be made or standard output is closed, and that is noted; `NoMemory` (9).
 pub(crate) fn open<'a>(
     rt: &'a HostRuntime,
     folder: Option<&str>,
@@ -166,7 +166,7 @@ pub(crate) fn open<'a>(
 }
 
 impl Direction {
-    /// Ends a file, which gets its place where all was done, and is removed else. Errs with 8 where it can't be written, which is
+    /// Ends a file: renames it to its place if all was done, and otherwise removes it. Errors: `Io` (8) if it can't be written, and that is
     /// noted.
     fn end(self, rt: &HostRuntime, done: bool, notes: &mut Notes) -> Result<(), ToolFault>
         ensures { IfErr result IsOutside }
@@ -189,8 +189,8 @@ impl Direction {
     }
 }
 
-/// Ends what a call is written to: what is printed, and then the files, which get their places where all was done and printed. Errs
-/// with 8 where one can't be written, which is noted, and with 9.
+/// Ends a call's outputs: what is printed, and then the files, which are renamed to their places if all was done and printed. Errors: `Io`
+/// (8) if one can't be written, and that is noted; `NoMemory` (9).
 pub(crate) fn close(
     rt: &HostRuntime,
     output: CallOutput<'_>,

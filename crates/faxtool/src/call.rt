@@ -12,8 +12,8 @@ use calls::{CallOptions, call_to_end, ended_normally, read_script};
 use faults::{NO_MEMORY, ToolFault};
 use raster::{Page, write_pbm};
 
-/// Runs a call by a script's file, and prints what has become of it. The file of the stored pages is
-/// opened last, and only where there are any. Answers whether the call ended normally for both stations.
+/// Runs a call by a script's file, and prints its transcript and its end. The file of the stored pages is opened last, and only if there
+/// are any. Returns whether the call ended normally for both stations.
 pub fn call_file(
     rt: &HostRuntime,
     script: &str,
@@ -22,7 +22,7 @@ pub fn call_file(
     notes: &mut Notes,
 ) -> Result<bool, ToolFault> {
     notes.script = read_file(rt, script, Part::Script, notes)?;
-    // a script that is refused is so before anything waits for images
+    // a wrong script is refused before the document is read
     let _commands = read_script(rt.alloc(), notes.script.as_slice())?;
     read_input(rt, files.input, notes)?;
     let mut writer = diagram::open(rt, files, notes)?;
@@ -36,7 +36,7 @@ pub fn call_file(
     Ok(ended_normally(&ending))
 }
 
-/// Writes the pages that a call has stored into a file, one after the other, where one is named and there are any.
+/// Writes the pages that a call has stored into a file, one after the other, if a file is named and there are any.
 pub fn write_pages(
     rt: &HostRuntime,
     out: Option<&str>,

@@ -7,7 +7,7 @@ use crate::words::{Job, are_both_standard, is_named, line_order_in, text_in};
 use clap::ArgMatches;
 use std::alloc::{AllocError, Global};
 
-/// Whether a value is of a picture of two captures.
+/// Returns whether an option for drawing two captures was given.
 pub(crate) fn has_captures(matches: &ArgMatches<'_>) -> bool
     ensures { result ≡ has_captures (rows_of (found_of matches.now)) }
 {
@@ -16,7 +16,7 @@ pub(crate) fn has_captures(matches: &ArgMatches<'_>) -> bool
         || text_in(matches, "answerer").is_some()
 }
 
-// Whether a value is of one capture that is listed.
+// Whether an option for listing one capture was given.
 fn has_listing(matches: &ArgMatches<'_>) -> bool
     ensures { result ≡ has_listing (rows_of (found_of matches.now)) }
 {
@@ -26,7 +26,7 @@ fn has_listing(matches: &ArgMatches<'_>) -> bool
         || is_named(text_in(matches, "salvage"), "true")
 }
 
-/// The job that draws two captures, where no value of it is missing and its options go together.
+/// Returns the job that draws two captures, if all its values are given and its options go together.
 pub(crate) fn captures_job(
     alloc: Global,
     matches: &ArgMatches<'_>,

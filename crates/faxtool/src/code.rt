@@ -8,8 +8,8 @@ use page_code::Coding;
 use page_files::{read_image, write_code};
 use run_tables::Order;
 
-/// Codes an image's file. The output's file is opened only once the image is read, and its code is written row by row: neither the
-/// image's octets nor those of the code are held. Where the code can't be written, no file of it is left.
+/// Codes an image's file. OUT is opened once the image is read, and written row by row, so neither the image's octets nor the code's are
+/// held. If it can't be written, no file of it is left.
 pub fn code_file(
     rt: &HostRuntime,
     coding: Coding,

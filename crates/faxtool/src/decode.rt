@@ -15,9 +15,8 @@ use std::io::{BufWriter, Write};
 /// How many octets of an image are written at once.
 const WRITTEN_AT_ONCE: usize = 65536;
 
-/// Decodes the page of this number in a file, counted from 1, in the way that is asked for, and tells what is asked for of it on
-/// standard error. Answers whether all is there that is asked for. The image's file is opened only once the whole page is read, and
-/// where there is a row.
+/// Decodes page `number` of a file, counted from 1, as `options` ask, and prints its messages on standard error. Returns whether the result
+/// is complete. The image's file is opened only once the whole page is read, and has a row.
 pub fn decode_file(
     rt: &HostRuntime,
     form: PageForm,
@@ -39,7 +38,7 @@ pub fn decode_file(
     end
 }
 
-/// Writes a page's image as an output. Where it can't be written, no file of it is left.
+/// Writes a page's image as an output. If it can't be written, no file of it is left.
 fn write_decoded(
     rt: &HostRuntime,
     name: &str,

@@ -9,8 +9,8 @@ use crate::outputs;
 use calls::{Ladder, WithDiagram, write_picture};
 use faults::ToolFault;
 
-/// Opens what a call is written to, which is drawn too where that is asked for. Errs with 8 where a file can't be made or standard
-/// output is closed, which is noted, and with 9.
+/// Opens a call's outputs, with its picture if that is asked for. Errors: `Io` (8) if a file can't be made or standard output is closed,
+/// and the file is noted; `NoMemory` (9).
 pub(crate) fn open<'a>(
     rt: &'a HostRuntime,
     files: CallFiles<'_>,
@@ -26,8 +26,8 @@ pub(crate) fn open<'a>(
     Ok(WithDiagram { writer, ladder })
 }
 
-/// Ends what a call is written to, and then writes the picture where the call is drawn, all was done and the rest is written. Errs
-/// with 8 where a file can't be written, which is noted, and with 9.
+/// Ends a call's outputs; then writes the picture, if it is asked for, all was done and the rest is written. Errors: `Io` (8) if a file
+/// can't be written, and the file is noted; `NoMemory` (9).
 pub(crate) fn close(
     rt: &HostRuntime,
     output: WithDiagram<CallOutput<'_>>,
@@ -45,7 +45,7 @@ pub(crate) fn close(
     }
 }
 
-/// Writes the picture of a call into a file. Errs with 8 where it can't be written, which is noted, and with 9.
+/// Writes the picture of a call into a file. Errors: `Io` (8) if it can't be written, and that is noted; `NoMemory` (9).
 pub(crate) fn draw(
     rt: &HostRuntime,
     name: &str,

@@ -8,8 +8,7 @@ use crate::notes::Notes;
 use calls::{BadLine, CallOptions, drive_many, drive_to_end, ended_normally};
 use faults::ToolFault;
 
-/// Runs the first call over a bad line, or many where a number is given. Answers whether the first one ended normally for both
-/// stations, and yes for many.
+/// Runs call 0 over a bad line, or many calls if a number is given. Returns whether call 0 ended normally for both stations; true for many.
 pub(crate) fn drive(
     rt: &HostRuntime,
     line: &BadLine,
@@ -25,8 +24,8 @@ pub(crate) fn drive(
     Ok(true)
 }
 
-/// Runs the first call over a bad line, and prints what has become of it. The file of the stored pages is opened last, and only
-/// where there are any. Answers whether the call ended normally for both stations.
+/// Runs call 0 over a bad line, and prints its transcript and its end. The file of the stored pages is opened last, and only if there are
+/// any. Returns whether the call ended normally for both stations.
 fn drive_file(
     rt: &HostRuntime,
     line: &BadLine,

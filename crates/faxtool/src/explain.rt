@@ -20,8 +20,8 @@ use std::env::{self, Env, FillError};
 use std::io;
 use std::io::IsTerminal;
 
-/// Shows what is wrong with words that are not a command, or the help that they ask for. Where a word has a control
-/// character, which would be shown as it is, that alone.
+/// Shows what is wrong with a wrong command line, or the help that was asked for. A command line with a control character in it isn't
+/// shown, as it could move the cursor.
 pub fn refuse_words(rt: &HostRuntime, texts: &[&str], error: &Error) {
     if texts.iter().all(|text| is_shown(text)) {
         let _shown = rt.eprint(error);
@@ -56,7 +56,7 @@ pub fn refused(
     Outcome::Fault(fault)
 }
 
-/// Whether one of the command's words is `--explain`, also where another one isn't UTF-8.
+/// Returns whether one of the command's words is `--explain`, also where another one isn't UTF-8.
 fn is_asked(rt: &HostRuntime) -> bool {
     let mut word = [0u8; 16];
     for number in 1..usize::MAX {
@@ -73,7 +73,7 @@ fn is_asked(rt: &HostRuntime) -> bool {
     false
 }
 
-/// Whether faults are explained in words unasked: on a terminal, and where the environment says so.
+/// Returns whether faults are explained in words unasked: on a terminal, and if the environment says so.
 pub fn is_explained(rt: &HostRuntime) -> bool {
     if rt.stderr().is_terminal() {
         return true;
@@ -84,7 +84,7 @@ pub fn is_explained(rt: &HostRuntime) -> bool {
     }
 }
 
-/// Shows the fault of a job: a line, and one of words where that is asked for; or its record.
+/// Shows the fault of a job: a line, and if asked for one of words; or its record.
 pub fn show_fault(rt: &HostRuntime, job: &Job, fault: ToolFault, notes: &Notes, explains: bool)
     requires { HasWidth job.now }
 {
@@ -98,8 +98,7 @@ pub fn show_fault(rt: &HostRuntime, job: &Job, fault: ToolFault, notes: &Notes, 
     }
 }
 
-/// Tells something beside what was asked for on standard error, as a line or as a record. Errs with 8 where that can't be written, and
-/// with 9.
+/// Writes another message on standard error, as a line or a record. Errors: `Io` (8) if it can't be written, `NoMemory` (9).
 pub fn notice(rt: &HostRuntime, records: bool, words: &str) -> Result<(), ToolFault>
     ensures { IfErr result IsOutside }
 {
@@ -146,8 +145,7 @@ fn refused_line(fault: ToolFault, notes: &Notes) -> Option<LineFault> {
     }
 }
 
-/// The row, counted from 1, in which the page that a job reads is refused, and what is expected there, as far as they are
-/// known.
+/// Returns the row, counted from 1, in which the page of a job is refused, and what is expected there, as far as they are known.
 pub fn refused_place(
     rt: &HostRuntime,
     job: &Job,
@@ -173,6 +171,7 @@ pub fn refused_place(
         let (row, expected) = refused_in(rt.alloc(), octets, form, refused);
         return (Some(row), expected);
     }
+    // `--repair` doesn't keep how far it read: the page is read again, and only if the words are shown
     refused_at(rt.alloc(), octets, coding, order, width, place)
 }
 

@@ -9,7 +9,7 @@ use faults::ToolFault;
 use std::io::{BufWriter, ErrorKind, Read, Write};
 use std::{fs, io};
 
-/// The name of standard input and of standard output.
+/// The name of standard input and of standard output; a file of that name is `./-`.
 pub const STANDARD: &str = "-";
 
 /// The name of the file that a command reads, and that of the file that it writes.
@@ -70,7 +70,7 @@ impl Read for Source<'_> {
 }
 
 impl Source<'_> {
-    /// Keeps the first octets that were read. Where there is no memory for them, none of those after them is kept.
+    /// Keeps the first octets that were read. If there is no memory for them, no later ones are kept.
     fn keep(&mut self, read: &[u8]) {
         let kept = read.get(..self.room.min(read.len())).unwrap_or(&[]);
         if self.octets.extend_from_slice(kept).is_ok() {
@@ -105,7 +105,7 @@ impl Source<'_> {
     }
 }
 
-/// Whether an image may begin with these octets.
+/// Returns whether an image may begin with these octets.
 fn begins_image(octets: &[u8]) -> bool {
     match octets {
         [] | [80] | [80, 52, ..] => true,
@@ -113,7 +113,7 @@ fn begins_image(octets: &[u8]) -> bool {
     }
 }
 
-/// A file or standard input, opened for reading. Errs with 8 where it can't be opened, which is noted.
+/// A file or standard input, opened for reading. Errors: `Io` (8) if it can't be opened, and that is noted.
 pub fn open<'a>(
     rt: &'a HostRuntime,
     name: &str,
@@ -145,8 +145,8 @@ pub fn open<'a>(
     })
 }
 
-/// All octets of a file or of standard input. Of a file that begins as no image does, where an image is wanted, those are all.
-/// Errs with 8 where it can't be read, and with 9.
+/// Returns all octets of a file or of standard input. If an image is wanted and the file doesn't begin as one, its first octets are all
+/// that is read. Errors: `Io` (8) if it can't be read; `NoMemory` (9).
 pub fn read_file(
     rt: &HostRuntime,
     name: &str,
@@ -163,7 +163,7 @@ pub fn read_file(
     Ok(octets)
 }
 
-/// Reads the input, whose octets are then those of the notes. Errs with 8 where it can't be read, and with 9.
+/// Reads the input; its octets go to the notes. Errors: `Io` (8) if it can't be read; `NoMemory` (9).
 pub fn read_input(rt: &HostRuntime, input: &str, notes: &mut Notes) -> Result<(), ToolFault>
     ensures { IfErr result IsOutside }
 {
@@ -202,7 +202,7 @@ impl Write for Printed<'_> {
     }
 }
 
-/// Standard output with a buffer before it. Errs with 9.
+/// Standard output with a buffer before it. Errors: `NoMemory` (9).
 pub fn print(rt: &HostRuntime) -> Result<BufWriter<Printed<'_>>, ToolFault>
     ensures { IfErr result IsOutside }
 {
@@ -210,8 +210,8 @@ pub fn print(rt: &HostRuntime) -> Result<BufWriter<Printed<'_>>, ToolFault>
     Ok(BufWriter::with_capacity(rt.alloc(), PRINTED_AT_ONCE, printed)?)
 }
 
-/// Ends what was printed: the rest is written where all of it was done, and why it failed is noted. Errs with 8 where
-/// it can't be written, and with 9.
+/// Ends what was printed: writes the rest if all was done, and notes why it failed. Errors: `Io` (8) if it can't be written; `NoMemory`
+/// (9).
 pub fn end_print(
     mut printed: BufWriter<Printed<'_>>,
     done: bool,

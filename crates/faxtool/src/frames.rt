@@ -16,7 +16,7 @@ use faults::{NO_MEMORY, ToolFault};
 use raster::{Page, write_pbm};
 use run_tables::Order;
 
-/// Says on standard error what to try where no frame was found.
+/// Says on standard error what to try if no frame was found.
 fn say_other_order(rt: &HostRuntime, how: ListOptions, worth: bool) -> Result<(), ToolFault>
     ensures { IfErr result IsOutside }
 {
@@ -92,8 +92,8 @@ impl FrontStore for Folder<'_> {
 }
 
 impl Folder<'_> {
-    /// Writes a page, or the rows of one before a gap, into a file of its own, under the first number that is free, and says so. A page
-    /// of no rows has no file: no code is that of such a page.
+    /// Writes a page, or the rows of one before a gap, into a new file with the first free number, and says so. A page without rows has no
+    /// file, as no code gives one.
     fn store(&mut self, page: Page, is_front: bool) -> Result<(), ToolFault>
         ensures number { OnOk result (self.new.numbers.page ≡ after self.old.numbers.page) }
         ensures whole { OnOk result (self.new.is_whole ≡ self.old.is_whole) }
@@ -172,8 +172,8 @@ pub struct FoundPages<'a> {
     pub salvage: bool,
 }
 
-/// Lists the frames in a file, and writes the pages that they carry into a folder; names what is missing of others on standard error.
-/// Answers whether nothing is.
+/// Lists the frames in a file, and writes their pages into a folder; names what is missing of others on standard error. Returns whether
+/// nothing is missing.
 fn store_pages(
     rt: &HostRuntime,
     how: ListOptions,
@@ -213,9 +213,9 @@ fn store_pages(
     Ok(is_whole && !is_empty)
 }
 
-/// Lists the frames in a file. Where a folder is given, writes the pages that they carry into its files page-1.pbm and so on, each as it
-/// ends, where that is asked for with the rows before the gaps of others, and names what is missing of those on standard error. Answers
-/// whether nothing is.
+/// Lists the frames in a file. If a folder is given, writes their pages into its files page-1.pbm and so on, each as soon as it is
+/// complete, if asked for also the rows before the gaps of others, and names what is missing on standard error. Returns whether nothing is
+/// missing.
 pub fn frames_file(
     rt: &HostRuntime,
     how: ListOptions,

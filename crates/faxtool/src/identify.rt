@@ -5,8 +5,8 @@ use crate::notes::Notes;
 use faults::ToolFault;
 use page_files::identify_engine;
 
-/// Prints as which format a file begins, and in which ways it reads as a page. Errs with 7 or 29 where there is neither; how far the file
-/// reads is printed then.
+/// Prints the format that a file begins as, and in which ways it reads as a page. Errors: `NoPages` (7) or `Unidentified` (29) if there is
+/// neither; then it prints how far each way reads.
 pub fn identify_file(rt: &HostRuntime, input: &str, notes: &mut Notes) -> Result<(), ToolFault> {
     read_input(rt, input, notes)?;
     let mut writer = files::print(rt)?;

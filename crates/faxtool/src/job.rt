@@ -23,7 +23,7 @@ use crate::{drives, outputs};
 use captures::ListOptions;
 use faults::ToolFault;
 
-/// Does a job, and shows its fault: a line, and on a terminal or where that is asked for, one of words.
+/// Runs a job and shows its fault: a line, and on a terminal or if asked for a second line in words.
 pub fn run_request(rt: &HostRuntime, request: &Request) -> Outcome
     requires { HasWidth request.now.job }
 {
@@ -45,7 +45,7 @@ pub fn run_request(rt: &HostRuntime, request: &Request) -> Outcome
     }
 }
 
-/// Whether a job reads images.
+/// Returns whether a job reads images.
 fn takes_image(job: &Job) -> bool {
     match job {
         Job::Code { .. } | Job::Call { .. } | Job::Drive { .. } | Job::Dial { .. } => true,
@@ -53,7 +53,7 @@ fn takes_image(job: &Job) -> bool {
     }
 }
 
-/// Whether a job may be long and prints nothing while it reads.
+/// Returns whether progress is shown.
 fn is_long(job: &Job) -> bool {
     match job {
         Job::Code { .. } | Job::Decode { .. } | Job::Identify { .. } => true,
@@ -64,7 +64,7 @@ fn is_long(job: &Job) -> bool {
     }
 }
 
-/// Errs with 8 where the folder of a call's bits isn't there.
+/// Checks that the folder of a call's bits is there. Errors: `Io` (8).
 fn check_bits(rt: &HostRuntime, job: &Job, notes: &mut Notes) -> Result<(), ToolFault>
     ensures { IfErr result IsOutside }
 {
@@ -74,7 +74,7 @@ fn check_bits(rt: &HostRuntime, job: &Job, notes: &mut Notes) -> Result<(), Tool
     }
 }
 
-/// Errs with 8 where a job's output can't be written: octets on a terminal, or pages into a folder that isn't there.
+/// Checks that a job's output can be written. Errors: `Io` (8) for octets on a terminal, or for pages into a folder that isn't there.
 fn check_output(rt: &HostRuntime, job: &Job, notes: &mut Notes) -> Result<(), ToolFault>
     ensures { IfErr result IsOutside }
 {
@@ -82,6 +82,7 @@ fn check_output(rt: &HostRuntime, job: &Job, notes: &mut Notes) -> Result<(), To
         return Ok(());
     };
     match job {
+        // before a line is printed, or IN is read
         Job::Frames { .. } | Job::Answer { .. } => {
             outputs::check_folder(rt, name, Part::Output, notes)
         }
@@ -89,7 +90,7 @@ fn check_output(rt: &HostRuntime, job: &Job, notes: &mut Notes) -> Result<(), To
     }
 }
 
-/// Does a job, and answers whether all is there that it wants.
+/// Runs a job, and returns whether the result is complete.
 pub fn run_job(
     rt: &HostRuntime,
     job: &Job,
@@ -131,7 +132,7 @@ pub fn run_job(
     })
 }
 
-/// Does a job that either is done whole or fails; not one that decodes a page, lists frames or runs a call.
+/// Runs a job that is either done or fails: not one that decodes a page, lists frames or runs a call.
 pub fn do_whole(rt: &HostRuntime, job: &Job, notes: &mut Notes) -> Result<(), ToolFault>
     requires { HasWidth job.now }
 {
@@ -156,7 +157,7 @@ pub fn do_whole(rt: &HostRuntime, job: &Job, notes: &mut Notes) -> Result<(), To
     }
 }
 
-/// Lists the frames of a job's capture, or draws those of two. Answers whether nothing is missing.
+/// Lists the frames of one capture, or draws those of two. Returns whether nothing is missing.
 fn run_frames(rt: &HostRuntime, job: &Job, notes: &mut Notes) -> Result<bool, ToolFault>
     ensures { IfErr result IsOutside }
 {
@@ -198,8 +199,7 @@ fn run_frames(rt: &HostRuntime, job: &Job, notes: &mut Notes) -> Result<bool, To
     }
 }
 
-/// Runs the call of a job, or its calls. Answers whether one that runs alone ended normally for both stations, and yes for
-/// many.
+/// Runs a call, or many. Returns whether a call that runs alone ended normally for both stations; true for many.
 fn run_call(rt: &HostRuntime, job: &Job, notes: &mut Notes) -> Result<bool, ToolFault> {
     match job {
         Job::Call {

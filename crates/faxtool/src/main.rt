@@ -46,7 +46,7 @@ fn main(rt: HostRuntime) -> ExitCode {
 fn run_words(rt: &HostRuntime) -> Outcome {
     let words = match given_words(rt) {
         Ok(words) => words,
-        // a word that is no text names no file that can be opened
+        // an argument that isn't UTF-8 can't name a file
         Err(error) => {
             let reason = Some(error.kind());
             return refused(rt, ToolFault::from(error), "a word of the command", reason);
@@ -70,7 +70,7 @@ fn run_words(rt: &HostRuntime) -> Outcome {
     }
 }
 
-/// The words that the program is called with. Errs where one of them is no text, and where memory was refused.
+/// Returns the words that the program is called with. Errors: one of them isn't UTF-8, or memory was refused.
 fn given_words(rt: &HostRuntime) -> io::Result<Vec<String>> {
     let words = env::args(rt)?.collect(rt.alloc())?;
     Ok(words)

@@ -16,7 +16,7 @@ pub fn output_of<'a>(job: &'a Job) -> Option<&'a str> {
     }
 }
 
-/// The name of the folder that the octets on the line of a job go to, where one is given.
+/// The name of the folder that the octets on the line of a job go to, if one is given.
 pub fn bits_of<'a>(job: &'a Job) -> Option<&'a str> {
     match job {
         Job::Call { bits, .. } | Job::Drive { bits, .. } => bits.as_deref(),
@@ -24,7 +24,7 @@ pub fn bits_of<'a>(job: &'a Job) -> Option<&'a str> {
     }
 }
 
-/// The name of the file that a job's call is drawn in, where one is given.
+/// The name of the file that a job's call is drawn in, if one is given.
 fn diagram_of<'a>(job: &'a Job) -> Option<&'a str> {
     match job {
         Job::Call { diagram, .. } | Job::Drive { diagram, .. } => diagram.as_deref(),
@@ -33,7 +33,7 @@ fn diagram_of<'a>(job: &'a Job) -> Option<&'a str> {
     }
 }
 
-/// The name of the file of what an answerer sent, where one is read.
+/// The name of the file of what an answerer sent, if one is read.
 fn answerer_of<'a>(job: &'a Job) -> Option<&'a str> {
     match job {
         Job::Captures { answerer, .. } => Some(answerer.as_str()),
@@ -49,7 +49,7 @@ fn script_of<'a>(job: &'a Job) -> Option<&'a str> {
     }
 }
 
-/// The name of the file that a job's trace goes to, where one is given.
+/// The name of the file that a job's trace goes to, if one is given.
 fn trace_of<'a>(job: &'a Job) -> Option<&'a str> {
     match job {
         Job::Answer { trace, .. } | Job::Dial { trace, .. } => trace.as_deref(),
@@ -57,7 +57,7 @@ fn trace_of<'a>(job: &'a Job) -> Option<&'a str> {
     }
 }
 
-/// The name of the file that a job reads; of one that reads the lines of a station alone, or none, it is standard input's.
+/// Returns the name of the file that a job reads; `-` if it reads only the lines of a station, or nothing.
 fn input_of<'a>(job: &'a Job) -> &'a str {
     match job {
         Job::Code { input, .. }
@@ -73,7 +73,7 @@ fn input_of<'a>(job: &'a Job) -> &'a str {
     }
 }
 
-/// The name of a file of a job, as messages have it. Where the job has no such file, it is that of its input.
+/// Returns the name of a file of a job, as messages show it; that of its input if the job has no such file.
 pub fn file_of<'a>(job: &'a Job, part: Part) -> &'a str {
     let named = match part {
         Part::Printed => Some(STANDARD),

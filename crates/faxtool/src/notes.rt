@@ -30,7 +30,7 @@ pub enum Part {
     Printed,
 }
 
-/// What is noted of a job.
+/// What a job notes for the words of its fault.
 #[derive(Drop)]
 pub struct Notes {
     /// The file that could not be read or written, and why.
@@ -39,22 +39,22 @@ pub struct Notes {
     pub unread: Option<Part>,
     /// Whether the input is an image.
     pub image: bool,
-    /// Whether it is shown how far reading is, where that takes long.
+    /// Whether progress is shown while reading takes long.
     pub long: bool,
-    /// Whether what is told is records, for programs.
+    /// Whether messages are written as JSON.
     pub records: bool,
-    /// Whether what the signals of a call say is told in words.
+    /// Whether the signals of a call are explained in words.
     pub explained: bool,
-    /// All octets of the input where they are read before anything is done with them; else the first ones.
+    /// All octets of the input, if they are read before anything is done with them; otherwise the first ones.
     pub octets: Vec<u8>,
     /// All octets of the script.
     pub script: Vec<u8>,
-    /// Of a coded page that was refused, how far it was read, where that is known.
+    /// How far a refused page was read, if that is known.
     pub refused: Option<RefusedCode>,
 }
 
 impl Notes {
-    /// Nothing is noted yet. The input is an image or none; reading may take long; what is told is records or lines, with words or none.
+    /// Returns the notes of a job that has read nothing.
     pub fn new(alloc: Global, long: bool, image: bool, records: bool, explained: bool) -> Notes
         ensures failed { result.failed ≡ None }
         ensures unread { result.unread ≡ None }
@@ -85,7 +85,7 @@ impl Notes {
         self.failed = Some((part, kind));
     }
 
-    /// The fault of a job that writes into memory: where no file failed, that was refused.
+    /// Returns the fault of a job that writes into memory: `NoMemory` (9) if no file failed.
     pub fn in_memory(&self, fault: ToolFault) -> ToolFault
         ensures outside { IsOutside fault → IsOutside result }
         ensures other { fault ≢ No 8 → result ≡ fault }

@@ -35,7 +35,7 @@ struct Made {
     name: String,
 }
 
-/// Errs with 8 where the octets of a file would be written on a terminal, which is noted.
+/// Checks that octets aren't written on a terminal. Errors: `Io` (8), and records it for that file.
 pub fn check_terminal(rt: &HostRuntime, name: &str, notes: &mut Notes) -> Result<(), ToolFault>
     ensures { IfErr result IsOutside }
 {
@@ -49,7 +49,7 @@ pub fn check_terminal(rt: &HostRuntime, name: &str, notes: &mut Notes) -> Result
     Ok(())
 }
 
-/// Errs with 8 where a name isn't that of a folder, which is noted of the part of the job.
+/// Checks that a name is that of a folder. Errors: `Io` (8), and records it for that file.
 pub fn check_folder(
     rt: &HostRuntime,
     name: &str,
@@ -69,9 +69,9 @@ pub fn check_folder(
     Ok(checked?)
 }
 
-/// Writes these octets as the whole content of the file of a job's part, or on standard output. A regular file is written beside its
-/// place and then renamed, so that what was there stays where that fails; a device, a pipe or a link is written itself.
-/// Errs with 8 where it can't be written, which is noted of the part, and with 9.
+/// Writes octets as the whole content of a file of the job, or on standard output. A regular file is written beside its place and then
+/// renamed, so the old content stays if that fails; a device, a pipe or a link is written itself. Errors: `Io` (8) if it can't be written,
+/// recorded for that file; `NoMemory` (9).
 pub fn write(
     rt: &HostRuntime,
     part: Part,
@@ -81,12 +81,12 @@ pub fn write(
 ) -> Result<(), ToolFault>
     ensures { IfErr result IsOutside }
 {
+    // OUT is a new file: it belongs to who runs the program, and other names of the old one (hard links) keep the old content.
     noted(put(rt, name, octets), part, notes)
 }
 
-/// Writes these octets into a new file of a folder, `page-N.pbm` of the first number from this one on that is free,
-/// and answers the number.
-/// Errs with 8 where it can't be written, which is noted, and with 9.
+/// Writes octets into a new file of a folder, `page-N.pbm` with the first free number from this one on, and returns the number. Errors:
+/// `Io` (8) if it can't be written, and that is noted; `NoMemory` (9).
 pub fn write_page(
     rt: &HostRuntime,
     folder: &str,
@@ -104,7 +104,7 @@ pub fn write_page(
     Ok(written?)
 }
 
-/// Does what `write_page` does, and the file is on disk then: it is synced, and so is its folder. Where that fails no file of it is left.
+/// Does what `write_page` does, and syncs the file and its folder, so that it is on disk. If that fails, no file of it is left.
 pub fn store_page(rt: &HostRuntime, folder: &str, first: u64, octets: &[u8]) -> io::Result<u64>
     ensures { IfOk result (λ number. first ≤ number) }
 {
@@ -141,7 +141,7 @@ fn put(rt: &HostRuntime, name: &str, octets: &[u8]) -> io::Result<()> {
     }
 }
 
-/// Errs where a regular file is one that may not be written, though its folder may.
+/// Checks that a regular file may be written, since its folder may be writable though it isn't. Errors: the system's.
 fn check_writable(rt: &HostRuntime, name: &str) -> io::Result<()> {
     match fs::metadata(rt, name) {
         Ok(found) if found.is_file() => {
@@ -164,8 +164,8 @@ fn place_of(rt: &HostRuntime, name: &str) -> io::Result<Place> {
     }
 }
 
-/// Writes octets into a new file beside a place, which it is put into then. The new file gets the permissions of the file
-/// that is there before its first octet.
+/// Writes octets into a new file beside a place, and then renames it to that place. Before its first octet the new file gets the
+/// permissions of the old one.
 fn replace(
     rt: &HostRuntime,
     name: &str,
@@ -201,6 +201,7 @@ fn make_beside(rt: &HostRuntime, name: &str, private: bool) -> io::Result<Made> 
         Some((folder, _)) => format!(in rt.alloc(); "{folder}/")?,
         None => String::new(rt.alloc()),
     };
+    // a file that is there is never written; one that a killed run has left stays
     for number in 1..=MOST_NAMES {
         let beside = format!(in rt.alloc(); "{folder}faxtool-{process}-{number}.part")?;
         if let Some(file) = make(rt, beside.as_str(), private)? {
@@ -210,7 +211,7 @@ fn make_beside(rt: &HostRuntime, name: &str, private: bool) -> io::Result<Made> 
     Err(io::Error::from(ErrorKind::AlreadyExists))
 }
 
-/// Makes a new file, where its name is free.
+/// Makes a new file if its name is free.
 fn make(rt: &HostRuntime, name: &str, private: bool) -> io::Result<Option<File>> {
     let mut options = OpenOptions::new();
     options.write(true).create_new(true);
@@ -224,7 +225,7 @@ fn make(rt: &HostRuntime, name: &str, private: bool) -> io::Result<Option<File>>
     }
 }
 
-/// A file that is written while a job goes on: beside its place where that is free or a regular file's, or at it.
+/// A file that is written while a job goes on: beside its place if that is free or a regular file's, otherwise at its place.
 #[derive(Drop)]
 pub struct Growing {
     part: Part,
@@ -232,8 +233,8 @@ pub struct Growing {
     beside: Option<String>,
 }
 
-/// Makes the file that grows for a place. What is there stays until the file is ended. Errs with 8 where it can't be made, which is
-/// noted, and with 9.
+/// Opens a file to be written while a job goes on. What is at its place stays until the file is ended. Errors: `Io` (8) if it can't be
+/// made, and that is noted; `NoMemory` (9).
 pub fn grow(
     rt: &HostRuntime,
     name: String,
@@ -272,7 +273,7 @@ fn begin(rt: &HostRuntime, name: String, part: Part) -> io::Result<(File, Growin
 }
 
 impl Growing {
-    /// Ends the file: it is put into its place where it is whole, and else removed. Errs with 8 where it can't be, which is noted.
+    /// Ends the file: renames it to its place if it is whole, and otherwise removes it. Errors: `Io` (8) if that fails, and that is noted.
     pub fn end(self, rt: &HostRuntime, is_whole: bool, notes: &mut Notes) -> Result<(), ToolFault>
         ensures { IfErr result IsOutside }
     {
@@ -303,7 +304,7 @@ pub struct Output<'a> {
     failed: Option<ErrorKind>,
 }
 
-/// Opens an output: a file as `grow` makes it, or standard output. Errs with 8 where it can't be made, which is noted, and with 9.
+/// Opens an output: a file as `grow` makes it, or standard output. Errors: `Io` (8) if it can't be made, and that is noted; `NoMemory` (9).
 pub fn open<'a>(rt: &'a HostRuntime, name: &str, notes: &mut Notes) -> Result<Output<'a>, ToolFault>
     ensures { IfErr result IsOutside }
 {
@@ -340,8 +341,8 @@ impl Write for Output<'_> {
 }
 
 impl Output<'_> {
-    /// Ends the output, and notes why writing it failed: a file is put into its place where it is whole, and else removed. Errs with 8
-    /// where it can't be, which is noted, and with 9.
+    /// Ends the output, and notes why writing it failed. A file is renamed to its place if it is whole, and otherwise removed. Errors: `Io`
+    /// (8) if that fails, and that is noted; `NoMemory` (9).
     pub fn end(self, is_whole: bool, notes: &mut Notes) -> Result<(), ToolFault>
         ensures { IfErr result IsOutside }
     {

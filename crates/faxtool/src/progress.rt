@@ -6,7 +6,7 @@ use std::time::Instant;
 /// The seconds after which progress is shown.
 const QUIET: u64 = 2;
 
-/// How far the reading of a file is. It is shown on a terminal alone, once a second, after the first two.
+/// How far a file is read. Shown on a terminal only, once a second, after the first two.
 #[derive(Drop)]
 pub struct Progress<'a> {
     rt: &'a HostRuntime,
@@ -18,6 +18,8 @@ pub struct Progress<'a> {
 impl<'a> Progress<'a> {
     /// Nothing was read yet. `is_shown` says whether it is shown how far the reading is.
     pub fn new(rt: &'a HostRuntime, is_shown: bool) -> Progress<'a> {
+        // Only reading is shown: coding, decoding and a call's events are single calls of proved functions, which neither read nor write
+        // meanwhile.
         let begun = if is_shown && rt.stderr().is_terminal() {
             Instant::now(rt).ok()
         } else {
@@ -31,7 +33,7 @@ impl<'a> Progress<'a> {
         }
     }
 
-    /// More octets were read, this number.
+    /// Counts octets that were read.
     pub fn read(&mut self, octets: usize) {
         self.octets = self.octets.saturating_add(octets as u64);
         let Some(begun) = self.begun else {
@@ -48,7 +50,7 @@ impl<'a> Progress<'a> {
         }
     }
 
-    /// Reading has ended: what was shown is wiped out.
+    /// Reading has ended: clears what was shown.
     pub fn end(&self) {
         if self.shown > QUIET {
             let _shown = eprint!(self.rt; "\r\x1b[K");

@@ -28,7 +28,7 @@ const READ_AT_ONCE: usize = 65536;
 /// Why the lines of a station went no further.
 #[derive(Clone, Copy, Drop)]
 pub(crate) enum Halted {
-    /// The line of this number, from 1, is none of a station, or its time runs back.
+    /// The line with this number, from 1, isn't one that a station knows, or its time runs back.
     Line(u64),
     /// A file, standard input or output failed, or memory was refused.
     Fault(ToolFault),
@@ -51,7 +51,7 @@ impl From<AllocError> for Halted {
 pub(crate) struct Talked {
     /// Why its call ended, if it has.
     pub(crate) end: Option<CallEnd>,
-    /// How many pages are confirmed, of a caller, or on disk, of an answerer.
+    /// The pages that a caller counts as confirmed, or that an answerer has on disk.
     pub(crate) pages: u64,
     /// Why its lines went no further, if that is so.
     pub(crate) halted: Option<Halted>,
@@ -114,7 +114,7 @@ impl PageStore for Folder<'_> {
 
     type Refused = ToolFault;
 
-    // The file is on disk then. Standard error says so where it has another number than the page.
+    // The file is on disk then. Standard error says so if it has another number than the page.
     fn store(&mut self, page: Page) -> Result<(), ToolFault> {
         let Some(number) = self.stored.checked_add(1) else {
             return Err(FAILED);
@@ -202,8 +202,7 @@ fn halted_by(fault: ConverseFault<ToolFault>, notes: &mut Notes) -> Halted {
     }
 }
 
-/// Takes the lines of standard input until the call is over, and writes the answer to each. Where the input ends before, the line is
-/// lost.
+/// Takes the lines of standard input until the call is over, and writes the answer to each. If the input ends before, the line is lost.
 fn talk<S: Stoppable, K: Keeper<S, Refused = ToolFault>>(
     conversation: &mut Conversation<S>,
     keeper: &mut K,
@@ -249,12 +248,12 @@ pub(crate) struct Answering<'a> {
     pub(crate) waits: GivenWaits,
     /// The name of the folder of its pages.
     pub(crate) out: &'a str,
-    /// The name of the file of its trace, where one is asked for.
+    /// The name of the file of its trace, if one is asked for.
     pub(crate) trace: Option<&'a str>,
 }
 
 impl Answering<'_> {
-    /// Runs it. Errs with 8 where a file can't be opened, which is noted, and with 9.
+    /// Runs it. Errors: `Io` (8) if a file can't be opened, and that is noted; `NoMemory` (9).
     pub(crate) fn run(&self, rt: &HostRuntime, notes: &mut Notes) -> Result<Talked, ToolFault> {
         let caps = Caps {
             receiver: true,
@@ -295,15 +294,15 @@ pub(crate) struct Dialling<'a> {
     pub(crate) options: &'a CallOptions,
     /// How long its waits run.
     pub(crate) waits: GivenWaits,
-    /// The name of the file of its trace, where one is asked for.
+    /// The name of the file of its trace, if one is asked for.
     pub(crate) trace: Option<&'a str>,
     /// The name of the document's file.
     pub(crate) input: &'a str,
 }
 
 impl Dialling<'_> {
-    /// The caller, with the document of its file. Errs with the first fault of the file, with 26 where the width of a page is none that
-    /// a call can have, with 8 where the file can't be read, which is noted, and with 9.
+    /// Returns the caller, with the document of its file. Errors: the first fault of the file, `WidthNotCallable` (26), `Io` (8) if the
+    /// file can't be read, and that is noted; `NoMemory` (9).
     fn caller(&self, rt: &HostRuntime, notes: &mut Notes) -> Result<Caller, ToolFault> {
         read_input(rt, self.input, notes)?;
         let mut images = notes.octets.as_slice();
@@ -319,7 +318,7 @@ impl Dialling<'_> {
         }
     }
 
-    /// Runs it. Errs as `caller` does, and with 8 where the trace can't be opened, which is noted.
+    /// Runs it. Errors: those of `caller`, and `Io` (8) if the trace can't be opened, and that is noted.
     pub(crate) fn run(&self, rt: &HostRuntime, notes: &mut Notes) -> Result<Talked, ToolFault> {
         let caller = self.caller(rt, notes)?;
         let station = StoppableCaller::new(caller);

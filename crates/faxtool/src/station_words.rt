@@ -13,7 +13,7 @@ use page_code::Coding;
 use signals::{Caps, PageWidth};
 use std::alloc::{AllocError, Global};
 
-/// How long the waits run in milliseconds, where that is said.
+/// The lengths of the waits in milliseconds, if given.
 #[derive(Clone, Copy, Debug, PartialEq, Eq)]
 pub struct GivenWaits {
     /// T1.
@@ -26,7 +26,7 @@ pub struct GivenWaits {
     pub t5: Option<u32>,
 }
 
-/// The job of one station, where no value of it is missing and its options go together.
+/// Returns the job of one station, if all its values are given and its options go together.
 pub(crate) fn station_job(
     alloc: Global,
     matches: &ArgMatches<'_>,
@@ -104,7 +104,7 @@ fn is_standard(input: &str) -> bool
     input == "-"
 }
 
-// Whether a value is of an answerer alone.
+// Whether an option for an answerer only was given.
 fn has_answerer(matches: &ArgMatches<'_>) -> bool
     ensures { result ≡ has_answerer (rows_of (found_of matches.now)) }
 {
@@ -114,7 +114,7 @@ fn has_answerer(matches: &ArgMatches<'_>) -> bool
         || text_in(matches, "limit").is_some()
 }
 
-// Whether a value is of a caller alone.
+// Whether an option for a caller only was given.
 fn has_caller(matches: &ArgMatches<'_>) -> bool
     ensures { result ≡ has_caller (rows_of (found_of matches.now)) }
 {

@@ -14,7 +14,7 @@ use std::fs::{File, OpenOptions};
 use std::io::{BufWriter, Write};
 use terminals::SentBurst;
 
-/// The trace of a station, where one is asked for.
+/// The trace of a station, if one is asked for.
 #[derive(Drop)]
 pub(crate) struct Trace(Option<TraceFile>);
 
@@ -41,7 +41,8 @@ impl Follower for Trace {
 }
 
 impl Trace {
-    /// The trace that goes to a file, after what is there; or none. Errs with 8 where the file can't be opened, which is noted, and with 9.
+    /// The trace that goes to a file, after what is there; or none. Errors: `Io` (8) if the file can't be opened, and that is noted;
+    /// `NoMemory` (9).
     pub(crate) fn open(
         rt: &HostRuntime,
         name: Option<&str>,
@@ -65,7 +66,7 @@ impl Trace {
         })))
     }
 
-    /// Writes what a line brings to a station that listens so. Errs with 8 where the file fails, and with 9.
+    /// Writes what a line brings to a station that listens so. Errors: `Io` (8) from the file, `NoMemory` (9).
     fn write_heard(&mut self, listens: Listening, line: &TimedLine) -> Result<(), ToolFault>
         ensures { IfErr result IsOutside }
     {
@@ -94,7 +95,7 @@ impl Trace {
         Ok(())
     }
 
-    /// Writes what a burst says. Errs with 8 where the file fails, and with 9.
+    /// Writes what a burst says. Errors: `Io` (8) from the file, `NoMemory` (9).
     fn write_said(&mut self, at: u64, burst: &SentBurst) -> Result<(), ToolFault>
         ensures { IfErr result IsOutside }
     {
@@ -141,7 +142,7 @@ impl TraceLines {
         if self.said { "said" } else { "heard" }
     }
 
-    /// Writes the line of a content: the time, a word, and what the content says. Errs with 8 where the writer fails, and with 9.
+    /// Writes the line of a content: the time, a word, and what the content says. Errors: `Io` (8) from the writer, `NoMemory` (9).
     fn write_content<W: Write>(self, content: &[u8], writer: &mut W) -> Result<(), ToolFault>
         ensures { IfErr result IsOutside }
     {
@@ -158,7 +159,7 @@ impl TraceLines {
         Ok(())
     }
 
-    /// Writes the line of a training check. Errs with 8 where the writer fails, and with 9.
+    /// Writes the line of a training check. Errors: `Io` (8) from the writer, `NoMemory` (9).
     fn write_check<W: Write>(self, writer: &mut W) -> Result<(), ToolFault>
         ensures { IfErr result IsOutside }
     {
@@ -170,7 +171,7 @@ impl TraceLines {
     }
 }
 
-/// Writes a line for each content that waits. Errs with 8 where the writer fails, and with 9.
+/// Writes a line for each content that waits. Errors: `Io` (8) from the writer, `NoMemory` (9).
 fn write_contents<W: Write>(
     deframer: &mut Deframer,
     lines: TraceLines,

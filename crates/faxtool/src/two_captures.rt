@@ -21,7 +21,7 @@ pub(crate) struct CaptureFiles<'a> {
     pub(crate) diagram: &'a str,
 }
 
-/// Reads the frames of a capture. Errs with 8 where its file can't be read, which is noted, and with 9.
+/// Reads the frames of a capture. Errors: `Io` (8) if its file can't be read, and that is noted; `NoMemory` (9).
 fn read_capture(
     rt: &HostRuntime,
     order: Order,
@@ -37,7 +37,7 @@ fn read_capture(
     frames
 }
 
-/// Says on standard error how many frames of a capture aren't drawn, where there are such.
+/// Says on standard error how many frames of a capture aren't drawn, if there are such.
 fn say_others(rt: &HostRuntime, records: bool, whose: &str, others: u64) -> Result<(), ToolFault>
     ensures { IfErr result IsOutside }
 {
@@ -50,8 +50,8 @@ fn say_others(rt: &HostRuntime, records: bool, whose: &str, others: u64) -> Resu
     notice(rt, records, words.as_str())
 }
 
-/// Draws the frames of two captures in a file, and says how many frames of each aren't drawn. Where there is none that can be, nothing is
-/// drawn, and the answer is no.
+/// Draws the frames of two captures in a file, and says how many frames of each aren't drawn. Without a frame that can be drawn no file is
+/// written, and it returns false.
 pub(crate) fn draw_captures(
     rt: &HostRuntime,
     order: Order,

@@ -34,7 +34,7 @@ pub enum Job {
     Code {
         /// The code.
         coding: Coding,
-        /// Which bit of an octet of the output comes first.
+        /// Which bit of an octet of the output is first.
         order: Order,
         /// The name of the image's file.
         input: String,
@@ -45,7 +45,7 @@ pub enum Job {
     Show {
         /// The code of the page.
         coding: Coding,
-        /// Which bit of an octet of the file comes first.
+        /// Which bit of an octet of the file is first.
         order: Order,
         /// The page's width in pixels, 1 to 2,432.
         width: u32,
@@ -67,13 +67,13 @@ pub enum Job {
     },
     /// Lists the frames in a file of bits.
     Frames {
-        /// At most how many octets of a content are shown, where it isn't all of them.
+        /// How many octets of a content are shown at most; None for all.
         most: Option<u32>,
-        /// Which bit of an octet of the file comes first.
+        /// Which bit of an octet of the file is first.
         order: Order,
         /// What is written of each frame.
         form: ListForm,
-        /// The name of the folder that the pages in the frames go to, where one is given.
+        /// The name of the folder that the pages in the frames go to, if one is given.
         pages: Option<String>,
         /// Whether the rows before the gap of a page that isn't whole go there too.
         salvage: bool,
@@ -82,9 +82,9 @@ pub enum Job {
     },
     /// Draws the frames in two files of bits, one of each station of a call.
     Captures {
-        /// Which bit of an octet of the files comes first.
+        /// Which bit of an octet of the files is first.
         order: Order,
-        /// Whether what is told is records, for programs.
+        /// Whether messages are written as JSON.
         records: bool,
         /// The name of the file that the frames are drawn in.
         diagram: String,
@@ -104,13 +104,13 @@ pub enum Job {
         script: String,
         /// What the call is run with.
         options: CallOptions,
-        /// The name of the file that the stored pages go to, where one is given.
+        /// The name of the file that the stored pages go to, if one is given.
         out: Option<String>,
-        /// The name of the folder that the octets on the line go to, where one is given.
+        /// The name of the folder that the octets on the line go to, if one is given.
         bits: Option<String>,
         /// Whether the call is to end normally for both stations.
         normal: bool,
-        /// The name of the file that the call is drawn in, where one is given.
+        /// The name of the file that the call is drawn in, if one is given.
         diagram: Option<String>,
         /// The name of the document's file.
         input: String,
@@ -119,17 +119,17 @@ pub enum Job {
     Drive {
         /// How bad the line is.
         line: BadLine,
-        /// How many calls are run, where that is said.
+        /// How many calls are run, if given.
         times: Option<u32>,
         /// What the call is run with.
         options: CallOptions,
-        /// The name of the file that the stored pages go to, where one is given.
+        /// The name of the file that the stored pages go to, if one is given.
         out: Option<String>,
-        /// The name of the folder that the octets on the line go to, where one is given.
+        /// The name of the folder that the octets on the line go to, if one is given.
         bits: Option<String>,
         /// Whether the call is to end normally for both stations.
         normal: bool,
-        /// The name of the file that the call is drawn in, where one is given.
+        /// The name of the file that the call is drawn in, if one is given.
         diagram: Option<String>,
         /// The name of the document's file.
         input: String,
@@ -144,7 +144,7 @@ pub enum Job {
         waits: GivenWaits,
         /// The name of the folder that the stored pages go to.
         out: String,
-        /// The name of the file that the trace goes to, where one is given.
+        /// The name of the file that the trace goes to, if one is given.
         trace: Option<String>,
     },
     /// Runs a caller by lines of text.
@@ -153,7 +153,7 @@ pub enum Job {
         options: CallOptions,
         /// How long its waits run.
         waits: GivenWaits,
-        /// The name of the file that the trace goes to, where one is given.
+        /// The name of the file that the trace goes to, if one is given.
         trace: Option<String>,
         /// The name of the document's file.
         input: String,
@@ -172,7 +172,7 @@ pub struct Request {
     pub job: Job,
     /// Whether a fault is explained in words too.
     pub explain: bool,
-    /// Whether what is told for programs is asked for: records.
+    /// Whether messages are records for programs.
     pub json: bool,
 }
 
@@ -181,7 +181,7 @@ pub struct Request {
 pub enum Outcome {
     /// The job is done.
     Done,
-    /// The job is done as far as it can be, and what is missing was named; or a call was run, and didn't end as it was to.
+    /// The job is done as far as possible and what is missing was named; or a call was run and didn't end as expected.
     Incomplete,
     /// The job failed.
     Fault(ToolFault),
@@ -189,8 +189,8 @@ pub enum Outcome {
     Words(Error),
 }
 
-/// The exit status of the program: 0 where the job is done, 1 for a fault or where something is missing, and 2 for the
-/// words.
+/// Returns the program's exit status: 0 if the job is done, 1 for a fault or if something is missing, 2 if the command line is wrong, and
+/// for `--help`.
 pub fn status(outcome: &Outcome) -> u8
     ensures { result ≡ status_of outcome.now }
 {
@@ -226,10 +226,8 @@ impl From<Error> for Outcome {
     }
 }
 
-/// What the words ask for, of which the first is the program's name.
-///
-/// An `Err` is the fault 9 where memory was refused, and else has the text for the user: what is
-/// wrong with the words, or the help that they ask for.
+/// Reads the words of the command line, of which the first is the program's name. An `Err` is `NoMemory` (9), or the text for the user:
+/// what is wrong with the words, or the help that they ask for.
 pub fn read_words(alloc: Global, words: &[&str]) -> Result<Request, Outcome>
     ensures { let texts = map (λ word. word.now) words.now in
         MatchResult result (ReadsAs texts) (IsRefusalOf texts) }
@@ -262,7 +260,7 @@ fn asks(matches: &ArgMatches<'_>, id: &str) -> bool
     }
 }
 
-// The job, where no value of it is missing and its options go together.
+// The job, if all its values are given and its options go together.
 fn job_in(alloc: Global, matches: &ArgMatches<'_>) -> Result<Option<Job>, AllocError>
     ensures { let met = subcommand_rows_of matches.now in
         IfOk result (λ job. MatchOption job (HasNoJob met) (IsJobOf met)) }
@@ -386,7 +384,7 @@ fn page_of(given: Option<u32>) -> u32
     given.unwrap_or(1)
 }
 
-// What is asked for of a page that is decoded.
+// What is wanted of a page that is decoded.
 fn decode_options(matches: &ArgMatches<'_>) -> DecodeOptions
     ensures { AreDecodeOptionsIn (rows_of (found_of matches.now)) result }
 {
@@ -399,7 +397,7 @@ fn decode_options(matches: &ArgMatches<'_>) -> DecodeOptions
     }
 }
 
-// Records where they are asked for, else lines, with words where those are.
+// Records if they are asked for, otherwise lines, with words if those are.
 fn list_form(records: bool, words: bool) -> ListForm
     ensures { result ≡ list_form records words }
 {
@@ -500,7 +498,7 @@ fn is_normal_wanted(matches: &ArgMatches<'_>) -> bool
     is_named(text_in(matches, "expect"), "normal")
 }
 
-// Whether a value is of a bad line.
+// Whether any option that needs `--lose` was given.
 fn has_line(matches: &ArgMatches<'_>) -> bool
     ensures { result ≡ has_line (rows_of (found_of matches.now)) }
 {
@@ -512,7 +510,7 @@ fn has_line(matches: &ArgMatches<'_>) -> bool
         || text_in(matches, "times").is_some()
 }
 
-// The bad line, where its rates and its seed are there and say one.
+// The bad line, if its rates and its seed are given and valid.
 fn line_in(matches: &ArgMatches<'_>) -> Option<BadLine>
     ensures { let rows = rows_of (found_of matches.now) in
         MatchOption result ((line : LineValue) → IsLineIn rows line → ⊥) (IsLineIn rows) }
@@ -541,11 +539,12 @@ fn line_in(matches: &ArgMatches<'_>) -> Option<BadLine>
     })
 }
 
-// How many calls are asked for, where that is said; their pages and octets are not kept, no end is wanted of them, and no records.
+// The value of `--times`; it excludes `--out`, `--bits`, `--expect`, `--diagram` and `--json`.
 fn times_in(matches: &ArgMatches<'_>) -> Option<Option<u32>>
     ensures { let rows = rows_of (found_of matches.now) in
         MatchOption result ((times : Option ℕ) → IsTimesIn rows times → ⊥) (IsTimesIn rows) }
 {
+    // many calls keep no pages; the table is no record and says how many calls ended how
     if text_in(matches, "times").is_none() {
         return Some(None);
     }
@@ -591,7 +590,7 @@ fn rate_in(matches: &ArgMatches<'_>, id: &str) -> Option<u64>
     }
 }
 
-// The rate of spoiled items, 0 where none is given.
+// The rate of spoiled items, 0 if none is given.
 fn spoil_in(matches: &ArgMatches<'_>) -> Option<u64>
     ensures is { IfSome result (IsSpoilIn (rows_of (found_of matches.now))) }
     ensures only { (share : ℕ) → IsSpoilIn (rows_of (found_of matches.now)) share → result ≡ Some share }
@@ -602,7 +601,7 @@ fn spoil_in(matches: &ArgMatches<'_>) -> Option<u64>
     }
 }
 
-// The rate at which the answerer is busy, 0 where none is given.
+// The rate at which the answerer is busy, 0 if none is given.
 fn busy_in(matches: &ArgMatches<'_>) -> Option<u64>
     ensures is { IfSome result (IsBusyIn (rows_of (found_of matches.now))) }
     ensures only { (share : ℕ) → IsBusyIn (rows_of (found_of matches.now)) share → result ≡ Some share }
@@ -620,7 +619,7 @@ pub(crate) fn are_both_standard(script: &str, input: &str) -> bool
     script == "-" && input == "-"
 }
 
-// The options of a call, where the code of its pages isn't missing.
+// The options of a call, if the code of its pages is given.
 pub(crate) fn options_in(matches: &ArgMatches<'_>) -> Option<CallOptions>
     ensures { let rows = rows_of (found_of matches.now) in
         MatchOption result (HasNoOptions rows) (AreOptionsIn rows) }
@@ -658,7 +657,7 @@ pub(crate) fn modems_named(name: Option<&str>) -> Modems
     }
 }
 
-// A copy of the text, where there is one.
+// A copy of the text, if there is one.
 pub(crate) fn copy_of(alloc: Global, text: Option<&str>) -> Result<Option<String>, AllocError>
     ensures { IfOk result (λ copy. option_map string_bytes copy ≡ option_map (λ text. text.now) text.entry) }
 {
@@ -690,7 +689,7 @@ fn order_in(matches: &ArgMatches<'_>) -> Order
     order_named(text_in(matches, "order"))
 }
 
-// The order of the bits on a line, which is `lsb` but for `msb`.
+// The bit order on a line: `lsb`, unless `msb` is given.
 pub(crate) fn line_order_in(matches: &ArgMatches<'_>) -> Order
     ensures { result ≡ line_order_named (first_of (codes "order") (rows_of (found_of matches.now))) }
 {
@@ -740,7 +739,8 @@ pub(crate) fn number_in(matches: &ArgMatches<'_>, id: &str) -> Option<u32>
     matches.get_one::<u32>(id)
 }
 
-// What is wrong with words whose options don't go together, which a parse doesn't refuse by itself.
+// What is wrong with options that don't go together. `clap`'s exact contracts hold for commands without conflicting arguments, so the
+// program refuses them itself.
 fn unfit_text(matches: &ArgMatches<'_>) -> &'static str {
     match matches.subcommand() {
         Some((name, inner)) if name == "call" => unfit_call(inner),
@@ -750,7 +750,7 @@ fn unfit_text(matches: &ArgMatches<'_>) -> &'static str {
     }
 }
 
-// The same of the words of a call.
+// What is wrong with the options of `call`.
 fn unfit_call(matches: &ArgMatches<'_>) -> &'static str {
     let has_script = text_in(matches, "script").is_some();
     let has_lose = text_in(matches, "lose").is_some();
@@ -791,7 +791,7 @@ fn unfit_call(matches: &ArgMatches<'_>) -> &'static str {
     "--lose and --spoil are more than 100% together"
 }
 
-// The error for words whose options don't go together, or that miss a value.
+// The error for options that don't go together, or for a missing value.
 fn unfit(command: &mut Command<'_>, text: &'static str) -> Result<Error, AllocError>
     ensures { IfOk result (λ error. kind_of error ≡ ErrorKind.ArgumentConflict) }
 {

@@ -16,37 +16,37 @@ use Rattle.g3fax.specs.Statuses.{ok, nothing_there}
 use Rattle.g3fax.specs.declared.signal.G3Params.{G3Params}
 use Rattle.g3fax.specs.declared.signal.G3Signal.{G3Signal}
 
--- parameters are told; where there are none, 106 is answered
+-- parameters are told; without any the status is 106, and nothing changes
 abbrev pub TellsParams : Option Params → G3Params → G3Params → ℕ → Type 0
 TellsParams None old new status = (status ≡ nothing_there) × (new ≡ old)
 TellsParams (Some params) old new status = (status ≡ ok) × (new ≡ params_told params)
 
--- the parameters of the group that a caller has under way are told
+-- the numbers of parameters are those of the caller's group under way; 106 if there is none, and nothing changes
 abbrev pub CallerTellsParams : TerminalFields StoppableCallerFields → G3Params → G3Params → ℕ → Type 0
 CallerTellsParams terminal old new status = (t : Caller) → Represents terminal.speaking.station.station t
     → TellsParams (caller_params t.state t.params) old new status
 
--- the parameters of the group that an answerer has under way are told
+-- the numbers of parameters are those of the answerer's group under way; 106 if there is none, and nothing changes
 abbrev pub AnswererTellsParams : AnsweringFields → G3Params → G3Params → ℕ → Type 0
 AnswererTellsParams answering old new status = TellsParams (answerer_params answering.terminal.speaking.station.station.state
     answering.terminal.speaking.station.station.params) old new status
 
--- a DIS is told as a signal; where there is none, 106 is answered
+-- a DIS is told as a signal; without one the status is 106, and nothing changes
 abbrev pub TellsDis : Option Caps → G3Signal → G3Signal → ℕ → Type 0
 TellsDis None old new status = (status ≡ nothing_there) × (new ≡ old)
 TellsDis (Some caps) old new status = (status ≡ ok) × (new ≡ told (dis caps))
 
--- a DCS is told as a signal; where there is none, 106 is answered
+-- a DCS is told as a signal; without one the status is 106, and nothing changes
 abbrev pub TellsDcs : Option Params → G3Signal → G3Signal → ℕ → Type 0
 TellsDcs None old new status = (status ≡ nothing_there) × (new ≡ old)
 TellsDcs (Some params) old new status = (status ≡ ok) × (new ≡ told (dcs params))
 
--- the last DIS that a caller has agreed on is told
+-- the numbers of a signal are those of the last DIS that a caller agreed on; 106 if there is none, and nothing changes
 abbrev pub CallerTellsPeer : TerminalFields StoppableCallerFields → G3Signal → G3Signal → ℕ → Type 0
 CallerTellsPeer terminal old new status = (t : Caller) → Represents terminal.speaking.station.station t
     → TellsDis (caller_peer t.state (confirmed t) t.caps) old new status
 
--- the last DCS that an answerer has allowed is told
+-- the numbers of a signal are those of the last DCS that an answerer allowed; 106 if there is none, and nothing changes
 abbrev pub AnswererTellsPeer : AnsweringFields → G3Signal → G3Signal → ℕ → Type 0
 AnswererTellsPeer answering old new status = TellsDcs (answerer_peer answering.terminal.speaking.station.station.state
     answering.terminal.speaking.station.station.accepted answering.terminal.speaking.station.station.params) old new status

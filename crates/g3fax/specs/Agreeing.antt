@@ -15,7 +15,7 @@ use Rattle.g3fax.specs.Signals.{params_told}
 use Rattle.g3fax.specs.Statuses.{ok, bad_choice, not_callable, not_compatible}
 use Rattle.g3fax.specs.declared.signal.G3Params.{G3Params}
 
--- what is agreed is told; or 28 is answered, and the first reason is told
+-- what is agreed is told; or the status is 28, and the first reason is told
 abbrev pub TellsAgreed : (Reason → Type 0) → Result Params NotCompatible → G3Params → G3Params → ℕ → ℕ → ℕ → Type 0
 TellsAgreed Is (Ok params) old new was reason status = (status ≡ ok) × (new ≡ params_told params) × (reason ≡ was)
 TellsAgreed Is (Err refused) old new was reason status =
@@ -26,12 +26,12 @@ abbrev pub Agrees : Caps → Wish → PageWidth → Bool → G3Params → G3Para
 Agrees caps wish width fine old new was reason status =
     TellsAgreed (IsFirstReason caps wish width fine) (agreed caps wish width fine) old new was reason status
 
--- a status was answered, and nothing is told
+-- this status, and nothing is told
 abbrev pub RefusesAgree : ℕ → G3Params → G3Params → ℕ → ℕ → ℕ → Type 0
 RefusesAgree refused old new was reason status = (status ≡ refused) × (new ≡ old) × (reason ≡ was)
 
--- what is answered where two stations are to agree: 104 where a number is none of a DIS or a wish, 26 where the width is none that a call can
--- have, and else what they agree on
+-- What two stations agree on, for pages of a width. 104 if the numbers are not a DIS or a wish, else 26 if a call can't have the width,
+-- else 28 if they don't agree, with the number of the first reason, 1 to 5. By any status above 0 the parameters stay, and by 0 the reason.
 abbrev pub AnswersAgree :
     Option Caps → Option Wish → Option PageWidth → Bool → G3Params → G3Params → ℕ → ℕ → ℕ → Type 0
 AnswersAgree None wish width fine old new was reason status = RefusesAgree bad_choice old new was reason status

@@ -51,7 +51,7 @@ caps_with caps (Some modems) (Some widest) =
       ecm = true;
     })
 
--- what an answerer can do that C describes; none where a number is none of a modem or a width
+-- what an answerer can do, by numbers; none if the number of the modems or of the width is unknown
 abbrev pub caps_of : G3Caps → Option Caps
 caps_of caps = caps_with caps (modems_of caps.modems) (width_of_pixels caps.widest)
 
@@ -62,7 +62,8 @@ wish_with (Some modems) None small = None
 wish_with (Some modems) (Some coding) None = None
 wish_with (Some modems) (Some coding) (Some small) = Some (record { modems = modems; coding = coding; small = small })
 
--- what a caller wishes that C describes; none where a number is none of a modem, a code or a size
+-- What a caller wishes, by numbers: its modems, the code, and the octets of data in a frame, 256 or 64. None if one of these numbers is
+-- unknown.
 abbrev pub wish_of : G3Wish → Option Wish
 wish_of wish = wish_with (modems_of wish.modems) (coding_of wish.coding) (small_of wish.frame)
 
@@ -81,7 +82,8 @@ pub record IsNewAnswerer (caps : Caps) (limit : ℕ) (answering : AnsweringField
   }
   pub waiting : answering.waiting ≡ []
 
--- an empty handle is filled with the terminal of an answerer; 104 where a number stands for no choice, or no page may wait
+-- An empty handle is filled with the terminal of a new answerer, which sends DIS first. 104 exactly if the number of the modems or of the
+-- width is unknown, or the limit of pages is 0; else 0, or 9.
 pub record MakesAnswerer (caps : G3Caps) (old : Option Kept) (status : ℕ) (new : Option Kept) : Type 0 where
   pub fills : Fills (HasAnswerer (λ answering. IfSome (caps_of caps) (λ given. IsNewAnswerer given caps.limit answering))) old status new
   pub no_caps : old ≡ None → caps_of caps ≡ None → status ≡ bad_choice
@@ -96,14 +98,15 @@ pub record IsNewCaller (document : List PagePixels) (wish : Wish) (terminal : Te
   pub turn : terminal.speaking.turn ≡ Silent
   pub taken : terminal.speaking.taken ≡ 0
 
--- what is answered of a document that is to be called with: 106 where it has no page, 26 where a call can't have the width of one, and else
--- 0
+-- the status for a document to be sent: 106 without a page, 26 if a call can't have the width of a page, else 0
 abbrev pub AnswersDocument : Option (List PagePixels) → ℕ → Type 0
 AnswersDocument None status = status ≡ nothing_there
 AnswersDocument (Some pages) status =
     (AreCallable pages × (status ≡ ok)) ⊎ ((¬ AreCallable pages) × (status ≡ not_callable))
 
--- the document of a handle moves into the terminal of a caller, which fills an empty handle
+-- The document of a handle moves into the terminal of a new caller, which fills an empty handle. 102 if that isn't empty; 104 if the number
+-- of the modems, the code or the frame's size is unknown; 100 and 101 for the document's handle; 106 if it has no page, 26 if a call can't
+-- have the width of a page. By any status above 0 both stay.
 pub record MakesCaller (wish : G3Wish) (old : Option Kept) (document left : Option Kept) (status : ℕ) (new : Option Kept) : Type 0 where
   pub done : status ≡ ok → (old ≡ None) × (left ≡ None) × HasDocument (λ pages. HasCaller (λ terminal.
       IfSome (wish_of wish) (λ given. IsNewCaller (pages_of pages) given terminal)) new) document

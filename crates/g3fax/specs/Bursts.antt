@@ -18,29 +18,30 @@ use Rattle.g3fax.specs.Statuses.{ok, no_memory, nothing_there}
 use Rattle.g3fax.specs.declared.bursts.G3Burst.{G3Burst}
 use Rattle.g3fax.specs.declared.handle.Kept.{Kept}
 
--- the bursts of a caller that can be stopped
+-- the bursts that a caller that can be stopped has for a turn
 abbrev pub caller_bursts : BurstsOf StoppableCallerFields
 caller_bursts = λ v turn bursts. CallerLends v.station turn bursts
 
--- the bursts of an answerer with limits
+-- the bursts that an answerer with limits has for a turn
 abbrev pub answerer_bursts : BurstsOf LimitedFields
 answerer_bursts = λ v turn bursts. AnswererLends v.station turn bursts
 
--- what is told of a burst: how many bits it has, what it goes out on, and whether it is the turn's last
+-- what is told of a burst: its number of bits, its carrier, and whether it is the turn's last
 pub record TellsBurst (sent : SentBurst) (burst : G3Burst) : Type 0 where
   pub bits : Tells sent.bits burst.bits
   pub carrier : burst.carrier ≡ carrier_number sent.carrier
   pub check : burst.check ≡ check_number sent.carrier
   pub last : burst.last ≡ flag_number sent.last
 
--- a burst was taken of the turn, its octets fill a handle, and it is told
+-- a burst was taken of the turn: its octets fill a handle, and its details are told
 pub record GivesBurst (S : Type 0) (side : Side) (lends : BurstsOf S) (old new : TerminalFields S) (octets : Option Kept) (burst : G3Burst) : Type 0 where
   pub sent : SentBurst
   pub sends : Sends {E = AllocError} side lends old.speaking new.speaking (Ok (Some sent))
   pub octets_are : HasOctets (λ octets. octets ≡ sent.octets.items) octets
   pub told : TellsBurst sent burst
 
--- the next burst is given in an empty handle; 106 where none is left, and nothing changes by any status above 0
+-- The next burst of the turn fills an empty handle with its octets, and its details are told. 106 only if none is left. By any status above
+-- 0 nothing changes.
 pub record NextBurst (S : Type 0) (side : Side) (lends : BurstsOf S) (old new : TerminalFields S) (before after : Option Kept)
     (burst : G3Burst) (status : ℕ) : Type 0 where
   pub fills : Fills (λ octets. GivesBurst S side lends old new octets burst) before status after

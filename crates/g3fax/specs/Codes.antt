@@ -29,11 +29,12 @@ coding_of number = if nat_eq number 1 then Some OneDim else (if nat_eq number 2 
 abbrev pub order_of : ℕ → Option Order
 order_of number = if nat_eq number 0 then Some MsbFirst else (if nat_eq number 1 then Some LsbFirst else None)
 
--- a number of bits is told, where it is one of 64 bits
+-- a number of bits is told, if it fits 64 bits
 abbrev pub Tells : ℕ → ℕ → Type 0
 Tells bits told = bits < 2 ^ 64 → told ≡ bits
 
--- an empty handle is filled with the code of a page; a page of no rows is answered by 4
+-- An empty handle is filled with the octets of the page's prescribed code. 104 exactly if the number of the code or of the order is
+-- unknown; else 4 exactly if the page has no rows; else 0, or 9.
 pub record CodesPage (coding : Option Coding) (order : Option Order) (page : PagePixels) (old : Option Kept) (status : ℕ) (new : Option Kept) : Type 0 where
   pub fills : Fills (HasOctets (λ octets. IfSome coding (λ c. IfSome order (λ o.
       AppendsCode o (code_of c page.width page.rows) [] octets)))) old status new
@@ -42,25 +43,27 @@ pub record CodesPage (coding : Option Coding) (order : Option Order) (page : Pag
   pub no_rows : old ≡ None → coding ≢ None → order ≢ None → length page.rows ≡ 0 → status ≡ 4
   pub only : old ≡ None → coding ≢ None → order ≢ None → 0 < length page.rows → (status ≡ ok) ⊎ (status ≡ no_memory)
 
--- the page that was read fills the handle and the bits used are told; or the refusal is answered, and its bit is told
+-- What reading gives: the page fills the handle, and the number of bits used is told; or the status is the number of the refusal, and its
+-- bit is told.
 abbrev pub GivesRead : ℕ → Bool → Result (List (List Color) × ℕ) (ℕ × CodeFaultKind) → ℕ → ℕ → Option Kept → Type 0
 GivesRead width fine (Ok read) status place new = (status ≡ ok) × Tells read.1 place
     × HasPage (λ page. (page.width ≡ width) × (page.fine ≡ fine) × (page.rows ≡ read.0)) new
 GivesRead width fine (Err refused) status place new = (status ≡ number_of refused.1) × Tells refused.0 place
 
--- what is answered of octets that are read as a page, where the handle is empty and the form is one
+-- what holds for octets that are read as a page, if the handle is empty, the form is valid and memory isn't refused
 abbrev pub Answers : G3Code → (Coding → Order → Type 0) → Option Kept → ℕ → Type 0
 Answers code Gives old status = IfSome (coding_of code.coding) (λ coding. IfSome (order_of code.order) (λ order.
     old ≡ None → IsWidth code.width → status ≢ no_memory → Gives coding order))
 
--- an empty handle is filled with a page that is read of octets in this form; a form that is none is answered by 104, or by 1 for its width
+-- An empty handle is filled with a page read from octets, of the width that was asked for, its lines fine as asked for. 104 if the number
+-- of the code or of the order is unknown, else 1 if the width isn't 1 to 2,432.
 pub record ReadsForm (code : G3Code) (Holds : PagePixels → Type 0) (old : Option Kept) (status : ℕ) (new : Option Kept) : Type 0 where
   pub fills : Fills (HasPage (λ page. (page.width ≡ code.width) × (page.fine ≡ is_set code.fine) × Holds page)) old status new
   pub no_coding : old ≡ None → coding_of code.coding ≡ None → status ≡ bad_choice
   pub no_order : old ≡ None → order_of code.order ≡ None → status ≡ bad_choice
   pub no_width : old ≡ None → coding_of code.coding ≢ None → order_of code.order ≢ None → ¬ IsWidth code.width → status ≡ bad_width
 
--- the whole rows at the beginning of the bits
+-- the page has all whole rows that the octets spell from the beginning, in this form
 abbrev pub HasWholeRows : G3Code → List ℕ → PagePixels → Type 0
 HasWholeRows code octets page = IfSome (coding_of code.coding) (λ coding. IfSome (order_of code.order) (λ order.
     AreWholeRows coding code.width (bits_of order octets) page.rows))

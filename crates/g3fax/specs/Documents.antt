@@ -8,12 +8,12 @@ use Rattle.g3fax.specs.Statuses.{ok, no_memory, empty_handle, other_handle}
 use Rattle.g3fax.specs.declared.handle.Kept.{Kept}
 use Rattle.g3fax.specs.declared.handle.Kept.TheVariants.{Octets, Page, Deframer, Document, Caller, Answerer, RowCoder, RowReader}
 
--- the pages of a document that has some, or none yet
+-- the pages of a document; none before the first is pushed
 abbrev pub pages_of : Option (List PagePixels) → List PagePixels
 pages_of None = []
 pages_of (Some pages) = pages
 
--- a page is appended; one of no rows is answered by 4
+-- a page is appended; 4 exactly if it has no rows
 pub record AppendsPage (old : Option (List PagePixels)) (page : PagePixels) (new : Option (List PagePixels)) (status : ℕ) : Type 0 where
   pub done : status ≡ ok → new ≡ Some (pages_of old ++ page ∷ [])
   pub kept : status ≢ ok → new ≡ old
@@ -25,8 +25,8 @@ pub record IsMoved (status : ℕ) (old new : Option Kept) : Type 0 where
   pub done : status ≡ ok → new ≡ None
   pub kept : status ≢ ok → new ≡ old
 
--- the page of a handle moves to the end of a document, whose handle was and is so; an empty handle is answered by 100, one of another kind
--- by 101, the page's first, and both stay
+-- The page of a handle moves to the end of a document, and its handle is empty then. 4 exactly if the page has no rows; 100 and 101 for
+-- either handle, the page's first; else 0, or 9. By any status above 0 both stay.
 abbrev pub MovesPage : Option Kept → Option Kept → Option Kept → Option Kept → ℕ → Type 0
 MovesPage None left old new status = (status ≡ empty_handle) × (left ≡ None) × (new ≡ old)
 MovesPage (Some (Octets octets)) left old new status = (status ≡ other_handle) × (left ≡ Some (Octets octets)) × (new ≡ old)

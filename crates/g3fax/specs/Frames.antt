@@ -14,7 +14,7 @@ use Rattle.g3fax.specs.Statuses.{ok, no_memory, no_room, bad_length, nothing_the
 use Rattle.g3fax.specs.declared.frames.G3Counts.{G3Counts}
 use Rattle.g3fax.specs.declared.handle.Kept.{Kept}
 
--- a deframer has taken the bits of octets, the least significant of each first; where memory is refused it stays
+-- a deframer has taken the bits of octets, the least significant of each first; if memory is refused it stays
 pub record Feeds (octets : List ℕ) (old new : DeframerState) (status : ℕ) : Type 0 where
   pub done : status ≡ ok → (bits : List Bool) (handed : ℕ) → IsAfter old bits handed → IsAfter new (bits ++ bits_of LsbFirst octets) handed
   pub kept : status ≢ ok → new ≡ old
@@ -30,12 +30,13 @@ HandsOut None old new before after count status = (status ≡ nothing_there) × 
 HandsOut (Some content) old new before after count status = (new ≡ record old { queue = drop 1 old.queue })
     × Copies content before after count status
 
--- a content is handed out; a buffer of fewer than 300 octets is answered by 103, and nothing is handed out
+-- The oldest content that waits is copied to a buffer and waits no longer. 106 if none waits. 103 if the buffer has fewer than 300 octets,
+-- and nothing is handed out.
 pub record NextContent (old new : DeframerState) (before after : List ℕ) (count status : ℕ) : Type 0 where
   pub small : length before < longest_content → (status ≡ no_room) × (new ≡ old) × (after ≡ before) × (count ≡ longest_content)
   pub fits : longest_content ≤ length before → HandsOut (slice_get old.queue 0) old new before after count status
 
--- how many gaps of each class are in the bits, 2^64 - 1 at most
+-- how many gaps of each class the bits so far have, 2^64 - 1 at most
 pub record TellsCounts (state : DeframerState) (counts : G3Counts) (status : ℕ) : Type 0 where
   pub done : status ≡ ok
   pub good : (bits : List Bool) (handed : ℕ) → IsAfter state bits handed → counts.good ≡ min (2 ^ 64 - 1) (count_of Good bits)
@@ -52,7 +53,8 @@ pub record HoldsFrame (content octets : List ℕ) (bits : ℕ) : Type 0 where
   pub filled : FillsOctets LsbFirst frame octets
   pub told : Tells (length frame) bits
 
--- an empty handle is filled with the frame of a content; one that has not 3 to 300 octets is answered by 105
+-- An empty handle is filled with octets that hold the frame of a content, and its number of bits is told. 105 exactly if the content hasn't
+-- 3 to 300 octets; else 0, or 9.
 pub record WritesFrame (content : List ℕ) (old : Option Kept) (status bits : ℕ) (new : Option Kept) : Type 0 where
   pub fills : Fills (HasOctets (λ octets. HoldsFrame content octets bits)) old status new
   pub short : old ≡ None → length content < 3 → status ≡ bad_length

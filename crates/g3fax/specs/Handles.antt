@@ -110,7 +110,7 @@ HasRowReader Holds (Some (Answerer answering)) = ⊥
 HasRowReader Holds (Some (RowCoder coder)) = ⊥
 HasRowReader Holds (Some (RowReader reader)) = Holds reader
 
--- what is answered of a handle of octets; 100 of an empty one, and 101 of another one
+-- the status for a handle that should have octets: `Answers` if it has, 100 if it is empty, 101 if it has something else
 abbrev pub OfOctets : (List ℕ → Type 0) → Option Kept → ℕ → Type 0
 OfOctets Answers None status = status ≡ empty_handle
 OfOctets Answers (Some (Octets octets)) status = Answers octets.items
@@ -122,7 +122,7 @@ OfOctets Answers (Some (Answerer answering)) status = status ≡ other_handle
 OfOctets Answers (Some (RowCoder coder)) status = status ≡ other_handle
 OfOctets Answers (Some (RowReader reader)) status = status ≡ other_handle
 
--- what is answered of a handle of a page; 100 of an empty one, and 101 of another one
+-- the status for a handle that should have a page: `Answers` if it has, 100 if it is empty, 101 if it has something else
 abbrev pub OfPage : (PagePixels → Type 0) → Option Kept → ℕ → Type 0
 OfPage Answers None status = status ≡ empty_handle
 OfPage Answers (Some (Octets octets)) status = status ≡ other_handle
@@ -134,7 +134,7 @@ OfPage Answers (Some (Answerer answering)) status = status ≡ other_handle
 OfPage Answers (Some (RowCoder coder)) status = status ≡ other_handle
 OfPage Answers (Some (RowReader reader)) status = status ≡ other_handle
 
--- what is answered of a handle of a deframer; 100 of an empty one, and 101 of another one
+-- the status for a handle that should have a deframer: `Answers` if it has, 100 if it is empty, 101 if it has something else
 abbrev pub OfDeframer : (DeframerState → Type 0) → Option Kept → ℕ → Type 0
 OfDeframer Answers None status = status ≡ empty_handle
 OfDeframer Answers (Some (Octets octets)) status = status ≡ other_handle
@@ -146,7 +146,7 @@ OfDeframer Answers (Some (Answerer answering)) status = status ≡ other_handle
 OfDeframer Answers (Some (RowCoder coder)) status = status ≡ other_handle
 OfDeframer Answers (Some (RowReader reader)) status = status ≡ other_handle
 
--- what is answered of a handle of a document; 100 of an empty one, and 101 of another one
+-- the status for a handle that should have a document: `Answers` if it has, 100 if it is empty, 101 if it has something else
 abbrev pub OfDocument : (Option (List PagePixels) → Type 0) → Option Kept → ℕ → Type 0
 OfDocument Answers None status = status ≡ empty_handle
 OfDocument Answers (Some (Octets octets)) status = status ≡ other_handle
@@ -158,7 +158,7 @@ OfDocument Answers (Some (Answerer answering)) status = status ≡ other_handle
 OfDocument Answers (Some (RowCoder coder)) status = status ≡ other_handle
 OfDocument Answers (Some (RowReader reader)) status = status ≡ other_handle
 
--- what is made of the page of a handle; an empty handle is answered by 100, one of another kind by 101, and both stay
+-- what happens to the page in a handle; an empty handle is 100, another kind is 101, and the handle stays
 abbrev pub OnPage : (PagePixels → PagePixels → Type 0) → Option Kept → Option Kept → ℕ → Type 0
 OnPage Makes None new status = (status ≡ empty_handle) × (new ≡ None)
 OnPage Makes (Some (Octets octets)) new status = (status ≡ other_handle) × (new ≡ Some (Octets octets))
@@ -178,7 +178,7 @@ OnPage Makes (Some (Answerer answering)) new status = (status ≡ other_handle) 
 OnPage Makes (Some (RowCoder coder)) new status = (status ≡ other_handle) × (new ≡ Some (RowCoder coder))
 OnPage Makes (Some (RowReader reader)) new status = (status ≡ other_handle) × (new ≡ Some (RowReader reader))
 
--- what is made of the deframer of a handle; an empty handle is answered by 100, one of another kind by 101, and both stay
+-- what happens to the deframer in a handle; an empty handle is 100, another kind is 101, and the handle stays
 abbrev pub OnDeframer : (DeframerState → DeframerState → Type 0) → Option Kept → Option Kept → ℕ → Type 0
 OnDeframer Makes None new status = (status ≡ empty_handle) × (new ≡ None)
 OnDeframer Makes (Some (Octets octets)) new status = (status ≡ other_handle) × (new ≡ Some (Octets octets))
@@ -198,7 +198,7 @@ OnDeframer Makes (Some (Answerer answering)) new status = (status ≡ other_hand
 OnDeframer Makes (Some (RowCoder coder)) new status = (status ≡ other_handle) × (new ≡ Some (RowCoder coder))
 OnDeframer Makes (Some (RowReader reader)) new status = (status ≡ other_handle) × (new ≡ Some (RowReader reader))
 
--- what is made of the document of a handle; an empty handle is answered by 100, one of another kind by 101, and both stay
+-- what happens to the document in a handle; an empty handle is 100, another kind is 101, and the handle stays
 abbrev pub OnDocument :
     (Option (List PagePixels) → Option (List PagePixels) → Type 0) → Option Kept → Option Kept → ℕ → Type 0
 OnDocument Makes None new status = (status ≡ empty_handle) × (new ≡ None)
@@ -219,7 +219,7 @@ OnDocument Makes (Some (Answerer answering)) new status = (status ≡ other_hand
 OnDocument Makes (Some (RowCoder coder)) new status = (status ≡ other_handle) × (new ≡ Some (RowCoder coder))
 OnDocument Makes (Some (RowReader reader)) new status = (status ≡ other_handle) × (new ≡ Some (RowReader reader))
 
--- what is made of the answerer of a handle; an empty handle is answered by 100, one of another kind by 101, and both stay
+-- what happens to the answerer in a handle; an empty handle is 100, another kind is 101, and the handle stays
 abbrev pub OnAnswerer : (AnsweringFields → AnsweringFields → Type 0) → Option Kept → Option Kept → ℕ → Type 0
 OnAnswerer Makes None new status = (status ≡ empty_handle) × (new ≡ None)
 OnAnswerer Makes (Some (Octets octets)) new status = (status ≡ other_handle) × (new ≡ Some (Octets octets))
@@ -239,7 +239,7 @@ OnAnswerer Makes (Some (Answerer old)) (Some (RowReader reader)) status = ⊥
 OnAnswerer Makes (Some (RowCoder coder)) new status = (status ≡ other_handle) × (new ≡ Some (RowCoder coder))
 OnAnswerer Makes (Some (RowReader reader)) new status = (status ≡ other_handle) × (new ≡ Some (RowReader reader))
 
--- what is made of the coder of rows of a handle; an empty handle is answered by 100, one of another kind by 101, and both stay
+-- what happens to the row coder in a handle; an empty handle is 100, another kind is 101, and the handle stays
 abbrev pub OnRowCoder : (RowCoding → RowCoding → Type 0) → Option Kept → Option Kept → ℕ → Type 0
 OnRowCoder Makes None new status = (status ≡ empty_handle) × (new ≡ None)
 OnRowCoder Makes (Some (Octets octets)) new status = (status ≡ other_handle) × (new ≡ Some (Octets octets))
@@ -259,7 +259,7 @@ OnRowCoder Makes (Some (RowCoder old)) (Some (RowCoder new)) status = Makes old 
 OnRowCoder Makes (Some (RowCoder old)) (Some (RowReader reader)) status = ⊥
 OnRowCoder Makes (Some (RowReader reader)) new status = (status ≡ other_handle) × (new ≡ Some (RowReader reader))
 
--- what is made of the reader of rows of a handle; an empty handle is answered by 100, one of another kind by 101, and both stay
+-- what happens to the row reader in a handle; an empty handle is 100, another kind is 101, and the handle stays
 abbrev pub OnRowReader : (RowReading → RowReading → Type 0) → Option Kept → Option Kept → ℕ → Type 0
 OnRowReader Makes None new status = (status ≡ empty_handle) × (new ≡ None)
 OnRowReader Makes (Some (Octets octets)) new status = (status ≡ other_handle) × (new ≡ Some (Octets octets))
@@ -279,7 +279,8 @@ OnRowReader Makes (Some (RowReader old)) (Some (Answerer answering)) status = �
 OnRowReader Makes (Some (RowReader old)) (Some (RowCoder coder)) status = ⊥
 OnRowReader Makes (Some (RowReader old)) (Some (RowReader new)) status = Makes old new
 
--- what is answered of a handle of a terminal, a caller's or an answerer's; 100 of an empty one, and 101 of another one
+-- the status for a handle that should have a terminal: the first relation for a caller's, the second for an answerer's; 100 if it is empty,
+-- 101 if it has something else
 abbrev pub OfTerminal : (TerminalFields StoppableCallerFields → Type 0) → (AnsweringFields → Type 0) → Option Kept → ℕ → Type 0
 OfTerminal Calls Answers None status = status ≡ empty_handle
 OfTerminal Calls Answers (Some (Octets octets)) status = status ≡ other_handle
@@ -291,8 +292,8 @@ OfTerminal Calls Answers (Some (Answerer answering)) status = Answers answering
 OfTerminal Calls Answers (Some (RowCoder coder)) status = status ≡ other_handle
 OfTerminal Calls Answers (Some (RowReader reader)) status = status ≡ other_handle
 
--- what is made of the terminal of a handle, a caller's or an answerer's, whose pages that wait stay; an empty handle is answered by 100,
--- one of another kind by 101, and both stay
+-- What happens to the terminal in a handle: the first relation for a caller's, the second for an answerer's, whose waiting pages stay. An
+-- empty handle is 100, another kind is 101, and the handle stays.
 abbrev pub OnTerminal :
     (TerminalFields StoppableCallerFields → TerminalFields StoppableCallerFields → Type 0)
     → (TerminalFields LimitedFields → TerminalFields LimitedFields → Type 0) → Option Kept → Option Kept → ℕ → Type 0
@@ -322,13 +323,14 @@ OnTerminal Calls Answers (Some (Answerer old)) (Some (RowReader reader)) status 
 OnTerminal Calls Answers (Some (RowCoder coder)) new status = (status ≡ other_handle) × (new ≡ Some (RowCoder coder))
 OnTerminal Calls Answers (Some (RowReader reader)) new status = (status ≡ other_handle) × (new ≡ Some (RowReader reader))
 
--- an empty handle is filled with something of this kind; a full one is answered by 102, and by any status above 0 it stays
+-- an empty handle is filled with something of this kind, status 0; a full one is 102; by any status above 0 it stays
 pub record Fills (Holds : Option Kept → Type 0) (old : Option Kept) (status : ℕ) (new : Option Kept) : Type 0 where
   pub done : status ≡ ok → (old ≡ None) × Holds new
   pub kept : status ≢ ok → new ≡ old
   pub full : old ≢ None → status ≡ full_handle
 
--- octets are copied to the beginning of a buffer, and their number is told; where it has too little room, the number alone
+-- Octets are copied to the beginning of a buffer, and what is after them there stays. If the buffer is too small, it stays and the status
+-- is 103. Their number is told in both cases.
 pub record Copies (octets old new : List ℕ) (count status : ℕ) : Type 0 where
   pub counted : count ≡ length octets
   pub done : length octets ≤ length old → (status ≡ ok) × (new ≡ octets ++ drop (length octets) old)

@@ -15,15 +15,15 @@ use Rattle.terminals.specs.declared.fault.HearFault.TheVariants.{FrameLost}
 use Rattle.g3fax.specs.Frames.{HoldsFrame, longest_content}
 use Rattle.g3fax.specs.Statuses.{ok, no_memory, bad_choice, bad_length, frame_lost}
 
--- the steps of a caller that can be stopped
+-- the steps of a caller that can be stopped, by its table
 abbrev pub caller_steps : StepOf StoppableCallerFields
 caller_steps = λ old input new turn. CallerStepsUnlessCut old.cut old input new turn
 
--- the steps of an answerer with limits
+-- the steps of an answerer with limits, by its table
 abbrev pub answerer_steps : StepOf LimitedFields
 answerer_steps = λ old input new turn. LimitedStepsUnlessCut old.cut old input new turn
 
--- octets were heard; where memory is refused nothing was taken (9), or frames are lost (108)
+-- The station has taken each signal in the octets. By 9 nothing was taken; by 108 frames in them are lost.
 pub record HearsOctets (S : Type 0) (steps : StepOf S) (old : TerminalFields S) (octets : List ℕ) (new : TerminalFields S) (status : ℕ) : Type 0 where
   pub done : status ≡ ok → Hears steps old octets new (Ok tt)
   pub lost : status ≡ frame_lost → Hears steps old octets new (Err FrameLost)
@@ -35,7 +35,8 @@ abbrev pub HearsItsOctets : (S : Type 0) → StepOf S → TerminalFields S → L
 HearsItsOctets S steps old content new status = (octets : List ℕ) × (bits : ℕ) × HoldsFrame content octets bits
     × HearsOctets S steps old octets new status
 
--- octets that hold the frame of a content were heard; one that has not 3 to 300 octets is answered by 105
+-- Octets that hold the frame of a content were heard. 105 exactly if the content hasn't 3 to 300 octets. By 9 nothing changes, and by 108
+-- frames are lost.
 pub record HearsFrame (S : Type 0) (steps : StepOf S) (old : TerminalFields S) (content : List ℕ) (new : TerminalFields S) (status : ℕ) : Type 0 where
   pub short : length content < 3 → (status ≡ bad_length) × (new ≡ old)
   pub long : longest_content < length content → (status ≡ bad_length) × (new ≡ old)
@@ -49,24 +50,24 @@ pub record TakesInput (S : Type 0) (steps : StepOf S) (old : TerminalFields S) (
   pub kept : status ≢ ok → new ≡ old
   pub only : (status ≡ ok) ⊎ (status ≡ no_memory)
 
--- a wait is over; a number that is no wait is answered by 104
+-- the station has taken that a wait is over; 104 exactly if the number is no wait's
 abbrev pub EndsWait : (S : Type 0) → StepOf S → Option Wait → TerminalFields S → TerminalFields S → ℕ → Type 0
 EndsWait S steps None old new status = (status ≡ bad_choice) × (new ≡ old)
 EndsWait S steps (Some wait) old new status = TakesInput S steps old (over wait) new status
 
--- the program has stopped the call
+-- the program has stopped the call, as `stopped` of `terminals` says
 pub record StopsCall (S : Type 0) (cut_off : Cut → S → S) (stop_says : S → Turn) (old new : TerminalFields S) (status : ℕ) : Type 0 where
   pub done : status ≡ ok
   pub framing : new.framing ≡ old.framing
   pub speaking : new.speaking ≡ stopped cut_off stop_says old.speaking
 
--- the program hangs up: DCN is to be said, also where the call has ended
+-- the program hangs up, whether the call runs or not, as `hung_up` of `terminals` says: DCN is sent
 pub record HangsUp (S : Type 0) (cut_off : Cut → S → S) (old new : TerminalFields S) (status : ℕ) : Type 0 where
   pub done : status ≡ ok
   pub framing : new.framing ≡ old.framing
   pub speaking : new.speaking ≡ hung_up cut_off old.speaking
 
--- the line is gone
+-- the line is gone, as `silenced` of `terminals` says
 pub record LosesLine (S : Type 0) (cut_off : Cut → S → S) (old new : TerminalFields S) (status : ℕ) : Type 0 where
   pub done : status ≡ ok
   pub framing : new.framing ≡ old.framing

@@ -18,13 +18,13 @@ use Rattle.stations.specs.declared.waiting.Wait.{Wait}
 use Rattle.stations.specs.declared.waiting.Wait.TheVariants.{T1, T2, T4, T5}
 use Rattle.terminals.specs.Timing.{wait_millis}
 
--- the waits by their numbers: those of their names
+-- the waits by their numbers, those of their names in T.30: T1, T2, T4 and T5
 abbrev pub wait_of : ℕ → Option Wait
 wait_of number =
     if nat_eq number 1 then Some T1 else (if nat_eq number 2 then Some T2 else (if nat_eq number 4 then Some T4 else
     (if nat_eq number 5 then Some T5 else None)))
 
--- the number of a wait; 0 of none
+-- the number of a wait; 0 for none
 abbrev pub wait_number : Option Wait → ℕ
 wait_number None = 0
 wait_number (Some T1) = 1
@@ -32,7 +32,7 @@ wait_number (Some T2) = 2
 wait_number (Some T4) = 4
 wait_number (Some T5) = 5
 
--- how long a wait runs, in milliseconds; 0 of none
+-- how long a wait runs, in milliseconds; 0 for none
 abbrev pub millis_of : Option Wait → ℕ
 millis_of None = 0
 millis_of (Some wait) = wait_millis wait
@@ -54,7 +54,7 @@ carrier_number V21 = 1
 carrier_number (Training speed) = speed_number speed
 carrier_number (Page speed) = speed_number speed
 
--- whether it is the carrier of a training check
+-- 1 for the carrier of a training check, 0 for others
 abbrev pub check_number : Carrier → ℕ
 check_number V21 = 0
 check_number (Training speed) = 1
@@ -66,7 +66,7 @@ listens_number HearsV21 = 1
 listens_number (HearsCheck speed) = 2
 listens_number (HearsPages speed) = 3
 
--- the carrier that it listens for beside V.21; 0 of none
+-- the carrier that it listens for beside V.21; 0 for none
 abbrev pub listens_carrier : Listening → ℕ
 listens_carrier HearsV21 = 0
 listens_carrier (HearsCheck speed) = speed_number speed
@@ -85,7 +85,7 @@ reason_number PeerLeft = 8
 reason_number BadPage = 9
 reason_number PageTooLong = 10
 
--- why a call ended; 0 of one that goes on
+-- the number of why a call ended; 0 while it goes on
 abbrev pub end_number : Option CallEnd → ℕ
 end_number None = 0
 end_number (Some (By reason)) = reason_number reason

@@ -7,7 +7,8 @@ use denote.RawPtr.{Ptr, null_ptr}
 use Rattle.std.specs.declared.option.Option.{Option}
 use Rattle.std.specs.Box.Ownership.{box_owns}
 
--- the box of the value x of type R at p, which `holds` allows to free; null where there is no value
+-- What a handle owns: nothing, and its pointer is null, if it has no value; otherwise the box of its value at its pointer, which `holds`
+-- allows to free.
 abbrev pub owned : (Ty → Ptr → Fml) → (R : RattleType) → Ptr → Option R.Denot → Fml
 owned holds R p None = feq Ptr p null_ptr
 owned holds R p (Some x) = box_owns holds R p x

@@ -32,7 +32,7 @@ calling_without far = record {
   accepted_block = 0;
 }
 
--- the block that a caller sends, from 1, of how many, and how often frames of it were asked for again; 0 where it sends none
+-- the block that a caller sends, from 1, of how many, and how often frames of it were asked for again; 0 if it sends none
 abbrev pub with_block : Option BlockProgress → G3Progress → G3Progress
 with_block None told = told
 with_block (Some far) told = record told { block = far.number; blocks = far.blocks; resends = far.resends }
@@ -66,12 +66,12 @@ with_mark (Some mark) told = record told { accepted = 1; accepted_page = mark.pa
 abbrev pub answering_told : AnswererProgress → ℕ → G3Progress
 answering_told far pages = with_mark far.accepted (answering_without far pages)
 
--- how far a caller is, is told
+-- the numbers of a progress say how far a caller is; those of an answerer are 0
 pub record TellsCalling (terminal : TerminalFields StoppableCallerFields) (progress : G3Progress) (status : ℕ) : Type 0 where
   pub done : status ≡ ok
   pub told : (t : Caller) → Represents terminal.speaking.station.station t → progress ≡ calling_told (caller_progress t)
 
--- how far an answerer is, is told, with how many pages it has stored that were not handed out
+-- the numbers of a progress say how far an answerer is, with the pages stored and not handed out; those of a caller are 0
 pub record TellsAnswering (answering : AnsweringFields) (progress : G3Progress) (status : ℕ) : Type 0 where
   pub done : status ≡ ok
   pub told : progress ≡ answering_told (answerer_progress answering.terminal.speaking.station.station) progress.pages

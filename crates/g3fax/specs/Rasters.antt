@@ -21,11 +21,11 @@ abbrev pub raster_octets : ℕ → ℕ → ℕ → ℕ
 raster_octets row apart zero = 0
 raster_octets row apart (suc more) = apart * more + row
 
--- the first rows of octets, which begin `apart` octets apart
+-- the rows in octets, of which each begins `apart` octets after the one before
 unfoldable pub raster_rows : ℕ → ℕ → List ℕ → ℕ → List (List Color)
 raster_rows width apart octets rows = map (λ number. row_pixels width (drop (apart * number) octets)) (range_with_len 0 rows)
 
--- the page of a raster
+-- the page of the rows in a raster
 abbrev pub raster_page : G3Raster → List ℕ → PagePixels
 raster_page raster octets = record {
   width = raster.width;
@@ -37,8 +37,8 @@ raster_page raster octets = record {
 abbrev pub raster_size : G3Raster → ℕ
 raster_size raster = raster_octets (stride raster.width) raster.stride raster.rows
 
--- an empty handle is filled with the page of a raster. The first that fits is answered: 1 where the width isn't 1 to 2,432; 3 where there
--- are more than 20,000 rows; 105 where rows begin closer than a row is long, or the octets end before the last row does; else 0, or 9
+-- An empty handle is filled with the page of a raster. The first that holds: 1 if the width isn't 1 to 2,432; 3 if there are more than
+-- 20,000 rows; 105 if rows begin closer than a row is long, or the octets end before the last row does; else 0, or 9.
 pub record ReadsRaster (raster : G3Raster) (octets : List ℕ) (old : Option Kept) (status : ℕ) (new : Option Kept) : Type 0 where
   pub fills : Fills (HasPage (λ page. page ≡ raster_page raster octets)) old status new
   pub width : old ≡ None → ¬ IsWidth raster.width → status ≡ bad_width
@@ -48,14 +48,14 @@ pub record ReadsRaster (raster : G3Raster) (octets : List ℕ) (old : Option Kep
   pub only : old ≡ None → IsWidth raster.width → raster.rows ≤ max_rows → stride raster.width ≤ raster.stride
       → raster_size raster ≤ length octets → (status ≡ ok) ⊎ (status ≡ no_memory)
 
--- rows in a buffer from the top: each at the beginning of `apart` octets, whose others are as they were, as is what follows the last row
+-- Rows in a buffer from the top, each at the beginning of `apart` octets. The octets between them and after the last row stay.
 abbrev pub LaysRows : ℕ → List (List Color) → List ℕ → List ℕ → Type 0
 LaysRows apart [] old new = new ≡ old
 LaysRows apart (row ∷ rows) old new = (octets : List ℕ) × HoldsRow row octets
     × (take apart new ≡ octets ++ drop (length octets) (take apart old)) × LaysRows apart rows (drop apart old) (drop apart new)
 
--- the rows of a page are written to a buffer, and how many octets they take is told; 105 where they are to begin closer than a row is
--- long; 103 where the buffer ends before the last row would
+-- The rows of a page are written to a buffer, and how many octets they take is told, if that is a number of 64 bits. 105 if rows begin
+-- closer than a row is long, else 103 if the buffer ends before the last row would; nothing is written then.
 pub record WritesRaster (page : PagePixels) (apart : ℕ) (old new : List ℕ) (before count status : ℕ) : Type 0 where
   pub close : apart < stride page.width → (status ≡ bad_length) × (new ≡ old) × (count ≡ before)
   pub told : stride page.width ≤ apart → Tells (raster_octets (stride page.width) apart (length page.rows)) count

@@ -30,7 +30,8 @@ pub record RefusesRepair (width : ℕ) (bits : List Bool) (status : ℕ) : Type 
   pub refuses : HasNoRow width bits fault ⊎ HasMoreLines width bits fault
   pub number : status ≡ number_of fault.kind
 
--- an empty handle is filled with a repaired page, and its repaired rows are counted; any code but T.4 in one dimension is answered by 104
+-- An empty handle is filled with the page that the lines of T.4 in one dimension give, and its repaired rows are counted. 104 for any other
+-- code.
 pub record RepairsForm (code : G3Code) (octets : List ℕ) (old : Option Kept) (status count : ℕ) (new : Option Kept) : Type 0 where
   pub fills : Fills (HasPage (HasRepaired code octets count)) old status new
   pub one_dim : old ≡ None → code.coding ≢ 1 → status ≡ bad_choice

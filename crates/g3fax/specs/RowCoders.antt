@@ -20,7 +20,8 @@ abbrev pub BeginsIn : G3Code → RowCoding → Type 0
 BeginsIn code coder = IfSome (coding_of code.coding) (λ coding. IfSome (order_of code.order) (λ order.
     BeginsCode coding order code.width coder))
 
--- an empty handle is filled with a coder of no rows; a form that is none is answered by 104, or by 1 for its width
+-- An empty handle is filled with a coder of no rows. 104 if the number of the code or of the order is unknown, else 1 if the width isn't 1
+-- to 2,432; else 0, or 9.
 pub record MakesCoder (code : G3Code) (old : Option Kept) (status : ℕ) (new : Option Kept) : Type 0 where
   pub fills : Fills (HasRowCoder (BeginsIn code)) old status new
   pub no_coding : old ≡ None → coding_of code.coding ≡ None → status ≡ bad_choice
@@ -29,7 +30,8 @@ pub record MakesCoder (code : G3Code) (old : Option Kept) (status : ℕ) (new : 
   pub only : old ≡ None → coding_of code.coding ≢ None → order_of code.order ≢ None → IsWidth code.width
       → (status ≡ ok) ⊎ (status ≡ no_memory)
 
--- a row is coded, of the first bits of octets; octets with too few bits are answered by 105
+-- A row is coded, from the first bits of octets. 105 exactly if they have fewer bits than a row; else 3 exactly if 20,000 rows were coded;
+-- else 0, or 9. By any status above 0 the coder stays.
 pub record PushesCoded (octets : List ℕ) (old new : RowCoding) (status : ℕ) : Type 0 where
   pub done : status ≡ ok → CodesOneMore old (row_pixels old.width octets) new
   pub kept : status ≢ ok → new ≡ old
@@ -37,20 +39,21 @@ pub record PushesCoded (octets : List ℕ) (old new : RowCoding) (status : ℕ) 
   pub full : old.width ≤ 8 * length octets → max_rows ≤ old.count → status ≡ too_many_rows
   pub only : old.width ≤ 8 * length octets → old.count < max_rows → (status ≡ ok) ⊎ (status ≡ no_memory)
 
--- the octets that are whole so far fill an empty handle
+-- the octets of the code that are whole so far fill an empty handle; by any status above 0 nothing changes
 pub record HandsOutRows (old new : RowCoding) (before : Option Kept) (status : ℕ) (after : Option Kept) : Type 0 where
   pub fills : Fills (HasOctets (λ octets. HandsOut old [] octets new)) before status after
   pub kept : status ≢ ok → new ≡ old
   pub only : before ≡ None → (status ≡ ok) ⊎ (status ≡ no_memory)
 
--- the last octets of a page's code fill an empty handle; a page of no rows is answered by 4
+-- the last octets of the page's code fill an empty handle; 4 only if no row was pushed
 pub record EndsRows (coder : RowCoding) (before : Option Kept) (status : ℕ) (after : Option Kept) : Type 0 where
   pub fills : Fills (HasOctets (λ octets. EndsPage coder [] octets)) before status after
   pub some : status ≡ ok → 0 < coder.count
   pub no_rows : before ≡ None → coder.count ≡ 0 → (status ≡ 4) ⊎ (status ≡ no_memory)
   pub only : before ≡ None → 0 < coder.count → (status ≡ ok) ⊎ (status ≡ no_memory)
 
--- the coder of a handle ends, and leaves it; an empty handle is answered by 100, one of another kind by 101, and both handles stay
+-- The last octets of the page's code fill an empty handle, and the coder leaves its own. 100 if that is empty, 101 if it has something
+-- else, 4 only if no row was pushed. By any status above 0 both handles stay.
 abbrev pub EndsCoder : Option Kept → Option Kept → Option Kept → ℕ → Option Kept → Type 0
 EndsCoder None left before status after = (status ≡ empty_handle) × (left ≡ None) × (after ≡ before)
 EndsCoder (Some (Octets octets)) left before status after = (status ≡ other_handle) × (left ≡ Some (Octets octets)) × (after ≡ before)

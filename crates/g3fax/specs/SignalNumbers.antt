@@ -19,7 +19,7 @@ use Rattle.g3fax.specs.Beginning.{modems_of}
 use Rattle.g3fax.specs.declared.signal.Kind.{Kind}
 use Rattle.g3fax.specs.declared.signal.Kind.TheVariants.{Dis, Dcs, Cfr, Ftt, Fcd, Rcp, Pps, Ppr, Mcf, Rnr, Rr, Dcn}
 
--- a choice where a number is this one, and else another choice
+-- a choice if a number is this one, and otherwise another choice
 abbrev pub at_number : {A : Type 0} → ℕ → ℕ → A → Option A → Option A
 at_number wanted number choice others = if nat_eq number wanted then Some choice else others
 
@@ -41,7 +41,7 @@ modems_number Fallback = 5
 abbrev pub modems_of_number : ℕ → Option Modems
 modems_of_number n = at_number 4 n V29 (at_number 5 n Fallback (modems_of n))
 
--- the codes
+-- the number of each code: 1 is T.4 in one dimension, 2 is T.6
 abbrev pub coding_number : Coding → ℕ
 coding_number OneDim = 1
 coding_number T6 = 2
@@ -56,18 +56,18 @@ speed_of_number n =
     at_number 2 n V27At2400 (at_number 3 n V27At4800 (at_number 4 n V29At7200 (at_number 5 n V29At9600 (at_number 6 n V17At7200
     (at_number 7 n V17At9600 (at_number 8 n V17At12000 (at_number 9 n V17At14400 None)))))))
 
--- what ends with a block
+-- the number of each end of a block: NULL, MPS, EOM, EOP
 abbrev pub page_end_number : PageEnd → ℕ
 page_end_number Null = 1
 page_end_number Mps = 2
 page_end_number Eom = 3
 page_end_number Eop = 4
 
--- what ends with a block, by its number
+-- the end of a block by its number
 abbrev pub end_of_number : ℕ → Option PageEnd
 end_of_number n = at_number 1 n Null (at_number 2 n Mps (at_number 3 n Eom (at_number 4 n Eop None)))
 
--- the stations
+-- the stations by their numbers: 1 is the caller, 2 the answerer
 abbrev pub side_of : ℕ → Option Side
 side_of n = at_number 1 n Caller (at_number 2 n Answerer None)
 
@@ -75,7 +75,7 @@ side_of n = at_number 1 n Caller (at_number 2 n Answerer None)
 abbrev pub octet_of : ℕ → Option ℕ
 octet_of n = if nat_lt n 256 then Some n else None
 
--- why two stations don't agree
+-- the number of each reason why two stations don't agree
 abbrev pub reason_number : Reason → ℕ
 reason_number NoReceiver = 1
 reason_number NoErrorCorrection = 2

@@ -84,18 +84,21 @@ octets_of rr = []
 octets_of dcn = []
 octets_of (other octet) = []
 
--- a signal is told, and its octets are at the beginning of a buffer; or that has too little room
+-- a signal is told, and its octets are copied to the beginning of a buffer; 103 if that is too small
 pub record TellsSignal (signal : PlainSignal) (old new : G3Signal) (before after : List ℕ) (status : ℕ) : Type 0 where
   pub done : length (octets_of signal) ≤ length before → (status ≡ ok) × (new ≡ told signal)
       × (after ≡ octets_of signal ++ drop (length (octets_of signal)) before)
   pub refused : length before < length (octets_of signal) → (status ≡ no_room) × (new ≡ old) × (after ≡ before)
 
--- what is answered of a content that is read: its signal, or the first of its faults
+-- A signal that is read is told as numbers, 0 for all that belongs to other kinds, and its octets (an FCD's data or a PPR's bits) are
+-- copied to the beginning of a buffer; 103 if that is too small. Otherwise the status is the first fault of the content, 20 to 22. By any
+-- status above 0 nothing changes.
 abbrev pub AnswersRead : Result PlainSignal SignalFault → G3Signal → G3Signal → List ℕ → List ℕ → ℕ → Type 0
 AnswersRead (Ok signal) old new before after status = TellsSignal signal old new before after status
 AnswersRead (Err fault) old new before after status = (status ≡ number_of fault) × (new ≡ old) × (after ≡ before)
 
--- what is answered of a signal that is written: its content is copied to a buffer; or what it doesn't say
+-- The content of a signal, as this station sends it, is copied to a buffer. 104 or 105 if the numbers are not a signal that can be written,
+-- 104 if the station isn't 1 or 2, 103 if the buffer is too small.
 abbrev pub AnswersWrite : Result PlainSignal ℕ → Option Side → Bool → List ℕ → List ℕ → ℕ → ℕ → ℕ → Type 0
 AnswersWrite signal None last before after was count status = (status ≡ bad_choice) × (after ≡ before) × (count ≡ was)
 AnswersWrite (Ok signal) (Some side) last before after was count status = Copies (content_of signal side last) before after count status

@@ -26,7 +26,7 @@ use Rattle.g3fax.specs.declared.signal.G3Signal.{G3Signal}
 use Rattle.g3fax.specs.declared.signal.Kind.{Kind}
 use Rattle.g3fax.specs.declared.signal.Kind.TheVariants.{Dis, Dcs, Cfr, Ftt, Fcd, Rcp, Pps, Ppr, Mcf, Rnr, Rr, Dcn}
 
--- the plain value of a signal, or the status of what is none
+-- the plain value of a signal, or the status of numbers that are none
 abbrev pub plain_result : Result Signal ℕ → Result PlainSignal ℕ
 plain_result (Ok signal) = Ok (plain signal)
 plain_result (Err status) = Err status
@@ -44,7 +44,7 @@ dis_with given (Some modems) (Some widest) = Some (record {
   ecm = is_set given.ecm;
 })
 
--- what a DIS says that C describes; none where a number is none of modems or a width
+-- the capabilities of a DIS, by numbers; none if the number of the modems or of the width is unknown
 abbrev pub dis_meant : G3Dis → Option Caps
 dis_meant given = dis_with given (modems_of_number given.modems) (width_of_pixels given.widest)
 
@@ -62,17 +62,17 @@ params_with given (Some speed) (Some width) (Some coding) (Some small) = Some (r
   small = small;
 })
 
--- how pages are sent that C describes; none where a number is none of a speed, a width, a code or a size
+-- how pages are sent, by numbers; none if the number of the speed, the width, the code or the frame's size is unknown
 abbrev pub params_meant : G3Params → Option Params
 params_meant given =
     params_with given (speed_of_number given.carrier) (width_of_pixels given.width) (coding_of given.coding) (small_of given.frame)
 
--- the DIS of capabilities that numbers say; 104 where they say none
+-- the DIS of capabilities given by numbers; 104 if they give none
 abbrev pub dis_signal : Option Caps → Result PlainSignal ℕ
 dis_signal None = Err bad_choice
 dis_signal (Some caps) = Ok (dis caps)
 
--- the DCS of parameters that numbers say; 104 where they say none
+-- the DCS of parameters given by numbers; 104 if they give none
 abbrev pub dcs_signal : Option Params → Result PlainSignal ℕ
 dcs_signal None = Err bad_choice
 dcs_signal (Some params) = Ok (dcs params)
@@ -119,12 +119,13 @@ meant_as Rnr given octets = Ok rnr
 meant_as Rr given octets = Ok rr
 meant_as Dcn given octets = Ok dcn
 
--- the signal of a kind, if it is one that can be written
+-- the signal of a kind, if it is one that can be written; 104 otherwise
 abbrev pub meant_if : Option Kind → G3Signal → List ℕ → Result PlainSignal ℕ
 meant_if None given octets = Err bad_choice
 meant_if (Some kind) given octets = meant_as kind given octets
 
--- the signal that C describes, with its octets; 104 where a number stands for no choice, 105 where it has too few octets or too many
+-- The signal that numbers and octets give, by its kind. 104 if a number isn't one that the kind has; 105 if an FCD hasn't 1 to 256 octets,
+-- or a PPR 32.
 abbrev pub meant : G3Signal → List ℕ → Result PlainSignal ℕ
 meant given octets = meant_if (kind_of given.kind) given octets
 
@@ -134,7 +135,7 @@ HasOctetNumbers (fcd number octets) = number < 256
 HasOctetNumbers (pps ends page block last) = (page < 256) × (block < 256) × (last < 256)
 HasOctetNumbers _ = Unit {0}
 
--- what is told of a signal that can be written means it, with its octets and any after them
+-- law: the numbers and octets told of a signal that can be written give the same signal again, whatever octets follow
 abbrev pub MeansWhatIsTold : Type 0
 MeansWhatIsTold = (signal : PlainSignal) (rest : List ℕ) → IsWritable signal → HasOctetNumbers signal →
     meant (told signal) (octets_of signal ++ rest) ≡ Ok signal

@@ -14,7 +14,7 @@ use Rattle.g3fax.specs.Numbers.{end_number, listens_carrier, listens_number, wai
 use Rattle.g3fax.specs.Statuses.{ok}
 use Rattle.g3fax.specs.declared.states.G3State.{G3State}
 
--- what a station shows of its call is told by numbers
+-- the numbers of what a station shows of its call
 pub record TellsShown (shown : Shown) (state : G3State) : Type 0 where
   pub listens : state.listens ≡ listens_number shown.listens
   pub carrier : state.carrier ≡ listens_carrier shown.listens
@@ -26,7 +26,7 @@ pub record TellsShown (shown : Shown) (state : G3State) : Type 0 where
 abbrev pub TellsFrames : DeframerState → G3State → Type 0
 TellsFrames framing state = (octets : List ℕ) → HasHeard framing octets → state.frames ≡ good_frames octets
 
--- the state of a caller is told, with how many of its pages are confirmed
+-- the numbers of a state are those of what a caller shows of its call, of its confirmed pages, and of the good frames it has heard
 pub record TellsCaller (terminal : TerminalFields StoppableCallerFields) (state : G3State) (status : ℕ) : Type 0 where
   pub done : status ≡ ok
   pub shown : Shown
@@ -35,7 +35,8 @@ pub record TellsCaller (terminal : TerminalFields StoppableCallerFields) (state 
   pub pages : (t : Caller) → Represents terminal.speaking.station.station t → state.pages ≡ confirmed t
   pub frames : TellsFrames terminal.framing state
 
--- the state of an answerer is told, with how many pages it has stored that were not handed out
+-- the numbers of a state are those of what an answerer shows of its call, of the pages stored and not handed out, and of the good frames it
+-- has heard
 pub record TellsAnswerer (answering : AnsweringFields) (state : G3State) (status : ℕ) : Type 0 where
   pub done : status ≡ ok
   pub shown : Shown

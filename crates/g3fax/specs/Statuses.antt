@@ -1,7 +1,7 @@
 -- The numbers of the statuses that aren't faults of rows, pages, images or codes.
 use Rattle.std.specs.Prelude.{ℕ}
 
--- it is done
+-- the call is done
 abbrev pub ok : ℕ
 ok = 0
 
@@ -9,7 +9,7 @@ ok = 0
 abbrev pub no_memory : ℕ
 no_memory = 9
 
--- the width of a page is none that a call can have
+-- a call can't have a page of this width
 abbrev pub not_callable : ℕ
 not_callable = 26
 
@@ -29,11 +29,11 @@ other_handle = 101
 abbrev pub full_handle : ℕ
 full_handle = 102
 
--- the buffer has too little room
+-- the buffer is too small
 abbrev pub no_room : ℕ
 no_room = 103
 
--- a number that stands for no choice
+-- a number that isn't one of those allowed
 abbrev pub bad_choice : ℕ
 bad_choice = 104
 
@@ -41,7 +41,7 @@ bad_choice = 104
 abbrev pub bad_length : ℕ
 bad_length = 105
 
--- nothing is there: no such row, no frame that waits
+-- nothing is there: no such row, no frame that waits, no page to hand out
 abbrev pub nothing_there : ℕ
 nothing_there = 106
 

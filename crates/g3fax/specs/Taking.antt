@@ -13,14 +13,15 @@ use Rattle.g3fax.specs.declared.handle.Kept.{Kept}
 abbrev pub pages_left : AnsweringFields → List PagePixels
 pages_left answering = answering.waiting ++ answering.terminal.speaking.station.station.pages
 
--- the oldest page was handed out; where none waited, all stored pages were taken out of the station for that
+-- the oldest page was handed out; if none waited, all stored pages were taken out of the station for that
 pub record HandsOutPage (old : AnsweringFields) (page : PagePixels) (new : AnsweringFields) : Type 0 where
   pub oldest : pages_left old ≡ page ∷ pages_left new
   pub framing : new.terminal.framing ≡ old.terminal.framing
   pub waited : old.waiting ≢ [] → new.terminal ≡ old.terminal
   pub taken : old.waiting ≡ [] → new.terminal.speaking ≡ with_pages_taken old.terminal.speaking
 
--- the oldest page that was stored fills an empty handle; 106 only where there is none, and nothing changes by any status above 0
+-- The oldest page that was stored and not handed out fills an empty handle. 106 only if there is none. By any status above 0 nothing
+-- changes.
 pub record NextPage (old new : AnsweringFields) (before after : Option Kept) (status : ℕ) : Type 0 where
   pub fills : Fills (HasPage (λ page. HandsOutPage old page new)) before status after
   pub kept : status ≢ ok → new ≡ old

@@ -43,8 +43,8 @@ fn answerer_params(answering: &Answering, params: &mut G3Params) -> u32
     tell_params(answering.terminal.station().station().params(), params)
 }
 
-/// Tells how the pages of the group that is under way are sent, as the caller's DCS says it. Answers 106 where none is under way: a caller
-/// waits for a DIS, or an answerer is in phase B.
+/// Tells how the pages of the group under way are sent, as the caller's DCS says it. Returns `G3_NOTHING` (106) if none is under way: a
+/// caller waits for a DIS, or an answerer is in phase B.
 #[unsafe(no_mangle)]
 pub extern "C" fn g3_core_terminal_params(
     alloc: Global,
@@ -98,7 +98,7 @@ fn tell_dcs(found: Option<Params>, signal: &mut G3Signal) -> u32
     }
 }
 
-/// Tells the DIS that a caller's answerer has sent.
+/// Tells the DIS of a caller's answerer.
 fn caller_peer(terminal: &Terminal<StoppableCaller>, signal: &mut G3Signal) -> u32
     ensures tells { CallerTellsPeer terminal.now signal.old signal.new result }
     ensures untold { result ≢ 0 → signal.new ≡ signal.old }
@@ -106,7 +106,7 @@ fn caller_peer(terminal: &Terminal<StoppableCaller>, signal: &mut G3Signal) -> u
     tell_dis(terminal.station().station().peer(), signal)
 }
 
-/// Tells the DCS that an answerer's caller has sent.
+/// Tells the DCS of an answerer's caller.
 fn answerer_peer(answering: &Answering, signal: &mut G3Signal) -> u32
     ensures tells { AnswererTellsPeer answering.now signal.old signal.new result }
     ensures untold { result ≢ 0 → signal.new ≡ signal.old }
@@ -114,8 +114,8 @@ fn answerer_peer(answering: &Answering, signal: &mut G3Signal) -> u32
     tell_dcs(answering.terminal.station().station().peer(), signal)
 }
 
-/// Tells what is known of the other station: of a caller's terminal the last DIS that was agreed on, and of an answerer's the last DCS that
-/// was allowed, which in phase B is known once a block was accepted. Answers 106 where nothing is known.
+/// Tells what is known of the other station: for a caller's terminal the last DIS that was agreed on, for an answerer's the last DCS that
+/// was allowed (in phase B only once a block was accepted). Returns `G3_NOTHING` (106) if nothing is known.
 #[unsafe(no_mangle)]
 pub extern "C" fn g3_core_terminal_peer(
     alloc: Global,

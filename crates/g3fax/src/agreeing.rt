@@ -52,10 +52,10 @@ fn agree_for(
     }
 }
 
-/// What a caller of a wish agrees on with a station of a DIS, for pages of a width in pixels, `fine` not 0 for 7.7 lines a millimeter: the
-/// parameters of a DCS. Answers 104 where a number stands for no choice, 26 where the width isn't 1,728, 2,048 or 2,432, and 28 where they
-/// don't agree: then the first reason is told, 1 where the station doesn't receive, 2 where it has no error correction, 3 where the page is
-/// too wide, 4 where it takes no fine lines, 5 where no speed is common. ITU-T T.30, 5.3.6.2.
+/// Tells what a caller with this wish agrees on with the station of a DIS, for pages of a width in pixels, fine if `fine` isn't 0: the
+/// parameters of a DCS (ITU-T T.30, 5.3.6.2). Returns `G3_BAD_CHOICE` (104) for an unknown number, `G3_NOT_CALLABLE` (26) if the width
+/// isn't 1,728, 2,048 or 2,432, `G3_NOT_COMPATIBLE` (28) if they don't agree. Then the first reason is told: 1 the station doesn't receive,
+/// 2 it has no error correction, 3 the page is too wide, 4 it takes no fine lines, 5 no common speed.
 #[unsafe(no_mangle)]
 pub extern "C" fn g3_core_agree(
     dis: &G3Dis,

@@ -5,10 +5,11 @@ use stations::LimitedAnswerer;
 use std::marker::Model;
 use terminals::Terminal;
 
-/// The terminal of an answerer, and the pages that were taken out of it and not handed out yet.
+/// The terminal of an answerer, and the pages taken out of it that wait to be handed out.
 #[derive(Drop)]
 pub struct Answering {
     pub(crate) terminal: Terminal<LimitedAnswerer>,
+    // a terminal gives all its pages at once and is free for others then: with a limit of n there are never more than 2n - 1
     pub(crate) waiting: Vec<Page>,
 }
 

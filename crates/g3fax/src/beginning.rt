@@ -25,13 +25,13 @@ use terminals::Terminal;
 pub struct G3Caps {
     /// The fastest modem: 1 for V.27 ter alone, 2 for V.27 ter and V.29, 3 for these and V.17.
     pub modems: u32,
-    /// 1 where it reads the code of T.6, and 0 where it doesn't.
+    /// 1 if it reads the code of T.6, otherwise 0.
     pub t6: u32,
-    /// 1 where it takes pages of 7.7 lines a millimeter, and 0 where it doesn't.
+    /// 1 if it takes fine lines, 7.7 a millimeter, otherwise 0.
     pub fine: u32,
     /// The width of its widest page in pixels: 1,728, 2,048 or 2,432.
     pub widest: u32,
-    /// How many pages the station stores before it is busy, at least 1.
+    /// How many pages the station stores before it is busy; at least 1.
     pub limit: u32,
 }
 
@@ -41,7 +41,7 @@ pub struct G3Caps {
 pub struct G3Wish {
     /// The fastest modem: 1 for V.27 ter alone, 2 for V.27 ter and V.29, 3 for these and V.17.
     pub modems: u32,
-    /// The code of the pages, where the answerer reads it: 1 for T.4 in one dimension, 2 for T.6.
+    /// The code of the pages, if the answerer reads it: 1 for T.4 in one dimension, 2 for T.6.
     pub coding: u32,
     /// The octets of data in a frame: 256 or 64.
     pub frame: u32,
@@ -59,7 +59,7 @@ pub(crate) fn modems_of(number: u32) -> Option<Modems>
     }
 }
 
-/// Whether frames have 64 octets of data in place of 256; none of another number.
+/// Returns whether frames have 64 octets of data, or 256; None for another number.
 pub(crate) fn small_of(octets: u32) -> Option<bool>
     ensures { result ≡ small_of octets }
 {
@@ -118,8 +118,8 @@ fn answering(alloc: Global, caps: Caps, limit: u32) -> Answering
     }
 }
 
-/// Makes the terminal of an answerer in an empty handle: DIS is the first that it has to send. Answers 102; 104 where a number stands for
-/// no modem or no width, or no page may wait; and 9.
+/// Makes the terminal of an answerer in an empty handle; it sends DIS first. Returns `G3_FULL_HANDLE` (102), `G3_BAD_CHOICE` (104) if the
+/// number of the modems or the width is unknown or the limit is 0, or `G3_NO_MEMORY` (9).
 #[unsafe(no_mangle)]
 pub extern "C" fn g3_core_answerer_new(alloc: Global, out: &mut G3Handle, caps: &G3Caps) -> u32
     ensures { MakesAnswerer caps.now out.old.value result out.new.value }
@@ -136,7 +136,7 @@ pub extern "C" fn g3_core_answerer_new(alloc: Global, out: &mut G3Handle, caps: 
     out.fill(alloc, Kept::Answerer(answering(alloc, given, caps.limit)))
 }
 
-/// Whether a call can have the width of each page.
+/// Returns whether a call can have the width of each page.
 fn are_callable(pages: &[Page]) -> bool
     ensures { IsTrue result ↔ AreCallable pages.now }
 {
@@ -148,14 +148,14 @@ fn are_callable(pages: &[Page]) -> bool
     true
 }
 
-/// Whether a call can have a page's width.
+/// Returns whether a call can have a page's width.
 fn is_callable(page: &Page) -> bool
     ensures { IsTrue result ↔ IsSome (width_of_pixels page.now.width) }
 {
     PageWidth::of_pixels(page.width()).is_some()
 }
 
-/// Whether a caller can be made of a document: 0; 106 where it has no page, and 26 where a call can't have the width of one.
+/// Returns the status for making a caller of a document: 0; 106 without a page, 26 if a call can't have the width of a page.
 fn test_document(document: &Option<Document>) -> u32
     ensures { AnswersDocument document.now result }
 {
@@ -169,7 +169,7 @@ fn test_document(document: &Option<Document>) -> u32
     }
 }
 
-/// The terminal of a new caller of a document. Errs where there is none, and the document stays then.
+/// Returns the terminal of a new caller of a document. Errors: there is none; then the document stays.
 fn calling(
     alloc: Global,
     document: &mut Option<Document>,
@@ -193,9 +193,10 @@ fn calling(
     }
 }
 
-/// Makes the terminal of a caller in an empty handle: the document moves in, and its handle is empty then. Answers 102; 104 where a number
-/// stands for no modem, no code or no size of a frame; 100 and 101 of the document; 106 where it has no page; and 26 where a page isn't
-/// 1,728, 2,048 or 2,432 pixels wide. Takes no memory.
+/// Makes the terminal of a caller in an empty handle. The document moves in, and its handle is empty then. Returns `G3_FULL_HANDLE` (102);
+/// `G3_BAD_CHOICE` (104) if the number of the modems, the code or the frame's size is unknown; `G3_EMPTY_HANDLE` (100) or `G3_OTHER_HANDLE`
+/// (101) for the document's handle; `G3_NOTHING` (106) if it has no page; `G3_NOT_CALLABLE` (26) if a page isn't 1,728, 2,048 or 2,432
+/// pixels wide. Takes no memory.
 #[unsafe(no_mangle)]
 pub extern "C" fn g3_core_caller_new(
     alloc: Global,

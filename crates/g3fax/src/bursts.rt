@@ -14,7 +14,7 @@ use crate::status::{FULL_HANDLE, NO_MEMORY, NOTHING, OK};
 use std::alloc::Global;
 use terminals::{SentBurst, Station, Terminal};
 
-/// What is told of a burst: how many bits it has, what it goes out on, and whether it is the turn's last.
+/// What is told of a burst: its number of bits, its carrier, and whether it is the turn's last.
 #[repr(C)]
 #[derive(Clone, Copy)]
 pub struct G3Burst {
@@ -24,7 +24,7 @@ pub struct G3Burst {
     pub carrier: u32,
     /// 1 for a training check, and 0 for flags and frames.
     pub check: u32,
-    /// 1 for the turn's last burst, else 0.
+    /// 1 for the turn's last burst, otherwise 0.
     pub last: u32,
 }
 
@@ -77,8 +77,8 @@ fn next_burst<S: Station>(
     }
 }
 
-/// Takes the next burst of what the terminal has to send: its octets come in an empty handle, the least significant bit of each first, and
-/// it is told. Answers 102, 106 where nothing is left to be sent, and 9.
+/// Takes the next burst that the terminal has to send: its octets fill an empty handle, the least significant bit of each first, and its
+/// details are told. Returns `G3_FULL_HANDLE` (102), `G3_NOTHING` (106) if nothing is left to be sent, or `G3_NO_MEMORY` (9).
 #[unsafe(no_mangle)]
 pub extern "C" fn g3_core_terminal_next_burst(
     alloc: Global,

@@ -48,7 +48,7 @@ pub(crate) fn in_64_bits(bits: u128) -> u64
     }
 }
 
-/// The code of a page as octets. Errs with 4 where it has no rows, and with 9.
+/// Returns the code of a page as octets. Errors: 4 for a page without rows, 9.
 fn coded(alloc: Global, page: &Page, coding: Coding, order: Order) -> Result<Vec<u8>, u32>
     ensures ok { IfOk result (λ octets. AppendsCode order (code_of coding page.now.width page.now.rows) [] octets.items) }
     ensures some { IfOk result (λ octets. 0 < length page.now.rows) }
@@ -83,8 +83,8 @@ fn encode(alloc: Global, page: &Page, coding: u32, order: u32, out: &mut G3Handl
     }
 }
 
-/// Codes a page; the octets come in an empty handle of their own, the last one filled with 0 bits. Answers 102, 104 where a number
-/// stands for no code or no order, 4 where the page has no rows, and 9.
+/// Codes a page: an empty handle is filled with the octets of its prescribed code, the last one filled with 0 bits. Returns
+/// `G3_FULL_HANDLE` (102), `G3_BAD_CHOICE` (104) for an unknown code or order, `G3_NO_ROWS` (4), or `G3_NO_MEMORY` (9).
 #[unsafe(no_mangle)]
 pub extern "C" fn g3_core_page_encode(
     alloc: Global,
@@ -101,18 +101,17 @@ pub extern "C" fn g3_core_page_encode(
     opened!(alloc, page, Page, page => encode(alloc, page, coding, order, out))
 }
 
-/// How coded octets are to be read: their code, their order of bits, the width of the page in pixels, and whether its
-/// lines are fine.
+/// How coded octets are read: their code, their bit order, the width of the page in pixels, and whether its lines are fine.
 #[repr(C)]
 #[derive(Clone, Copy)]
 pub struct G3Code {
     /// 1 for T.4 in one dimension, 2 for T.6.
     pub coding: u32,
-    /// 0 where the most significant bit of an octet is first, 1 where the least significant one is.
+    /// 0 if the most significant bit of an octet is first, 1 if the least significant one is.
     pub order: u32,
     /// The width in pixels, 1 to 2,432.
     pub width: u32,
-    /// 1 where the lines are fine, and 0 where they aren't.
+    /// 1 if the lines are fine, otherwise 0.
     pub fine: u32,
 }
 
@@ -146,9 +145,9 @@ fn decode(alloc: Global, octets: &[u8], code: &G3Code, out: &mut G3Handle, place
     }
 }
 
-/// Reads the page that octets begin with, into an empty handle; what follows is ignored. Tells how many bits the page uses, or the bit
-/// where no page can go on, which is answered by the number of its kind: 4, or 10 to 18. Answers 102, 104 and 1 where the form is
-/// none, and 9.
+/// Reads the page that octets begin with into an empty handle; what follows is ignored. Tells how many bits the page has, or the bit where
+/// no page can go on; then the status is the number of the refusal, `G3_NO_ROWS` (4) or 10 to 18. Returns `G3_FULL_HANDLE` (102),
+/// `G3_BAD_CHOICE` (104) or `G3_BAD_WIDTH` (1) for a wrong form, or `G3_NO_MEMORY` (9).
 #[unsafe(no_mangle)]
 pub extern "C" fn g3_core_page_decode(
     alloc: Global,
@@ -164,8 +163,8 @@ pub extern "C" fn g3_core_page_decode(
     decode(alloc, octets, code, out, place)
 }
 
-/// Reads the whole rows that octets begin with, into an empty handle: of a page that can't be read, what there is before the
-/// refused bit, which may be no row. Answers 102, 104 and 1 where the form is none, and 9.
+/// Reads all whole rows that octets begin with into an empty handle: of a page that can't be read those before the refused bit, perhaps
+/// none. Returns `G3_FULL_HANDLE` (102), `G3_BAD_CHOICE` (104) or `G3_BAD_WIDTH` (1) for a wrong form, or `G3_NO_MEMORY` (9).
 #[unsafe(no_mangle)]
 pub extern "C" fn g3_core_page_salvage(
     alloc: Global,

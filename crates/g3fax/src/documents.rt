@@ -10,7 +10,7 @@ use crate::status::{EMPTY_HANDLE, NO_ROWS, OK, OTHER_HANDLE};
 use raster::{Document, Page};
 use std::alloc::Global;
 
-/// Makes a document with no page in an empty handle. Answers 102 and 9.
+/// Makes a document without pages in an empty handle. Returns `G3_FULL_HANDLE` (102) or `G3_NO_MEMORY` (9).
 #[unsafe(no_mangle)]
 pub extern "C" fn g3_core_document_new(alloc: Global, out: &mut G3Handle) -> u32
     ensures { Fills (HasDocument (λ pages. pages ≡ None)) out.old.value result out.new.value }
@@ -18,7 +18,7 @@ pub extern "C" fn g3_core_document_new(alloc: Global, out: &mut G3Handle) -> u32
     out.fill(alloc, Kept::Document(None))
 }
 
-/// A page of its own with the rows of another one. Errs with 9.
+/// Returns a copy of a page. Errors: 9.
 fn copied(alloc: Global, page: &Page) -> Result<Page, u32>
     ensures ok { IfOk result (λ copy. copy ≡ page.now) }
     ensures only { IfErr result (λ status. status ≡ 9) }
@@ -37,13 +37,14 @@ fn copied(alloc: Global, page: &Page) -> Result<Page, u32>
     Ok(copy)
 }
 
-/// Appends a page of its own with the rows of another one.
+/// Appends a copy of a page.
 fn append(alloc: Global, document: &mut Option<Document>, page: &Page) -> u32
     ensures { AppendsPage document.old page.now document.new result }
 {
     if page.rows().is_empty() {
         return NO_ROWS;
     }
+    // `Document::push` drops its page if memory is refused, so a copy is pushed, and the page in the handle stays until it is done
     let copy = match copied(alloc, page) {
         Ok(copy) => copy,
         Err(status) => return status,
@@ -63,8 +64,8 @@ fn append(alloc: Global, document: &mut Option<Document>, page: &Page) -> u32
     }
 }
 
-/// Moves a page to the end of a document; the page's handle is empty then. Answers 100 and 101 of either handle, 4 where the page has no
-/// rows, and 9.
+/// Moves a page to the end of a document; the page's handle is empty then. Returns `G3_EMPTY_HANDLE` (100) or `G3_OTHER_HANDLE` (101) for
+/// either handle, the page's first; `G3_NO_ROWS` (4); `G3_NO_MEMORY` (9). By these both handles stay.
 #[unsafe(no_mangle)]
 pub extern "C" fn g3_core_document_push(
     alloc: Global,
@@ -90,7 +91,7 @@ pub extern "C" fn g3_core_document_push(
     }
 }
 
-/// How many pages there are.
+/// Returns the number of pages.
 fn count_pages(document: &Option<Document>) -> u64
     ensures { result ≡ length (pages_of document.now) }
 {
@@ -100,7 +101,7 @@ fn count_pages(document: &Option<Document>) -> u64
     }
 }
 
-/// How many pages a document has.
+/// Tells how many pages a document has.
 #[unsafe(no_mangle)]
 pub extern "C" fn g3_core_document_pages(
     alloc: Global,

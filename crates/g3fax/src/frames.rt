@@ -16,7 +16,7 @@ use std::alloc::{AllocError, Global};
 /// The greatest number of octets of a frame's content.
 pub(crate) const LONGEST_CONTENT: usize = 300;
 
-/// How many gaps between flags there were of each class (ISO/IEC 13239, invalid frames).
+/// The number of gaps between flags, by class (ISO/IEC 13239, invalid frames).
 #[repr(C)]
 #[derive(Clone, Copy)]
 pub struct G3Counts {
@@ -34,7 +34,7 @@ pub struct G3Counts {
     pub damaged: u64,
 }
 
-/// Makes a deframer that has taken no bits in an empty handle. Answers 102 and 9.
+/// Makes a deframer that has taken no bits in an empty handle. Returns `G3_FULL_HANDLE` (102) or `G3_NO_MEMORY` (9).
 #[unsafe(no_mangle)]
 pub extern "C" fn g3_core_deframer_new(alloc: Global, out: &mut G3Handle) -> u32
     ensures { Fills (HasDeframer (λ state. IsAfter state [] 0)) out.old.value result out.new.value }
@@ -52,7 +52,8 @@ fn feed(deframer: &mut Deframer, octets: &[u8]) -> u32
     }
 }
 
-/// Takes octets of the line, the least significant bit of each first. Answers 9 where memory is refused, and nothing was taken then.
+/// Takes octets of the line, the least significant bit of each first, in pieces of any size. Returns `G3_NO_MEMORY` (9), and nothing was
+/// taken then.
 #[unsafe(no_mangle)]
 pub extern "C" fn g3_core_deframer_feed(
     alloc: Global,
@@ -78,8 +79,9 @@ fn next(deframer: &mut Deframer, buffer: &mut [u8], count: &mut u64) -> u32
     }
 }
 
-/// Copies the oldest content that was not yet handed out, 3 to 300 octets, to the beginning of a buffer, and tells how many octets
-/// it has. Answers 106 where none waits, and 103 where the buffer has fewer than 300 octets: nothing is handed out then.
+/// Copies the oldest content that waits, 3 to 300 octets, to the beginning of a buffer, and tells how many octets it has; it waits no
+/// longer. Returns `G3_NOTHING` (106) if none waits, and `G3_NO_ROOM` (103) if the buffer has fewer than 300 octets; nothing is handed out
+/// then.
 #[unsafe(no_mangle)]
 pub extern "C" fn g3_core_deframer_next(
     alloc: Global,
@@ -90,6 +92,7 @@ pub extern "C" fn g3_core_deframer_next(
     ensures { OnDeframer (λ old new. NextContent old new buffer.old buffer.new count.new result) deframer.old.value deframer.new.value
         result }
 {
+    // room for the longest content, so that none is lost to a small buffer
     opened!(alloc, deframer, Deframer, deframer => next(deframer, buffer, count))
 }
 
@@ -109,7 +112,7 @@ fn tell_counts(deframer: &Deframer, counts: &mut G3Counts) -> u32
     OK
 }
 
-/// Tells how many gaps between flags of eight bits or more there were of each class.
+/// Tells how many gaps of each class there were between flags, of eight bits or more; 2^64 - 1 at most.
 #[unsafe(no_mangle)]
 pub extern "C" fn g3_core_deframer_counts(
     alloc: Global,
@@ -135,9 +138,9 @@ pub(crate) fn framed(alloc: Global, content: &[u8]) -> Result<(Vec<u8>, u64), Al
     Ok((writer.into_octets(), bits))
 }
 
-/// Writes the frame of a content of 3 to 300 octets into an empty handle of octets, the least significant bit of each first: a flag, the
-/// content and its check sequence with 0 bits stuffed, a flag, and fewer than eight 0 bits. Tells how many bits the frame has. Answers
-/// 102, 105 and 9.
+/// Writes the frame of a content of 3 to 300 octets into an empty handle, the least significant bit of each octet first: a flag, the
+/// content and its check sequence with 0 bits stuffed, a flag, and fewer than eight 0 bits. Tells how many bits the frame has. Returns
+/// `G3_FULL_HANDLE` (102), `G3_BAD_LENGTH` (105) or `G3_NO_MEMORY` (9).
 #[unsafe(no_mangle)]
 pub extern "C" fn g3_core_frame_write(
     alloc: Global,

@@ -25,7 +25,7 @@ pub enum Kept {
     Page(Page),
     /// A deframer.
     Deframer(Deframer),
-    /// The pages of a call; none yet.
+    /// The pages of a call; None before the first.
     Document(Option<Document>),
     /// The terminal of a caller.
     Caller(Terminal<StoppableCaller>),
@@ -37,12 +37,13 @@ pub enum Kept {
     RowReader(RowReader),
 }
 
-/// A handle: null, or the place of a value that the handle owns. C begins it as null.
+/// A handle: null, or a pointer to a value that the handle owns. C begins it as null.
 #[repr(C)]
 #[derive(Drop)]
 pub struct G3Handle {
     at: *mut u8,
     alloc: Global,
+    // no type with a `Vec`, nor a pointer to one, crosses to C: the box at the pointer is the value
     ghost value: { Option Kept },
 }
 
@@ -96,7 +97,7 @@ impl G3Handle {
     }
 }
 
-/// A box for a value that is made later; none where memory is refused.
+/// Returns a box for a value that is made later; None if memory is refused.
 pub(crate) fn room(alloc: Global) -> Option<Box<Kept>> {
     match Box::new(alloc, Kept::Octets(Vec::new(alloc))) {
         Ok(boxed) => Some(boxed),
@@ -114,7 +115,7 @@ impl G3Handle {
         Some(loose.into_box())
     }
 
-    /// Gives its value up, and is empty then.
+    /// Takes the value out; the handle is empty then.
     pub(crate) fn take(&mut self, alloc: Global) -> Option<Box<Kept>>
         ensures some { IfSome result (λ boxed. self.old.value ≡ Some boxed.value) }
         ensures none { IfNone result (self.old.value ≡ None) }
@@ -123,14 +124,14 @@ impl G3Handle {
         mem::replace(self, G3Handle::empty(alloc)).into_box()
     }
 
-    /// Takes a value. What was there is forgotten, so it is called of an empty handle.
+    /// Puts a value in. A value that was there is forgotten, so the handle has to be empty.
     pub(crate) fn put(&mut self, boxed: Box<Kept>)
         ensures { self.new.value ≡ Some boxed.value }
     {
         *self = G3Handle::of(Loose::of(boxed));
     }
 
-    /// Whether it has a value.
+    /// Returns whether it has a value.
     pub(crate) fn is_full(&mut self, alloc: Global) -> bool
         ensures kept { self.new.value ≡ self.old.value }
         ensures full { IsTrue result ↔ (self.old.value ≢ None) }
@@ -144,7 +145,7 @@ impl G3Handle {
         }
     }
 
-    /// Takes a value, where it is empty. Answers 102 where it has one, and 9 where memory is refused.
+    /// Fills an empty handle. Returns 102 if it isn't empty, 9 if memory is refused.
     pub(crate) fn fill(&mut self, alloc: Global, kept: Kept) -> u32
         ensures done { result ≡ 0 → (self.old.value ≡ None) × (self.new.value ≡ Some kept) }
         ensures kept { result ≢ 0 → self.new.value ≡ self.old.value }
@@ -205,7 +206,7 @@ macro_rules! opened_terminal {
 
 pub(crate) use opened_terminal;
 
-/// Frees what a handle has; an empty one stays empty.
+/// Frees what a handle has; it is empty then.
 #[unsafe(no_mangle)]
 pub extern "C" fn g3_core_free(alloc: Global, handle: &mut G3Handle)
     ensures { handle.new.value ≡ None }

@@ -29,8 +29,8 @@ fn hear<S: Station>(terminal: &mut Terminal<S>, octets: &[u8]) -> u32
 }
 
 /// Hears the next octets of the line, flags and frames, the least significant bit of each first, in pieces of any size. The station takes
-/// the signal of each good frame in them. Answers 9 where memory is refused and nothing was taken; and 108 where memory is refused and
-/// frames in the octets are lost, as on a line.
+/// the signal of each good frame in them. Returns `G3_NO_MEMORY` (9) if nothing was taken, and `G3_FRAME_LOST` (108) if memory was refused
+/// and frames in the octets are lost, as on a bad line.
 #[unsafe(no_mangle)]
 pub extern "C" fn g3_core_terminal_hear(
     alloc: Global,
@@ -50,15 +50,16 @@ fn hear_frame<S: Station>(alloc: Global, terminal: &mut Terminal<S>, content: &[
     if content.len() < 3 || content.len() > LONGEST_CONTENT {
         return BAD_LENGTH;
     }
+    // terminals take octets alone, and count frames by them
     match framed(alloc, content) {
         Ok((octets, _)) => hear(terminal, &octets),
         Err(_) => NO_MEMORY,
     }
 }
 
-/// Hears a good frame by its content of 3 to 300 octets, as `g3_core_terminal_hear` hears the octets of that frame between two flags: for a
-/// modem that finds frames itself. Answers 105 for any other length, 9 where memory is refused and nothing was taken, and 108 where memory is
-/// refused and the frame is lost.
+/// Hears a good frame by its content of 3 to 300 octets, as `g3_core_terminal_hear` hears the octets of that frame: for a modem that finds
+/// frames itself. Returns `G3_BAD_LENGTH` (105) for another length, `G3_NO_MEMORY` (9) if nothing was taken, and `G3_FRAME_LOST` (108) if
+/// memory was refused and the frame is lost.
 #[unsafe(no_mangle)]
 pub extern "C" fn g3_core_terminal_hear_frame(
     alloc: Global,
@@ -81,7 +82,7 @@ fn hear_training<S: Station>(terminal: &mut Terminal<S>, octets: &[u8]) -> u32
     }
 }
 
-/// Hears the octets of a training check that has come; a caller takes none. Answers 9.
+/// Hears the octets of a training check; a caller ignores them. Returns `G3_NO_MEMORY` (9).
 #[unsafe(no_mangle)]
 pub extern "C" fn g3_core_terminal_hear_training(
     alloc: Global,
@@ -107,8 +108,8 @@ fn end_wait<S: Station>(terminal: &mut Terminal<S>, wait: u32) -> u32
     }
 }
 
-/// A wait of the station is over, T1, T2, T4 or T5 by its number; one that doesn't run changes nothing. Answers 104 for any other number,
-/// and 9.
+/// Reports that a wait is over: T1, T2, T4 or T5 by its number. One that doesn't run changes nothing. Returns `G3_BAD_CHOICE` (104) for
+/// another number, or `G3_NO_MEMORY` (9).
 #[unsafe(no_mangle)]
 pub extern "C" fn g3_core_terminal_wait_over(
     alloc: Global,
@@ -131,7 +132,7 @@ fn tell_busy<S: Station>(terminal: &mut Terminal<S>, is: u32) -> u32
     }
 }
 
-/// Tells an answerer whether pages can't be taken for now: 0 where they can; a caller takes no notice. Answers 9.
+/// Tells an answerer whether it is busy, so that it takes no pages for now: 0 for no. A caller ignores it. Returns `G3_NO_MEMORY` (9).
 #[unsafe(no_mangle)]
 pub extern "C" fn g3_core_terminal_set_busy(alloc: Global, terminal: &mut G3Handle, is: u32) -> u32
     ensures { OnTerminal (λ old new. TakesInput StoppableCallerFields caller_steps old (busy (is_set is)) new result)
@@ -148,7 +149,7 @@ fn stop<S: Stoppable>(terminal: &mut Terminal<S>) -> u32
     OK
 }
 
-/// Stops the call: DCN is to be sent in place of what was. A call that has ended stays as it ended.
+/// Stops the call: DCN is sent in place of what was to be sent. A call that has ended stays as it ended.
 #[unsafe(no_mangle)]
 pub extern "C" fn g3_core_terminal_stop(alloc: Global, terminal: &mut G3Handle) -> u32
     ensures { OnTerminal (λ old new. StopsCall StoppableCallerFields caller_cut_off caller_stop_says old new result)
@@ -165,7 +166,7 @@ fn hang_up<S: Stoppable>(terminal: &mut Terminal<S>) -> u32
     OK
 }
 
-/// Stops the call, and has DCN to be sent in place of what was, also where the call has ended: what was to be said isn't said.
+/// Stops the call and sends DCN in place of what was to be sent, even if the call has ended.
 #[unsafe(no_mangle)]
 pub extern "C" fn g3_core_terminal_hang_up(alloc: Global, terminal: &mut G3Handle) -> u32
     ensures { OnTerminal (λ old new. HangsUp StoppableCallerFields caller_cut_off old new result)
@@ -182,7 +183,7 @@ fn lose<S: Stoppable>(terminal: &mut Terminal<S>) -> u32
     OK
 }
 
-/// The line is gone: nothing is left to be sent. A call that has ended stays as it ended.
+/// Reports that the line is gone: nothing is left to be sent. A call that has ended stays as it ended.
 #[unsafe(no_mangle)]
 pub extern "C" fn g3_core_terminal_lost(alloc: Global, terminal: &mut G3Handle) -> u32
     ensures { OnTerminal (λ old new. LosesLine StoppableCallerFields caller_cut_off old new result)

@@ -13,7 +13,7 @@ use raster::{Page, RasterFault, read_first_pbm, write_pbm};
 use std::alloc::Global;
 use std::slice;
 
-/// The page of the first image of octets, and how many images there are.
+/// Returns the page of the first image, and the number of images.
 fn first_image(alloc: Global, octets: &[u8], fine: bool) -> Result<(Page, u64), RasterFault>
     ensures found { IfOk result (λ found. BeginsImages fine octets.now found.0 found.1) }
     ensures first { AnswersFirstFault octets.now result }
@@ -23,8 +23,8 @@ fn first_image(alloc: Global, octets: &[u8], fine: bool) -> Result<(Page, u64), 
     Ok((page, count as u64))
 }
 
-/// Reads the images that octets are, and keeps the page of the first one in an empty handle. Tells how many images there are. Answers
-/// 102; 1 and 3 to 7 for the first fault of the octets; and 9.
+/// Reads raw PBM images into an empty handle, which gets the page of the first one; tells how many images there are. Returns
+/// `G3_FULL_HANDLE` (102), the first fault of the octets (1, or 3 to 7), or `G3_NO_MEMORY` (9).
 #[unsafe(no_mangle)]
 pub extern "C" fn g3_core_page_read_pbm(
     alloc: Global,
@@ -47,7 +47,7 @@ pub extern "C" fn g3_core_page_read_pbm(
     }
 }
 
-/// A page as an image. Errs with 4 where it has no rows, and with 9.
+/// Returns a page as an image. Errors: 4 for a page without rows, 9.
 fn image(alloc: Global, page: &Page) -> Result<Vec<u8>, u32>
     ensures ok { IfOk result (λ octets. ArePagesText (page.now ∷ []) octets.items) }
     ensures some { IfOk result (λ octets. 0 < length page.now.rows) }
@@ -76,7 +76,8 @@ fn write_image(alloc: Global, page: &Page, out: &mut G3Handle) -> u32
     }
 }
 
-/// Writes a page as an image; the octets come in an empty handle of their own. Answers 102, 4 where the page has no rows, and 9.
+/// Writes a page as a raw PBM image, whose octets fill an empty handle. Returns `G3_FULL_HANDLE` (102), `G3_NO_ROWS` (4) or `G3_NO_MEMORY`
+/// (9).
 #[unsafe(no_mangle)]
 pub extern "C" fn g3_core_page_write_pbm(
     alloc: Global,

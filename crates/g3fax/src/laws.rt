@@ -2,8 +2,8 @@
 
 ghost use Rattle.g3fax.specs.SignalsMeant.{MeansWhatIsTold};
 
-/// What is told by numbers of a signal that can be written means the signal, with its octets and any after them. So a signal that was read
-/// is written as it was, and one that was written is read as it was.
+/// The numbers and octets told of a signal that can be written give the same signal again, whatever octets follow. So a signal that was
+/// read is written unchanged, and the other way round.
 pub fn means_what_is_told()
     ensures { MeansWhatIsTold }
 {}

@@ -1,5 +1,5 @@
-//! The library for C: pages and their codes, frames, documents and terminals, behind handles. Each exported function answers a
-//! status, 0 where it did what it says; results go out through references.
+//! The library for C: pages and their codes, frames, documents and terminals, behind handles. Each exported function returns a
+//! status, 0 if it did what it says; results go out through references.
 #![tactic(auto)]
 
 mod agreed;

@@ -6,7 +6,7 @@ ghost use Rattle.std.specs.Prelude.{◌≡◌};
 use std::alloc::Allocator;
 use std::marker::Model;
 
-/// The pointer of a box with its allocator; the value is the one that lies there.
+/// A box as its pointer, with its allocator; its value is the one that lies there.
 pub struct Loose<T, A: Allocator> {
     pub(crate) at: *mut T,
     pub(crate) alloc: A,

@@ -8,7 +8,7 @@ use signals::Speed;
 use stations::{CallEnd, Carrier, End, Listening, Wait};
 use terminals::wait_millis;
 
-/// The wait of a number: those of T.30's names.
+/// Returns the wait of a number, that of its name in T.30.
 pub(crate) fn wait_of(number: u32) -> Option<Wait>
     ensures { result ≡ wait_of number }
 {
@@ -21,7 +21,7 @@ pub(crate) fn wait_of(number: u32) -> Option<Wait>
     }
 }
 
-/// The number of a wait; 0 of none.
+/// The number of a wait; 0 for none.
 pub(crate) fn wait_number(wait: Option<Wait>) -> u32
     ensures { result ≡ wait_number wait }
 {
@@ -34,7 +34,7 @@ pub(crate) fn wait_number(wait: Option<Wait>) -> u32
     }
 }
 
-/// How long a wait runs, in milliseconds (T.30, 5.4.3.1); 0 for a number that is no wait.
+/// Returns how long a wait runs, in milliseconds (T.30, 5.4.3.1); 0 for a number that is no wait's.
 #[unsafe(no_mangle)]
 pub extern "C" fn g3_core_wait_millis(wait: u32) -> u32
     ensures { result ≡ millis_of (wait_of wait) }
@@ -72,7 +72,7 @@ pub(crate) fn carrier_number(carrier: Carrier) -> u32
     }
 }
 
-/// Whether a carrier is that of a training check: 1, or 0.
+/// Returns whether a carrier is that of a training check: 1, or 0.
 pub(crate) fn check_number(carrier: Carrier) -> u32
     ensures { result ≡ check_number carrier }
 {
@@ -94,7 +94,7 @@ pub(crate) fn listens_number(listens: Listening) -> u32
     }
 }
 
-/// The number of the carrier that a station listens for beside V.21; 0 of none.
+/// The number of the carrier that a station listens for beside V.21; 0 for none.
 pub(crate) fn listens_carrier(listens: Listening) -> u32
     ensures { result ≡ listens_carrier listens }
 {

@@ -7,7 +7,7 @@ use crate::handle::{G3Handle, opened};
 use crate::status::{NO_ROOM, OK};
 use std::alloc::Global;
 
-/// Copies octets to the beginning of a buffer, and tells how many they are. Answers 103 where the buffer has too little room.
+/// Copies octets to the beginning of a buffer, and tells how many they are. Returns 103 if the buffer is too small.
 pub(crate) fn copy_out(octets: &[u8], buffer: &mut [u8], count: &mut u64) -> u32
     ensures { Copies octets.now buffer.old buffer.new count.new result }
 {
@@ -19,7 +19,7 @@ pub(crate) fn copy_out(octets: &[u8], buffer: &mut [u8], count: &mut u64) -> u32
     OK
 }
 
-/// How many octets a handle has.
+/// Tells how many octets a handle has.
 #[unsafe(no_mangle)]
 pub extern "C" fn g3_core_octets_len(alloc: Global, octets: &mut G3Handle, count: &mut u64) -> u32
     ensures answers { OfOctets (λ octets. (result ≡ 0) × (count.new ≡ length octets)) octets.old.value result }
@@ -32,8 +32,8 @@ pub extern "C" fn g3_core_octets_len(alloc: Global, octets: &mut G3Handle, count
         })
 }
 
-/// Copies the octets of a handle to the beginning of a buffer, and tells how many they are. Answers 103 where the
-/// buffer has too little room.
+/// Copies the octets of a handle to the beginning of a buffer, and tells how many they are; what follows in the buffer stays. Returns
+/// `G3_NO_ROOM` (103) if the buffer is too small, and it stays.
 #[unsafe(no_mangle)]
 pub extern "C" fn g3_core_octets_copy(
     alloc: Global,

@@ -10,7 +10,7 @@ use crate::status::{BAD_LENGTH, FULL_HANDLE, NOTHING, OK, TOO_MANY_ROWS};
 use raster::{MAX_ROWS, Page, Row};
 use std::alloc::Global;
 
-/// How wide a page is in pixels, how many rows it has, and whether its lines are fine: 1, or 0.
+/// The size of a page: its width in pixels, its rows, and whether its lines are fine.
 #[repr(C)]
 #[derive(Clone, Copy)]
 pub struct G3Size {
@@ -18,11 +18,12 @@ pub struct G3Size {
     pub width: u32,
     /// The number of rows.
     pub rows: u32,
-    /// 1 where the lines are fine (7.7 a millimeter), and 0 where they aren't.
+    /// 1 if the lines are fine (7.7 a millimeter), otherwise 0.
     pub fine: u32,
 }
 
-/// Makes a page with no rows in an empty handle. Answers 102, 1 where the width isn't 1 to 2,432 pixels, and 9.
+/// Makes a page without rows in an empty handle. Returns `G3_FULL_HANDLE` (102), `G3_BAD_WIDTH` (1) if the width isn't 1 to 2,432 pixels,
+/// or `G3_NO_MEMORY` (9).
 #[unsafe(no_mangle)]
 pub extern "C" fn g3_core_page_new(alloc: Global, out: &mut G3Handle, width: u32, fine: u32) -> u32
     ensures { MakesPage width fine out.old.value result out.new.value }
@@ -60,8 +61,8 @@ pub(crate) fn push_octets(alloc: Global, page: &mut Page, octets: &[u8]) -> u32
     }
 }
 
-/// Appends a row to a page, of the first bits of octets; later bits are ignored. Answers 105 where there are too few
-/// octets, 3 where the page has 20,000 rows, and 9.
+/// Appends a row to a page, from the first bits of octets, 1 for black; later bits are ignored. Returns `G3_BAD_LENGTH` (105) for too few
+/// octets, `G3_TOO_MANY_ROWS` (3) if the page has 20,000 rows, or `G3_NO_MEMORY` (9).
 #[unsafe(no_mangle)]
 pub extern "C" fn g3_core_page_push_row(alloc: Global, page: &mut G3Handle, octets: &[u8]) -> u32
     ensures { OnPage (λ old new. PushesOctets octets.now old new result) page.old.value page.new.value result }
@@ -102,8 +103,8 @@ fn copy_row(page: &Page, number: u32, buffer: &mut [u8], count: &mut u64) -> u32
     }
 }
 
-/// Copies the octets of a row, from 0 at the top, to the beginning of a buffer, and tells how many they are. Answers
-/// 106 where there is no such row, and 103 where the buffer has too little room.
+/// Copies the octets of a row, counted from 0 at the top, to the beginning of a buffer, and tells how many they are. Returns `G3_NOTHING`
+/// (106) if there is no such row, and `G3_NO_ROOM` (103) if the buffer is too small.
 #[unsafe(no_mangle)]
 pub extern "C" fn g3_core_page_row(
     alloc: Global,

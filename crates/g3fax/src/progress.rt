@@ -16,27 +16,27 @@ use terminals::Terminal;
 #[repr(C)]
 #[derive(Clone, Copy)]
 pub struct G3Progress {
-    /// How many pages a caller's document has, or an answerer has stored that were not handed out.
+    /// The number of pages in a caller's document, or stored by an answerer and not handed out.
     pub pages: u64,
     /// How many pages of a caller are confirmed.
     pub confirmed: u64,
-    /// Which block of its page a caller sends, from 1, from the CFR on; 0 where it sends none.
+    /// Which block of its page a caller sends, from 1, from the CFR on; 0 if it sends none.
     pub block: u64,
-    /// How many blocks that page has; 0 where the caller sends none.
+    /// The number of blocks in that page; 0 if the caller sends none.
     pub blocks: u64,
-    /// How many octets of code the page has that an answerer receives, of the blocks accepted so far.
+    /// The octets of code, of the blocks accepted so far, of the page that an answerer receives.
     pub octets: u64,
     /// How often frames of that block were asked for again by PPR, 0 to 3.
     pub resends: u32,
-    /// How often a caller's last command was sent; 0 before the first one.
+    /// How often a caller's last command was sent; 0 before the first.
     pub tries: u32,
     /// How many frames of the block that is under way an answerer has, 0 to 256.
     pub frames: u32,
-    /// 1 where an answerer has accepted a block, else 0.
+    /// 1 if an answerer has accepted a block, otherwise 0.
     pub accepted: u32,
-    /// The number modulo 256 of the page of the last block that was accepted.
+    /// The page number, modulo 256, of the last block accepted.
     pub accepted_page: u32,
-    /// The number of that block in its page modulo 256.
+    /// The number of that block in its page, modulo 256.
     pub accepted_block: u32,
 }
 

@@ -14,8 +14,7 @@ use crate::status::{BAD_LENGTH, BAD_WIDTH, FULL_HANDLE, NO_MEMORY, NO_ROOM, OK, 
 use raster::{MAX_ROWS, MAX_WIDTH, Page, Row};
 use std::alloc::Global;
 
-/// How rows lie in octets: how many octets are between the beginnings of two rows, how wide a row is in pixels, how many rows there
-/// are, and whether their lines are fine.
+/// How rows lie in octets: the octets from one row to the next, the width in pixels, the number of rows, and whether the lines are fine.
 #[repr(C)]
 #[derive(Clone, Copy)]
 pub struct G3Raster {
@@ -25,7 +24,7 @@ pub struct G3Raster {
     pub width: u32,
     /// The number of rows, 0 to 20,000.
     pub rows: u32,
-    /// 1 where the lines are fine, and 0 where they aren't.
+    /// 1 if the lines are fine, otherwise 0.
     pub fine: u32,
 }
 
@@ -46,7 +45,7 @@ fn size_of(row: u64, apart: u64, rows: u64) -> u128
     apart as u128 * (rows as u128 - 1) + row as u128
 }
 
-/// The rows of octets as a page. Errs with 9.
+/// The rows of octets as a page. Errors: `NoMemory` (9).
 fn rows_of(alloc: Global, octets: &[u8], raster: &G3Raster) -> Result<Page, u32>
     requires width { IsWidth raster.now.width }
     requires few { raster.now.rows ≤ max_rows }
@@ -72,9 +71,9 @@ fn rows_of(alloc: Global, octets: &[u8], raster: &G3Raster) -> Result<Page, u32>
     Ok(page)
 }
 
-/// Makes a page of the rows of octets, in an empty handle. What is between the rows, and after the last one, is ignored. Answers 102; 1
-/// where the width isn't 1 to 2,432 pixels; 3 where there are more than 20,000 rows; 105 where rows begin closer than a row is long, or
-/// there are too few octets; and 9.
+/// Makes a page of rows in memory, in an empty handle; what lies between the rows and after the last one is ignored. Returns
+/// `G3_FULL_HANDLE` (102); `G3_BAD_WIDTH` (1) if the width isn't 1 to 2,432 pixels; `G3_TOO_MANY_ROWS` (3) over 20,000; `G3_BAD_LENGTH`
+/// (105) if rows begin closer than a row is long, or there are too few octets; `G3_NO_MEMORY` (9).
 #[unsafe(no_mangle)]
 pub extern "C" fn g3_core_page_read_raster(
     alloc: Global,
@@ -145,8 +144,9 @@ fn write_rows(page: &Page, apart: u64, buffer: &mut [u8], count: &mut u64) -> u3
     OK
 }
 
-/// Copies the rows of a page to a buffer, so many octets apart, and tells how many octets they take; what is between the rows stays as it
-/// was. Answers 105 where rows are to begin closer than a row is long, and 103 where the buffer has too little room.
+/// Copies the rows of a page to a buffer, so many octets from one to the next, and tells how many octets they take; what lies between the
+/// rows stays. Returns `G3_BAD_LENGTH` (105) if rows would begin closer than a row is long, and `G3_NO_ROOM` (103) if the buffer is too
+/// small.
 #[unsafe(no_mangle)]
 pub extern "C" fn g3_core_page_write_raster(
     alloc: Global,

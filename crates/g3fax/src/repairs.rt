@@ -11,10 +11,10 @@ use page_code::OneDim;
 use raster::MAX_WIDTH;
 use std::alloc::Global;
 
-/// Reads the page whose lines octets of T.4 in one dimension begin with, into an empty handle, as a receiver without error correction
-/// gives it: a row that can't be read is the one before it (ITU-T T.4, 4.1). Tells how many rows are such. Answers 102, 104 where a
-/// number stands for no order or the code isn't 1, and 1; where no row can be read, or a 20,001st line begins, the number of the
-/// refusal; and 9.
+/// Reads the page of T.4 in one dimension that octets begin with, line by line, into an empty handle, as a receiver without error
+/// correction gives it: a row that can't be read is a copy of the one before it (ITU-T T.4, 4.1). Tells how many rows are repaired. Returns
+/// `G3_FULL_HANDLE` (102), `G3_BAD_CHOICE` (104) for an unknown order or another code, `G3_BAD_WIDTH` (1), the number of the refusal if no
+/// row can be read or there is a 20,001st line, or `G3_NO_MEMORY` (9).
 #[unsafe(no_mangle)]
 pub extern "C" fn g3_core_page_repair(
     alloc: Global,

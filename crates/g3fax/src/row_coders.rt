@@ -37,8 +37,8 @@ fn new_coder(alloc: Global, code: &G3Code, out: &mut G3Handle) -> u32
     }
 }
 
-/// Makes a coder of a page in this form that has no rows so far, in an empty handle; whether lines are fine doesn't matter. Answers 102, 104
-/// and 1 where the form is none, and 9.
+/// Makes a coder of a page in this form, without rows, in an empty handle; `fine` is ignored. Returns `G3_FULL_HANDLE` (102),
+/// `G3_BAD_CHOICE` (104) or `G3_BAD_WIDTH` (1) for a wrong form, or `G3_NO_MEMORY` (9).
 #[unsafe(no_mangle)]
 pub extern "C" fn g3_core_row_coder_new(alloc: Global, code: &G3Code, out: &mut G3Handle) -> u32
     ensures { MakesCoder code.now out.old.value result out.new.value }
@@ -68,8 +68,8 @@ fn push_coded(alloc: Global, coder: &mut RowCoder, octets: &[u8]) -> u32
     }
 }
 
-/// Codes a row of the first bits of octets; later bits are ignored. Answers 105 where there are too few octets, 3 where the page has 20,000
-/// rows, and 9.
+/// Codes a row, from the first bits of octets; later bits are ignored. Returns `G3_BAD_LENGTH` (105) for too few octets, `G3_TOO_MANY_ROWS`
+/// (3) if the page has 20,000 rows, or `G3_NO_MEMORY` (9).
 #[unsafe(no_mangle)]
 pub extern "C" fn g3_core_row_coder_push_row(
     alloc: Global,
@@ -100,8 +100,8 @@ fn take_octets(alloc: Global, coder: &mut RowCoder, out: &mut G3Handle) -> u32
     OK
 }
 
-/// Moves the octets of the page's code that are whole so far, which may be none, into an empty handle: the next octets of the code. Answers
-/// 102 and 9.
+/// Moves the next octets of the code that are whole so far, perhaps none, into an empty handle. Returns `G3_FULL_HANDLE` (102) or
+/// `G3_NO_MEMORY` (9).
 #[unsafe(no_mangle)]
 pub extern "C" fn g3_core_row_coder_take(
     alloc: Global,
@@ -125,6 +125,7 @@ fn end_rows(alloc: Global, coder: &mut RowCoder, out: &mut G3Handle) -> u32
     let Some(mut kept) = room(alloc) else {
         return NO_MEMORY;
     };
+    // the box is made first, so that nothing is lost if memory is refused
     match coder.end(alloc) {
         Ok(octets) => {
             *kept = Kept::Octets(octets);
@@ -135,8 +136,9 @@ fn end_rows(alloc: Global, coder: &mut RowCoder, out: &mut G3Handle) -> u32
     }
 }
 
-/// Moves the last octets of the page's code into an empty handle: what was not moved out, RTC or EOFB, and 0 bits that fill the last octet.
-/// The coder's handle is empty then. Answers 102, 4 where no row was pushed, and 9.
+/// Moves the last octets of the code into an empty handle: what wasn't moved out, RTC or EOFB, and 0 bits that fill the last octet. The
+/// coder's handle is empty then. Returns `G3_FULL_HANDLE` (102), `G3_NO_ROWS` (4) if no row was pushed, or `G3_NO_MEMORY` (9); then nothing
+/// is lost.
 #[unsafe(no_mangle)]
 pub extern "C" fn g3_core_row_coder_finish(
     alloc: Global,

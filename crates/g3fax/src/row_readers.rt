@@ -34,8 +34,8 @@ fn new_reader(alloc: Global, code: &G3Code, out: &mut G3Handle) -> u32
     }
 }
 
-/// Makes a reader of a page in this form that took no octets so far, in an empty handle; whether lines are fine doesn't matter. Answers
-/// 102, 104 and 1 where the form is none, and 9.
+/// Makes a reader of a page in this form, without octets, in an empty handle; `fine` is ignored. Returns `G3_FULL_HANDLE` (102),
+/// `G3_BAD_CHOICE` (104) or `G3_BAD_WIDTH` (1) for a wrong form, or `G3_NO_MEMORY` (9).
 #[unsafe(no_mangle)]
 pub extern "C" fn g3_core_row_reader_new(alloc: Global, code: &G3Code, out: &mut G3Handle) -> u32
     ensures { MakesReader code.now out.old.value result out.new.value }
@@ -56,8 +56,8 @@ fn feed(reader: &mut RowReader, octets: &[u8], taken: &mut u64) -> u32
     }
 }
 
-/// Takes the next octets of the page, as many as there is room for, and tells how many. Answers 9 where memory is refused, and nothing was
-/// taken then.
+/// Takes the next octets of the page, as many as there is room for, and tells how many. Returns `G3_NO_MEMORY` (9), and nothing was taken
+/// then.
 #[unsafe(no_mangle)]
 pub extern "C" fn g3_core_row_reader_feed(
     alloc: Global,
@@ -93,9 +93,9 @@ fn next(reader: &mut RowReader, buffer: &mut [u8], count: &mut u64, place: &mut 
     }
 }
 
-/// Copies the octets of the next row that is whole in the octets so far to the beginning of a buffer, and tells how many they are. Where no
-/// row is whole it answers what all octets so far read as: 106 at the page's end, and tells the bits used; or 4, or 10 to 18, and tells the
-/// bit where they are refused. Answers 103 where the buffer has too little room for a row, and 9; no row is given then.
+/// Copies the octets of the next row that is whole to the beginning of a buffer, and tells how many they are. If no row is whole, the
+/// status says what all octets so far are: `G3_NOTHING` (106) at the page's end, with the bits used; or the number of the refusal, 4 or 10
+/// to 18, with its bit. Returns `G3_NO_ROOM` (103) if the buffer is too small for a row, or `G3_NO_MEMORY` (9); no row is given then.
 #[unsafe(no_mangle)]
 pub extern "C" fn g3_core_row_reader_next(
     alloc: Global,

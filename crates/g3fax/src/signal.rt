@@ -11,7 +11,7 @@ use crate::numbers::speed_number;
 use page_code::Coding;
 use signals::{Caps, Modems, PageEnd, Params, Signal, Speed};
 
-/// What a DIS says of a station by numbers; 1 for yes and 0 for no.
+/// What a DIS says of a station, by numbers: 1 for yes, 0 for no.
 #[repr(C)]
 #[derive(Clone, Copy)]
 pub struct G3Dis {
@@ -36,7 +36,7 @@ pub struct G3Dis {
 pub struct G3Params {
     /// The carrier of the pages, 2 to 9.
     pub carrier: u32,
-    /// 1 where the pages have 7.7 lines a millimeter, else 0.
+    /// 1 if the pages have 7.7 lines a millimeter, otherwise 0.
     pub fine: u32,
     /// The width of the pages in pixels: 1,728, 2,048 or 2,432.
     pub width: u32,
@@ -64,9 +64,10 @@ pub struct G3Block {
 #[repr(C)]
 #[derive(Clone, Copy)]
 pub struct G3Signal {
-    /// How many octets come with it: of an FCD its data, of a PPR the 32 of its bits.
+    // one struct for all kinds, since no enum crosses to C; the octets go by a slice of their own
+    /// How many octets belong to it: an FCD's data, or the 32 of a PPR's bits.
     pub length: u64,
-    /// The kind: 1 for DIS, 2 DCS, 3 CFR, 4 FTT, 5 FCD, 6 RCP, 7 PPS, 8 PPR, 9 MCF, 10 RNR, 11 RR, 12 DCN, 13 for another one.
+    /// The kind: 1 for DIS, 2 DCS, 3 CFR, 4 FTT, 5 FCD, 6 RCP, 7 PPS, 8 PPR, 9 MCF, 10 RNR, 11 RR, 12 DCN, 13 for any other.
     pub kind: u32,
     /// What a DIS says.
     pub dis: G3Dis,
@@ -76,7 +77,7 @@ pub struct G3Signal {
     pub pps: G3Block,
     /// The number of an FCD's frame.
     pub number: u32,
-    /// The octet of the facsimile control field of another signal.
+    /// The facsimile control field of any other signal, one octet.
     pub control: u32,
 }
 

@@ -19,7 +19,7 @@ use crate::signal::{
 use crate::status::{BAD_CHOICE, BAD_LENGTH, NO_ROOM, OK};
 use signals::{Caps, PageWidth, Params, Side, Signal, read, write};
 
-/// Tells a signal, and copies its octets to the beginning of a buffer. Answers 103 where that has too little room.
+/// Tells a signal, and copies its octets to the beginning of a buffer. Returns 103 if that is too small.
 fn tell(signal: &Signal, out: &mut G3Signal, buffer: &mut [u8]) -> u32
     ensures { TellsSignal (plain signal.now) out.old out.new buffer.old buffer.new result }
 {
@@ -32,10 +32,10 @@ fn tell(signal: &Signal, out: &mut G3Signal, buffer: &mut [u8]) -> u32
     OK
 }
 
-/// Reads the content of a frame, its octets without the check sequence, as a signal: it is told, and its octets, an FCD's data or a PPR's
-/// 32, are copied to the beginning of a buffer. What comes after a signal's fields is ignored, save in FCD. Answers 20 where the address
-/// isn't FF, 21 where the control field is neither 03 nor 13, 22 where a field is missing or cut short, and 103 where the buffer has too
-/// little room. ITU-T T.30, 5.3.4 to 5.3.6 and A.4.
+/// Reads the content of a frame, its octets without the check sequence, as a signal (ITU-T T.30, 5.3.4 to 5.3.6 and A.4). Tells it by
+/// numbers, and copies its octets (an FCD's data, a PPR's 32) to the beginning of a buffer. Octets after a signal's fields are ignored,
+/// except in FCD. Returns `G3_BAD_ADDRESS` (20) if the address isn't FF, `G3_BAD_CONTROL` (21) if the control field is neither 03 nor 13,
+/// `G3_SHORT_FIELD` (22) if a field is missing or cut short, `G3_NO_ROOM` (103) if the buffer is too small.
 #[unsafe(no_mangle)]
 pub extern "C" fn g3_core_signal_read(content: &[u8], out: &mut G3Signal, buffer: &mut [u8]) -> u32
     ensures { AnswersRead (read_content content.now) out.old out.new buffer.old buffer.new result }
@@ -183,7 +183,7 @@ fn meant_as<'a>(kind: Kind, signal: &G3Signal, octets: &'a [u8]) -> Result<Signa
     }
 }
 
-/// The signal that C describes. Errs with 104 where a number stands for no choice, and with 105 where it has too few octets or too many.
+/// Returns the signal that C describes. Errors: 104 for an unknown number, 105 for too few or too many octets.
 fn meant<'a>(signal: &G3Signal, octets: &'a [u8]) -> Result<Signal<'a>, u32>
     ensures meant { plain_result result ≡ meant signal.now octets.now }
     ensures writable { IfOk result (λ signal. IsWritable (plain signal)) }
@@ -194,10 +194,10 @@ fn meant<'a>(signal: &G3Signal, octets: &'a [u8]) -> Result<Signal<'a>, u32>
     }
 }
 
-/// Writes the signal that C describes as the content of a frame, from a station (1 the caller, 2 the answerer), in the last frame of a
-/// transmission or not: it is copied to the beginning of a buffer, and its octets are counted. Answers 104 where a number stands for no
-/// choice, 105 where an FCD hasn't 1 to 256 octets of data or a PPR 32, and 103 where the buffer has too little room. Takes no memory.
-/// ITU-T T.30, 5.3.4 to 5.3.6 and A.4.
+/// Writes a signal, described by numbers, as the content of a frame (ITU-T T.30, 5.3.4 to 5.3.6 and A.4): sent by station 1, the caller, or
+/// 2, the answerer, in the last frame of a transmission or not. Copies it to the beginning of a buffer and tells its number of octets.
+/// Returns `G3_BAD_CHOICE` (104) for an unknown number, `G3_BAD_LENGTH` (105) if an FCD hasn't 1 to 256 octets of data or a PPR 32,
+/// `G3_NO_ROOM` (103) if the buffer is too small. Takes no memory.
 #[unsafe(no_mangle)]
 pub extern "C" fn g3_core_signal_write(
     signal: &G3Signal,

@@ -17,13 +17,13 @@ use terminals::{Shown, Terminal};
 #[repr(C)]
 #[derive(Clone, Copy)]
 pub struct G3State {
-    /// How many pages a caller has confirmed, or an answerer has stored that were not handed out.
+    /// How many pages a caller has confirmed, or an answerer has stored and not handed out.
     pub pages: u64,
     /// How many good frames were heard.
     pub frames: u64,
-    /// 1 where it listens for V.21 alone, 2 for a training check, 3 for V.21 and the frames of a page.
+    /// 1 if it listens for V.21 alone, 2 for a training check, 3 for V.21 and the frames of a page.
     pub listens: u32,
-    /// The number of the carrier of the training check or the page, 2 to 9; 0 where it listens for V.21 alone.
+    /// The carrier of the training check or the page, 2 to 9; 0 if it listens for V.21 alone.
     pub carrier: u32,
     /// The wait that runs: 1 for T1, 2 for T2, 4 for T4, 5 for T5; 0 for none.
     pub wait: u32,
@@ -70,7 +70,7 @@ fn tell_answerer(answering: &Answering, state: &mut G3State) -> u32
     OK
 }
 
-/// Tells the state of a terminal.
+/// Tells the state of a terminal: what it listens for, its waits, its pages and good frames so far, and why its call ended.
 #[unsafe(no_mangle)]
 pub extern "C" fn g3_core_terminal_state(
     alloc: Global,

@@ -31,8 +31,8 @@ fn next_page(alloc: Global, answering: &mut Answering, out: &mut G3Handle) -> u3
     OK
 }
 
-/// Hands out the oldest page that an answerer has stored and that was not handed out, in an empty handle. Answers 102, 106 where there is
-/// none, and 9.
+/// Hands out, in an empty handle, the oldest page that an answerer has stored and that wasn't handed out. Returns `G3_FULL_HANDLE` (102),
+/// `G3_NOTHING` (106) if there is none, or `G3_NO_MEMORY` (9).
 #[unsafe(no_mangle)]
 pub extern "C" fn g3_core_terminal_take_page(
     alloc: Global,

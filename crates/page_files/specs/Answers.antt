@@ -1,4 +1,4 @@
--- What `decode` gives of octets: an image, what is told of it, and whether all is there that is asked for.
+-- What `decode` gives of octets: an image, the messages about it, and whether the result is complete.
 use Rattle.std.specs.Prelude.{ℕ, ◌≡◌, ◌-◌, ◌↔◌, Bool, true, not, ◌||◌, List, [], ◌++◌, length, Result, Ok, Err, IsTrue, codes, cond, nat_eq}
 use Rattle.std.specs.Fmt.{decimal}
 use Rattle.std.specs.Int.{div_ceil}
@@ -28,7 +28,7 @@ rows_line rows = codes "rows " ++ (decimal rows ++ codes "\n")
 abbrev pub page_text : Bool → ℕ → ℕ → List ℕ
 page_text records rows bits = cond records (record_line (page_record rows bits)) (page_line rows bits)
 
--- the octets after a page, where there are any, as a line, or as a record
+-- the octets after a page, if there are any, as a line or a record
 abbrev pub after_text : Bool → ℕ → List ℕ
 after_text records count = cond (nat_eq count 0) [] (cond records (record_line (after_record count)) (after_line count))
 
@@ -44,15 +44,15 @@ no_rtc_line rows = codes "the page ends without its RTC after " ++ (decimal rows
 abbrev pub octets_after : List ℕ → ℕ → ℕ
 octets_after octets bits = length octets - div_ceil bits 8
 
--- what is told of a page that was read to the end of its code: its counts, where they are asked for, and that RTC is missing
+-- what is reported of a page read to the end of its code: with `--verbose` its counts, and that RTC is missing
 abbrev pub end_text : Bool → Bool → ℕ → ℕ → ℕ → Bool → List ℕ
 end_text verbose records rows bits after has_end =
     cond verbose (page_text records rows bits ++ after_text records after) [] ++ as_told records (cond has_end [] (no_rtc_line rows))
 
--- What is told of a page, and whether all is there. Of one that was read to the end of its code, all is there, but for RTC where it is
--- asked for. Of one that was read line by line, the lines of its repaired rows, and its rows where they are asked for. Of one that ends
--- without its EOFB, the line that says so, and its rows where they are asked for; and all is there, but where the end is asked for. Where
--- the rest is refused, nothing is told, and that is the fault. Lines are told as they are, or each as a notice.
+-- What is reported of a page, and whether the result is complete. Read to the end of its code: with `--verbose` its rows, bits and the
+-- octets after it; a line if RTC is missing, and then it isn't complete with `--whole`. Read line by line: the lines of its repaired rows,
+-- and with `--verbose` its rows. Without its EOFB: the line that says so, and with `--verbose` its rows; it isn't complete with `--whole`.
+-- Refused: nothing is reported, and the fault is returned. With `records` each is an object of JSON.
 abbrev pub TellsPage : PageForm → DecodeOptions → List ℕ → ReadTo → ℕ → List ℕ → List ℕ → Result Bool ToolFault → Type 0
 TellsPage form options octets (End bits) rows lines told end =
     (has_end : Bool) × (IsTrue has_end ↔ HasItsEnd form.coding form.order octets bits)
@@ -64,7 +64,8 @@ TellsPage form options octets (NoEnd bit) rows lines told end =
     (told ≡ as_told options.records lines ++ cond options.verbose (rows_text options.records rows) []) × (end ≡ Ok (not options.whole))
 TellsPage form options octets (Fault fault) rows lines told end = (told ≡ []) × (end ≡ Err fault)
 
--- a page is decoded in the way that the options ask for, with these lines for standard error
+-- A page is decoded in the way that the options ask for, with exactly these lines for standard error; with `records`, objects of JSON
+-- instead, where each line that isn't one of `--verbose` is a notice. `TellsPage` says which lines, and when the result is complete.
 pub record AnswersDecode (form : PageForm) (options : DecodeOptions) (octets image told : List ℕ) (end : Result Bool ToolFault)
     : Type 0 where
   pub read_to : ReadTo

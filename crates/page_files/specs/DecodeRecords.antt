@@ -1,4 +1,4 @@
--- What `decode` tells of a page as JSON for programs.
+-- The messages of `decode` as JSON for programs.
 use Rattle.std.specs.Prelude.{ℕ, ◌∷◌, ◌-◌, ◌^◌, ◌==◌, Bool, List, [], codes, cond, flat_map, min}
 use Rattle.std.specs.List.{slice_split}
 use Rattle.serde_json.specs.Data.{Data, member, no_members, object}

@@ -29,7 +29,8 @@ use Rattle.page_files.specs.declared.options.PageForm.{PageForm}
 
 -- ---- formats
 
--- the formats that are known: the octets that a file of each begins with, and its name
+-- The known formats: the octets that a file of each begins with, and its name. TIFF, BigTIFF, PDF, PostScript, PNG, those of Netpbm, JPEG,
+-- GIF, SFF, DCX, gzip and ZIP.
 abbrev pub formats : List (List ℕ × List ℕ)
 formats = (73 ∷ 73 ∷ 42 ∷ 0 ∷ [], codes "TIFF") ∷ (77 ∷ 77 ∷ 0 ∷ 42 ∷ [], codes "TIFF")
     ∷ (73 ∷ 73 ∷ 43 ∷ 0 ∷ [], codes "BigTIFF") ∷ (77 ∷ 77 ∷ 0 ∷ 43 ∷ [], codes "BigTIFF")
@@ -50,7 +51,7 @@ abbrev pub format_among : List (List ℕ × List ℕ) → List ℕ → Option (L
 format_among [] octets = None
 format_among (format ∷ more) octets = if begin_with format.0 octets then Some format.1 else format_among more octets
 
--- the name of the format as which the octets begin
+-- the name of the first known format whose first octets these octets begin with
 abbrev pub format_of : List ℕ → Option (List ℕ)
 format_of octets = format_among formats octets
 
@@ -68,20 +69,21 @@ form_in coding order width = record { coding = coding; order = order; width = wi
 abbrev pub forms_in : Coding → Order → List ℕ → List PageForm
 forms_in coding order widths = map (form_in coding order) widths
 
--- the ways that are tried, in this order
+-- The ways that are tried, in this order: T.6 and then T.4; for each, most and then least significant bit first; for each, the widths of
+-- `tried_widths`.
 abbrev pub tried_forms : List PageForm
 tried_forms = forms_in T6 MsbFirst tried_widths ++ (forms_in T6 LsbFirst tried_widths
     ++ (forms_in OneDim MsbFirst tried_widths ++ forms_in OneDim LsbFirst tried_widths))
 
--- How far octets read in one way: they begin with the code of a page of so many rows, which ends after so many bits; or they begin with no
--- page's code, by this fault, and these are all whole rows before the refused bit.
+-- How far octets read in one way: they begin with the code of a page with so many rows and bits; or with no page's code, with this fault,
+-- after so many whole rows.
 abbrev pub ReadsTo : List ℕ → PageForm → ℕ → Result ℕ ToolFault → Type 0
 ReadsTo octets form rows end = MatchResult end
     (λ bits. (page : List (List Color)) × ReadsIn form.coding form.width (bits_of form.order octets) page bits × (rows ≡ length page))
     (λ fault. RefusesCode form.coding form.order form.width octets fault × ((page : List (List Color))
     × AreWholeRows form.coding form.width (bits_of form.order octets) page × (rows ≡ length page)))
 
--- what is said of a way is so
+-- the result of this way is right
 abbrev pub IsTried : List ℕ → Tried → Type 0
 IsTried octets tried = ReadsTo octets tried.form tried.rows tried.end
 
@@ -89,7 +91,7 @@ IsTried octets tried = ReadsTo octets tried.form tried.rows tried.end
 abbrev pub form_of : Tried → PageForm
 form_of tried = tried.form
 
--- the octets were tried in all ways of the list, one after the other
+-- the octets were tried in all ways of the list, in its order, and the result of each is right
 pub record AreTried (octets : List ℕ) (tried : List Tried) : Type 0 where
   pub forms_are : map form_of tried ≡ tried_forms
   pub each : All (IsTried octets) tried
@@ -110,21 +112,21 @@ order_name LsbFirst = codes "least significant bit first"
 abbrev pub form_words : PageForm → List ℕ
 form_words form = coding_name form.coding ++ (codes ", " ++ (order_name form.order ++ (codes ", width " ++ decimal form.width)))
 
--- the octets after a page, where there are any
+-- the octets after a page, if there are any
 abbrev pub after_words : ℕ → List ℕ
 after_words count = cond (nat_eq count 0) [] (codes ", " ++ (decimal count ++ codes " octets after it"))
 
--- the fault is that after whole rows only 0 bits are left, or none, and no EOFB
+-- the fault says that only 0 bits, or nothing, follow the whole rows, and no EOFB
 abbrev pub is_missing_eofb : FaultKind → Bool
 is_missing_eofb MissingEofb = true
 is_missing_eofb kind = false
 
--- of a page in T.6 all is there but its EOFB: after one row or more only 0 bits are left, or none
+-- a page of T.6 is complete except for its EOFB: it has a row or more, and then only 0 bits or nothing
 abbrev pub lacks_eofb : ℕ → Result ℕ ToolFault → Bool
 lacks_eofb rows (Ok bits) = false
 lacks_eofb rows (Err fault) = not (nat_eq rows 0) && is_missing_eofb (kind_of fault)
 
--- how far the octets read to no page's end: to the last row, where only EOFB is missing; or up to a bit, with the rows before it
+-- how far octets read that have no page's end: all rows, if only EOFB is missing; or up to a bit, with the rows before it
 abbrev pub fault_words : Bool → ℕ → ToolFault → List ℕ
 fault_words true rows fault = codes ", " ++ (decimal rows ++ codes " rows, without EOFB\n")
 fault_words false rows fault = codes ": " ++ (fault_text fault ++ (codes " after " ++ (decimal rows ++ codes " rows\n")))
@@ -147,7 +149,7 @@ fits Early octets rows (Ok bits) = not (nat_eq (octets_after octets bits) 0)
 fits Begun octets rows (Err fault) = not (nat_eq rows 0)
 fits fit octets rows end = false
 
--- the line of a way, where the octets fit it so far
+-- the line of a way, if the octets fit it so far
 abbrev pub line_of : Fit → List ℕ → Tried → List ℕ
 line_of fit octets tried = cond (fits fit octets tried.rows tried.end) (tried_line octets tried) []
 
@@ -159,7 +161,7 @@ lines_of fit octets tried = flat_map (line_of fit octets) tried
 abbrev pub is_page : Tried → Bool
 is_page tried = is_ok tried.end || lacks_eofb tried.rows tried.end
 
--- the line of a format, where it is known
+-- the line of a format, if it is known
 abbrev pub format_line : Option (List ℕ) → List ℕ
 format_line None = []
 format_line (Some name) = name ++ codes ", by its first octets\n"
@@ -168,22 +170,24 @@ format_line (Some name) = name ++ codes ", by its first octets\n"
 abbrev pub is_identified : List ℕ → List Tried → Bool
 is_identified octets tried = is_some (format_of octets) || list_any is_page tried
 
--- What is written: the format; the ways in which the octets read as a page, first those with no octet after it, then those without EOFB;
--- and where there is neither, how far they read in the ways in which they begin with a row.
+-- What is written. The format, if it is known (`TIFF, by its first octets`). A line for each way that reads a page (`T.6, most significant
+-- bit first, width 1728, 2292 rows`): first those without octets after it, then those without EOFB (`2292 rows, without EOFB`), then those
+-- with octets after it (`2292 rows, 3 octets after it`). With neither, a line for each way that reads a first row (`.. width 1728: fault 11
+-- at bit 3999 after 27 rows`).
 abbrev pub said : List ℕ → List Tried → List ℕ
 said octets tried = format_line (format_of octets) ++ (lines_of Whole octets tried ++ (lines_of NoEofb octets tried
     ++ (lines_of Early octets tried ++ cond (is_identified octets tried) [] (lines_of Begun octets tried))))
 
--- the fault of octets that are neither: 7 where there is no octet, and else 29
+-- the fault of octets that are neither a page nor a known format: `NoPages` (7) if there is no octet, otherwise `Unidentified` (29)
 abbrev pub no_page : List ℕ → ToolFault
 no_page [] = No 7
 no_page (octet ∷ octets) = No 29
 
--- the fault that is answered, where the octets are neither
+-- the fault that is returned: none if the octets are a page or a known format
 abbrev pub fault_said : List ℕ → List Tried → Option ToolFault
 fault_said octets tried = cond (is_identified octets tried) None (Some (no_page octets))
 
--- the octets were tried in all ways; what is written, and the fault that is answered, are what that gives
+-- The octets were tried in all ways. What is written is `said`, and the fault that is returned is `fault_said`, of the results.
 pub record Identifies (octets : List ℕ) (before after : Option (List ℕ)) (fault : Option ToolFault) : Type 0 where
   pub tried : List Tried
   pub are_tried : AreTried octets tried

@@ -26,8 +26,8 @@ use Rattle.page_files.specs.declared.later_pages.Reached.TheVariants.{Page, End,
 use Rattle.page_files.specs.declared.options.DecodeOptions.{DecodeOptions}
 use Rattle.page_files.specs.declared.options.PageForm.{PageForm}
 
--- The bits begin with EOLs, with fill, and after the last of them comes neither an EOL nor only 0 bits: a page begins with the last
--- one (ITU-T T.4, 4.1.2), without its fill, where the bits themselves begin at the bit `used`
+-- The bits begin with EOLs, fill included, and after the last of them comes neither an EOL nor only 0 bits. A page begins with that last
+-- EOL (ITU-T T.4, 4.1.2), without its fill. The bits themselves begin at the bit `used`.
 pub record BeginsByEol (used start : ℕ) (x : List Bool) : Type 0 where
   pub before : List ℕ
   pub last : ℕ
@@ -38,33 +38,34 @@ pub record BeginsByEol (used start : ℕ) (x : List Bool) : Type 0 where
   pub code : CodeBegins rest
   pub start_is : start ≡ used + length (eol_words before) + (last - 11)
 
--- EOLs, or none, and then only 0 bits or nothing
+-- any number of EOLs, and then only 0 bits or nothing
 abbrev pub NothingLeft : List Bool → Type 0
 NothingLeft x = (eols : List ℕ) × (rest : List Bool) × AllByRecursion (λ count. 11 ≤ count) eols × (x ≡ eol_words eols ++ rest) × AreZeros
     rest
 
--- Where the page begins that comes after one of T.4, of the bits from the bit `used` on: with the last of the EOLs that they begin
--- with; where they begin with none, in the next octet. None comes where only EOLs and 0 bits are left.
+-- The bit at which the page begins that follows one of T.4, if the bits from `used` on are these: that of the last EOL that they begin
+-- with, without its fill; in the next octet if they begin with no EOL. No page follows if only EOLs and 0 bits are left.
 abbrev pub IsLaterOneDim : ℕ → List Bool → Option ℕ → Type 0
 IsLaterOneDim used x (Some start) = BeginsByEol used start x ⊎ (CodeBegins x × (start ≡ 8 * div_ceil used 8))
 IsLaterOneDim used x None = NothingLeft x
 
--- where the page begins that comes after one of T.6: in the first octet from this one on that isn't 0, if there is one
+-- The bit at which the page begins that follows one of T.6: that of the first octet from this one on that isn't 0. No page follows if there
+-- is none.
 abbrev pub IsLaterT6 : ℕ → List ℕ → Option ℕ → Type 0
 IsLaterT6 from octets (Some start) = (at : ℕ) × (start ≡ 8 * at) × (from ≤ at) × (at < length octets) × (slice_index octets at ≢ 0)
     × ((k : ℕ) → from ≤ k → k < at → slice_index octets k ≡ 0)
 IsLaterT6 from octets None = (k : ℕ) → from ≤ k → k < length octets → slice_index octets k ≡ 0
 
--- the same of a page in a code, which has the first `used` bits of the octets
+-- the bit at which the page begins that follows one of this code with the first `used` bits of the octets
 abbrev pub IsLaterIn : Coding → Order → List ℕ → ℕ → Option ℕ → Type 0
 IsLaterIn OneDim order octets used start = IsLaterOneDim used (drop used (bits_of order octets)) start
 IsLaterIn T6 order octets used start = IsLaterT6 (div_ceil used 8) octets start
 
--- where the page begins that comes after the one of the first `used` bits, if one comes
+-- the bit at which the page begins that follows the page of the first `used` bits, if one follows
 abbrev pub IsLater : PageForm → List ℕ → ℕ → Option ℕ → Type 0
 IsLater form octets used start = IsLaterIn form.coding form.order octets used start
 
--- the octets `later` are those from that of a bit on, with 0 bits in place of those before it
+-- `later` is the octets from the one with this bit on, with 0 bits in place of those before the bit
 pub record IsFrom (order : Order) (start : ℕ) (octets later : List ℕ) : Type 0 where
   pub size : length later + start / 8 ≡ length octets
   pub fill : (k : ℕ) → k < start % 8 → bit_in order later k ≡ false
@@ -74,18 +75,20 @@ pub record IsFrom (order : Order) (start : ℕ) (octets later : List ℕ) : Type
 abbrev pub BeginsWith : PageForm → List ℕ → ℕ → Type 0
 BeginsWith form octets used = (rows : List (List Color)) × ReadsIn form.coding form.width (bits_of form.order octets) rows used
 
--- the octets begin with a page, and another one follows it: its octets are `later`; or none does
+-- The octets begin with a page's code. Either another page follows and its octets are `later`, or none follows. `IsLater` says at which bit
+-- it begins; the bits before it in its first octet are 0 in `later`.
 abbrev pub AfterPage : Bool → PageForm → List ℕ → List ℕ → Type 0
 AfterPage true form octets later = (used : ℕ) × (start : ℕ) × BeginsWith form octets used × IsLater form octets used (Some start)
     × IsFrom form.order start octets later
 AfterPage false form octets later = (used : ℕ) × BeginsWith form octets used × IsLater form octets used None × (later ≡ octets)
 
--- a number of pages, one after another, come before the page whose octets are `later`
+-- `later` is the octets of the page that follows this number of pages
 abbrev pub AreAfter : PageForm → List ℕ → ℕ → List ℕ → Type 0
 AreAfter form octets zero later = later ≡ octets
 AreAfter form octets (suc pages) later = (before : List ℕ) × AreAfter form octets pages before × AfterPage true form before later
 
--- what comes after a number of pages: another one; or one of them is the last one, or can't be read
+-- What follows a number of pages: another page, whose octets are `later`; or one of them is the last one, with its number; or one of them
+-- can't be read to its end, with its number and its fault.
 abbrev pub Reaches : PageForm → ℕ → List ℕ → List ℕ → Reached → Type 0
 Reaches form pages octets later Page = AreAfter form octets pages later
 Reaches form pages octets later (End count) = (1 ≤ count) × (count ≤ pages) × AreAfter form octets (count - 1) later
@@ -93,14 +96,14 @@ Reaches form pages octets later (End count) = (1 ≤ count) × (count ≤ pages)
 Reaches form pages octets later (Broken number fault) = (1 ≤ number) × (number ≤ pages) × AreAfter form octets (number - 1) later
     × RefusesCode form.coding form.order form.width later fault
 
--- what is kept of what comes after pages: the refusal of one that can't be read, and else nothing
+-- what is kept beside this: the refusal of the page that can't be read, and otherwise nothing
 abbrev pub KeepsReached : Option RefusedCode → Reached → Type 0
 KeepsReached kept (Broken number fault) = IsOfKept kept fault
 KeepsReached kept (End count) = kept ≡ None
 KeepsReached kept Page = kept ≡ None
 
--- the fault of a page, or of one before it, is that of the refusal that is kept; but where the file has no such page, where memory is
--- refused, and where reading or writing fails
+-- What is kept beside the fault of a page: the refusal that caused it. With `FewerPages` (28), or if reading, writing or memory failed,
+-- there may be none.
 abbrev pub KeepsPage : Option RefusedCode → ToolFault → Type 0
 KeepsPage kept fault = (fault ≡ No 28) ⊎ IsKept kept fault
 
@@ -108,7 +111,7 @@ KeepsPage kept fault = (fault ≡ No 28) ⊎ IsKept kept fault
 abbrev pub begins_line : ℕ → ℕ → List ℕ
 begins_line page octet = codes "page " ++ (decimal page ++ (codes " begins at octet " ++ (decimal octet ++ codes "\n")))
 
--- the same as a line, or as a record, where it is asked for and the page isn't the first
+-- with `--verbose`, and not for the first page: the octet at which the page begins, as a line or a record
 abbrev pub begins_text : Bool → Bool → ℕ → ℕ → List ℕ
 begins_text verbose records page octet = cond (verbose && nat_lt 1 page)
     (cond records (record_line (begins_record page octet)) (begins_line page octet)) []
@@ -122,15 +125,15 @@ abbrev pub broken_line : ℕ → ℕ → List ℕ
 broken_line number octet = codes "page " ++ (decimal number ++ (codes " begins at octet " ++ (decimal octet
     ++ codes " and can't be read to its end\n")))
 
--- what `decode` gives of octets that begin with the page of this number, and before it the line of where they begin in the file
+-- what `decode` gives of the octets of a page with this number, after the line of the octet at which it begins
 pub record AnswersReached (form : PageForm) (options : DecodeOptions) (page octet : ℕ) (octets : List ℕ) (decoded : PagePixels)
     (told : List ℕ) (end : Result Bool ToolFault) : Type 0 where
   pub lines : List ℕ
   pub answers : (image : List ℕ) → WritesPage decoded (Some []) (Some image) → AnswersDecode form options octets image lines end
   pub told_is : told ≡ begins_text options.verbose options.records page octet ++ lines
 
--- What is given of a page of octets, whose own ones are `later`: what `decode` gives of those, with the line of where they begin. Where
--- the file has no such page, how many it has, and fault 28; where one before it can't be read to its end, which one, and its fault.
+-- What is reported of a page of a file. If it is there, what `decode` gives of its octets. If the file ends before it, the line with the
+-- number of pages, and `FewerPages` (28). If a page before it can't be read to its end, the line that names that page, and its fault.
 abbrev pub GivesReached : PageForm → DecodeOptions → ℕ → List ℕ → List ℕ → PagePixels → List ℕ → Result Bool ToolFault → Reached → Type 0
 GivesReached form options page octets later decoded told end Page =
     AnswersReached form options page (length octets - length later) later decoded told end
@@ -139,7 +142,9 @@ GivesReached form options page octets later decoded told end (End count) =
 GivesReached form options page octets later decoded told end (Broken number fault) =
     (decoded.rows ≡ []) × (told ≡ as_told options.records (broken_line number (length octets - length later))) × (end ≡ Err fault)
 
--- what `decode` gives of the page of this number, counted from 1
+-- Decodes page `page` of a file, counted from 1: what `decode` gives of its octets, and with `--verbose` first the octet at which they
+-- begin (not for the first page). If the file has fewer pages, the line with their number, and `FewerPages` (28). If a page before it can't
+-- be read to its end, the line that names that page, and its fault.
 pub record AnswersPage (form : PageForm) (options : DecodeOptions) (page : ℕ) (octets later : List ℕ) (decoded : PagePixels)
     (told : List ℕ) (end : Result Bool ToolFault) : Type 0 where
   pub reached : Reached

@@ -17,14 +17,14 @@ pub record EndsByRtc (x : List Bool) : Type 0 where
   pub long : AllByRecursion (λ count. 11 ≤ count) eols
   pub split : x ≡ front ++ (eol_words eols ++ replicate fill false)
 
--- the first bits end with an EOL, which begins at a place, with all 0 bits that come before its 1; or with none
+-- the first `end` bits end with an EOL that begins at `start`, fill included; or they end with no EOL
 abbrev pub FindsEol : Order → List ℕ → ℕ → Option ℕ → Type 0
 FindsEol order octets end (Some start) =
     (start + 12 ≤ end) × (bits_in order octets end ≡ bits_in order octets start ++ eol_word (end - 1 - start))
     × (0 < start → bit_in order octets (start - 1) ≡ true)
 FindsEol order octets end None = (front : List Bool) (count : ℕ) → 11 ≤ count → bits_in order octets end ≡ front ++ eol_word count → ⊥
 
--- the code of a page, the first bits of the octets, has its end: RTC in T.4; in T.6 each page that is read ends by EOFB
+-- The code of a page, the first bits of the octets, has its end: in T.4 RTC; in T.6 always, since a page without EOFB is refused.
 abbrev pub HasItsEnd : Coding → Order → List ℕ → ℕ → Type 0
 HasItsEnd OneDim order octets bits = EndsByRtc (take bits (bits_of order octets))
 HasItsEnd T6 order octets bits = Unit {0}

@@ -10,7 +10,7 @@ use Rattle.run_tables.specs.declared.fault.CodeFault.{CodeFault}
 use Rattle.faults.specs.declared.expected.Expected.{Expected}
 use Rattle.faults.specs.declared.expected.Expected.TheVariants.{RunOf, Eol}
 
--- the row after all whole rows of the bits, counted from 1
+-- the row after all whole rows of the coded bits, counted from 1
 abbrev pub IsRefusedRow : Coding → ℕ → List Bool → ℕ → Type 0
 IsRefusedRow coding width bits row =
     (rows : List (List Color)) × AreWholeRows coding width bits rows × (row ≡ length rows + 1)
@@ -29,7 +29,7 @@ pub record HasNoEol (width : ℕ) (bits : List Bool) (place : ℕ) : Type 0 wher
   pub ends : start + used ≡ place
   pub none : ¬ EolBegins (drop place bits)
 
--- what is expected at the place where bits are refused: a run of the color, or an EOL
+-- what is expected at the bit where bits are refused: a run of the color, or an EOL
 abbrev pub IsExpected : ℕ → List Bool → ℕ → Expected → Type 0
 IsExpected width bits place (RunOf color) = IsRefusedRun bits place color
 IsExpected width bits place Eol = HasNoEol width bits place

@@ -3,7 +3,7 @@ use Rattle.std.specs.Prelude.{ℕ, ◌≡◌, ◌<◌, Bool, true, false, List, 
 use Rattle.page_code.specs.OneDimension.Repairs.{EolOf, TornEolOf}
 use Rattle.page_files.specs.Repairs.{repaired_text}
 
--- what is written of repaired rows: rows are counted from 1 and bits from 0, as they come
+-- law: the lines written for none, one and two repaired rows. Rows are counted from 1 and bits from 0.
 pub record RowsAreListed : Type 0 where
   pub none : repaired_text [] ≡ []
   pub one : repaired_text (record { row = 17; bit = 1234 } ∷ []) ≡ codes "row 17 repaired at bit 1234\nrepaired rows: 1\n"
@@ -17,6 +17,6 @@ pub record IsOneBitOff (x : List Bool) (used : ℕ) : Type 0 where
   pub wrong : slice_index_or x place false ≡ true
   pub right : EolOf (slice_set x place false) used
 
--- each torn EOL is one with one wrong bit
+-- law: each torn EOL is an EOL with one wrong bit: one of its first eleven bits is a 1 that should be 0
 abbrev pub TornIsOneBitOff : Type 0
 TornIsOneBitOff = (x : List Bool) (used : ℕ) → TornEolOf x used → IsOneBitOff x used

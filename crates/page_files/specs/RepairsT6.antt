@@ -35,8 +35,8 @@ pub record EndsWithoutEofb (order : Order) (width : ℕ) (fine : Bool) (before a
   pub rows_are : rows ≡ length page.rows
   pub written : AppendsSome (ArePagesText (page ∷ [])) before after
 
--- the octets begin with no page's code, and the whole rows are written as `decode --salvage` writes them: there is none, or after them
--- another row begins
+-- The octets begin with no page's code, and the whole rows are written as `decode --salvage` writes them. There is no whole row, or another
+-- row begins after them.
 pub record BreaksOff (order : Order) (width : ℕ) (fine : Bool) (before after : Option (List ℕ)) (rows : ℕ) (fault : ToolFault)
     (octets : List ℕ) : Type 0 where
   pub salvaged : SalvagesRows T6 order width fine before after rows fault octets

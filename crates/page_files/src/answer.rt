@@ -1,4 +1,4 @@
-//! What `decode` gives of octets in memory: a page, what is told of it, and whether all is there that is asked for.
+//! What `decode` gives of octets in memory: a page, the messages about it, and whether the result is complete.
 ghost use Rattle.page_files.specs.Answers.{AnswersDecode, after_text, end_text, no_rtc_line, octets_after, page_text, rows_text};
 ghost use Rattle.page_files.specs.CodedPages.{WritesPage};
 ghost use Rattle.page_files.specs.Decodings.{IsKept, RefusesDecoding, broken_asked};
@@ -20,14 +20,14 @@ use raster::Page;
 use std::alloc::Global;
 use std::io::Write;
 
-/// What is given of octets that a page is decoded from.
+/// What decoding octets gives.
 #[derive(Debug, Drop)]
 pub struct DecodeAnswer {
-    /// The page, with no row where none can be read.
+    /// The page; without a row if none can be read.
     pub page: Page,
-    /// What is told of the page, in lines or in records.
+    /// The messages for standard error, as lines or as records.
     pub told: Vec<u8>,
-    /// Whether all is there that is asked for, or the fault of what can't be read.
+    /// Whether the result is complete, or the fault of what can't be read.
     pub end: Result<bool, ToolFault>,
 }
 
@@ -69,7 +69,7 @@ fn tell_after<W: Write>(
     Ok(())
 }
 
-/// Writes the lines, or the records, of a page's rows with the bits of its code, and of the octets after it, where they are asked for.
+/// Writes the lines, or the records, of a page's rows with the bits of its code, and of the octets after it, if asked for.
 fn tell_counts<W: Write>(
     alloc: Global,
     options: DecodeOptions,
@@ -90,7 +90,7 @@ fn tell_counts<W: Write>(
     Ok(())
 }
 
-/// Writes the line of a page without its RTC, where that is so.
+/// Writes the line of a page without its RTC, unless it has its end.
 fn tell_no_rtc<W: Write>(has_end: bool, rows: usize, writer: &mut W) -> Result<(), ToolFault>
     ensures told { OnOk result (Appends (W.contents writer.old) (W.contents writer.new) (cond has_end [] (no_rtc_line rows))) }
     ensures fault { IfErr result IsOutside }
@@ -102,7 +102,7 @@ fn tell_no_rtc<W: Write>(has_end: bool, rows: usize, writer: &mut W) -> Result<(
     Ok(())
 }
 
-/// Writes the line, or the record, of a page's rows, where it is asked for.
+/// Writes the line, or the record, of a page's rows, if asked for.
 fn tell_rows<W: Write>(
     alloc: Global,
     options: DecodeOptions,
@@ -123,8 +123,8 @@ fn tell_rows<W: Write>(
     Ok(())
 }
 
-/// Writes what is told of a page that was read to the end of its code, of a number of rows and the first bits of the octets, and answers
-/// whether the code has its end.
+/// Writes what is reported of a page that was read to the end of its code, of so many rows and bits, and returns whether the code has its
+/// end.
 fn tell_end<W: Write>(
     alloc: Global,
     octets: &[u8],
@@ -149,9 +149,9 @@ fn tell_end<W: Write>(
     Ok(has_end)
 }
 
-/// Decodes octets that begin with the code of a page of this form, with a width of 1 to 2,432 pixels, in the way that is asked
-/// for, as `decode_page` does, and tells what is asked for of it. Errs as `decode_page` does, and with 9. How far the octets were read is
-/// kept in `kept` as there.
+/// Decodes octets that begin with a page of `form` (1 to 2,432 pixels wide), as `options` ask, and returns the page and the messages about
+/// it. A page of T.4 gets a line if its code doesn't end with RTC; with `whole` it isn't complete then. Errors, and `kept` (how far a
+/// refused page was read), are those of `decode_page`; and `NoMemory` (9).
 pub fn answer_decode(
     alloc: Global,
     octets: &[u8],

@@ -21,14 +21,14 @@ use run_tables::Order;
 use std::alloc::{AllocError, Global};
 use std::io::{Read, Write};
 
-/// The fault of an input of more than one image.
+/// `SeveralPages` (27): the input has more than one image.
 const SEVERAL_PAGES: ToolFault = ToolFault::No(27);
 
-/// How many octets of a code wait, or a row's more, before they are written.
+/// The size of the buffer of coded octets; it may be exceeded by one row.
 const PIECE: usize = 65536;
 
-/// Reads a PBM file of one image, whose page it answers. Of a file of several images it keeps the first alone.
-/// Errs with the first fault of the file or with 27 where it has several images, with 8 where the reader fails, and with 9.
+/// Reads a PBM file of one image and returns its page. Of several images only the first is kept in memory. Errors: the first fault of the
+/// file, `SeveralPages` (27), `Io` (8) from the reader, `NoMemory` (9).
 pub fn read_image<R: Read>(alloc: Global, reader: &mut R) -> Result<Page, ToolFault>
     ensures read { IfOk result (λ page. IfSome (R.remaining reader.old) (λ octets. AreImages false octets (page ∷ []))) }
     ensures rows { IfOk result (λ page. 0 < length page.rows) }
@@ -41,8 +41,8 @@ pub fn read_image<R: Read>(alloc: Global, reader: &mut R) -> Result<Page, ToolFa
     Ok(page)
 }
 
-/// The page whose code octets begin with, and how many bits the code has. Errs at the bit where they are refused, and how far they were
-/// read is kept in `kept` then, where else nothing is; and with 9.
+/// Returns the page that octets begin with, and the number of bits of its code. Errors: the refusal, at its bit, and then `kept` holds how
+/// far the page was read, otherwise None; `NoMemory` (9).
 pub(crate) fn read_code(
     alloc: Global,
     octets: &[u8],
@@ -72,9 +72,8 @@ pub(crate) fn read_code(
     }
 }
 
-/// Writes the code of a page of one row or more, its last octet filled with 0 bits. Rows are coded one after the other, and
-/// their code is written 64 KiB at a time: so what is held of it doesn't grow with the page.
-/// Errs with 8 where the writer fails, and with 9; a part of the code may be written then.
+/// Writes the prescribed code of a page that has rows, filled with 0 bits to a whole octet. Rows are coded one by one and written 64 KiB at
+/// a time, so memory doesn't grow with the page. Errors: `Io` (8) from the writer, `NoMemory` (9); a part of the code may be written then.
 pub fn write_code<W: Write>(
     alloc: Global,
     page: &Page,
@@ -112,7 +111,7 @@ fn code_row(coder: &mut RowCoder, row: &Row, held: &mut Vec<u8>) -> Result<(), T
     Ok(())
 }
 
-/// Writes the octets that are held, where they are many, and holds none then.
+/// Writes the octets in the buffer if they are many, and empties it then.
 fn write_held<W: Write>(held: &mut Vec<u8>, writer: &mut W) -> Result<(), ToolFault>
     ensures written { OnOk result ((octets : List ℕ) × Appends (W.contents writer.old) (W.contents writer.new) octets
         × (held.old.items ≡ octets ++ held.new.items)) }

@@ -1,4 +1,4 @@
-//! What `decode` tells of a page as JSON for programs.
+//! The messages of `decode` as JSON for programs.
 
 ghost use Rattle.page_files.specs.DecodeRecords.{after_record, as_told, begins_record, notices, page_record, rows_record};
 ghost use Rattle.faults.specs.Faults.{IsOutside};
@@ -42,7 +42,7 @@ fn begins_record(alloc: Global, page: u32, octet: usize) -> Result<Value, AllocE
     json!(in alloc; {"page": page, "begins_at_octet": octet})
 }
 
-/// Writes the record of a page's rows and of the bits of its code. Errs with 8 where the writer fails, and with 9.
+/// Writes the record of a page's rows and of the bits of its code. Errors: `Io` (8) from the writer, `NoMemory` (9).
 pub(crate) fn write_page<W: Write>(
     alloc: Global,
     rows: usize,
@@ -56,7 +56,7 @@ pub(crate) fn write_page<W: Write>(
     write_record(alloc, &record, writer)
 }
 
-/// Writes the record of the octets after a page. Errs with 8 where the writer fails, and with 9.
+/// Writes the record of the octets after a page. Errors: `Io` (8) from the writer, `NoMemory` (9).
 pub(crate) fn write_after<W: Write>(
     alloc: Global,
     count: u128,
@@ -69,7 +69,7 @@ pub(crate) fn write_after<W: Write>(
     write_record(alloc, &record, writer)
 }
 
-/// Writes the record of a page's rows. Errs with 8 where the writer fails, and with 9.
+/// Writes the record of a page's rows. Errors: `Io` (8) from the writer, `NoMemory` (9).
 pub(crate) fn write_rows<W: Write>(
     alloc: Global,
     rows: usize,
@@ -82,7 +82,7 @@ pub(crate) fn write_rows<W: Write>(
     write_record(alloc, &record, writer)
 }
 
-/// Writes the record of the octet at which a page begins. Errs with 8 where the writer fails, and with 9.
+/// Writes the record of the octet at which a page begins. Errors: `Io` (8) from the writer, `NoMemory` (9).
 pub(crate) fn write_begins<W: Write>(
     alloc: Global,
     page: u32,
@@ -109,8 +109,8 @@ fn write_notices<W: Write>(alloc: Global, text: &str, writer: &mut W) -> Result<
     Ok(())
 }
 
-/// Lines as they are, or the record of a notice for each of them. Errs with 8 where they are to be records and aren't UTF-8, and
-/// with 9.
+/// Returns the lines unchanged, or as records: a notice for each line. Errors: `Io` (8) if the lines of records aren't UTF-8, `NoMemory`
+/// (9).
 pub(crate) fn told_as(alloc: Global, records: bool, lines: Vec<u8>) -> Result<Vec<u8>, ToolFault>
     ensures told { IfOk result (λ told. told.items ≡ as_told records lines.items) }
     ensures fault { IfErr result IsOutside }

@@ -16,20 +16,20 @@ use page_code::{CodesPages, Coding, RefusedCode};
 use raster::Page;
 use std::alloc::Global;
 
-/// What is given of a page that can't be read.
+/// What is wanted of a page that can't be read to its end.
 #[derive(Clone, Copy, Debug, PartialEq, Eq)]
 pub enum Broken {
-    /// Nothing.
+    /// Nothing: it is a fault.
     Nothing,
-    /// The whole rows before the bit where it is refused.
+    /// The whole rows before the refused bit.
     WholeRows,
-    /// In the one-dimensional code all its rows, where one that can't be read is the one before it. In T.6 its whole rows; and where
-    /// only its EOFB is missing or broken, that is no fault.
+    /// In T.4 all rows, where a row that can't be read is a copy of the one before it. In T.6 the whole rows; it is no fault if only EOFB
+    /// is missing or broken.
     AllRows,
 }
 
 impl Broken {
-    /// What is given where `--salvage` or `--repair` is asked for; with both, what `--repair` gives.
+    /// Returns what `--salvage` or `--repair` asks for; with both, what `--repair` asks for.
     pub fn asked(salvage: bool, repair: bool) -> Broken
         ensures { result ≡ broken_asked salvage repair }
     {
@@ -48,26 +48,26 @@ impl Broken {
 pub enum ReadTo {
     /// To the end of its code, which has this number of bits.
     End(u128),
-    /// To the bit of this fault, where the rest is refused.
+    /// To the bit of this fault; the rest is refused.
     Fault(ToolFault),
-    /// To its end line by line, where this number of rows is repaired.
+    /// Line by line to its end; this number of rows is repaired.
     Lines(usize),
-    /// To the bit after its last row, where EOFB is missing or broken.
+    /// To this bit, after its last row; EOFB is missing or broken.
     NoEnd(u128),
 }
 
-/// What is given of a coded page.
+/// What decoding a page gives.
 #[derive(Debug, Drop)]
 pub struct Decoded {
-    /// The page, with no row where none can be read.
+    /// The page; without a row if none can be read.
     pub page: Page,
-    /// A line for each repaired row, and one with their number, if there is one.
+    /// A line for each repaired row, and one with their number; empty if there is none.
     pub lines: Vec<u8>,
     /// How far the page was read.
     pub read_to: ReadTo,
 }
 
-/// The page of octets that begin with its code. Where they are refused, how far they were read is kept.
+/// Returns the page that octets begin with. If they are refused, `kept` holds how far they were read.
 fn decode_whole(
     alloc: Global,
     octets: &[u8],
@@ -91,7 +91,7 @@ fn decode_whole(
     })
 }
 
-/// The whole rows of octets that are refused so.
+/// Returns the whole rows of octets with this refusal.
 fn salvage_refused(
     alloc: Global,
     octets: &[u8],
@@ -111,6 +111,7 @@ fn salvage_refused(
         width,
         fine,
     } = form;
+    // the pixels before the refused bit in its own row are given up
     let page = coding.salvage(alloc, octets, order, width, fine)?;
     let lines = Vec::new(alloc);
     let fault = ToolFault::from(code.fault);
@@ -122,8 +123,7 @@ fn salvage_refused(
     })
 }
 
-/// The page of octets that begin with its code, or its whole rows before the bit where they are refused; how far they were read is kept
-/// then.
+/// Returns the page that octets begin with, or its whole rows before the refused bit; then `kept` holds how far they were read.
 fn salvage_rows(
     alloc: Global,
     octets: &[u8],
@@ -154,10 +154,9 @@ fn salvage_rows(
     }
 }
 
-/// Decodes octets that begin with the code of a page of this form, with a width of 1 to 2,432 pixels, in the way that is
-/// asked for: to the page whose image `decode_engine`, `salvage_engine` or `repair_engine` writes, or what `repair_t6` gives. Errs where
-/// no page is given: at the bit where they are refused, and with 9 where memory is. How far they were read is kept in `kept`, where
-/// they are refused and not repaired, and none else.
+/// Decodes octets that begin with a page of this form (1 to 2,432 pixels wide), as `broken` asks: returns the page that `decode_engine`,
+/// `salvage_engine`, `repair_engine` or, for T.6, `repair_t6` gives. If the octets are refused and not repaired, `kept` holds how far they
+/// were read, otherwise None. Errors: the refusal, at its bit; `NoMemory` (9).
 #[tactic(auto, using(crate::proofs::DecodedPages::refused_show, crate::proofs::DecodedPages::refused_kept))]
 pub fn decode_page(
     alloc: Global,

@@ -23,9 +23,9 @@ use std::io::Write;
 pub struct Tried {
     /// The code, the order of bits and the width in pixels.
     pub form: PageForm,
-    /// How many rows there are: all of the page, or the whole ones before the fault.
+    /// The number of rows: all of the page, or the whole ones before the fault.
     pub rows: usize,
-    /// How many bits the page's code has, or the fault for which the octets are refused.
+    /// The number of bits of the page's code, or the fault of the refused bit.
     pub end: Result<u128, ToolFault>,
 }
 
@@ -86,14 +86,14 @@ fn format_among(formats: &[Format], octets: &[u8]) -> Option<&'static str>
     None
 }
 
-/// The name of the format as which octets begin, if it is known.
+/// Returns the name of the format that octets begin as, if it is known.
 pub fn format_of(octets: &[u8]) -> Option<&'static str>
     ensures { option_map (λ name. name.now) result ≡ format_of octets.now }
 {
     format_among(&FORMATS, octets)
 }
 
-/// Reads octets in one way. Errs with 9 where memory is refused.
+/// Reads octets in one way. Errors: `NoMemory` (9).
 #[tactic(auto, using(crate::proofs::RefusedRows::whole_rows))]
 fn try_way(alloc: Global, octets: &[u8], form: PageForm) -> Result<Tried, ToolFault>
     requires { IsWidth form.width }
@@ -119,7 +119,7 @@ fn try_way(alloc: Global, octets: &[u8], form: PageForm) -> Result<Tried, ToolFa
     }
 }
 
-/// Reads octets in one code, one order of bits and each of these widths, and appends how far that is. Errs with 9 where memory is refused.
+/// Reads octets in one code, one order of bits and each of these widths, and appends how far that is. Errors: `NoMemory` (9).
 fn try_widths(
     alloc: Global,
     octets: &[u8],
@@ -140,6 +140,7 @@ fn try_widths(
             width: *width,
             fine: false,
         };
+        // only its counts are kept: one page at a time is in memory
         let one = try_way(alloc, octets, form)?;
         if tried.push(one).is_err() {
             return Err(NO_MEMORY);
@@ -148,8 +149,8 @@ fn try_widths(
     Ok(())
 }
 
-/// Reads octets in each way that is tried: in T.6 and in T.4, with either bit first, in each of the widths. Errs with 9 where memory is
-/// refused.
+/// Reads octets in all ways that are tried: T.6 and T.4, both bit orders, seven widths; and returns for each how far it reads: the rows and
+/// the bits of the page that the octets begin with, or the fault that `decode` gives and the whole rows before it. Errors: `NoMemory` (9).
 pub fn try_ways(alloc: Global, octets: &[u8]) -> Result<Vec<Tried>, ToolFault>
     ensures tried { IfOk result (λ tried. AreTried octets.now tried.items) }
     ensures refused { IfErr result IsOutside }
@@ -229,7 +230,7 @@ fn tell_after<W: Write>(count: u128, writer: &mut W) -> Result<(), ToolFault>
     Ok(())
 }
 
-/// Whether of a page in T.6 all is there but its EOFB, as it was read.
+/// Returns whether a page of T.6, as it was read, is complete except for its EOFB.
 fn lacks_eofb(rows: usize, end: Result<u128, ToolFault>) -> bool
     ensures { result ≡ lacks_eofb rows end }
 {
@@ -265,7 +266,7 @@ fn tell_tried<W: Write>(octets: &[u8], tried: &Tried, writer: &mut W) -> Result<
     Ok(())
 }
 
-/// Whether octets fit a way so far.
+/// Returns whether octets fit a way so far.
 fn fits(fit: Fit, octets: &[u8], tried: &Tried) -> bool
     ensures { result ≡ fits fit octets.now tried.now.rows tried.now.end }
 {
@@ -278,7 +279,7 @@ fn fits(fit: Fit, octets: &[u8], tried: &Tried) -> bool
     }
 }
 
-/// Writes the line of a way, where octets fit it so far.
+/// Writes the line of a way if octets fit it so far.
 fn tell_one<W: Write>(
     fit: Fit,
     octets: &[u8],
@@ -310,7 +311,7 @@ fn tell_those<W: Write>(
     Ok(())
 }
 
-/// Whether octets read to a page's end in one of these ways, or to one of which only EOFB is missing.
+/// Returns whether octets are a page in one of these ways, at least without its EOFB.
 fn has_page(tried: &[Tried]) -> bool
     ensures { result ≡ list_any is_page tried.now }
 {
@@ -345,9 +346,10 @@ fn no_page(octets: &[u8]) -> ToolFault
     }
 }
 
-/// Writes the format as which octets begin, if it is known, and a line for each way in which they read to a page's end: first those with no
-/// octet after it, then those of which only EOFB is missing. Where there is neither, writes how far they read in each way in which they
-/// begin with a row, and answers the fault: 7 where there is no octet, and else 29. Errs with 8 where the writer fails, and with 9.
+/// Writes the format that octets begin as, if it is known, and a line for each way in which they read as a page: first those without octets
+/// after it, then those without EOFB, then those with octets after it. With neither, writes how far each way reads that has a first row,
+/// and returns the fault: `NoPages` (7) if there is no octet, otherwise `Unidentified` (29). Errors: `Io` (8) from the writer, `NoMemory`
+/// (9).
 pub fn identify_engine<W: Write>(
     alloc: Global,
     octets: &[u8],
@@ -356,6 +358,7 @@ pub fn identify_engine<W: Write>(
     ensures identified { IfOk result (Identifies octets.now (W.contents writer.old) (W.contents writer.new)) }
     ensures refused { IfErr result IsOutside }
 {
+    // pages are tried even if a format is known, since a page may begin so by chance
     let format = format_of(octets);
     let tried = try_ways(alloc, octets)?;
     tell_format(format, writer)?;
@@ -365,6 +368,7 @@ pub fn identify_engine<W: Write>(
     if format.is_some() || has_page(&tried) {
         return Ok(None);
     }
+    // octets of no fax at all have a few rows of T.6 by chance, so these lines don't say that it is a page
     tell_those(Fit::Begun, octets, &tried, writer)?;
     Ok(Some(no_page(octets)))
 }

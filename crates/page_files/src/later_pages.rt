@@ -24,24 +24,24 @@ use raster::packed::{Order, bit_of};
 use std::alloc::Global;
 use std::io::Write;
 
-/// What comes after pages of a file.
+/// What follows some pages of a file.
 #[derive(Clone, Copy, Debug, PartialEq, Eq)]
 pub enum Reached {
     /// Another page.
     Page,
-    /// Nothing, or only 0 bits: the file has this number of pages.
+    /// Nothing, or only EOLs and 0 bits: the file has this number of pages.
     End(u32),
-    /// The page of this number, counted from 1, can't be read to its end.
+    /// The page with this number, counted from 1, can't be read to its end.
     Broken(u32, ToolFault),
 }
 
-/// The fault of a file with fewer pages than the number of the one that is asked for.
+/// `FewerPages` (28): the file has fewer pages than the number asked for.
 const FEWER_PAGES: ToolFault = ToolFault::No(28);
 
 /// The 0 bits of an EOL without fill (ITU-T T.4, 4.1.2).
 const EOL_ZEROS: u128 = 11;
 
-/// The number of 0 bits before the first 1 from a place on, or none where there is no 1.
+/// Returns the number of 0 bits before the first 1 from a place on; None if no 1 follows.
 fn zeros_at(octets: &[u8], order: Order, place: u128) -> Option<u128>
     requires { place ≤ 8 * length octets.now }
     ensures zeros { result ≡ zeros_before (drop place (bits_of order octets.now)) }
@@ -58,8 +58,8 @@ fn zeros_at(octets: &[u8], order: Order, place: u128) -> Option<u128>
     None
 }
 
-/// Where the page begins in the octets that comes after one in the one-dimensional code, which has the first `used` bits: with the last EOL
-/// that stands there, without its fill, or in the next octet where none does.
+/// Returns the bit at which the page begins that follows one of T.4 with the first `used` bits: at the last EOL of those there, without its
+/// fill; or in the next octet if no EOL is there.
 fn later_one_dim(octets: &[u8], order: Order, used: u128) -> Option<u128>
     requires { used ≤ 8 * length octets.now }
     ensures later { IsLaterOneDim used (drop used (bits_of order octets.now)) result }
@@ -67,6 +67,7 @@ fn later_one_dim(octets: &[u8], order: Order, used: u128) -> Option<u128>
 {
     let end = 8 * octets.len() as u128;
     let mut place = used;
+    // An EOL may follow at the next bit, in the next octet or after fill; earlier EOLs, as the seventh of pbmtog3, are passed over.
     let mut start = 8 * used.div_ceil(8);
     while place < end {
         let Some(zeros) = zeros_at(octets, order, place) else {
@@ -81,13 +82,14 @@ fn later_one_dim(octets: &[u8], order: Order, used: u128) -> Option<u128>
     None
 }
 
-/// Where the page begins in the octets that comes after one in T.6, which ends in the octet before this one.
+/// Returns the bit at which the page begins that follows one of T.6, which ends before the octet `from`.
 fn later_t6(octets: &[u8], from: usize) -> Option<u128>
     ensures later { IsLaterT6 from octets.now result }
     ensures within { IfSome result (λ start. start ≤ 8 * length octets.now) }
 {
     let mut at = from;
     while at < octets.len() {
+        // EOFB is filled up to an octet (T.6, 2.4), and no page begins with eight 0 bits
         if octets[at] != 0 {
             return Some(8 * at as u128);
         }
@@ -96,7 +98,7 @@ fn later_t6(octets: &[u8], from: usize) -> Option<u128>
     None
 }
 
-/// Where the page begins in the octets that comes after the first one, which has the first `used` bits.
+/// Returns the bit at which the page begins that follows the first one, of the first `used` bits.
 fn later_in(octets: &[u8], form: PageForm, used: u128) -> Option<u128>
     ensures later { IsLater form octets.now used result }
     ensures within { IfSome result (λ start. start ≤ 8 * length octets.now) }
@@ -110,7 +112,7 @@ fn later_in(octets: &[u8], form: PageForm, used: u128) -> Option<u128>
     }
 }
 
-/// An octet with 0 bits in place of its first ones, one to seven of them.
+/// Returns an octet with its first `count` bits, one to seven, set to 0.
 fn without_first(order: Order, octet: u8, count: u32) -> u8
     requires some { 0 < count }
     requires few { count < 8 }
@@ -123,7 +125,7 @@ fn without_first(order: Order, octet: u8, count: u32) -> u8
     }
 }
 
-/// Takes away the octets before that of a bit, and in its own the bits before it: they are 0.
+/// Drops the octets before the one with this bit, and sets the bits before it in that octet to 0.
 fn cut_before(octets: &mut Vec<u8>, order: Order, start: u128)
     requires { start ≤ 8 * length octets.old.items }
     ensures { IsFrom order start octets.old.items octets.new.items }
@@ -136,8 +138,8 @@ fn cut_before(octets: &mut Vec<u8>, order: Order, start: u128)
     }
 }
 
-/// Takes away the first page of octets, where another one follows it: they are those of that page then. Answers whether one does.
-/// Errs where the page can't be read, and how far it was is kept then; and with 9. Then, and where none follows, the octets stay.
+/// Drops the first page if another follows, and returns whether it did. If none follows, or the page can't be read, the octets stay.
+/// Errors: the refusal, at its bit, and then `kept` holds how far the page was read; `NoMemory` (9).
 fn skip_page(
     alloc: Global,
     octets: &mut Vec<u8>,
@@ -151,6 +153,7 @@ fn skip_page(
     ensures refused { IfErr result (RefusesKept kept.new form octets.old.items) }
     ensures stays { OnErr result (octets.new.items ≡ octets.old.items) }
 {
+    // only reading a page to its end shows where the next one begins, in whatever way that is decoded; the page isn't kept
     let (_page, used) = read_code(alloc, octets, form, kept)?;
     let Some(start) = later_in(octets, form, used) else {
         return Ok(false);
@@ -159,9 +162,9 @@ fn skip_page(
     Ok(true)
 }
 
-/// Takes away pages at the beginning of octets, of a width of 1 to 2,432 pixels, and answers what comes after them. The octets
-/// are then those from there on; where a page before that can't be read, or is the last one, from its beginning on. How far a page
-/// was read that can't be is kept in `kept`, and else nothing. Errs with 9 where memory is refused.
+/// Drops `pages` pages (1 to 2,432 pixels wide) with what lies between each and the next, and returns what follows. Then the octets begin
+/// with the page that follows; or with the last page, if it is one of these; or with the first page that can't be read, and then `kept`
+/// holds how far it was read, otherwise None. Errors: `NoMemory` (9).
 pub fn skip_pages(
     alloc: Global,
     octets: &mut Vec<u8>,
@@ -191,7 +194,7 @@ pub fn skip_pages(
     Ok(Reached::Page)
 }
 
-/// Writes the line, or the record, of the octet at which a page begins, where it is asked for and the page isn't the first.
+/// Writes the octet at which a page begins, as a line or a record, if asked for and the page isn't the first.
 fn tell_begins<W: Write>(
     alloc: Global,
     options: DecodeOptions,
@@ -234,8 +237,8 @@ fn tell_broken<W: Write>(number: u32, octet: usize, writer: &mut W) -> Result<()
     Ok(())
 }
 
-/// Decodes octets that begin with the page of this number as `answer_decode` does, and tells first at which octet they begin in the file,
-/// where it is asked for.
+/// Decodes octets that begin with the page of this number as `answer_decode` does; if asked for, reports first at which octet of the file
+/// they begin.
 fn answer_reached(
     alloc: Global,
     octets: &[u8],
@@ -270,10 +273,10 @@ fn answer_reached(
     })
 }
 
-/// Decodes the page of this number, counted from 1, of octets with pages of this form one after another, as `answer_decode` does the
-/// first one. The octets are those from that page on then, so that bits are counted from its octet on; where the file has no such page,
-/// or one before it can't be read to its end, from the last one's or from that one's. Errs as `answer_decode` does, and keeps as there
-/// how far they were read, or how far the one before it was.
+/// Decodes page `page`, counted from 1, of octets with pages of `form` one after another, as `answer_decode` decodes the first. The octets
+/// then begin with that page, and bits are counted from its first octet on. If the file has fewer pages, reports how many, with
+/// `FewerPages` (28); if a page before it can't be read, reports its number, with its fault. Errors, and `kept`, are those of
+/// `answer_decode`.
 pub fn answer_page(
     alloc: Global,
     octets: &mut Vec<u8>,

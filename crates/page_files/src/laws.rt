@@ -2,7 +2,7 @@
 
 ghost use Rattle.page_files.specs.RepairsMean.{RowsAreListed, TornIsOneBitOff};
 
-/// What is written of repaired rows; and an EOL that ends a line though it is torn has one wrong bit, among its first eleven.
+/// The lines written for repaired rows, by three lists; and each torn EOL that ends a line has one wrong bit, among its first eleven.
 pub fn repairs_mean()
     ensures rows { RowsAreListed }
     ensures torn { TornIsOneBitOff }

@@ -7,25 +7,25 @@ use run_tables::Order;
 pub struct PageForm {
     /// The code of the page.
     pub coding: Coding,
-    /// Which bit of an octet comes first.
+    /// Which bit of an octet is first.
     pub order: Order,
     /// The page's width in pixels.
     pub width: u32,
-    /// 7.7 lines a millimetre in place of 3.85.
+    /// Whether the lines are fine, 7.7 a millimeter, and not standard, 3.85.
     pub fine: bool,
 }
 
-/// What is asked for of a page that is decoded.
+/// What is wanted of a page that is decoded.
 #[derive(Clone, Copy, Debug, PartialEq, Eq)]
 pub struct DecodeOptions {
-    /// Its whole rows, where the rest can't be read.
+    /// Its whole rows, if the rest can't be read.
     pub salvage: bool,
-    /// A row for each line, also where it can't be read; with `salvage` this alone.
+    /// A row for each line, even if it can't be read; overrides `salvage`.
     pub repair: bool,
-    /// A page of T.4 is all there only where its code ends with RTC.
+    /// A page without its RTC (T.4) or its EOFB (T.6, with `repair`) isn't complete.
     pub whole: bool,
-    /// Lines with its rows, the bits of its code and the octets after it.
+    /// Also messages with its rows, the bits of its code and the octets after it.
     pub verbose: bool,
-    /// What is told is records of JSON in place of lines.
+    /// Messages are records of JSON, not lines.
     pub records: bool,
 }

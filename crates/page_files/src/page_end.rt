@@ -13,7 +13,7 @@ const RTC_EOLS: u32 = 6;
 /// The 0 bits of an EOL without fill (ITU-T T.4, 4.1.2).
 const EOL_ZEROS: u128 = 11;
 
-/// How many bits are left of the first `end` ones without the 0 bits at their end.
+/// Returns how many of the first `end` bits are left without the 0 bits at their end.
 fn without_zeros(octets: &[u8], order: Order, end: u128) -> u128
     requires { end ≤ 8 * length octets.now }
     ensures zeros { bits_in order octets.now end ≡ bits_in order octets.now result ++ replicate (end - result) false }
@@ -30,7 +30,7 @@ fn without_zeros(octets: &[u8], order: Order, end: u128) -> u128
     0
 }
 
-/// Where the EOL begins, with its fill, that the first `end` bits end with, if they do.
+/// Returns where the EOL begins, fill included, that ends the first `end` bits; None if they don't end with an EOL.
 fn eol_before(octets: &[u8], order: Order, end: u128) -> Option<u128>
     requires { end ≤ 8 * length octets.now }
     ensures { FindsEol order octets.now end result }
@@ -49,11 +49,12 @@ fn eol_before(octets: &[u8], order: Order, end: u128) -> Option<u128>
     Some(start)
 }
 
-/// Whether the first `bits` bits of the octets, or all where they have fewer, end with RTC (ITU-T T.4, 4.1.4).
+/// Returns whether the first `bits` bits of the octets (all, if they have fewer) end with RTC (ITU-T T.4, 4.1.4).
 fn ends_by_rtc(octets: &[u8], order: Order, bits: u128) -> bool
     ensures { IsTrue result ↔ EndsByRtc (take bits (bits_of order octets.now)) }
 {
     let end = bits.min(8 * octets.len() as u128);
+    // from the last bit back, so that a page with RTC costs some 72 bits more
     let code = without_zeros(octets, order, end);
     let mut place = code;
     for eols in 0..RTC_EOLS {
@@ -65,7 +66,8 @@ fn ends_by_rtc(octets: &[u8], order: Order, bits: u128) -> bool
     true
 }
 
-/// Whether the code of a page, the first `bits` bits of the octets, has its end.
+/// Returns whether the code of a page, the first `bits` bits of the octets, has its end: RTC in T.4; always in T.6, since a page without
+/// EOFB is refused.
 pub(crate) fn has_its_end(octets: &[u8], form: PageForm, bits: u128) -> bool
     ensures { IsTrue result ↔ HasItsEnd form.coding form.order octets.now bits }
 {

@@ -17,18 +17,17 @@ use run_tables::{CodeFaultKind, Order};
 use std::alloc::Global;
 use std::io::{Read, Write};
 
-/// What there was of a coded page.
+/// What was salvaged of a coded page.
 #[derive(Clone, Copy, Debug, PartialEq, Eq)]
 pub struct Salvage {
     /// How many rows were written.
     pub rows: usize,
-    /// How many bits the page's code has, or the fault for which the rest of it was refused.
+    /// The number of bits of the page's code, or the fault of the refused bit.
     pub end: Result<u128, ToolFault>,
 }
 
-/// Reads a PBM file of one image, as `read_image` does, and writes the image's code, as `write_code` does.
-/// Errs with the first fault of the file or with 27 where it has several images, and then nothing is
-/// written; with 8 where the reader or the writer fails, and with 9.
+/// Reads a PBM file of one image, as `read_image` does, and writes its code, as `write_code` does. Nothing is written for a wrong file.
+/// Errors: the first fault of the file, `SeveralPages` (27), `Io` (8) from the reader or the writer, `NoMemory` (9).
 pub fn code_engine<R: Read, W: Write>(
     alloc: Global,
     reader: &mut R,
@@ -45,9 +44,8 @@ pub fn code_engine<R: Read, W: Write>(
     write_code(alloc, &page, coding, order, writer)
 }
 
-/// Reads octets that begin with the code of a page of this width in pixels, 1 to 2,432, and writes the
-/// page as text. Errs at the bit where they are refused, and then nothing is written; with 8 where the
-/// reader or the writer fails, and with 9.
+/// Reads octets that begin with a page of this width (1 to 2,432 pixels), and writes the page as text. Nothing is written for a refused
+/// page. Errors: the refusal, at its bit; `Io` (8) from the reader or the writer, `NoMemory` (9).
 pub fn show_engine<R: Read, W: Write>(
     alloc: Global,
     reader: &mut R,
@@ -73,8 +71,8 @@ pub fn show_engine<R: Read, W: Write>(
     show_page(alloc, &octets, form, &mut None, writer)
 }
 
-/// Writes the page whose code octets begin with as text, for a width of 1 to 2,432 pixels. Errs at the bit where they are refused, and
-/// how far they were read is kept in `kept` then; with 8 where the writer fails, and with 9.
+/// Writes the page that octets begin with as text, for a width of 1 to 2,432 pixels. Errors: the refusal, at its bit, and then `kept` holds
+/// how far the page was read; `Io` (8) from the writer, `NoMemory` (9).
 #[tactic(auto, using(crate::proofs::DecodedPages::refused_show, crate::proofs::DecodedPages::refused_kept))]
 pub fn show_page<W: Write>(
     alloc: Global,
@@ -95,10 +93,9 @@ pub fn show_page<W: Write>(
     Ok(())
 }
 
-/// Reads octets that begin with the code of a page of this form, of a width of 1 to 2,432 pixels, and writes the
-/// page as an image of Netpbm's raw PBM format. Answers how many rows the page has and how many bits
-/// its code has. Errs at the bit where they are refused, and then nothing is written; with 8 where the
-/// reader or the writer fails, and with 9.
+/// Reads octets that begin with a page of this form (1 to 2,432 pixels wide), writes its image as raw PBM, and returns the number of its
+/// rows and of the bits of its code. Nothing is written for a refused page. Errors: the refusal, at its bit; `Io` (8) from the reader or
+/// the writer, `NoMemory` (9).
 pub fn decode_engine<R: Read, W: Write>(
     alloc: Global,
     reader: &mut R,
@@ -126,9 +123,8 @@ pub fn decode_engine<R: Read, W: Write>(
     Ok((rows, bits))
 }
 
-/// Does what `decode_engine` does; but where the octets are refused, the whole rows before the refused bit are
-/// written, if there is one, and the answer has the fault. Errs with 8 where the reader or the writer fails, and
-/// with 9.
+/// Does what `decode_engine` does. If the page is refused, writes the whole rows before the refused bit as an image of this width, if there
+/// are any, and returns their number with the fault. Errors: `Io` (8) from the reader or the writer, `NoMemory` (9).
 pub fn salvage_engine<R: Read, W: Write>(
     alloc: Global,
     reader: &mut R,
@@ -167,7 +163,7 @@ pub fn salvage_engine<R: Read, W: Write>(
     })
 }
 
-/// Writes a page as an image where it has rows, and answers how many.
+/// Writes a page as a raw PBM image and returns the number of its rows; a page without rows writes nothing.
 pub fn write_some<W: Write>(page: Page, writer: &mut W) -> Result<usize, ToolFault>
     ensures rows { IfOk result (λ rows. rows ≡ length page.rows) }
     ensures written { OnOk result (0 < length page.rows →

@@ -15,9 +15,8 @@ use raster::Color;
 use run_tables::{BitReader, Order};
 use std::alloc::Global;
 
-/// Where a page of this width in pixels is refused at a bit: its row, counted from 1, which is the one after all whole
-/// rows of the octets, and none where memory is refused; and in the one-dimensional code what is expected at the bit: a
-/// run, or an EOL after a whole row, and none where that isn't known.
+/// Returns where a page of this width in pixels is refused at a bit: its row, counted from 1 (the one after all whole rows; None if memory
+/// is refused), and in T.4 what is expected at the bit: a run of a color, or an EOL after a whole row (None if that isn't known).
 pub fn refused_at(
     alloc: Global,
     octets: &[u8],
@@ -38,8 +37,7 @@ pub fn refused_at(
     }
 }
 
-/// Where a page of this form is refused that was read up to this refusal: what `refused_at` says. Only the row in which it is refused is
-/// looked at again.
+/// Returns what `refused_at` returns, for a page of `form` that was read up to this refusal. Looks again only at the row of the refusal.
 #[tactic(auto, using(crate::proofs::RefusedRows::refused_row))]
 pub fn refused_in(
     alloc: Global,
@@ -74,8 +72,8 @@ pub fn refused_in(
     }
 }
 
-/// The row in which a page of this width in pixels is refused, counted from 1: the one after all whole rows of
-/// the octets. None where memory is refused.
+/// Returns the row in which a page of this width in pixels is refused, counted from 1: the one after all whole rows. None if memory is
+/// refused.
 fn refused_row(
     alloc: Global,
     octets: &[u8],
@@ -92,8 +90,8 @@ fn refused_row(
     }
 }
 
-/// What is expected at a bit where a page in the one-dimensional code is refused, as its row is read from the last EOL
-/// on, which is looked for from another bit on. None where that is not known.
+/// Returns what is expected at a bit where a page of T.4 is refused, by reading its row from the last EOL on; `from` is where the search
+/// for EOLs begins. None if it isn't known.
 fn expected_at(
     alloc: Global,
     octets: &[u8],
@@ -119,7 +117,7 @@ fn expected_at(
     }
 }
 
-/// Whether a row of this width in pixels that begins where a reader stands ends at a place, and no EOL begins there.
+/// Returns whether the row of this width in pixels that begins at the reader's place ends at `place`, and no EOL begins there.
 fn has_no_eol(alloc: Global, reader: BitReader<'_>, width: u32, place: u128) -> bool
     requires { IsWidth width }
     ensures { OnTrue result (HasNoEol width reader.entry.bits place) }
@@ -134,8 +132,8 @@ fn has_no_eol(alloc: Global, reader: BitReader<'_>, width: u32, place: u128) -> 
     !reader.starts_with(0, 11)
 }
 
-/// The color of the run that is refused at a bit, as the runs of a row of this width are read from where a reader stands.
-/// None where another thing is refused there.
+/// Returns the color of the run that is refused at a bit, by reading the runs of a row of this width from the reader's place on. None if
+/// something else is refused there.
 fn refused_color(reader: BitReader<'_>, width: u32, place: u128) -> Option<Color>
     ensures { IfSome result (IsRefusedRun reader.entry.bits place) }
 {
@@ -158,10 +156,10 @@ fn refused_color(reader: BitReader<'_>, width: u32, place: u128) -> Option<Color
     None
 }
 
-/// More runs than a row has.
+/// More runs than any row has.
 const MOST_RUNS: u32 = 5000;
 
-/// The bit after the last EOL that ends before a bit, and begins at another one or after it; where there is none, that one.
+/// Returns the bit after the last EOL that begins at or after `from` and ends before a bit; `from` if there is none.
 fn row_start(octets: &[u8], order: Order, from: u128, place: u128) -> u128
     requires within { place ≤ 8 * length octets.now }
     requires before { from ≤ place }
@@ -184,8 +182,7 @@ fn row_start(octets: &[u8], order: Order, from: u128, place: u128) -> u128
     start
 }
 
-/// The bit after the last EOL that ends before a bit, which is looked for from another one on, and then in all octets; 0 where there is
-/// none.
+/// Returns the bit after the last EOL that ends before a bit, searching from another bit on and then in all octets; 0 if there is none.
 fn last_start(octets: &[u8], order: Order, from: u128, place: u128) -> u128
     requires { place ≤ 8 * length octets.now }
     ensures { result ≤ 8 * length octets.now }

@@ -15,21 +15,19 @@ use raster::write_pbm;
 use std::alloc::Global;
 use std::io::{Read, Write};
 
-/// What was given of a coded page.
+/// How many rows a repair gave.
 #[derive(Clone, Copy, Debug, PartialEq, Eq)]
 pub struct Repair {
-    /// How many rows were written.
+    /// The number of rows written.
     pub rows: usize,
-    /// How many of them are repaired: each is the one before it.
+    /// The number of repaired rows among them, each a copy of the row before it.
     pub repaired: usize,
 }
 
-/// Reads octets that begin with a page of this form, of a width of 1 to 2,432 pixels, in the one-dimensional code whatever
-/// the form's is, and writes
-/// it as an image of Netpbm's raw PBM format, in which a row that can't be read is the one before it (white for the
-/// first). Then a line for each such row is written to `lines`, and one with their number, if there is one. Errs at
-/// the bit where the page is refused if no row can be read, at a 20,001st row, with 8 where the reader or a writer
-/// fails, and with 9.
+/// Reads octets that begin with a page of T.4, of the width and lines of `form` (1 to 2,432 pixels), and writes it as a raw PBM image. Each
+/// line, up to its EOL, gives one row; a row that can't be read is a copy of the one before it, white for the first. `lines` gets a line
+/// for each such row, and one with their number if there are any. Errors: the refusal at its bit if no row can be read, `TooManyCodedRows`
+/// (18) for a 20,001st line, `Io` (8) from the reader or a writer, `NoMemory` (9).
 pub fn repair_engine<R: Read, W: Write, L: Write>(
     alloc: Global,
     reader: &mut R,
@@ -58,7 +56,7 @@ pub fn repair_engine<R: Read, W: Write, L: Write>(
     })
 }
 
-/// The page of octets that begin with its lines, as `repair_engine` writes it, and the lines of its repaired rows.
+/// Returns the page that octets begin with, line by line, as `repair_engine` writes it, and the lines of its repaired rows.
 pub(crate) fn repair_lines(
     alloc: Global,
     octets: &[u8],

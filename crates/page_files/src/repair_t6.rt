@@ -26,9 +26,9 @@ fn tell_no_eofb<W: Write>(rows: usize, bit: u128, writer: &mut W) -> Result<(), 
     Ok(())
 }
 
-/// Decodes octets that begin with a page of this form, of a width of 1 to 2,432 pixels, in T.6 whatever the form's code is. Where they are
-/// refused, the whole rows are given; and where no row begins after them, so that only EOFB is missing or broken, a line says so,
-/// and that is no fault. Errs with 9 where memory is refused, and with 8.
+/// Decodes octets that begin with a page of T.6, of the width and lines of `form` (1 to 2,432 pixels). If they are refused, returns the
+/// whole rows. It is no fault if no row begins after them, so that only EOFB is missing or broken: then a line says so. Errors: `NoMemory`
+/// (9), and `Io` (8).
 pub(crate) fn repair_t6(alloc: Global, octets: &[u8], form: PageForm) -> Result<Decoded, ToolFault>
     requires { IsWidth form.width }
     ensures given { IfOk result (λ given. (image : List ℕ) → WritesPage given.page (Some []) (Some image)
@@ -56,6 +56,7 @@ pub(crate) fn repair_t6(alloc: Global, octets: &[u8], form: PageForm) -> Result<
     };
     let RowsToEnd { page, bit, at_end } = T6::rows_to_end(alloc, octets, order, width, fine)?;
     let rows = page.rows().len();
+    // ghostscript's faxg4 leaves EOFB out; after a row that can't be read no later one can be
     if at_end && rows > 0 {
         tell_no_eofb(rows, bit, &mut lines)?;
         let read_to = ReadTo::NoEnd(bit);
