@@ -83,7 +83,8 @@ pub record AnswererKeeps (s : Answerer) (input : AnswererInput) (next : Answerer
   pub ready : (next.ready ≡ s.ready) ⊎ MeetsFrame s input ⊎ MeetsDcs s input
 
 -- law: a step of any answerer never changes its capabilities; it changes whether it is busy at the input that says so, the parameters at a
--- DCS that is allowed, and what is accepted, open and stored only when a whole new block is taken
+-- DCS that is allowed, and the last accepted block, the open page and the stored pages only when a whole new block is taken; the open
+-- frames also at an FCD and at a DCS
 abbrev pub AnswerersKeep : Type 0
 AnswerersKeep = (s : Answerer) (input : AnswererInput) → AnswererKeeps s input (answerer_step s input).next
 
