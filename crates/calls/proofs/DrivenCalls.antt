@@ -16,7 +16,7 @@ use Rattle.line_sim.specs.Report.{all_done}
 use Rattle.line_sim.specs.Represents.{Shows}
 use Rattle.line_sim.specs.declared.call.Call.{Call}
 use Rattle.line_sim.specs.declared.live.Ending.{Ending}
-use Rattle.calls.specs.BadLines.{DrivesCall, Going, LeavesAfter, LeavesDriven, RefusesDriven, TellsAll, TellsDriven, bad_call, gone}
+use Rattle.calls.specs.BadLines.{Going, LeavesAfter, LeavesDriven, RefusesDriven, TellsAll, TellsDriven, bad_call, gone}
 use Rattle.calls.specs.BadLines.{put_by_steps}
 use Rattle.calls.specs.Calls.{EndsAs, HaveRows, answerer_caps, call_world, caller_wish}
 use Rattle.faults.specs.Faults.{IsOutside}
@@ -79,12 +79,6 @@ pub leaves_driven : (options : CallOptions) (line : BadLine) (number : ℕ) (ima
 leaves_driven options line number None before after document ending read told = tt
 leaves_driven options line number (Some images) before after document ending read (told, left) =
     (record { document = document; read = read; told = told }, left)
-
-pub drives_call : (options : CallOptions) (line : BadLine) (number : ℕ) (images : Option (List ℕ)) (before after : Written)
-    (ending : Ending) → IfSome images (λ octets. LeavesDriven options line number octets before after ending) →
-    IfSome images (λ octets. DrivesCall options line number octets before after ending.pages.items)
-drives_call options line number None before after ending left = tt
-drives_call options line number (Some images) before after ending left = left.0
 
 pub refused_driven : (fine : Bool) (images : Option (List ℕ)) (document : Document) (fault : ToolFault) →
     IfSome images (λ octets. AreImages fine octets document) → IsOutside fault ⊎ (¬ AreCallable document × (fault ≡ No 26)) →

@@ -1,6 +1,6 @@
 //! Runs a call of a document over a bad line, for `call --lose`, over any reader and any writer.
 
-ghost use Rattle.calls.specs.BadLines.{Draws, DrivesCall, Going, IsSet, LeavesDriven, RefusesDriven, Stands, TellsAll, entry_if};
+ghost use Rattle.calls.specs.BadLines.{Draws, Going, IsSet, LeavesDriven, RefusesDriven, Stands, TellsAll, entry_if};
 ghost use Rattle.calls.specs.BadLines.{LeavesAfter, is_marked, patience_of};
 ghost use Rattle.calls.specs.Calls.{HaveRows};
 ghost use Rattle.faults.specs.Faults.{IsOutside};
@@ -215,25 +215,4 @@ pub fn drive_to_end<R: Read, T: CallWriter>(
     let document = read_pbm(alloc, input, options.fine)?;
     let ending = tell_driven(alloc, document, options, line, number, writer)?;
     Ok(ending)
-}
-
-/// Does what `drive_to_end` does, and returns only the pages stored.
-pub fn drive_engine<R: Read, T: CallWriter>(
-    alloc: Global,
-    input: &mut R,
-    writer: &mut T,
-    options: &CallOptions,
-    line: &BadLine,
-    number: u64,
-) -> Result<Vec<Page>, ToolFault>
-    ensures called { IfOk result (λ pages. IfSome (R.remaining input.old) (λ images.
-        DrivesCall options.now line.now number images (T.written writer.old) (T.written writer.new) pages.items)) }
-    ensures refused { IfErr result (λ fault. IfSome (R.remaining input.old) (λ images. RefusesDriven options.now.fine images fault)) }
-    ensures rows { IfOk result (λ pages. HaveRows pages.items) }
-    ensures unwritten { IfErr result (λ fault. IsOutside fault ⊎ (writer.new ≡ writer.old)) }
-{
-    match drive_to_end(alloc, input, writer, options, line, number) {
-        Ok(ending) => Ok(ending.pages),
-        Err(fault) => Err(fault),
-    }
 }

@@ -28,7 +28,7 @@ mod tallies;
 mod transcript;
 mod tries;
 
-pub use crate::bad_line::{drive_engine, drive_to_end};
+pub use crate::bad_line::drive_to_end;
 pub use crate::call::{call_engine, call_to_end};
 pub use crate::call_writer::{CallWriter, WithBits};
 pub use crate::captured_call::{CapturedFrame, CapturedFrames, captured_frames, ladder_of};

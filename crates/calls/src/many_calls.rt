@@ -340,7 +340,7 @@ fn write_call<W: Write>(call: &OneCall, writer: &mut W) -> Result<(), ToolFault>
     write_counts(&call.counts, writer)
 }
 
-/// Runs calls 0 to `times` - 1 over a lossy line, one after the other, each as `drive_engine` runs the call of its number. Writes a line
+/// Runs calls 0 to `times` - 1 over a lossy line, one after the other, each as `drive_to_end` runs the call of its number. Writes a line
 /// for each as it is over: how it ended for both stations, how many items came and were lost, how many training checks were spoiled and how
 /// many FCDs were sent again. Then it writes a table: how many calls ended how for the caller, how many had at most two losses, how many
 /// had few bad tries in each phase, the sums, and for how many seconds calls had the line. It keeps only numbers of a call, so its memory

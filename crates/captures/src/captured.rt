@@ -685,12 +685,3 @@ pub fn captured_in<R: Read>(
     }
     Err(FAILED)
 }
-
-/// Does what `captured_in` does, the least significant bit of each octet first.
-pub fn captured_pages<R: Read>(alloc: Global, reader: &mut R) -> Result<Vec<Captured>, ToolFault>
-    ensures found { IfOk result (λ found. IfSome (R.remaining reader.old) (λ octets.
-        found.items ≡ captured (good (bits_of LsbFirst octets)))) }
-    ensures fault { IfErr result IsOutside }
-{
-    captured_in(alloc, reader, Order::LsbFirst)
-}

@@ -14,7 +14,7 @@ mod signal_words;
 mod texts;
 mod trace_records;
 
-pub use crate::captured::{Captured, captured_in, captured_pages};
+pub use crate::captured::{Captured, captured_in};
 pub use crate::found::{FoundStore, pages_engine};
 pub use crate::found_records::{write_missing, write_stored, write_stored_front};
 pub use crate::frames::{ListForm, ListOptions, feed_in, frames_engine, list_engine, read_some};

@@ -21,6 +21,4 @@ pub use crate::conversation::{Conversation, TakeFault};
 pub use crate::conversing::{ConverseFault, Ending, converse};
 pub use crate::hearing::{Heard, heard_as};
 pub use crate::line::{LineRefused, MOST_OCTETS, Said, TimedLine, read_line};
-pub use crate::reading::{ReadFault, next_line};
-pub use crate::talking::{AnswerFault, Answered, Follower, Keeper, answer, write_turn};
-pub use crate::writing::{write_burst, write_word};
+pub use crate::talking::{AnswerFault, Answered, Follower, Keeper, answer};

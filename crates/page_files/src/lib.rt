@@ -15,11 +15,11 @@ mod refused;
 mod repair;
 mod repair_t6;
 
-pub use crate::answer::{DecodeAnswer, answer_decode};
+pub use crate::answer::DecodeAnswer;
 pub use crate::coded::{read_image, write_code};
-pub use crate::decoding::{Broken, Decoded, ReadTo, decode_page};
-pub use crate::identify::{Tried, format_of, identify_engine, try_ways};
-pub use crate::later_pages::{Reached, answer_page, skip_pages};
+pub use crate::decoding::Broken;
+pub use crate::identify::{Tried, identify_engine};
+pub use crate::later_pages::answer_page;
 pub use crate::options::{DecodeOptions, PageForm};
 pub use crate::pages::{
     Salvage, code_engine, decode_engine, salvage_engine, show_engine, show_page, write_some,
