@@ -76,8 +76,8 @@ pub record CodesOneMore (old : RowCoding) (row : List Color) (new : RowCoding) :
   pub same : IsSameCoder old new
   pub one_more : (rows : List (List Color)) (octets : List ℕ) → CodesRows old rows octets → CodesRows new (rows ++ row ∷ []) octets
 
--- The result of pushing a row, and the coder after it: WrongRowWidth for a row of another width, else TooManyRows for a 20,001st row; a
--- refusal changes nothing.
+-- The result of pushing a row, and the coder after it: WrongRowWidth for a row of another width, else TooManyRows for a 20,001st row,
+-- else perhaps NoMemory; a refusal changes nothing.
 abbrev pub PushesRow : RowCoding → List Color → RowCoding → Result (Unit {0}) RasterFault → Type 0
 PushesRow old row new (Ok done) = (length row ≡ old.width) × (old.count < max_rows) × CodesOneMore old row new
 PushesRow old row new (Err WrongRowWidth) = (length row ≢ old.width) × (new ≡ old)
@@ -100,7 +100,8 @@ pub record EndsPage (coder : RowCoding) (before after : List ℕ) : Type 0 where
   pub page : (rows : List (List Color)) (first : List ℕ) → CodesRows coder rows first
       → FillsOctets coder.pending.order (code_of coder.coding coder.width rows) (first ++ octets)
 
--- the result of ending a page, and the list after it: NoRows for a page without a row; a refusal leaves the list as it was
+-- the result of ending a page, and the list after it: NoRows for a page without a row, else perhaps NoMemory; a refusal leaves the list
+-- as it was
 abbrev pub FinishesPage : RowCoding → List ℕ → List ℕ → Result (Unit {0}) RasterFault → Type 0
 FinishesPage coder before after (Ok done) = (0 < coder.count) × EndsPage coder before after
 FinishesPage coder before after (Err NoRows) = (coder.count ≡ 0) × (after ≡ before)

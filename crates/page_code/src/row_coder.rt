@@ -99,6 +99,7 @@ impl Model for RowCoder {
 
 impl RowCoder {
     /// Makes a coder of a page in this code, order of bits and width in pixels, 1 to 2,432, without rows.
+    /// Errs if memory is refused.
     pub fn new(
         alloc: Global,
         coding: Coding,
@@ -133,7 +134,7 @@ impl RowCoder {
     }
 
     /// Appends a row at the page's bottom. Errs with `WrongRowWidth` (2), with `TooManyRows` (3) after 20,000
-    /// rows, and with `NoMemory` (9), which changes nothing.
+    /// rows, and with `NoMemory` (9); an error changes nothing.
     pub fn push_row(&mut self, row: &Row) -> Result<(), RasterFault>
         ensures { PushesRow self.old row.now self.new result }
     {
@@ -164,7 +165,7 @@ impl RowCoder {
 
     /// Appends the last octets of the page's code: its end is RTC or EOFB, and 0 bits fill the last octet.
     /// All octets handed out are then the ones that `Coding::encode` appends for the page. Errs with `NoRows`
-    /// (4) if no row was pushed, and with `NoMemory` (9), which leaves the list as it was.
+    /// (4) if no row was pushed, and with `NoMemory` (9); an error leaves the list as it was.
     pub fn finish(self, out: &mut Vec<u8>) -> Result<(), RasterFault>
         ensures { FinishesPage self out.old.items out.new.items result }
     {
@@ -184,7 +185,8 @@ impl RowCoder {
     }
 
     /// Returns the last octets of the page's code, as `finish` appends them; after them the coder has done
-    /// its work. Errs with `NoRows` (4) if no row was pushed, and with `NoMemory` (9), which changes nothing.
+    /// its work. Errs with `NoRows` (4) if no row was pushed, and with `NoMemory` (9); an error changes
+    /// nothing.
     pub fn end(&mut self, alloc: Global) -> Result<Vec<u8>, RasterFault>
         ensures ends { IfOk result (λ octets. EndsPage self.old [] octets.items) }
         ensures some { OnOk result (0 < self.old.count) }

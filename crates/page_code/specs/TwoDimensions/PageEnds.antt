@@ -17,7 +17,7 @@ HoldsRowsTo width bits rows place =
 abbrev pub NoRowBegins : List Bool → Type 0
 NoRowBegins x = AreZeros x ⊎ ((rest : List Bool) × (x ≡ replicate 7 false ++ rest))
 
--- law: no row is there, by bits
+-- law: what it means that no row begins, by bits
 pub record PageEndsMean : Type 0 where
   -- no row is there, whatever its reference line
   pub no_row : (width : ℕ) (reference row : List Color) (front rest : List Bool) → NoRowBegins (front ++ rest)

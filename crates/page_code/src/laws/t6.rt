@@ -6,8 +6,8 @@ ghost use Rattle.page_code.specs.TwoDimensions.PageEnds.{PageEndsMean};
 ghost use Rattle.page_code.specs.TwoDimensions.Laws.{FindsPositions, OneFront, PassLeadsOn, ReadsExactly};
 ghost use Rattle.page_code.specs.TwoDimensions.Laws.{RefusesAtLongest, RefusesNoPage, RoundTrip};
 
-/// If no row begins, no row's code is there; EOFB, a part of it and nothing are such ends of a page, and an
-/// extension isn't.
+/// Where `T6::rows_to_end` finds that no row begins, no row's code is there; EOFB, a part of it and nothing
+/// are such ends of a page, and an extension isn't.
 pub fn page_ends_mean()
     ensures { PageEndsMean }
 {}
