@@ -28,7 +28,7 @@ abbrev pub sends_data : Turn → ℕ → Option Data
 sends_data Silent fcds = None
 sends_data turn fcds = Some (words (turn_text turn fcds))
 
--- that a growth was refused, if one was
+-- the value that says that a growth was refused, if one was
 abbrev pub refused_data : Bool → Option Data
 refused_data true = Some (boolean true)
 refused_data false = None
@@ -43,8 +43,8 @@ abbrev pub put_if : List ℕ → Option Data → Members → Members
 put_if name None members = members
 put_if name (Some value) members = put name value members
 
--- the record of an event: its number, its word, the item and what it says, what the station that it acts on sends, and whether a growth was
--- refused; of the last four those that there are
+-- the record of an event: its number and its word, and, if there are any, the item, what the item says, what the station that it acts on
+-- sends, and that a growth was refused
 abbrev pub entry_record : ℕ → Entry → Data
 entry_record number entry = object (member (codes "event") (words (word_of entry.event))
     (member_if (codes "item") (item_data entry.item)
@@ -53,19 +53,19 @@ entry_record number entry = object (member (codes "event") (words (word_of entry
     (member_if (codes "says") (says_data entry.fields)
     (member_if (codes "sends") (sends_data entry.turn entry.fcds) no_members))))))
 
--- how the call ended for the caller, and how many pages it counts as confirmed
+-- the record of how the call ended for the caller, and how many pages it counts as confirmed
 abbrev pub caller_record : Option End → ℕ → Data
 caller_record ending confirmed = object (member (codes "confirmed") (count confirmed)
     (member (codes "end") (words (end_text ending))
     (member (codes "station") (words (codes "caller")) no_members)))
 
--- how the call ended for the answerer, and how many pages it has stored
+-- the record of how the call ended for the answerer, and how many pages it has stored
 abbrev pub answerer_record : Option End → ℕ → Data
 answerer_record ending pages = object (member (codes "end") (words (end_text ending))
     (member (codes "pages") (count pages)
     (member (codes "station") (words (codes "answerer")) no_members)))
 
--- the lines of what a call leaves
+-- the lines of the two records of what a call leaves
 abbrev pub ending_records : Ending → List ℕ
 ending_records ending = record_line (caller_record ending.caller_end ending.confirmed)
     ++ record_line (answerer_record ending.answerer_end (length ending.pages.items))

@@ -20,11 +20,11 @@ drawn_fields (field.Dcs params) = field.Dcs params
 drawn_fields (field.Pps ends page block last) = field.Pps ends 0 0 0
 drawn_fields _ = field.Nothing
 
--- an event as it is drawn
+-- an event as it is drawn, with only the fields that are drawn
 abbrev pub drawn_entry : Entry → Entry
 drawn_entry entry = record entry { fields = drawn_fields entry.fields }
 
--- the modulation and the speed of pages
+-- the name of the modulation and the speed of a page
 abbrev pub speed_name : Speed → List ℕ
 speed_name V27At2400 = codes " V.27 ter 2400"
 speed_name V27At4800 = codes " V.27 ter 4800"
@@ -51,7 +51,7 @@ end_name Mps = codes "-MPS"
 end_name Eom = codes "-EOM"
 end_name Eop = codes "-EOP"
 
--- what is written of fields after the name of their signal
+-- what a picture writes of fields after the name of their signal
 abbrev pub fields_text : Fields → List ℕ
 fields_text (field.Dcs params) = speed_name params.speed ++ (code_name params.coding ++ (decimal (pixels_of params.width) ++
     fine_name params.fine))

@@ -9,6 +9,6 @@ abbrev pub is_normal : Option End → Bool
 is_normal (Some Normal) = true
 is_normal _ = false
 
--- a call ended normally for both stations
+-- a call ended normally for both stations, so all its pages went over and both say so
 abbrev pub ended_normally : Ending → Bool
 ended_normally ending = is_normal ending.caller_end && is_normal ending.answerer_end

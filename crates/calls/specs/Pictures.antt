@@ -47,7 +47,7 @@ abbrev pub shape_of : Option Kind → Event → Bool → List ℕ
 shape_of None event is_one = mark_text event
 shape_of (Some kind) event is_one = arrow_text event is_one
 
--- the lines of a row
+-- the lines of a row: an arrow if there is an item, else a mark
 abbrev pub shape_text : Row → List ℕ
 shape_text row = shape_of row.entry.item row.entry.event (nat_eq row.times 1)
 
@@ -67,7 +67,7 @@ gap_text event.LoseToCaller = codes "nothing to lose"
 gap_text event.Spoil = codes "no check to spoil"
 gap_text _ = []
 
--- what happens at a station by itself
+-- the label of what happens at a station by itself
 abbrev pub own_text : Event → List ℕ
 own_text event.CallerTimeout = codes "time-out"
 own_text event.CallerT5 = codes "T5 is over"
@@ -77,7 +77,7 @@ own_text (event.Busy true) = codes "busy"
 own_text (event.Busy false) = codes "ready"
 own_text _ = []
 
--- what is between that and what the station sends then
+-- the text between what happens at a station and what the station sends then
 abbrev pub joint_text : Event → List ℕ
 joint_text event.CallerTimeout = codes ", "
 joint_text event.CallerT5 = codes ", "
@@ -85,12 +85,12 @@ joint_text event.AnswererT1 = codes ", "
 joint_text event.AnswererT2 = codes ", "
 joint_text _ = []
 
--- a growth was refused
+-- the label of a refused growth
 abbrev pub refused_text : Bool → List ℕ
 refused_text true = codes " (memory refused)"
 refused_text false = []
 
--- where the text of the station begins or ends that an event acts on
+-- where the text beside the station that an event acts on begins or ends
 abbrev pub base_text : Event → List ℕ
 base_text event.DeliverToCaller = codes "<text class=\"e\" x=\"238\" y=\"4\">"
 base_text event.LoseToCaller = codes "<text class=\"e\" x=\"238\" y=\"4\">"
@@ -112,11 +112,11 @@ abbrev pub items_text : Option Kind → Fields → Event → List ℕ
 items_text None fields event = gap_text event
 items_text (Some kind) fields event = item_text (Some kind) ++ (fields_text fields ++ fate_text event)
 
--- what is written over an arrow
+-- the text over the arrow of a row
 abbrev pub label_text : Row → List ℕ
 label_text row = times_text row.entry.item row.times ++ items_text row.entry.item row.entry.fields row.entry.event
 
--- what a station sends, after a joint
+-- the text of what a station sends, after a joint
 abbrev pub sends_text : List ℕ → Turn → ℕ → List ℕ
 sends_text joint turn.Silent fcds = []
 sends_text joint turn fcds = joint ++ codes "sends " ++ turn_text turn fcds
@@ -133,23 +133,23 @@ numbers_text first last = cond (nat_eq first last) (decimal first) (decimal firs
 abbrev pub rounds_word : ℕ → List ℕ
 rounds_word times = cond (nat_eq times 1) [] (decimal times ++ codes " rounds like this")
 
--- a row begins at a height, and so does its title
+-- the beginning of a row and of its title, at a height
 unfoldable pub row_begin : ℕ → List ℕ
 row_begin y = codes "<g transform=\"translate(0 " ++ decimal y ++ codes ")\"><title>"
 
--- the title ends, and the lines of the row come, a path
+-- the end of a row's title, and the row's lines, which are a path
 unfoldable pub row_shape : List ℕ → List ℕ
 row_shape path = codes "</title><path d=\"" ++ path ++ codes "\"/>"
 
--- the numbers of its events, the first and the last
+-- the numbers of a row's first event and of its last one
 unfoldable pub row_numbers : ℕ → ℕ → List ℕ
 row_numbers first last = codes "<text x=\"24\" y=\"4\">" ++ numbers_text first last ++ codes "</text>"
 
--- what is written over its arrow
+-- what is written over the arrow of a row
 unfoldable pub row_label : Row → List ℕ
 row_label row = codes "<text class=\"m\" x=\"390\" y=\"-9\">" ++ label_text row ++ codes "</text>"
 
--- what is written beside the station, and the row ends
+-- what is written beside the station of a row, and the row's end
 unfoldable pub row_side : Entry → List ℕ
 row_side entry = base_text entry.event ++ side_text entry ++ codes "</text></g>\n"
 
@@ -171,19 +171,19 @@ abbrev pub rows_text : ℕ → ℕ → List Row → List ℕ
 rows_text y number [] = []
 rows_text y number (row ∷ rows) = row_text y number row ++ rows_text (y + 26) (number + row.times) rows
 
--- the bracket beside rows begins at a height
+-- the beginning of the bracket beside rows, at a height
 unfoldable pub bracket_begin : ℕ → List ℕ
 bracket_begin y = codes "<g transform=\"translate(0 " ++ decimal y ++ codes ")\">"
 
--- its line, along rows of this height
+-- the line of a bracket, along rows of this height
 unfoldable pub bracket_line : ℕ → List ℕ
 bracket_line height = codes "<path d=\"M708-16h6v" ++ decimal height ++ codes "h-6\"/>"
 
--- its text begins in the middle of them
+-- the beginning of a bracket's text, in the middle of its rows
 unfoldable pub bracket_middle : ℕ → List ℕ
 bracket_middle middle = codes "<text x=\"722\" y=\"" ++ decimal middle ++ codes "\" dy=\"-12\">"
 
--- it says how often they come
+-- the text of a bracket: how often its rows come
 unfoldable pub bracket_word : ℕ → List ℕ
 bracket_word times = rounds_word times ++ codes "</text></g>\n"
 
@@ -213,15 +213,15 @@ rounds_text y number [] = []
 rounds_text y number (round ∷ rounds) =
     round_text y number round ++ rounds_text (y + round_height round) (number + round_items round) rounds
 
--- the picture begins, with its size
+-- the beginning of a picture, with its size
 unfoldable pub size_text : ℕ → List ℕ
 size_text height = codes "<svg xmlns=\"http://www.w3.org/2000/svg\" width=\"880\" height=\"" ++ decimal height ++ codes "\""
 
--- what is seen of it, which is all, and its letters
+-- the part of a picture that is seen, which is all of it, and its letters
 unfoldable pub view_text : ℕ → List ℕ
 view_text height = codes " viewBox=\"0 0 880 " ++ decimal height ++ codes "\" font-family=\"sans-serif\" font-size=\"12\">\n"
 
--- what it is, and how it is drawn
+-- the title of a picture, and how its parts are drawn
 unfoldable pub style_text : List ℕ
 style_text =
     codes "<title>A fax call</title><style>path{fill:none;stroke:black}.e{text-anchor:end}.m{text-anchor:middle}</style>\n"
@@ -238,11 +238,11 @@ names_text = codes "<text class=\"m\" x=\"250\" y=\"26\">caller</text><text clas
 unfoldable pub caller_side : ℕ → List ℕ
 caller_side length = codes "<path d=\"M250 34v" ++ decimal length ++ codes "\"/>"
 
--- the answerer's line
+-- the answerer's line, of this length
 unfoldable pub answerer_side : ℕ → List ℕ
 answerer_side length = codes "<path d=\"M530 34v" ++ decimal length ++ codes "\"/>\n"
 
--- the picture and its paper, of this height
+-- the beginning of a picture and its paper, of this height
 unfoldable pub sheet_text : ℕ → List ℕ
 sheet_text height = size_text height ++ view_text height ++ style_text ++ paper_text height
 
@@ -254,7 +254,7 @@ stations_text length = names_text ++ caller_side length ++ answerer_side length
 unfoldable pub head_text : ℕ → List ℕ
 head_text height = sheet_text (height + 120) ++ stations_text (height + 20)
 
--- what a call has left is below the rows
+-- the beginning of what a call has left, below the rows
 unfoldable pub feet_begin : ℕ → List ℕ
 feet_begin y = codes "<g class=\"m\" transform=\"translate(0 " ++ decimal y ++ codes ")\">"
 
@@ -274,11 +274,11 @@ answerer_reason word = codes "<text x=\"530\">" ++ word ++ codes "</text>"
 unfoldable pub answerer_pages : ℕ → List ℕ
 answerer_pages pages = codes "<text x=\"530\" y=\"16\">pages stored: " ++ decimal pages ++ codes "</text>"
 
--- stored pages have a mark, a small page with a corner that is turned down
+-- the mark of stored pages, a small page with a corner turned down
 abbrev pub page_mark : ℕ → List ℕ
 page_mark pages = cond (nat_eq pages 0) [] (codes "<path d=\"M525 22h7l3 3v9h-10zm7 0v3h3\"/>")
 
--- and that ends it
+-- the mark of stored pages, and the end of what a call has left
 unfoldable pub feet_end : ℕ → List ℕ
 feet_end pages = page_mark pages ++ codes "</g>\n"
 
@@ -286,7 +286,7 @@ feet_end pages = page_mark pages ++ codes "</g>\n"
 unfoldable pub caller_foot : Feet → List ℕ
 caller_foot feet = caller_reason (end_text feet.caller_end) ++ caller_pages feet.confirmed
 
--- and for the answerer
+-- what the call has left for the answerer
 unfoldable pub answerer_foot : Feet → List ℕ
 answerer_foot feet = answerer_reason (end_text feet.answerer_end) ++ answerer_pages feet.pages ++ feet_end feet.pages
 
@@ -299,7 +299,7 @@ unfoldable pub end_lines : Option Feet → ℕ → List ℕ
 end_lines None height = []
 end_lines (Some feet) height = feet_lines feet height
 
--- the picture ends
+-- the end of a picture
 unfoldable pub last_line : List ℕ
 last_line = codes "</svg>\n"
 

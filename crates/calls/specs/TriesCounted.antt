@@ -24,18 +24,18 @@ is_bad_in [] = false
 is_bad_in (entry ∷ []) = is_loss entry.event
 is_bad_in (first ∷ entry ∷ rest) = is_spoiling first.event
 
--- a training check was spoiled in it
+-- a training check was spoiled in a step, by the step's entries
 abbrev pub is_check_in : List Entry → Bool
 is_check_in [] = false
 is_check_in (entry ∷ []) = false
 is_check_in (first ∷ entry ∷ rest) = is_spoiling first.event
 
--- an MCF comes in an event
+-- an MCF comes in an event, by the item that the event delivers or loses
 abbrev pub is_mcf : Event → Option Kind → Bool
 is_mcf DeliverToCaller (Some Mcf) = true
 is_mcf _ _ = false
 
--- an MCF came in a step
+-- an MCF came in a step, by the step's entries
 abbrev pub is_mcf_in : List Entry → Bool
 is_mcf_in [] = false
 is_mcf_in (entry ∷ []) = is_mcf entry.event entry.item
@@ -52,12 +52,12 @@ stood_in w = record {
 abbrev pub stays : List Entry → Stood → Stood → Bool
 stays noted before after = cond before.sends (not (is_mcf_in noted)) (not after.sends)
 
--- a try began in it: nothing was under way to the answerer, and something is; or nothing at all was, and something is to the caller
+-- A try began in a step: nothing was under way to the answerer, and something is; or nothing at all was, and something is to the caller.
 abbrev pub begins : Counts → Counts → Bool
 begins before after =
     nat_eq before.to_answerer 0 && (nat_lt 0 after.to_answerer || (nat_eq before.to_caller 0 && nat_lt 0 after.to_caller))
 
--- the counts when a step's item has met its fate
+-- the counts of tries when a step's item has met its fate
 abbrev pub met_by : ℕ → List Entry → TryCounts → TryCounts
 met_by spare noted t =
     let bad = bad_with (is_bad_in noted) t.now t.bad in
@@ -69,7 +69,7 @@ met_by spare noted t =
       few = t.few && (nat_le bad 2 && nat_le checks spare);
     }
 
--- before the first try of a phase
+-- the counts of tries before the first try of a phase
 abbrev pub first_try : Bool → TryCounts
 first_try few = record { bad = 0; now = false; checks = 0; few = few }
 
@@ -77,7 +77,7 @@ first_try few = record { bad = 0; now = false; checks = 0; few = few }
 abbrev pub goes_on : Bool → TryCounts → TryCounts
 goes_on again t = record { bad = t.bad; now = t.now && not again; checks = t.checks; few = t.few }
 
--- the counts after a step
+-- the counts of tries after a step
 abbrev pub tried : ℕ → List Entry → Stood → Stood → TryCounts → TryCounts
 tried spare noted before after t =
     let met = met_by spare noted t in

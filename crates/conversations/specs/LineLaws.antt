@@ -1,4 +1,4 @@
--- Laws of one line: names tell carriers and kinds apart, a line says one thing, and a burst is read as it was sent.
+-- Laws of one line: two carriers and two kinds differ in their names, a line says one thing, and a burst is read as it was sent.
 use Rattle.std.specs.Prelude.{◌≡◌, ◌≤◌, ◌∷◌, [], ℕ, List, codes, drop, length}
 use Rattle.raster.specs.Octets.{AreOctets}
 use Rattle.signals.specs.declared.signal.Side.{Side}

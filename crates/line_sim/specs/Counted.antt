@@ -114,7 +114,7 @@ pub record IsCounted (groups : ℕ) (transcript : List Entry) : Type 0 where
   pub dcs : count shows_dcs transcript ≤ 18 * groups
   -- at most 18 DCS before the first MCF that is answered in silence, and after each
   pub dcs_told : count shows_dcs transcript ≤ 18 * suc (count shows_group_end transcript)
-  -- so it is in any part of it: between one entry into the wait for DIS and the next the caller transmits at most 18 DCS
+  -- any part of it has as few: between one entry into the wait for a DIS and the next the caller transmits at most 18 DCS
   pub dcs_part :
       (before part after : List Entry) → transcript ≡ before ++ part ++ after →
       count shows_dcs part ≤ 18 * suc (count shows_group_end part)

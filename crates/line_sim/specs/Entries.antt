@@ -84,7 +84,7 @@ listened [] = None
 listened (framed signal ∷ items) = Some (listens signal)
 listened (checked octets ∷ items) = Some (trains octets)
 
--- the input that a first item is to the caller; a training check is none
+-- the input that a first item is to the caller; a training check isn't one
 abbrev pub heard : List PlainItem → Option CallerInput
 heard [] = None
 heard (framed signal ∷ items) = Some (hears signal)

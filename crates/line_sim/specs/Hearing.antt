@@ -12,7 +12,7 @@ abbrev pub Rests : {A E : Type 0} → A → A → Result Turn E → Type 0
 Rests old new (Ok turn) = (new ≡ old) × (turn ≡ Silent)
 Rests old new (Err refused) = new ≡ old
 
--- the caller answers an item; a training check is none of its inputs
+-- the caller takes an item; a training check isn't an input of a caller
 abbrev pub CallerHears : {E : Type 0} → PlainItem → CallerFields → CallerFields → Result Turn E → Type 0
 CallerHears (framed signal) old new result = AnswersOrRefuses old new result (λ t. caller_step t (hears signal))
 CallerHears (checked octets) old new result = Rests old new result

@@ -72,7 +72,7 @@ abbrev pub IsItem : Side → Kind → List ℕ → Type 0
 IsItem side Training octets = Unit {0}
 IsItem side kind octets = (signal : PlainSignal) × Carries side octets signal × (signal_kind signal ≡ Some kind)
 
--- such octets are kept with what the information field of their frame says
+-- octets of an item are kept together with what the information field of their frame says
 abbrev pub IsKept : Side → Kind → Fields → List ℕ → Type 0
 IsKept side kind fields octets = IsItem side kind octets × (fields ≡ fields_of (item_said kind octets))
 

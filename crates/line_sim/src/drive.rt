@@ -305,10 +305,10 @@ impl LiveCall {
 }
 
 /// A call over a bad line, without a script: the item that is first under way comes, is lost or is spoiled, as its fate says; if nothing is
-/// under way a wait is over. The order of the waits is a scheduler's choice and no duration of T.30. While the caller waits for a DIS it is
-/// the answerer's T2, until `calls` DIS were sent in this wait; in each other wait it is the caller's; once the caller has ended it is the
-/// answerer's T1. If the answerer was set busy, `busy` RNRs may come for a block; the next one is lost, and the caller's T5 is over. It
-/// keeps no transcript: each step returns its entries.
+/// under way a wait is over. The order of the waits is a scheduler's choice and no duration of T.30: while the caller waits for a DIS, the
+/// answerer's T2, until `calls` DIS were sent in this wait; after that, and in each other wait, the caller's; and once the caller has
+/// ended, the answerer's T1. If the answerer was set busy, `busy` RNRs may come for a block; the next one is lost, and the caller's T5 is
+/// over. It keeps no transcript: each step returns its entries.
 #[derive(Debug, Drop)]
 pub struct DrivenCall {
     live: LiveCall,
@@ -410,8 +410,9 @@ impl DrivenCall {
     }
 
     /// Makes steps by fates, in order, until the call is over or `most` steps were made; after the last fate all items come. Returns the
-    /// number of steps. Errs at the first step in which a growth was refused. Clause `ends`: from the call's start it makes no more steps
-    /// than the document bounds. Clause `bears`: it bears any two losses.
+    /// number of steps. Errs at the first step in which a growth was refused. From the call's start it makes no more steps than the
+    /// document bounds (clause `ends`), and it bears any two losses if both stations agree on each page, each code fits a call, three DIS
+    /// are sent in a wait, and each spoiled check has a lower common speed (clause `bears`).
     pub fn drive(&mut self, fates: &[Fate], most: u64) -> Result<u64, AllocError>
         ensures drives { (p : PatienceValue) (d : Driven) → ShowsDriven self.old p d → d.fates ≡ map plain_fate fates.now →
             DrivesAll p self.new d most result }
@@ -423,7 +424,7 @@ impl DrivenCall {
         let mut made = 0;
         let mut at = 0;
         while made < most {
-            // `drive` sets nobody busy: its clause `ends` is of fates alone. With `set_busy` between steps the law `busy_calls_end` holds.
+            // `drive` never sets the answerer busy: clause `ends` is of fates alone. With `set_busy` between steps `busy_calls_end` holds.
             let due = self.is_fate_due();
             let Some(step) = self.step(fate_at(fates, at)) else {
                 return Ok(made);
