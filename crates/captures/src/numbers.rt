@@ -39,8 +39,8 @@ impl PageNumbers {
         file != self.page
     }
 
-    /// Notes that something is missing of a page, and returns its number by its PPS, 0 if that isn't known. Later pages have greater
-    /// numbers.
+    /// Notes that something is missing of a page, and returns the page's number: one more than in its PPS, 0 if that isn't known. Later
+    /// pages have greater numbers.
     pub fn missing(&mut self, found: &Captured) -> u64
         ensures number { result ≡ page_missing found.now }
         ensures new { self.new ≡ record self.old { page = max self.old.page result } }
