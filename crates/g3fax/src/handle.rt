@@ -60,7 +60,7 @@ impl Model for G3Handle {
 // The three functions that reach the pointer: each is proved by hand, and no other one is.
 impl G3Handle {
     /// A handle with nothing.
-    pub(crate) fn empty(alloc: Global) -> G3Handle
+    fn empty(alloc: Global) -> G3Handle
         ensures { result.value ≡ None }
     {
         G3Handle {
@@ -81,7 +81,7 @@ impl G3Handle {
     }
 
     /// The pointer, unless it is null.
-    pub(crate) fn into_loose(self) -> Option<Loose<Kept, Global>>
+    fn into_loose(self) -> Option<Loose<Kept, Global>>
         ensures some { IfSome result (λ loose. self.value ≡ Some loose.value) }
         ensures none { IfNone result (self.value ≡ None) }
     {

@@ -87,7 +87,7 @@ fn format_among(formats: &[Format], octets: &[u8]) -> Option<&'static str>
 }
 
 /// Returns the name of the format that octets begin as, if it is known.
-pub fn format_of(octets: &[u8]) -> Option<&'static str>
+fn format_of(octets: &[u8]) -> Option<&'static str>
     ensures { option_map (λ name. name.now) result ≡ format_of octets.now }
 {
     format_among(&FORMATS, octets)
@@ -151,7 +151,7 @@ fn try_widths(
 
 /// Reads octets in all ways that are tried: T.6 and T.4, both bit orders, seven widths; and returns for each how far it reads: the rows and
 /// the bits of the page that the octets begin with, or the fault that `decode` gives and the whole rows before it. Errors: `NoMemory` (9).
-pub fn try_ways(alloc: Global, octets: &[u8]) -> Result<Vec<Tried>, ToolFault>
+fn try_ways(alloc: Global, octets: &[u8]) -> Result<Vec<Tried>, ToolFault>
     ensures tried { IfOk result (λ tried. AreTried octets.now tried.items) }
     ensures refused { IfErr result IsOutside }
 {

@@ -26,7 +26,7 @@ use std::io::Write;
 
 /// What follows some pages of a file.
 #[derive(Clone, Copy, Debug, PartialEq, Eq)]
-pub enum Reached {
+enum Reached {
     /// Another page.
     Page,
     /// Nothing, or only EOLs and 0 bits: the file has this number of pages.
@@ -165,7 +165,7 @@ fn skip_page(
 /// Drops `pages` pages (1 to 2,432 pixels wide) with what lies between each and the next, and returns what follows. Then the octets begin
 /// with the page that follows; or with the last page, if it is one of these; or with the first page that can't be read, and then `kept`
 /// holds how far it was read, otherwise None. Errors: `NoMemory` (9).
-pub fn skip_pages(
+fn skip_pages(
     alloc: Global,
     octets: &mut Vec<u8>,
     form: PageForm,

@@ -277,7 +277,7 @@ fn other_after(octets: &[u8], from: u32, end: u32, bit: bool) -> u32
 }
 
 /// The first place of octets, from an octet on, whose bit isn't `bit`, or the end; with a loop for each bit.
-pub(crate) fn first_other_after(octets: &[u8], from: u32, end: u32, bit: bool) -> u32
+fn first_other_after(octets: &[u8], from: u32, end: u32, bit: bool) -> u32
     requires order { 8 * from ≤ end }
     requires within { end ≤ 8 * length octets.now }
     requires small { end ≤ 2432 }

@@ -311,7 +311,7 @@ impl<'a> BitReader<'a> {
     /// valid code begins the bits that are left: with `Truncated` if they are the beginning of one, also if
     /// no bit is left, else with `BadCode`. An error changes nothing.
     #[inline(always)]
-    pub(crate) fn next_code(&mut self, color: Color, among: Among) -> Result<u32, CodeFault>
+    fn next_code(&mut self, color: Color, among: Among) -> Result<u32, CodeFault>
         ensures reads { ReadsCode color among self.old self.new result }
         ensures picks { PicksCode color among self.old self.new result }
     {
