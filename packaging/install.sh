@@ -80,6 +80,8 @@ gather_library() {
 gather_documents() {
     docs=$prefix/share/doc/faxtool
     puts 644 README.md CHANGELOG.md CONTRIBUTING.md LICENSE-APACHE LICENSE-MIT .ci/public_clauses.txt "$docs"
+    # the sources aren't installed, so a link to one leads to the page of its crate
+    sed -i 's,](crates/\([a-z0-9_]*\)/\(src\|specs\)/[^)]*),](crates/\1/README.md),g' "$stage$docs/README.md"
     puts 644 docs/*.md docs/*.svg "$docs/docs"
     puts 644 docs/examples/* "$docs/examples"
     chmod 755 "$stage$docs"/examples/*.py
@@ -89,8 +91,8 @@ gather_documents() {
     for crate in crates/*/README.md; do puts 644 "$crate" "$docs/${crate%/README.md}"; done
     commit > "$stage$docs/COMMIT"
     packaging/trust.py --package "faxtool=$program" "libg3fax.a=$library/libg3fax.a" "libg3fax.so.0=$library/libg3fax.so.0" \
-        > "$stage$docs/docs/TRUST.md"
-    chmod 644 "$stage$docs/COMMIT" "$stage$docs/docs/TRUST.md"
+        > "$stage$docs/docs/PROOF.md"
+    chmod 644 "$stage$docs/COMMIT" "$stage$docs/docs/PROOF.md"
 }
 
 # gather: all files, in the stage.
