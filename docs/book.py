@@ -23,8 +23,10 @@ from specs import TOKEN, Specs
 TOP = Path(__file__).resolve().parent.parent
 OUT = TOP / "out" / "book"
 STYLE = (Path(__file__).parent / "book.css").read_text()
-GUARANTEES = re.compile(r"^\|.*\| *Clause *\|\n\|[-| ]+\|\n((?:\|.*\|\n)+)", re.M)
+GUARANTEES = re.compile(r"^\|.*\| *Guarantee *\|.*\|\n\|[-| ]+\|\n((?:\|.*\|\n)+)", re.M)
 LINK = re.compile(r"\[([^\]]*)\]\([^)]*\)")
+# A name in a cell of the guarantees: one that leads to a file, or the name of a clause.
+CITED = re.compile(r"\[`([^`]+)`\]\(([^)]+)\)|`([^`]+)`")
 
 
 def page(title, body):
@@ -188,41 +190,36 @@ class Book:
 
     # The index.
 
-    def item_named(self, path, crate):
-        """The items of a path, in a crate or in the only one that has it: `World::report`, `laws::calls_bear`."""
-        first, _, rest = path.partition("::")
-        if first in self.crates and rest:
-            path, crate = rest, first
-        places = [crate] if crate else list(self.crates)
-        found = [(name, item) for name in places for item in self.items[name] if item.is_public and item.path == path]
-        if not found and crate:
-            return self.item_named(path, None)
-        return found[0] if len({name for name, _ in found}) == 1 else None
+    def leads_to(self, name, target):
+        """Where a link of the README to a file of a crate leads in the book: to an item or to a definition of the file."""
+        parts = re.match(r"crates/(\w+)/(src|specs)/([\w/]+)\.\w+", target)
+        if not parts or parts[1] not in self.crates:
+            return None, None
+        if parts[2] == "specs":
+            key = (parts[1], parts[3].replace("/", "."), name)
+            return None, f"{parts[1]}.html#{quote(definition_id(key))}" if key in self.specs.definitions else None
+        for item in self.items[parts[1]]:
+            if item.is_public and f"::{item.path}".endswith(f"::{name}") and item.file == self.top / target.partition("#")[0]:
+                return (parts[1], item), f"{parts[1]}.html#{quote(item.anchor)}"
+        return None, None
 
-    def clause_cell(self, cell):
-        """A cell of the guarantees that names clauses, with links; what names an item and leads nowhere is a fault."""
-        parts = LINK.sub(r"\1", cell).split("`")
-        words, crate, found = parts[1::2], None, []
-        for word in words:
-            crate = word if word in self.crates else word.partition("::")[0] if word.partition("::")[0] in self.crates else crate
-            found.append((crate, None if word in self.crates else self.item_named(word, crate)))
-        hrefs = []
-        for at, word in enumerate(words):
-            of, item = found[at]
-            later = [pair for _, pair in found[at + 1 :] if pair]
-            clause = next((self.clause_href(pair, word) for pair in later if self.clause_href(pair, word)), None)
-            if clause:
-                hrefs.append(clause)
-            elif item:
-                hrefs.append(f"{item[0]}.html#{quote(item[1].anchor)}")
+    def guarantee_cell(self, cell):
+        """A cell of the guarantees, in which what leads to a crate's sources leads into the book, and clauses of an item after it too."""
+        words, last, items = [], 0, []
+        for found in CITED.finditer(cell):
+            words.append(escape(cell[last : found.start()], quote=False))
+            last = found.end()
+            name = found[1] or found[3]
+            shown = f"<code>{escape(name).replace('::', '::<wbr>')}</code>"
+            if found[1]:
+                item, href = self.leads_to(name, found[2])
+                items += [item] if item else []
             else:
-                hrefs.append(f"{word}.html#{'src-laws' if 'laws' in words else ''}".rstrip("#") if word in self.crates else None)
-            if "::" in word and not hrefs[-1]:
-                self.faults.append(f"README.md: `{word}` of the guarantees is no public item")
-        if words and not any(hrefs):
-            self.faults.append(f"README.md: a row of the guarantees names no clause: {cell.strip()}")
-        linked = [link(href, f"<code>{escape(word)}</code>") if href else f"<code>{escape(word)}</code>" for word, href in zip(words, hrefs)]
-        return "".join(linked[at // 2] if at % 2 else escape(part, quote=False) for at, part in enumerate(parts))
+                href = next((self.clause_href(item, name) for item in items if self.clause_href(item, name)), None)
+            if not href and (found[1] or items and re.fullmatch(r"\w+", name)):
+                self.faults.append(f"README.md: `{name}` of the guarantees leads nowhere")
+            words.append(link(href, shown) if href else shown)
+        return "".join([*words, escape(LINK.sub(r"\1", cell[last:]), quote=False)])
 
     def clause_href(self, pair, name):
         """Where a clause of an item is, by its name."""
@@ -236,14 +233,15 @@ class Book:
         """The table of guarantees of README.md."""
         found = GUARANTEES.search((self.top / "README.md").read_text())
         if not found:
-            self.faults.append("README.md: there is no table whose last column is Clause")
+            self.faults.append("README.md: there is no table of guarantees")
             return ""
-        heads = [cell.strip() for cell in found[0].splitlines()[0].strip("|").split("|")]
-        rows = "".join(f"<th>{escape(head)}</th>" for head in heads)
+        heads = found[0].splitlines()[0].strip().strip("|").split("|")
+        rows = "".join(f"<th>{escape(head.strip())}</th>" for head in heads)
         for line in found[1].splitlines():
-            cells = line.strip().strip("|").split("|")
-            inner = [prose(LINK.sub(r"\1", cell.strip())) for cell in cells[:-1]] + [self.clause_cell(cells[-1].strip())]
-            rows += "</tr>\n<tr>" + "".join(f"<td>{cell}</td>" for cell in inner)
+            cells = "".join(f"<td>{self.guarantee_cell(cell.strip())}</td>" for cell in line.strip().strip("|").split("|"))
+            if ".html#" not in cells and "docs/PROOF.md" not in line:
+                self.faults.append(f"README.md: this guarantee leads to no clause: {line}")
+            rows += f"</tr>\n<tr>{cells}"
         return f"<table>\n<tr>{rows}</tr>\n</table>\n"
 
     def index_page(self):
