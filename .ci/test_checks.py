@@ -8,6 +8,7 @@ Nothing is written. Ends with status 1 at the first change that isn't refused. I
 import copy
 import sys
 
+sys.dont_write_bytecode = True
 import definitions as checks
 
 books = checks.books

@@ -2,7 +2,7 @@
 """Writes the book: what each crate promises, and the definitions that this rests on, as pages with links.
 
     docs/book.py                 writes it into out/book, with links to the sources
-    docs/book.py --to FOLDER     writes it into another folder, without these
+    docs/book.py --install TREE  writes it into TREE/book, without these; the documents in TREE, which has no sources, lead there instead
     docs/book.py --check         writes nothing; ends with status 1 for a link that leads nowhere and for a public item without a `///`
 
 A page a crate has each public item with its `///`, its signature and its clauses, and each definition of the crate's `specs/` with the
@@ -10,12 +10,15 @@ comment beside it, its text, its file and its line. Each name of a definition is
 table of guarantees of README.md, with links to the clauses, and kit.html the definitions of the kit that are named, where KIT, or
 /opt/rattle, has their text. The pages are HTML without script. It needs Python's standard library alone."""
 
+import hashlib
+import os
 import re
 import sys
 from html import escape
 from pathlib import Path
 from urllib.parse import quote, unquote
 
+sys.dont_write_bytecode = True
 import kit
 from clauses import crates_of
 from specs import TOKEN, Specs
@@ -24,7 +27,7 @@ TOP = Path(__file__).resolve().parent.parent
 OUT = TOP / "out" / "book"
 STYLE = (Path(__file__).parent / "book.css").read_text()
 GUARANTEES = re.compile(r"^\|.*\| *Guarantee *\|.*\|\n\|[-| ]+\|\n((?:\|.*\|\n)+)", re.M)
-LINK = re.compile(r"\[([^\]]*)\]\([^)]*\)")
+LINK = re.compile(r"\[([^\]]*)\]\(([^)#:]*)[^)]*\)")
 # A name in a cell of the guarantees: one that leads to a file, or the name of a clause.
 CITED = re.compile(r"\[`([^`]+)`\]\(([^)]+)\)|`([^`]+)`")
 
@@ -199,7 +202,7 @@ class Book:
             key = (parts[1], parts[3].replace("/", "."), name)
             return None, f"{parts[1]}.html#{quote(definition_id(key))}" if key in self.specs.definitions else None
         for item in self.items[parts[1]]:
-            if item.is_public and f"::{item.path}".endswith(f"::{name}") and item.file == self.top / target.partition("#")[0]:
+            if item.is_public and f"::{item.path}".endswith(f"::{name}") and item.file == self.top / target:
                 return (parts[1], item), f"{parts[1]}.html#{quote(item.anchor)}"
         return None, None
 
@@ -212,7 +215,7 @@ class Book:
             name = found[1] or found[3]
             shown = f"<code>{escape(name).replace('::', '::<wbr>')}</code>"
             if found[1]:
-                item, href = self.leads_to(name, found[2])
+                item, href = self.leads_to(name, found[2].partition("#")[0])
                 items += [item] if item else []
             else:
                 href = next((self.clause_href(item, name) for item in items if self.clause_href(item, name)), None)
@@ -263,7 +266,11 @@ class Book:
             cells = "".join(f'<td class="n">{number}</td>' for number in numbers)
             says = prose(root.says.partition(". ")[0].rstrip(".") + ".")
             body += f"<tr><td>{link(f'{name}.html', name)}</td><td>{says}</td>{cells}</tr>\n"
-        body += f"</table>\n<p>{link('kit.html', 'The kit')}: what the definitions name of it.</p>\n"
+        clauses = (self.top / ".ci" / "public_clauses.txt").read_bytes()
+        body += (
+            f"</table>\n<p>{link('kit.html', 'The kit')}: what the definitions name of it.</p>\n<p>The list of all {len(clauses.splitlines())} public "
+            f"clauses, <code>public_clauses.txt</code>, has the SHA-256 <code>{hashlib.sha256(clauses).hexdigest()}</code>.</p>\n"
+        )
         return page("What is proved", body)
 
 
@@ -336,19 +343,37 @@ def faults_of(book):
     return pages, book.faults + item_faults(book) + dead_links(pages, book.top, book.sources)
 
 
+def lead(book, tree):
+    """Makes the links of installed documents to sources lead into the book."""
+
+    def instead(found):
+        words, target = found[1], os.path.normpath(file.parent.relative_to(tree) / found[2])
+        crate = re.match(r"crates/(\w+)/(?:src|specs)\b", target)
+        if not crate:
+            return found[0]
+        page = f"{crate[1]}.html" if crate[1] in book.crates else "index.html"
+        return f"[{words}]({os.path.relpath(tree / 'book', file.parent)}/{book.leads_to(words.strip('`'), target)[1] or page})"
+
+    for file in sorted(tree.rglob("*.md")):
+        file.write_text(LINK.sub(instead, file.read_text()))
+
+
 def main(words):
-    if words and words != ["--check"] and not (words[0] == "--to" and len(words) == 2):
+    if words and words != ["--check"] and not (words[0] == "--install" and len(words) == 2):
         print(__doc__)
         return 2
-    book = Book(sources=None if words[:1] == ["--to"] else "../../")
+    tree = Path(words[1]) if words[1:] else None
+    book = Book(sources=None if tree else "../../")
     pages, faults = faults_of(book)
     for fault in faults:
         print(f"book: {fault}")
     if words != ["--check"]:
-        out = Path(words[1]) if words else OUT
+        out = tree / "book" if tree else OUT
         out.mkdir(parents=True, exist_ok=True)
         for name, text in pages.items():
             (out / name).write_text(text)
+    if tree:
+        lead(book, tree)
     links = sum(text.count(" href=") for text in pages.values())
     print(f"book: {len(pages)} pages with {links} links" + ("" if faults else ", none of them dead, and a /// at each public item"))
     return 1 if faults else 0

@@ -80,8 +80,6 @@ gather_library() {
 gather_documents() {
     docs=$prefix/share/doc/faxtool
     puts 644 README.md CHANGELOG.md CONTRIBUTING.md LICENSE-APACHE LICENSE-MIT .ci/public_clauses.txt "$docs"
-    # the sources aren't installed, so a link to one leads to the page of its crate
-    sed -i 's,](crates/\([a-z0-9_]*\)/\(src\|specs\)/[^)]*),](crates/\1/README.md),g' "$stage$docs/README.md"
     puts 644 docs/*.md docs/*.svg "$docs/docs"
     puts 644 docs/examples/* "$docs/examples"
     chmod 755 "$stage$docs"/examples/*.py
@@ -92,6 +90,9 @@ gather_documents() {
     commit > "$stage$docs/COMMIT"
     packaging/trust.py --package "faxtool=$program" "libg3fax.a=$library/libg3fax.a" "libg3fax.so.0=$library/libg3fax.so.0" \
         > "$stage$docs/docs/PROOF.md"
+    # the sources aren't installed: the documents lead to the book in their place
+    docs/book.py --install "$stage$docs" > "$work/said" || { cat "$work/said" >&2; ends "docs/book.py"; }
+    chmod 644 "$stage$docs/book"/*.html
     chmod 644 "$stage$docs/COMMIT" "$stage$docs/docs/PROOF.md"
 }
 
