@@ -4,7 +4,7 @@
     .ci/definitions.py
     .ci/definitions.py --clauses   writes .ci/public_clauses.txt anew
 
-.ci/public_clauses.txt has each public clause (docs/clauses.py says what that is) by crate, item and name, or by its first words where it has
+.ci/public_clauses.txt has each public clause (docs/clauses.py says what that is) by crate, item and name, or by its first words if it has
 no name: a clause that is added or deleted shows there. A public clause that names no definition, or has a part that is `Unit`, says
 nothing, and is refused.
 Each definition that a public clause names, or that such a definition rests on, has a comment of at least three words beside it. None of
@@ -13,8 +13,8 @@ The book (docs/book.py) has no dead link, and each public item has its `///`.
 Each crate has a README of at most 100 lines, and all committed documents together have at most 25,000 words.
 The table of docs/STATION.md, under `## Timers`, has exactly the waits of each state that the definitions of
 `crates/stations/specs/Waits.antt` have.
-The table of docs/FAULTS.md has exactly the faults of the program: those of a whole file, of a bit and of a line by the kinds of `FaultKind`,
-and those that the crates number beside them. The table in faxtool's help has the same but those that no command meets.
+The table of docs/FAULTS.md has exactly the faults of the program: those of a whole file, of a bit and of a line by the kinds of
+`FaultKind`, and those that the crates number beside them. The table in faxtool's help has the same but those that no command meets.
 Prints what is missing and ends with status 1, or prints one line of counts. .ci/test_checks.py sees each of these checks fail. It needs
 Python's standard library alone."""
 
@@ -36,7 +36,7 @@ MOST_LINES = 100
 MOST_WORDS = 25_000
 # The definitions with cases that say nothing: how many, and why.
 EMPTY_CASES = {
-    ("conversations", "Conversing", "StopsSo"): (4, "open: how far a conversation is after refused memory, a failed writer or too many lines"),
+    ("conversations", "Conversing", "StopsSo"): (4, "open: how far it is after refused memory, a failed writer or too many lines"),
     ("conversations", "Reading", "TakesNext"): (2, "open: what was taken of the line when memory is refused or the reader fails"),
     ("conversations", "Talking", "IsNoAnswer"): (1, "open: faults after the line was taken, of a store, a follower or memory"),
     ("conversations", "Talking", "IfRefused"): (1, "open: the same faults; it speaks of lines that were refused before anything was done"),
@@ -195,8 +195,8 @@ def main(words):
         print("definitions: --clauses writes the file of public clauses anew")
         return 1
     print(
-        f"definitions: {len(named)} public clauses name {len(asked)} definitions and rest on {len(reached)} of {len(book.specs.definitions)}; "
-        f"the book has {len(pages)} pages; {len(texts)} documents have {words_of(texts)} words"
+        f"definitions: {len(named)} public clauses name {len(asked)} definitions and rest on {len(reached)} of "
+        f"{len(book.specs.definitions)}; the book has {len(pages)} pages; {len(texts)} documents have {words_of(texts)} words"
     )
     return 0
 

@@ -53,7 +53,8 @@ def clauses():
     clause, name = next(pair for pair in NAMED if pair[1].endswith("calls_bear: ensures two"))
     without = [pair for pair in NAMED if pair[0] is not clause]
     yield refuses("a clause that is gone", lambda named: checks.clause_faults(named, kept), NAMED, without, name)
-    yield refuses("a clause that is new", lambda list_of: checks.clause_faults(NAMED, list_of), kept, [one for one in kept if one != name], name)
+    older = [one for one in kept if one != name]
+    yield refuses("a clause that is new", lambda list_of: checks.clause_faults(NAMED, list_of), kept, older, name)
     empty = [*without, (changed(clause, text="Unit"), name)]
     yield refuses("a clause that is Unit", lambda named: checks.clause_faults(named, kept), NAMED, empty, "says nothing")
 

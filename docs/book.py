@@ -35,7 +35,8 @@ CITED = re.compile(r"\[`([^`]+)`\]\(([^)]+)\)|`([^`]+)`")
 def page(title, body):
     """A whole page."""
     return (
-        '<!DOCTYPE html>\n<html lang="en">\n<head>\n<meta charset="utf-8">\n<meta name="viewport" content="width=device-width, initial-scale=1">\n'
+        '<!DOCTYPE html>\n<html lang="en">\n<head>\n<meta charset="utf-8">\n'
+        '<meta name="viewport" content="width=device-width, initial-scale=1">\n'
         f"<title>{escape(title)}</title>\n<style>\n{STYLE}</style>\n</head>\n<body>\n{body}</body>\n</html>\n"
     )
 
@@ -172,7 +173,8 @@ class Book:
             body += f"<p>{link('#' + file_id(source), escape(source.file.name))}: {inner}</p>\n"
         body += "<h2>Definitions</h2>\n<p>" + ", ".join(link(f"#m-{module.name}", module.name) for module in modules) + "</p>\n</nav>\n"
         for source, items in files:
-            body += f'<h2 id="{file_id(source)}">{escape(str(source.file.relative_to(crate.folder)))}</h2>\n<p>{prose(source.says)}</p>\n'
+            file = source.file.relative_to(crate.folder)
+            body += f'<h2 id="{file_id(source)}">{escape(str(file))}</h2>\n<p>{prose(source.says)}</p>\n'
             body += "".join(self.item_part(item) for item in items)
         for module in modules:
             file = module.file.relative_to(crate.folder)
@@ -182,13 +184,16 @@ class Book:
 
     def kit_page(self):
         """The definitions of the kit that are named."""
-        body = f'<nav>{link("index.html", "The book")}</nav>\n<h1>The kit</h1>\n<p>What the definitions name of the Rattle kit and its libraries.'
-        body += " A name without a text is a type of the code, one of its values, or built in.</p>\n"
+        body = (
+            f'<nav>{link("index.html", "The book")}</nav>\n<h1>The kit</h1>\n<p>What the definitions name of the Rattle kit and its '
+            "libraries. A name without a text is a type of the code, one of its values, or built in.</p>\n"
+        )
         for name, places in sorted(self.of_kit.items()):
             found = next((each for each in (kit.definition(*place) for place in sorted(places)) if each), None)
             words = f"<p>{prose(found.comment)}</p>\n<pre>{escape(found.text, quote=False)}</pre>\n" if found else ""
             where = ", ".join(sorted({module for module, _ in places}))
-            body += f'<section class="def" id="{escape(name)}"><h4>{escape(name.partition(".")[2])}</h4>\n{words}<p class="at">{where}</p></section>\n'
+            heading = f"<h4>{escape(name.partition('.')[2])}</h4>"
+            body += f'<section class="def" id="{escape(name)}">\n{heading}\n{words}<p class="at">{where}</p>\n</section>\n'
         return page("The kit: what the definitions name of it", body)
 
     # The index.
@@ -250,9 +255,10 @@ class Book:
     def index_page(self):
         """The first page."""
         body = (
-            "<h1>What is proved</h1>\n<p>Each promise of the crates is a clause, and each name in a clause is a link to its definition: a comment, "
-            "its text, and where it stands. The names in that lead further, down to those of the Rattle kit. A clause says <b>requires</b> for "
-            "what a caller must see to, <b>ensures</b> for what holds after the call, and <b>ghost</b> for what a type or a trait means.</p>\n"
+            "<h1>What is proved</h1>\n<p>Each promise of the crates is a clause, and each name in a clause is a link to its definition: a "
+            "comment, its text, its file and its line. The names in that text lead further, down to those of the Rattle kit. A clause says "
+            "<b>requires</b> for what a caller must see to, <b>ensures</b> for what holds after the call, and <b>ghost</b> for what a type "
+            "or a trait means.</p>\n"
             f"<h2>The guarantees</h2>\n{self.guarantees()}<h2>The crates</h2>\n<table>\n"
             "<tr><th>Crate</th><th>What it is</th><th>Items</th><th>Clauses</th><th>Definitions</th></tr>\n"
         )
@@ -268,8 +274,9 @@ class Book:
             body += f"<tr><td>{link(f'{name}.html', name)}</td><td>{says}</td>{cells}</tr>\n"
         clauses = (self.top / ".ci" / "public_clauses.txt").read_bytes()
         body += (
-            f"</table>\n<p>{link('kit.html', 'The kit')}: what the definitions name of it.</p>\n<p>The list of all {len(clauses.splitlines())} public "
-            f"clauses, <code>public_clauses.txt</code>, has the SHA-256 <code>{hashlib.sha256(clauses).hexdigest()}</code>.</p>\n"
+            f"</table>\n<p>{link('kit.html', 'The kit')}: what the definitions name of it.</p>\n<p>The list of all "
+            f"{len(clauses.splitlines())} public clauses, <code>public_clauses.txt</code>, has the SHA-256 "
+            f"<code>{hashlib.sha256(clauses).hexdigest()}</code>.</p>\n"
         )
         return page("What is proved", body)
 
@@ -323,7 +330,9 @@ def item_faults(book):
 def dead_links(pages, top, sources):
     """The links of pages that lead nowhere."""
     ids = {name: re.findall(r' id="([^"]*)"', text) for name, text in pages.items()}
-    dead = [f"{name}: two parts have the name {one}" for name, own in ids.items() for one in sorted({one for one in own if own.count(one) > 1})]
+    dead = []
+    for name, own in ids.items():
+        dead += [f"{name}: two parts have the name {one}" for one in sorted({one for one in own if own.count(one) > 1})]
     anchors = {name: set(own) for name, own in ids.items()}
     for name, text in pages.items():
         for href in sorted(set(re.findall(r' href="([^"]*)"', text))):
