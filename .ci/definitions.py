@@ -107,8 +107,8 @@ def documents():
 
 
 def words_of(texts):
-    """How many words documents have."""
-    return sum(len(text.split()) for text in texts.values())
+    """How many words documents have; the bars of a table and other signs alone are none."""
+    return sum(len(re.findall(r"\S*\w\S*", text)) for text in texts.values())
 
 
 def document_faults(texts, crates):

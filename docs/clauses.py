@@ -242,7 +242,7 @@ class Source:
         return self.text.count("\n", 0, place) + 1
 
     def doc_above(self, place):
-        """What the `///` lines above an item say; attributes may stand between."""
+        """What the `///` lines above an item say; attributes and `//` lines may stand between."""
         lines = self.text[: self.text.rfind("\n", 0, place) + 1].splitlines()
         said = []
         while lines:
@@ -252,7 +252,7 @@ class Source:
             elif line.endswith("]") and not line.startswith("#["):
                 while lines and not line.startswith("#["):
                     line = lines.pop().strip()
-            elif not line.startswith("#["):
+            elif not line.startswith(("#[", "//")):
                 break
         return " ".join(reversed(said))
 
