@@ -83,6 +83,7 @@ gather_documents() {
     puts 644 docs/*.md docs/*.svg "$docs/docs"
     puts 644 docs/examples/* "$docs/examples"
     chmod 755 "$stage$docs"/examples/*.py
+    sed -i 's,](\.\./\([A-Z]*\.md\),](../docs/\1,g' "$stage$docs/examples/README.md"
     ln -s ../examples "$stage$docs/docs/examples"
     puts 644 bindings/README.md "$docs/bindings"
     puts 644 packaging/README.md "$docs/packaging"
