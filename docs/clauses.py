@@ -10,7 +10,7 @@ from dataclasses import dataclass, field
 from functools import cached_property
 from pathlib import Path
 
-from specs import SIGN_EDGE, WORD, defined_names
+from specs import WORD, defined_names, named_by, stands_in
 
 BLANKED = re.compile(r"""//[^\n]*|b?"(?:\\.|[^"\\])*"|b?'(?:\\.|[^'\\\n])'""", re.S)
 IMPORT = re.compile(r"\bghost use Rattle\.(\w+)\.specs\.([\w.]+)\.\{([^}]*)\}")
@@ -117,18 +117,8 @@ def imports_of(text, blocks):
     imports = []
     for found in IMPORT.finditer(text):
         around = [block for block in blocks if block[0] < found.start() < block[1]]
-        words = [word.strip().partition(" as ") for word in found[3].split(",")]
-        names = {here.strip() or there: (found[1], found[2], there) for there, _, here in words}
-        imports.append((around[-1][:2] if around else (-1, len(text)), names))
+        imports.append((around[-1][:2] if around else (-1, len(text)), named_by(found)))
     return imports
-
-
-def stands_in(name, text):
-    """A name stands in a text; an operator does where all its signs do."""
-    if "◌" not in name:
-        return re.search(rf"(?<![\w.']){re.escape(name)}(?![\w'])(?!\s*=(?!=))", text) is not None
-    signs = [sign for sign in name.split("◌") if sign]
-    return all(re.search(rf"(?<!{SIGN_EDGE}){re.escape(sign)}(?!{SIGN_EDGE})", text) for sign in signs)
 
 
 def name_of(found, text):

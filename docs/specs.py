@@ -18,7 +18,6 @@ MADE = re.compile(rf"^\s+((?:{WORD}\s+)+):(?=\s)", re.M)
 PASSED = re.compile(r"(?:use |pub mod |mod |infix)")
 # What stands in a definition's text: a comment, a text, a word with what it is a field of, or a run of signs.
 TOKEN = re.compile(rf"--[^\n]*|\"(?:\\.|[^\"\\\n])*\"|\.?{WORD}|[^\s(){{}}\[\],;\w\"'.]+|\.", re.S)
-BINDERS = re.compile(rf"[({{]\s*((?:{WORD}\s+)+):(?=\s)|^\s+(?:pub )?({WORD}) :(?=\s)|({WORD})\s*=(?=\s)", re.M)
 
 
 @dataclass
@@ -105,18 +104,16 @@ def definitions_of(text, crate, module, file):
     return found
 
 
-def imported(text):
-    """The names that a file imports: their crate, module and name, by the names in the file."""
-    names = {}
-    for there in IMPORT.finditer(text):
-        for word in there[3].split(","):
-            name, _, here = word.strip().partition(" as ")
-            names[here.strip() or name] = (there[1], there[2], name)
-    return names
+def named_by(found):
+    """What a `use` imports: the crate, module and name of each name, by the name here."""
+    words = [word.strip().partition(" as ") for word in found[3].split(",")]
+    return {here.strip() or there: (found[1], found[2], there) for there, _, here in words}
 
 
 def stands_in(name, text):
-    """All signs of an operator stand in a text."""
+    """A name stands in a text; an operator does where all its signs do."""
+    if "◌" not in name:
+        return re.search(rf"(?<![\w.']){re.escape(name)}(?![\w'])(?!\s*=(?!=))", text) is not None
     signs = [sign for sign in name.split("◌") if sign]
     return all(re.search(rf"(?<!{SIGN_EDGE}){re.escape(sign)}(?!{SIGN_EDGE})", text) for sign in signs)
 
@@ -126,7 +123,7 @@ def read_module(file, crate):
     text = file.read_text()
     name = module_name(file, crate / "specs")
     definitions = definitions_of(text, crate.name, name, file)
-    names = imported(text)
+    names = {here: there for found in IMPORT.finditer(text) for here, there in named_by(found).items()}
     names.update({own: (crate.name, name, own) for own in definitions})
     names.update({made: (crate.name, name, of.name) for of in definitions.values() for made in of.made})
     operators = [operator for operator in names if "◌" in operator]
