@@ -21,7 +21,7 @@ from urllib.parse import quote, unquote
 sys.dont_write_bytecode = True
 import kit
 from clauses import crates_of
-from specs import TOKEN, Specs
+from specs import TOKEN, Specs, bound_in
 
 TOP = Path(__file__).resolve().parent.parent
 OUT = TOP / "out" / "book"
@@ -102,14 +102,16 @@ class Book:
         return None
 
     def linked(self, text, names, own=None):
-        """A text of definitions as HTML: each name in it is a link, but those of the definition itself."""
+        """A text of definitions as HTML: each name in it is a link, but that of the definition itself and what the text binds."""
+        bound = bound_in(text, own[2] if own else "")
+        bound = {word for word in bound if names.get(word) in self.specs.definitions and names[word][2] == word}
         signs = {sign: key for name, key in names.items() if "◌" in name and key[0] in self.crates for sign in name.split("◌") if sign}
         words = []
         last = 0
         for token in TOKEN.finditer(text):
             words.append(escape(text[last : token.start()], quote=False))
             word, last = token[0], token.end()
-            key = names.get(word, signs.get(word))
+            key = None if word in bound else names.get(word, signs.get(word))
             is_field = re.match(r"\s*[:=](?=\s)", text[last:]) and re.search(r"(?:[{;(]|pub|\n) *$", text[: token.start()])
             href = self.href_of(key) if key and key != own and not is_field else None
             if word.startswith(("--", "//")):

@@ -15,6 +15,7 @@ DECLARED = re.compile(rf"(?:(?:unfoldable|abbrev|pub|record|data) +)+({NAME})|({
 EQUATION = re.compile(WORD)
 IMPORT = re.compile(r"^use Rattle\.(\w+)\.specs\.([\w.]+)\.\{([^}]*)\}", re.M)
 MADE = re.compile(rf"^\s+((?:{WORD}\s+)+):(?=\s)", re.M)
+BOUND = re.compile(rf"[({{]((?:{WORD}\s+)+):(?=\s)|λ\s+\(?({WORD})")
 PASSED = re.compile(r"(?:use |pub mod |mod |infix)")
 # What stands in a definition's text: a comment, a text, a word with what it is a field of, or a run of signs.
 TOKEN = re.compile(rf"--[^\n]*|\"(?:\\.|[^\"\\\n])*\"|\.?{WORD}|[^\s(){{}}\[\],;\w\"'.]+|\.", re.S)
@@ -116,6 +117,14 @@ def stands_in(name, text):
         return re.search(rf"(?<![\w.']){re.escape(name)}(?![\w'])(?!\s*=(?!=))", text) is not None
     signs = [sign for sign in name.split("◌") if sign]
     return all(re.search(rf"(?<!{SIGN_EDGE}){re.escape(sign)}(?!{SIGN_EDGE})", text) for sign in signs)
+
+
+def bound_in(text, name=""):
+    """The words that a text binds: by `(x : ..)`, by `λ x.`, and those of an equation before its sign, if it is one of this name."""
+    heads = re.findall(rf"^{re.escape(name)} (.*?)\s=(?:\s|$)", text, re.M) if name else []
+    return {word for found in BOUND.findall(text) for word in (found[0] or found[1]).split()} | {
+        word for head in heads for word in re.findall(rf"(?<![\w.'])({WORD})", head)
+    }
 
 
 def read_module(file, crate):
