@@ -141,6 +141,7 @@ class Book:
             text = " ".join(clause.text.split()) if "\n" not in clause.text.strip() else reindented(clause.text)
             words += (
                 f'<div class="clause" id="{escape(clause_id(item, clause, number))}"><b>{clause.kind} {clause.name}</b>\n'
+                f"{f'<p>{prose(clause.beside)}</p>' if clause.beside else ''}"
                 f"<pre>{self.linked(text, clause.names)}</pre></div>\n"
             )
         return words + self.place(item.file, item.line) + "</section>\n"

@@ -5,6 +5,7 @@ layout of `rt fmt`. A public clause is one of a contract of an item that other c
 `ghost`; in a program it is one of any item that is `pub`, or of main.rt; in a static library one of each function that it exports to C. A
 type's `view` and `invariant` are left out: they say how its private fields hold its value, and are proved."""
 
+import itertools
 import re
 from dataclasses import dataclass, field
 from functools import cached_property
@@ -31,6 +32,8 @@ class Clause:
     text: str
     names: dict
     cited: list
+    # the `//` lines above it
+    beside: str
 
     @property
     def says_nothing(self):
@@ -186,7 +189,7 @@ class Source:
                 cited = [there for here, there in names.items() if stands_in(here, bare)]
                 kind = "ghost" if match[3] else match[1]
                 name = match[3] or match[2] or ""
-                found[place] = Clause(owner, kind, name, name_of(match, bare), self.text[span], names, cited)
+                found[place] = Clause(owner, kind, name, name_of(match, bare), self.text[span], names, cited, self.beside(place))
         return found
 
     @cached_property
@@ -245,6 +248,12 @@ class Source:
             elif not line.startswith(("#[", "//")):
                 break
         return " ".join(reversed(said))
+
+    def beside(self, place):
+        """What the `//` lines right above a clause say."""
+        above = self.text[: self.text.rfind("\n", 0, place) + 1].splitlines()
+        said = list(itertools.takewhile(lambda line: re.match(r"\s*//(?!/)", line), reversed(above)))
+        return " ".join(line.strip()[2:].strip() for line in reversed(said))
 
     def function_item(self, function, headers, owner):
         """A function, with its signature."""
