@@ -4,6 +4,7 @@
 #     make install           copies what was built below $(DESTDIR)$(PREFIX), and builds nothing
 #     make uninstall         removes what was copied there
 #     make tarball, make deb packs what was built, into packaging/out
+#     make book              writes what is proved, and the definitions that it rests on, as pages: out/book/index.html
 #
 # PREFIX is where the files are used from. DESTDIR is put before it where they are gathered elsewhere first, as for a package. LIBDIR is
 # where the libraries go, if not $(PREFIX)/lib. FAXTOOL and G3FAX name another program and another folder of the library.
@@ -30,4 +31,7 @@ tarball:
 deb:
 	packaging/deb.sh packaging/out
 
-.PHONY: all install uninstall tarball deb
+book:
+	docs/book.py
+
+.PHONY: all install uninstall tarball deb book

@@ -252,7 +252,7 @@ completes() {
     [ "$(completed "$@" | sort)" = "$wanted" ] || fails "faxtool $* is completed to: $(echo $(completed "$@"))"
 }
 
-# The version is that of the file at the top, and the kit that of docs/TRUST.md. `rt version` may call it by another name: what counts
+# The version is that of the file at the top, and the kit that of docs/PROOF.md. `rt version` may call it by another name: what counts
 # is the rules that it proves by.
 try_version() {
     works version
@@ -261,7 +261,7 @@ try_version() {
     refuses version 1
     refuses version --proof --proof
     works version --proof
-    grep '^rattle-kit' "$top/docs/TRUST.md" > "$work/wanted"
+    grep '^rattle-kit' "$top/docs/PROOF.md" > "$work/wanted"
     is_same "$work/output" "$work/wanted" "the kit of version --proof"
     rt version | sed 's/^[^ ]* //' > "$work/wanted"
     sed 's/^[^ ]* //' "$work/output" > "$work/rules"
