@@ -79,7 +79,7 @@ try_program() {
     cp .ci/sessions.py "$work/try/.ci/"
     docs="$to/usr/share/doc/faxtool"
     cp -r "$docs/examples" "$work/try/docs/examples"
-    commands=$("$work/try/.ci/sessions.py" "$to/usr/bin/faxtool" "$docs/README.md" "$docs/docs/RECIPES.md") || fails "the installed program"
+    commands=$("$work/try/.ci/sessions.py" "$to/usr/bin/faxtool" "$docs/README.md" "$docs/docs/USING.md") || fails "the installed program"
     [ "$("$to/usr/bin/faxtool" version)" = "$(cat VERSION)" ] || fails "the installed program has another version"
     [ -s "$docs/COMMIT" ] || fails "there is no commit"
     leads "$to/usr/share/doc"

@@ -5,7 +5,7 @@
 #     packaging/try_deb.sh FOLDER
 #
 # The root is a new folder with a list of packages of its own, in which the C library stands as this machine has it; dpkg installs there
-# by --root, so nothing else of the machine changes. Tried are: the command lines of the README and of docs/RECIPES.md in the installed
+# by --root, so nothing else of the machine changes. Tried are: the command lines of the README and of docs/USING.md in the installed
 # examples, the man pages, the completion, and an example in C that is built by pkg-config with the shared library and with the archive.
 # It needs dpkg, pkg-config, cc, python3, and fakeroot where it isn't run as root. Ends with status 1 at the first difference.
 set -e
@@ -92,7 +92,7 @@ mkdir -p "$work/try/.ci" "$work/try/docs"
 cp "$top/.ci/sessions.py" "$work/try/.ci/"
 cp -r "$root/usr/share/doc/faxtool/examples" "$work/try/docs/examples"
 commands=$("$work/try/.ci/sessions.py" "$root/usr/bin/faxtool" "$root/usr/share/doc/faxtool/README.md" \
-    "$root/usr/share/doc/faxtool/docs/RECIPES.md") || ends "a command line of a document"
+    "$root/usr/share/doc/faxtool/docs/USING.md") || ends "a command line of a document"
 [ "$commands" -gt 20 ] || ends "the documents have $commands commands alone"
 [ "$("$root/usr/bin/faxtool" version)" = "$version" ] || ends "faxtool version"
 grep -qxF "$("$root/usr/bin/faxtool" version --proof)" "$root/usr/share/doc/faxtool/docs/TRUST.md" || ends "faxtool version --proof"
