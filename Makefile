@@ -1,9 +1,15 @@
 # The program and the library for C, built, installed and packed. packaging/README.md says more.
 #
-#     make                   proves and builds what isn't built yet, with the Rattle kit: crates/faxtool/out/faxtool and bindings/build
+#     make try               builds the program without proof, build/faxtool, once: two minutes; and sends a page over a bad line by it
+#     make lib-try           builds the library for C without proof, in build: a minute
+#     make                   proves and builds what isn't built yet, with the Rattle kit: crates/faxtool/out/faxtool and bindings/build;
+#                            about 15 minutes on four processors
+#     make check             the gate, .ci/run, from nothing: about an hour on four processors, two on two
 #     make install           copies what was built below $(DESTDIR)$(PREFIX), and builds nothing
 #     make uninstall         removes what was copied there
 #     make tarball, make deb packs what was built, into packaging/out
+#     make book              writes what is proved, and the definitions that it rests on, as pages: out/book/index.html
+#     make help              prints these lines
 #
 # PREFIX is where the files are used from. DESTDIR is put before it where they are gathered elsewhere first, as for a package. LIBDIR is
 # where the libraries go, if not $(PREFIX)/lib. FAXTOOL and G3FAX name another program and another folder of the library.
@@ -18,6 +24,18 @@ export PREFIX DESTDIR LIBDIR KIT FAXTOOL G3FAX
 all:
 	packaging/build.sh
 
+try:
+	@packaging/try.sh
+
+lib-try:
+	@packaging/try.sh --library
+
+check:
+	.ci/run
+
+help:
+	@sed -n 's/^#     //p' Makefile
+
 install:
 	packaging/install.sh
 
@@ -30,4 +48,7 @@ tarball:
 deb:
 	packaging/deb.sh packaging/out
 
-.PHONY: all install uninstall tarball deb
+book:
+	docs/book.py
+
+.PHONY: all try lib-try check help install uninstall tarball deb book

@@ -4,8 +4,8 @@
     .ci/examples.py
 
 Each block that is fenced as `rust` in crates/*/README.md is a function of crates/uses/src, word for word, with its `///` lines; each that
-is fenced as `c`, there and in bindings/README.md, is one of bindings/c. Each library with definitions has such a block. Prints what is
-wrong and ends with status 1, or prints how many there are."""
+is fenced as `c` there is one of bindings/c. Each library with definitions has such a block. The programs of bindings/README.md are whole:
+`.ci/bindings.sh` runs them. Prints what is wrong and ends with status 1, or prints how many there are."""
 
 import re
 import sys
@@ -19,7 +19,7 @@ FILES = {"rust": (CRATES / "uses" / "src").glob("*.rt"), "c": (BINDINGS / "c").g
 sources = {language: "".join(file.read_text() for file in sorted(files)) for language, files in FILES.items()}
 count = 0
 faults = []
-for folder in [*sorted(CRATES.iterdir()), BINDINGS]:
+for folder in sorted(CRATES.iterdir()):
     readme = folder / "README.md"
     blocks = BLOCK.findall(readme.read_text()) if readme.exists() else []
     count += len(blocks)

@@ -1,7 +1,7 @@
 #!/bin/sh
 # Installs what is built into a new folder and tries it there, and packs it: `make install` and `make uninstall`, the command lines of the
 # README in the installed examples, an example in C, tarballs that are the same twice, and Debian's packages where its tools are. Holds
-# docs/TRUST.md against the kit, the public clauses and the built files. Ends with status 1 at the first difference.
+# docs/PROOF.md against the kit and the built files. Ends with status 1 at the first difference.
 #
 #     .ci/packages.sh
 #
@@ -79,9 +79,10 @@ try_program() {
     cp .ci/sessions.py "$work/try/.ci/"
     docs="$to/usr/share/doc/faxtool"
     cp -r "$docs/examples" "$work/try/docs/examples"
-    commands=$("$work/try/.ci/sessions.py" "$to/usr/bin/faxtool" "$docs/README.md" "$docs/docs/RECIPES.md") || fails "the installed program"
+    commands=$("$work/try/.ci/sessions.py" "$to/usr/bin/faxtool" "$docs/README.md" "$docs/docs/USING.md") || fails "the installed program"
     [ "$("$to/usr/bin/faxtool" version)" = "$(cat VERSION)" ] || fails "the installed program has another version"
     [ -s "$docs/COMMIT" ] || fails "there is no commit"
+    [ -s "$docs/book/index.html" ] || fails "there is no book"
     leads "$to/usr/share/doc"
 }
 

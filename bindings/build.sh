@@ -1,14 +1,14 @@
 #!/bin/sh
 # Builds the library for C in a folder:
 #
-#     bindings/build.sh FOLDER
+#     bindings/build.sh FOLDER [--unproved]
 #
-# It leaves libg3fax.a, libg3fax.so.0, g3fax.h and g3fax.pc there. The proved crate is crates/g3fax: `rt lib` proves what of it isn't yet
-# proved, and compiles it. With it go g3fax.c, compiled by the kit's clang, and the kit's heap over malloc, realloc and free. KIT is where
-# the kit lies, if not /opt/rattle.
+# It leaves libg3fax.a, libg3fax.so.0, g3fax.h and g3fax.pc there. The proved crate is crates/g3fax: packaging/build_library.sh proves what
+# of it isn't yet proved, and compiles it. With it go g3fax.c, compiled by the kit's clang, and the kit's heap over malloc, realloc and
+# free. With --unproved nothing is proved, and g3_version says so. KIT is where the kit lies, if not /opt/rattle.
 set -e
 kit=${KIT:-/opt/rattle}
-[ $# = 1 ] || { echo "usage: build.sh FOLDER" >&2; exit 2; }
+[ $# = 1 ] || [ "$# $2" = "2 --unproved" ] || { echo "usage: build.sh FOLDER [--unproved]" >&2; exit 2; }
 top=$(cd "$(dirname "$0")/.." && pwd)
 mkdir -p "$1"
 to=$(cd "$1" && pwd)
@@ -16,15 +16,22 @@ version=$(cat "$top/VERSION")
 archive=$top/crates/g3fax/out/libg3fax.a
 work=$(mktemp -d)
 trap 'rm -rf "$work"' EXIT
-(cd "$top/crates/g3fax" && "$kit/bin/rt" lib) > "$work/said" 2>&1 || { cat "$work/said" >&2; exit 1; }
-cd "$work"
-"$kit/toolchain/bin/llvm-ar" x "$archive"
+said=$version description=
+if [ $# = 2 ]; then
+    said="$version, built without proof" description='s|^Description: proved |Description: not proved here: |'
+    "$top/packaging/build_unproved.sh" "$top/crates/g3fax" "$work/g3fax.o" --library
+    cd "$work"
+else
+    "$top/packaging/build_library.sh" > "$work/said" 2>&1 || { cat "$work/said" >&2; exit 1; }
+    cd "$work"
+    "$kit/toolchain/bin/llvm-ar" x "$archive"
+fi
 "$kit/toolchain/bin/llvm-ar" x "$kit/c/liblibc_c.a"
 "$kit/toolchain/bin/clang" -std=c11 -O2 -fPIC -Wall -Wextra -Werror -ffreestanding -nostdinc -isystem "$top/bindings/include" \
-    -DG3_VERSION="\"$version\"" -c "$top/bindings/g3fax.c" -o g3fax_c.o
+    -DG3_VERSION="\"$said\"" -c "$top/bindings/g3fax.c" -o g3fax_c.o
 rm -f "$to/libg3fax.a"
 "$kit/toolchain/bin/llvm-ar" rcs "$to/libg3fax.a" ./*.o
 "$kit/toolchain/bin/ld.lld" -shared -soname libg3fax.so.0 -z relro -z noexecstack --version-script "$top/bindings/exports" \
     -o "$to/libg3fax.so.0" ./*.o "$kit/toolchain/lib/libc.so.6"
 cp "$top/bindings/g3fax.h" "$to/g3fax.h"
-sed "s|@VERSION@|$version|" "$top/bindings/g3fax.pc.in" > "$to/g3fax.pc"
+sed "s|@VERSION@|$version|; $description" "$top/bindings/g3fax.pc.in" > "$to/g3fax.pc"

@@ -53,7 +53,21 @@ sources() {
     if is_git; then
         gits ls-files
     else
-        (cd "$top" && find . -type f ! -path '*/out/*' ! -path './bindings/build/*' ! -path '*/__pycache__/*' ! -path './.git/*' \
+        (cd "$top" && find . -type f ! -path '*/out/*' ! -path './build/*' ! -path './bindings/build/*' ! -path '*/__pycache__/*' \
+            ! -path './.git/*' \
             ! -path ./COMMIT | sed 's,^\./,,')
     fi | LC_ALL=C sort
+}
+
+# unproved_sum CRATE: the sum of what a build of a crate without proof is made of: its sources, those of the crates below it, the scripts
+# that build it, and the name of the kit.
+unproved_sum() {
+    (
+        cd "$top"
+        for crate in "$1" $(sed -n "s/^$1\( *staticlib\)\{0,1\}://p" crates.txt); do
+            [ ! -d "crates/$crate" ] || find "crates/$crate/src" -type f
+        done | LC_ALL=C sort | xargs -d '\n' sha256sum
+        sha256sum crates.txt packaging/build_unproved.sh packaging/reach_exports.py VERSION bindings/build.sh bindings/exports bindings/g3fax.*
+        cat "$KIT/KIT-ID" "$KIT/WHAT"
+    ) | sha256sum | cut -d ' ' -f 1
 }

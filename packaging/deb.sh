@@ -109,12 +109,12 @@ strip --strip-all "$work/faxtool/usr/bin/faxtool"
 strip --strip-unneeded "$work/libg3fax0$libdir/libg3fax.so.0"
 chmod 644 "$work/libg3fax0$libdir/libg3fax.so.0"
 for package in faxtool libg3fax0 libg3fax-dev; do documents $package; done
-page "$work/faxtool$share/doc/faxtool/docs/TRUST.md"
+page "$work/faxtool$share/doc/faxtool/docs/PROOF.md"
 # in the other packages the page leads to the documents of the package faxtool
 for package in libg3fax0 libg3fax-dev; do
     cp "$work/faxtool$share/doc/faxtool/public_clauses.txt" "$work/$package$share/doc/$package/"
     sed -e 's,](\.\./public_clauses\.txt),](public_clauses.txt),' -e 's,](\.\./README,](../faxtool/README,g' \
-        -e 's,](\([A-Z]*\.md\)),](../faxtool/docs/\1),g' "$work/faxtool$share/doc/faxtool/docs/TRUST.md" > "$work/$package$share/doc/$package/TRUST.md"
+        -e 's,](\([A-Z]*\.md\)),](../faxtool/docs/\1),g' "$work/faxtool$share/doc/faxtool/docs/PROOF.md" > "$work/$package$share/doc/$package/PROOF.md"
 done
 # the licences are in the file copyright
 rm "$work/faxtool$share/doc/faxtool"/LICENSE-*

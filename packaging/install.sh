@@ -83,14 +83,18 @@ gather_documents() {
     puts 644 docs/*.md docs/*.svg "$docs/docs"
     puts 644 docs/examples/* "$docs/examples"
     chmod 755 "$stage$docs"/examples/*.py
+    sed -i 's,](\.\./\([A-Z]*\.md\),](../docs/\1,g' "$stage$docs/examples/README.md"
     ln -s ../examples "$stage$docs/docs/examples"
     puts 644 bindings/README.md "$docs/bindings"
     puts 644 packaging/README.md "$docs/packaging"
     for crate in crates/*/README.md; do puts 644 "$crate" "$docs/${crate%/README.md}"; done
     commit > "$stage$docs/COMMIT"
     packaging/trust.py --package "faxtool=$program" "libg3fax.a=$library/libg3fax.a" "libg3fax.so.0=$library/libg3fax.so.0" \
-        > "$stage$docs/docs/TRUST.md"
-    chmod 644 "$stage$docs/COMMIT" "$stage$docs/docs/TRUST.md"
+        > "$stage$docs/docs/PROOF.md"
+    # the sources aren't installed: the documents lead to the book in their place
+    docs/book.py --install "$stage$docs" > "$work/said" || { cat "$work/said" >&2; ends "docs/book.py"; }
+    chmod 644 "$stage$docs/book"/*.html
+    chmod 644 "$stage$docs/COMMIT" "$stage$docs/docs/PROOF.md"
 }
 
 # gather: all files, in the stage.

@@ -1,7 +1,7 @@
 #!/usr/bin/env python3
-"""Writes what docs/TRUST.md has of the kit, of the public clauses and of the built files:
+"""Writes what docs/PROOF.md has of the kit and of the built files:
 
-    packaging/trust.py --write           writes these parts of docs/TRUST.md anew; those of the kit by the kit's own file
+    packaging/trust.py --write           writes these parts of docs/PROOF.md anew; that of the kit by the kit's own files
     packaging/trust.py --check           compares them, names what is other, and ends with status 1 then; a kit of another name that
                                          has the same rules, sources and compiler is the same kit
     packaging/trust.py --sources         prints the sum of the sources that the built files depend on
@@ -15,12 +15,10 @@ import hashlib
 import os
 import re
 import sys
-from collections import Counter
 from pathlib import Path
 
 TOP = Path(__file__).resolve().parent.parent
-PAGE = TOP / "docs" / "TRUST.md"
-CLAUSES = TOP / ".ci" / "public_clauses.txt"
+PAGE = TOP / "docs" / "PROOF.md"
 KIT = Path(os.environ.get("KIT", "/opt/rattle"))
 BUILT = {
     "faxtool": "crates/faxtool/out/faxtool",
@@ -69,16 +67,6 @@ def kit_name(text):
     return name, rest
 
 
-def clauses_part():
-    """How many public clauses each crate has, and the sum of their list."""
-    counts = Counter(line.split()[0] for line in CLAUSES.read_text().splitlines())
-    rows = "".join(f"| `{crate}` | {count} |\n" for crate, count in sorted(counts.items()))
-    return (
-        f"\n{sum(counts.values())} public clauses of {len(counts)} crates. The list has the SHA-256\n`{sum_of(CLAUSES)}`.\n\n"
-        f"| Crate | Public clauses |\n|---|---|\n{rows}\n"
-    )
-
-
 def sums_part(files):
     """The sums of files, and that of their sources."""
     rows = "".join(f"| `{name}` | {Path(file).stat().st_size} | `{sum_of(file)}` |\n" for name, file in files.items())
@@ -100,19 +88,17 @@ def check():
     if stated != rules:
         wrong.append("the kit")
     elif named != here:
-        print(f"trust: this kit is called {here}, and {named} in docs/TRUST.md; the rules, the sources and the compiler are the same")
+        print(f"trust: this kit is called {here}, and {named} in docs/PROOF.md; the rules, the sources and the compiler are the same")
     if f"{named}{stated.splitlines()[0]}" not in (TOP / "README.md").read_text():
         wrong.append("the kit that the README names")
-    if parts["clauses"] != clauses_part():
-        wrong.append("the public clauses")
     kept = f"Sum of the sources: `{sources_sum()}`." in parts["built"]
     built = built_part()
     if kept and NONE_BUILT not in built and parts["built"] != built:
         wrong.append("the sums of the built files, of the same sources")
     if wrong:
-        sys.exit(f"docs/TRUST.md: other than it says: {'; '.join(wrong)}. packaging/trust.py --write writes it anew")
+        sys.exit(f"docs/PROOF.md: other than it says: {'; '.join(wrong)}. packaging/trust.py --write writes it anew")
     said = "the built files" if kept else "no built files, since the sources are other"
-    print(f"trust: docs/TRUST.md has this kit, these public clauses, and {said}")
+    print(f"trust: docs/PROOF.md has this kit and {said}")
 
 
 def package(words):
@@ -127,7 +113,7 @@ def package(words):
 
 def main(words):
     if words == ["--write"]:
-        parts = {"kit": kit_part(), "clauses": clauses_part(), "built": built_part()}
+        parts = {"kit": kit_part(), "built": built_part()}
         PAGE.write_text(with_parts(PAGE.read_text(), parts))
     elif words == ["--check"]:
         check()

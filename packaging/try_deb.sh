@@ -5,7 +5,7 @@
 #     packaging/try_deb.sh FOLDER
 #
 # The root is a new folder with a list of packages of its own, in which the C library stands as this machine has it; dpkg installs there
-# by --root, so nothing else of the machine changes. Tried are: the command lines of the README and of docs/RECIPES.md in the installed
+# by --root, so nothing else of the machine changes. Tried are: the command lines of the README and of docs/USING.md in the installed
 # examples, the man pages, the completion, and an example in C that is built by pkg-config with the shared library and with the archive.
 # It needs dpkg, pkg-config, cc, python3, and fakeroot where it isn't run as root. Ends with status 1 at the first difference.
 set -e
@@ -69,7 +69,7 @@ files > "$work/installed"
 for package in faxtool libg3fax0 libg3fax-dev; do
     [ "$(dpkg-query --root="$root" -W -f '${db:Status-Status}' $package 2> /dev/null)" = installed ] || ends "$package isn't installed"
     [ -z "$(find "$root/usr/share/doc/$package" -name COMMIT -empty)" ] || ends "$package has no commit"
-    [ -n "$(find "$root/usr/share/doc/$package" -name TRUST.md)" ] || ends "$package has no TRUST.md"
+    [ -n "$(find "$root/usr/share/doc/$package" -name PROOF.md)" ] || ends "$package has no PROOF.md"
 done
 
 # each link of an installed document leads to a file, but those to licences, which are in the file copyright
@@ -92,10 +92,10 @@ mkdir -p "$work/try/.ci" "$work/try/docs"
 cp "$top/.ci/sessions.py" "$work/try/.ci/"
 cp -r "$root/usr/share/doc/faxtool/examples" "$work/try/docs/examples"
 commands=$("$work/try/.ci/sessions.py" "$root/usr/bin/faxtool" "$root/usr/share/doc/faxtool/README.md" \
-    "$root/usr/share/doc/faxtool/docs/RECIPES.md") || ends "a command line of a document"
+    "$root/usr/share/doc/faxtool/docs/USING.md") || ends "a command line of a document"
 [ "$commands" -gt 20 ] || ends "the documents have $commands commands alone"
 [ "$("$root/usr/bin/faxtool" version)" = "$version" ] || ends "faxtool version"
-grep -qxF "$("$root/usr/bin/faxtool" version --proof)" "$root/usr/share/doc/faxtool/docs/TRUST.md" || ends "faxtool version --proof"
+grep -qxF "$("$root/usr/bin/faxtool" version --proof)" "$root/usr/share/doc/faxtool/docs/PROOF.md" || ends "faxtool version --proof"
 
 if command -v man > /dev/null; then
     for page in "$root"/usr/share/man/man1/*.1.gz; do

@@ -1,10 +1,10 @@
-"""What a program can ask of a station, on its happy paths: try_stations.py PROGRAM FOLDER TIMERS
+"""What a program can ask of a station, on its happy paths: try_stations.py PROGRAM FOLDER STATION
 
 The program of crates/stream_tool passes a station of each type what it hears, and prints after each input its turn in bursts, with the
 frames' contents, the waits that run with their milliseconds, what it listens for, its parameters, what the other station said of itself,
 how far it is, the page that it couldn't read, its end, and the pages taken. All of this is compared with rows that are worked by hand
-from the tables of T.30 and its Annex A; a row names what its input changes, and all else is as before. Then the table of docs/TIMERS,
-which TIMERS names, is held against the waits of a station in each state, and against what the station does when one is over. Nothing
+from the tables of T.30 and its Annex A; a row names what its input changes, and all else is as before. Then the table of docs/STATION,
+which STATION names, is held against the waits of a station in each state, and against what the station does when one is over. Nothing
 is taken from the program. Ends with status 1 at the first that differs."""
 
 import os
@@ -500,7 +500,7 @@ def try_station(name, letter, images, state, inputs, last):
     compare(name, run(letter, options, heard, images), wanted + last)
 
 
-# How a station comes to each state of docs/TIMERS: its letter, and what it hears before.
+# How a station comes to each state of docs/STATION: its letter, and what it hears before.
 STATES = {
     "WaitDis": ("c", []),
     "WaitCfr": ("c", [("H", DIS)]),
@@ -533,17 +533,17 @@ def try_row(states, wait, seconds, name, does):
     for state in states:
         lines, kind = told(state, "", 0), INPUTS[name]
         if f"wait {wait} {seconds}000" not in lines:
-            sys.exit(f"docs/TIMERS: {wait} of {seconds} s doesn't run in {state}: {lines}")
+            sys.exit(f"docs/STATION: {wait} of {seconds} s doesn't run in {state}: {lines}")
         first, _, third = does.partition("; after the third try ")
         after = told(state, kind, 1)
         sends = [turn for word, turn in TURNS.items() if f"sends {word}" in first]
         if after[0] != f"turn {(sends + ['Silent'])[0]}":
-            sys.exit(f"docs/TIMERS: {wait} in {state}: {after[0]}, and not {does}")
+            sys.exit(f"docs/STATION: {wait} in {state}: {after[0]}, and not {does}")
         if third:
             after = told(state, kind, 3)
         ends = re.search(r"`(\w+)`", does)
         if end_of(after) != (f"end Some({ends[1]})" if ends else "end None"):
-            sys.exit(f"docs/TIMERS: {wait} in {state}: {end_of(after)}, and not {does}")
+            sys.exit(f"docs/STATION: {wait} in {state}: {end_of(after)}, and not {does}")
 
 
 def try_timers():
@@ -559,7 +559,7 @@ def try_timers():
     for state, waits in runs.items():
         lines = told(state, "", 0)
         if {line for line in lines if line.startswith("wait")} != waits:
-            sys.exit(f"docs/TIMERS: in {state} run {lines}, and not {sorted(waits)}")
+            sys.exit(f"docs/STATION: in {state} run {lines}, and not {sorted(waits)}")
     return len(rows)
 
 

@@ -106,7 +106,7 @@ try_no_image() {
     for name in /dev/zero "$work/sparse"; do
         for words in "code --code mh $name $work/made" "call --script $top/docs/examples/one_page.script $name"; do
             status=0
-            (ulimit -v 8000; exec timeout 5 "$program" $words > "$work/output" 2> "$work/error") || status=$?
+            (ulimit -v 8000; exec timeout 120 "$program" $words > "$work/output" 2> "$work/error") || status=$?
             [ "$status $(cat "$work/error")" = "1 fault 5" ] || fails "$words ended with status $status"
             count=$((count + 1))
         done
@@ -115,7 +115,7 @@ try_no_image() {
     { printf P; sleep 0.2; printf 4; sleep 0.2; tail -c +3 "$data/page.pbm"; } | "$program" code --code mh - "$work/made"
     is_same "$work/made" "$data/page.mh.msb" "code of an image whose first octets come one by one"
     status=0
-    { printf P; sleep 0.2; cat /dev/zero; } 2> /dev/null | timeout 5 "$program" code --code mh - "$work/made" 2> "$work/error" || status=$?
+    { printf P; sleep 0.2; cat /dev/zero; } 2> /dev/null | timeout 120 "$program" code --code mh - "$work/made" 2> "$work/error" || status=$?
     [ "$status $(cat "$work/error")" = "1 fault 5" ] || fails "code of P and zeros ended with status $status"
     count=$((count + 2))
 }

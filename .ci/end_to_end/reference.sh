@@ -34,7 +34,7 @@ try_streams() {
     for stream in "$built" "$built.by-rattle"; do
         [ -x "$stream" ] || continue
         timeout 600 python3 -B "$data/try_rows.py" "$stream" "$1" "$work/reference" || fails "${stream##*/}: a worked row has other octets"
-        timeout 600 python3 -B "$data/try_stations.py" "$stream" "$work/reference" "$top/docs/TIMERS.md" || fails "${stream##*/}: a station says something else"
+        timeout 600 python3 -B "$data/try_stations.py" "$stream" "$work/reference" "$top/docs/STATION.md" || fails "${stream##*/}: a station says something else"
         timeout 600 python3 -B "$data/try_joined.py" "$stream" "$1" "$top/.ci/calls" "$work/reference" || fails "${stream##*/}: joined terminals end otherwise"
         timeout 600 python3 -B "$data/try_streams.py" "$stream" "$work/reference" || fails "${stream##*/}: the reference answers something else"
         timeout 600 python3 -B "$data/try_octets.py" "$stream" "$1" "$work/reference" || fails "${stream##*/}: the reference sends other octets"

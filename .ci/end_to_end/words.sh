@@ -205,7 +205,7 @@ try_terminal() {
     script -qec "(head -c 500 '$data/page.pbm'; sleep 3.5; tail -c +501 '$data/page.pbm') | '$program' code --code mh - made" \
         /dev/null < /dev/null > output
     is_same made "$data/page.mh.msb" "code of a slow file on a terminal"
-    grep -q '^.read 512 octets in 3 s\|^.read [0-9]* octets in [34] s' output || fails "code doesn't tell how far a slow file is read"
+    grep -q '^.read [0-9][0-9]* octets in [0-9][0-9]* s' output || fails "code doesn't tell how far a slow file is read"
     script -qec "'$program' code --code mh '$data/page.pbm' made" /dev/null < /dev/null > output
     [ ! -s output ] || fails "code tells how far a quick file is read"
     cd "$top"
@@ -252,7 +252,7 @@ completes() {
     [ "$(completed "$@" | sort)" = "$wanted" ] || fails "faxtool $* is completed to: $(echo $(completed "$@"))"
 }
 
-# The version is that of the file at the top, and the kit that of docs/TRUST.md. `rt version` may call it by another name: what counts
+# The version is that of the file at the top, and the kit that of docs/PROOF.md. `rt version` may call it by another name: what counts
 # is the rules that it proves by.
 try_version() {
     works version
@@ -261,7 +261,7 @@ try_version() {
     refuses version 1
     refuses version --proof --proof
     works version --proof
-    grep '^rattle-kit' "$top/docs/TRUST.md" > "$work/wanted"
+    grep '^rattle-kit' "$top/docs/PROOF.md" > "$work/wanted"
     is_same "$work/output" "$work/wanted" "the kit of version --proof"
     rt version | sed 's/^[^ ]* //' > "$work/wanted"
     sed 's/^[^ ]* //' "$work/output" > "$work/rules"

@@ -8,7 +8,6 @@ import gc
 import io
 import itertools
 import pickle
-import re
 import sys
 import threading
 import unittest
@@ -87,8 +86,6 @@ class RowByRow(unittest.TestCase):
 
 class Pages(unittest.TestCase):
     def test_example(self):
-        [block] = re.findall(r"^```python\n(.*?)^```$", (HERE.parent / "README.md").read_text(), re.M | re.S)
-        self.assertIn(block, Path(__file__).read_text())
         self.assertEqual(to_pbm(coded("mmr.msb"), WIDTH), PBM)
         with contextlib.redirect_stdout(io.StringIO()) as said:
             self.assertTrue(PBM.endswith(PACKED) and to_pbm(coded("mmr.msb")[:500], WIDTH)[:3] == b"P4\n")

@@ -4,12 +4,17 @@
     join.py [--lose RATE] [--seed N] [--caller-command COMMAND] [--answerer-command COMMAND] IN.pbm DIR
 
 RATE is the share of bursts that are lost, as 0.1. One station sends at a time. The clock is simulated: a burst lasts as long as its
-bits take, 75 ms of silence come after it, and a quiet line says so every 20 ms. So a call of a minute takes a second."""
+bits take, 75 ms of silence come after it, and a quiet line says so every 20 ms. So a call of a minute takes a second.
+
+The exit status is 0 if both stations end normally. If one can't be started, or ends with a fault, a line on standard error says which
+one and why."""
 
 import argparse
+import os
 import random
 import shlex
 import subprocess
+import sys
 
 parser = argparse.ArgumentParser(description=__doc__, formatter_class=argparse.RawDescriptionHelpFormatter)
 parser.add_argument("--lose", type=float, default=0.0)
@@ -26,23 +31,36 @@ class Station:
 
     def __init__(self, name, command):
         self.name, self.runs = name, True
-        self.process = subprocess.Popen(command, stdin=subprocess.PIPE, stdout=subprocess.PIPE, stderr=subprocess.PIPE, text=True)
+        # a fault is explained in words too
+        how = {"env": {**os.environ, "FAXTOOL_EXPLAIN": "1"}, "text": True}
+        try:
+            self.process = subprocess.Popen(command, stdin=subprocess.PIPE, stdout=subprocess.PIPE, stderr=subprocess.PIPE, **how)
+        except OSError as error:
+            sys.exit(f"join.py: {command[0]} can't be run as the {name}: {error.strerror}. Is it on the PATH? --{name}-command names another")
 
     def tell(self, line):
-        """Writes a line, and answers the bursts that the station sends then."""
+        """Writes a line, and returns the bursts that the station sends then. A station that has ended hears nothing."""
         bursts = []
         if self.runs:
-            self.process.stdin.write(line + "\n")
-            self.process.stdin.flush()
+            try:
+                self.process.stdin.write(line + "\n")
+                self.process.stdin.flush()
+            except BrokenPipeError:
+                self.runs = False
+                return bursts
             while (answer := self.process.stdout.readline().strip()).startswith("tx "):
                 bursts.append((self, answer[3:]))
             self.runs = answer == "wait"
         return bursts
 
     def end(self):
-        """The last line on its standard error, and its exit status."""
-        errors = self.process.communicate()[1].strip().splitlines()
-        return f"{self.name}: {errors[-1] if errors else 'nothing said'}, status {self.process.returncode}"
+        """What it says on standard error, whose last line is how it ended, and its exit status."""
+        try:
+            errors = self.process.communicate()[1].strip().splitlines()
+        except BrokenPipeError:
+            errors = self.process.stderr.read().strip().splitlines()
+            self.process.wait()
+        return errors, self.process.returncode
 
 
 caller = Station("caller", shlex.split(asked.caller_command) + [asked.document])
@@ -63,4 +81,12 @@ while caller.runs or answerer.runs or to_send:
     heard += [] if is_lost else receiver.tell(f"rx {clock} {burst}")
     to_send += heard
     clock += 75
-print(caller.end(), answerer.end(), sep="\n")
+
+ended = True
+for station in (caller, answerer):
+    errors, status = station.end()
+    print(f"{station.name}: {errors[-1] if errors else 'nothing said'}, status {status}", flush=True)
+    if not errors or not errors[-1].startswith("end "):
+        print(f"join.py: the {station.name} failed: {'; '.join(errors) or 'nothing said'}", file=sys.stderr)
+    ended = ended and status == 0
+sys.exit(0 if ended else 1)
