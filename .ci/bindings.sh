@@ -1,7 +1,7 @@
 #!/bin/sh
 # Builds the library for C, and its examples with the kit's clang under the address sanitizer and with traps for what C doesn't define;
-# runs them on files that other programs wrote, and compares octets and texts. Then it installs the library, tries the fax terminal over it,
-# and tests the module for Python. Ends with status 1 at the first difference.
+# runs them on files that other programs wrote, and compares octets and texts. Then it installs the library, runs the first programs of
+# bindings/README.md, tries the fax terminal over the library, and tests the module for Python. Ends with status 1 at the first difference.
 #
 #     .ci/bindings.sh [CALLS]
 #
@@ -113,6 +113,7 @@ growths=$(sed -n 's/^growths //p' "$work/output")
 gives 0 random "${1:-200000}"
 [ ! -s "$work/output" ] || fails "random printed: $(head -3 "$work/output")"
 "$top/.ci/installed.sh" "$work"
+"$top/.ci/readme_programs.sh" "$work"
 "$top/.ci/softfax.sh" "$work"
 
 # the module for Python, over the shared library

@@ -40,6 +40,17 @@ codes() {
     difference=$(cmp "$work/code" "$data/page.mmr.msb" 2>&1) || fails "$1: other octets: $difference"
 }
 
+# `make install` of what isn't built says so, and starts no proof: there is no kit
+if command -v make > /dev/null; then
+    mkdir "$work/unbuilt"
+    cp "$top"/bindings/Makefile "$top"/bindings/*.sh "$top"/bindings/g3fax.* "$work/unbuilt/"
+    ! KIT=$work/missing make -s -C "$work/unbuilt" install PREFIX="$work/unbuilt/prefix" DESTDIR= > "$work/said" 2>&1 \
+        || fails "make -C bindings install of what isn't built ends well"
+    grep -q "nothing was installed, since bindings/build/libg3fax.a isn't built yet: make" "$work/said" \
+        || { cat "$work/said" >&2; fails "make -C bindings install doesn't say what to run first"; }
+    [ ! -e "$work/unbuilt/prefix" ] || fails "make -C bindings install of what isn't built installs something"
+fi
+
 "$top/bindings/install.sh" "$work" "$work/prefix"
 "$top/bindings/install.sh" "$work" /opt/g3fax "$work/stage"
 (cd "$work/prefix" && find . | sort) > "$work/wanted"

@@ -18,7 +18,7 @@ work=$(mktemp -d)
 trap 'rm -rf "$work"' EXIT
 said=$version description=
 if [ $# = 2 ]; then
-    said="$version, built without proof" description='s|^Description: proved |Description: not proved here: |'
+    said="$version, built without proof" description='s|^Description: proved |Description: built without proof: |'
     "$top/packaging/build_unproved.sh" "$top/crates/g3fax" "$work/g3fax.o" --library
     cd "$work"
 else

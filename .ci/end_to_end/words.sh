@@ -253,14 +253,23 @@ completes() {
 }
 
 # The version is that of the file at the top, and the kit that of docs/PROOF.md. `rt version` may call it by another name: what counts
-# is the rules that it proves by.
+# is the rules that it proves by. A program that was built without proof says so in place of both; those that the gate has proved don't.
 try_version() {
     works version
-    is_same "$work/output" "$top/VERSION" "version"
+    case $program in
+    "$top/crates/"*) unproved= ;;
+    *) unproved=$(sed -n 's/^.*, built without proof$/yes/p' "$work/output") ;;
+    esac
+    sed "s/\$/${unproved:+, built without proof}/" "$top/VERSION" > "$work/wanted"
+    is_same "$work/output" "$work/wanted" "version"
     refuses version --explain
     refuses version 1
     refuses version --proof --proof
     works version --proof
+    if [ -n "$unproved" ]; then
+        [ "$(cat "$work/output")" = "none: built without proof" ] || fails "version --proof of a build without proof: $(cat "$work/output")"
+        return
+    fi
     grep '^rattle-kit' "$top/docs/PROOF.md" > "$work/wanted"
     is_same "$work/output" "$work/wanted" "the kit of version --proof"
     rt version | sed 's/^[^ ]* //' > "$work/wanted"

@@ -3,7 +3,7 @@
 
     bench/fuzz/compare_pages.py BEFORE AFTER [PAGES] [SEED]
 
-BEFORE and AFTER are the two programs (`bench/build_unproved.sh crates/faxtool OUT` of each), PAGES how many pages, 1,000 if
+BEFORE and AFTER are the two programs (`packaging/build_unproved.sh crates/faxtool OUT` of each), PAGES how many pages, 1,000 if
 none is said. Each page is coded in both codes and both orders; its code is then decoded and shown as it is, with a bit turned
 and cut off: files, outputs and statuses have to be the same, and a whole code has to decode to the page's own rows."""
 

@@ -459,7 +459,7 @@ def fuzz(seconds, seed, program):
 def build(folder):
     """The program of crates/stream_tool, unproved."""
     program = os.path.join(folder, "stream_tool")
-    subprocess.run([os.path.join(TOP, "bench", "build_unproved.sh"), os.path.join(TOP, "crates", "stream_tool"), program], check=True)
+    subprocess.run([os.path.join(TOP, "packaging", "build_unproved.sh"), os.path.join(TOP, "crates", "stream_tool"), program], check=True)
     return program
 
 

@@ -88,7 +88,7 @@ try_test() {
 try_crate() {
     tests=$root/crates/$1/out/$1_tests
     if [ ! -x "$tests" ] || [ -n "$(find "$root"/crates/*/src -newer "$tests")" ]; then
-        "$root/bench/build_unproved.sh" "$root/crates/$1" "$work/$1_tests" --test
+        "$root/packaging/build_unproved.sh" "$root/crates/$1" "$work/$1_tests" --test
         tests=$work/$1_tests
     fi
     for test in $("$tests" --list | sed -n 's/: test$//p'); do
@@ -144,7 +144,7 @@ try_calls() {
     tar cf - -C "$root" --exclude=out crates crates.txt HANDLES | tar xf - -C "$work/copy"
     cp "$root/bench/memory/refusals/main.txt" "$work/copy/crates/refusals/src/main.rt"
     echo "refusals: $(cat "$root/bench/memory/refusals/libraries.txt")" >> "$work/copy/crates.txt"
-    "$root/bench/build_unproved.sh" "$work/copy/crates/refusals" "$work/refusals"
+    "$root/packaging/build_unproved.sh" "$work/copy/crates/refusals" "$work/refusals"
     export FROM="call "
     for call in one:1 two:2 again:1 groups:2 frames:1 stations:2 stations-groups:2; do
         try_call "${call%:*}" "${call#*:}"
@@ -179,7 +179,7 @@ try_command() {
 }
 
 try_words() {
-    "$root/bench/build_unproved.sh" "$root/crates/faxtool" "$work/faxtool"
+    "$root/packaging/build_unproved.sh" "$root/crates/faxtool" "$work/faxtool"
     examples=$root/docs/examples
     try_command show --code mh --width 315 "$examples/page.mh"
     try_command code --code mmr "$examples/page.pbm" "$work/made"

@@ -36,7 +36,7 @@ def bodies():
 def copy_to(folder):
     """The repository's sources alone."""
     kept = shutil.ignore_patterns("out", ".git", "must-fail")
-    for name in (".ci", "bench", "crates", "docs"):
+    for name in (".ci", "bench", "crates", "docs", "packaging"):
         shutil.copytree(TOP / name, folder / name, ignore=kept)
     for name in ("crates.txt", "HANDLES"):
         shutil.copy(TOP / name, folder)
@@ -51,7 +51,7 @@ def output_of(*words):
 
 def tried(folder, what):
     """Whether the rows or a crate's test pass, and what they say; a program that isn't built ends all."""
-    build, programs = folder / "bench/build_unproved.sh", []
+    build, programs = folder / "packaging/build_unproved.sh", []
     crates = ["stream_tool", "faxtool"] if what == "rows" else what.split()[:1]
     for crate in crates:
         programs.append(folder / f"{crate}.program")

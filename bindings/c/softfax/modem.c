@@ -2,9 +2,9 @@
  * it.
  *
  * What was met in libspandsp 0.0.6, for whoever joins its modems to anything:
- * - The short training of V.17 fails now and then, by the carrier's phase, on good lines too: of 160 bursts 18 at a noise of -50 dBm0, 20 at
- *   -44 and 33 at -36, 55 ms after the carrier began. With the receiver restarted there none of 1,280 failed at -36. One that isn't
- *   restarted is parked until the carrier ends, and all frames are lost.
+ * - The short training of V.17 fails now and then, by the carrier's phase, on good lines too: of 160 bursts 18 at a noise of -50 dBm0,
+ *   20 at -44 and 33 at -36, 55 ms after the carrier began. With the receiver restarted there none of 1,280 failed at -36. One that
+ *   isn't restarted is parked until the carrier ends, and all frames are lost.
  * - The page receivers find carriers by fixed thresholds of about -45 dBm0. If the hiss is louder, no carrier ends for them, and after a
  *   failed training they wait for that end for good.
  * - fsk_rx_restart sets the threshold of V.21 back to -30 dBm0. Its detector knows the level alone, so any carrier is one.

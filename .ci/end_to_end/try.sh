@@ -1,0 +1,117 @@
+# `make try` and `docs/examples/join.py`: what someone who is new here runs first.
+
+# A copy of what packaging/try.sh reads, in which this program stands for the one that it has built.
+first_copy() {
+    first=$work/first
+    rm -rf "$first"
+    mkdir -p "$first/docs" "$first/build" "$first/bindings"
+    cp -r "$top/packaging" "$first/"
+    cp -r "$top/docs/examples" "$first/docs/"
+    cp "$top/crates.txt" "$top/VERSION" "$first/"
+    cp "$top/bindings/build.sh" "$top/bindings/exports" "$top"/bindings/g3fax.* "$first/bindings/"
+    for crate in "$top"/crates/*/src; do
+        crate=${crate%/src}
+        mkdir -p "$first/crates/${crate##*/}"
+        cp -r "$crate/src" "$first/crates/${crate##*/}/"
+    done
+    cp "$program" "$first/build/faxtool"
+    (
+        top=$first KIT=${KIT:-/opt/rattle}
+        . "$first/packaging/common.sh"
+        unproved_sum faxtool > "$first/build/faxtool.sources"
+    )
+}
+
+# first STATUS: try.sh, found from another folder and by no PATH, ends with the status.
+first() {
+    status=0
+    (cd / && timeout 120 env PATH=/usr/local/bin:/usr/bin:/bin "$first/packaging/try.sh") > "$work/output" 2> "$work/error" || status=$?
+    [ "$status" = "$1" ] || fails "packaging/try.sh ended with status $status, and not $1: $(tail -n 3 "$work/output")"
+    count=$((count + 1))
+}
+
+# says TEXT FILE: the line is in the file.
+says() {
+    grep -qF -e "$1" "$2" || fails "this isn't said: $1"
+}
+
+# The page of docs/examples comes over a bad line; a page that is changed on its way, and sources that can't be built, end with a fault.
+try_first() {
+    first_copy
+    first 0
+    [ ! -s "$work/error" ] || fails "packaging/try.sh wrote to standard error"
+    says "build/faxtool is built of these sources already, without proof" "$work/output"
+    says "12 of 64 items were lost, and 7 frames of the page were sent again" "$work/output"
+    says "the stored page is the page that was sent, pixel for pixel" "$work/output"
+    says "answerer normal pages 1" "$work/output"
+    is_same "$first/build/call.svg" "$top/docs/call.svg" "docs/call.svg, which packaging/try.sh draws"
+    works decode --code mmr --width 1728 --fine "$top/docs/examples/a4.mmr" "$work/a4.pbm"
+    is_same "$first/build/stored.pbm" "$work/a4.pbm" "the page that packaging/try.sh stores"
+    cat > "$first/build/faxtool" << WRONG
+#!/bin/sh
+"$program" "\$@" || exit
+[ "\$1" != call ] || printf x | dd of=build/stored.pbm bs=1 seek=4000 conv=notrunc 2> /dev/null
+WRONG
+    first 1
+    says "the stored page is another one than was sent" "$work/error"
+    cat > "$first/build/faxtool" << WRONG
+#!/bin/sh
+"$program" "\$@"
+[ "\$1" != call ]
+WRONG
+    first 1
+    says "the call didn't end normally" "$work/error"
+    try_first_kit
+}
+
+# Without a kit a line says so. Where a source is changed the program is built anew, and where that fails none is there.
+try_first_kit() {
+    kit=$KIT
+    export KIT="$work/no kit"
+    first 1
+    says "there is no Rattle kit in $KIT" "$work/error"
+    mkdir -p "$KIT/bin" "$KIT/toolchain/bin" "$KIT/toolchain/lib"
+    touch "$KIT/KIT-ID" "$KIT/WHAT" "$KIT/bin/rtlib.py" "$KIT/bin/rattle" "$KIT/toolchain/bin/clang" "$KIT/toolchain/bin/ld.lld"
+    printf '#!/bin/sh\necho "rt was called: $*"\n' > "$KIT/bin/rt"
+    chmod +x "$KIT/bin/rt"
+    (
+        top=$first
+        . "$first/packaging/common.sh"
+        unproved_sum faxtool > "$first/build/faxtool.sources"
+    )
+    cp "$program" "$first/build/faxtool"
+    first 0
+    echo "// changed" >> "$first/crates/raster/src/lib.rt"
+    first 1
+    says "rt was called: try" "$work/error"
+    [ ! -e "$first/build/faxtool" ] || fails "packaging/try.sh left a program of other sources"
+    export KIT="$kit"
+    [ -n "$KIT" ] || unset KIT
+}
+
+# joins STATUS WORDS: docs/examples/join.py ends with the status, with one line on standard error where that isn't 0.
+joins() {
+    end=$1 status=0
+    shift
+    timeout 60 python3 -B "$top/docs/examples/join.py" "$@" > "$work/output" 2> "$work/error" || status=$?
+    [ "$status" = "$end" ] || fails "join.py $* ended with status $status, and not $end"
+    [ "$end" = 0 ] || [ "$(wc -l < "$work/error")" = 1 ] || fails "join.py $* wrote $(wc -l < "$work/error") lines on standard error"
+    count=$((count + 1))
+}
+
+# join.py says in a line that there is no program, no folder or no document, with the station's own words.
+try_joins() {
+    row=$top/docs/examples/row.pbm
+    set -- --caller-command "$program station --call" --answerer-command "$program station --answer"
+    rm -rf "$work/stored"
+    mkdir "$work/stored"
+    joins 1 --caller-command "$work/missing station --call" --answerer-command "$program station --answer" "$row" "$work/stored"
+    says "join.py: $work/missing can't be run as the caller: No such file or directory" "$work/error"
+    joins 1 "$@" "$row" "$work/missing"
+    says "join.py: the answerer failed: fault 8; $work/missing: no such file or folder" "$work/error"
+    joins 1 "$@" "$work/missing.pbm" "$work/stored"
+    says "join.py: the caller failed: fault 8; $work/missing.pbm: no such file or folder" "$work/error"
+    joins 0 "$@" "$row" "$work/stored"
+    [ ! -s "$work/error" ] || fails "join.py of a call that ends normally wrote to standard error"
+    rm "$work/stored/page-1.pbm"
+}
