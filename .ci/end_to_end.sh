@@ -66,6 +66,7 @@ for program in "$@"; do
     try_large_frames
     try_captured
     try_words
+    try_helps
     try_version
     try_environment
     try_memory

@@ -5,11 +5,11 @@
 #
 # After `rt ci` each crate below g3fax lies proved in its out/rlib, but without the stamp by which `rt lib` would know it, so `rt lib`
 # would prove all of them a second time. So the gate keeps the sum of the sources that packaging/trust.py --sources prints before `rt ci`,
-# and passes it as PROVED. Where that is the sum of the sources now, the library is built over what `rt ci` has left, and g3fax alone is
-# proved again: half a minute. In any other case, and where that fails, `rt lib` builds it.
+# and passes it as PROVED. If that is the sum of the sources now, the library is built over what `rt ci` has left, and g3fax alone is
+# proved again: half a minute. In any other case, or if that fails, `rt lib` builds it.
 #
-# out/libg3fax.sources says of which sources, and by which kit, the library is. Where that is so still, nothing is done. KIT is where the
-# kit lies, if not /opt/rattle.
+# out/libg3fax.sources says of which sources and by which kit the library was built. If these are the same, nothing is done. KIT is where
+# the kit lies, if not /opt/rattle.
 set -e
 top=$(cd "$(dirname "$0")/.." && pwd)
 kit=${KIT:-/opt/rattle}

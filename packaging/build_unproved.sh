@@ -24,18 +24,23 @@ if [ ! -d "$folder/src" ] || [ -z "$out" ] || [ $# -gt 3 ]; then
 fi
 here=$(cd "$(dirname "$0")" && pwd)
 kit=${KIT:-/opt/rattle}
-[ -x "$kit/bin/rt" ] || { echo "build_unproved.sh: there is no Rattle kit in $kit: unpack it there, or say by KIT where it is" >&2; exit 1; }
+fails() {
+    echo "build_unproved.sh: $*" >&2
+    exit 1
+}
+[ -x "$kit/bin/rt" ] || fails "there is no Rattle kit in $kit: unpack it there, or say by KIT where it is"
 folder=$(cd "$folder" && pwd)
 crate=${folder##*/}
 root=$(dirname "$(dirname "$folder")")
-[ -f "$root/crates.txt" ] || { echo "build_unproved.sh: $root has no crates.txt, so $folder is no crate" >&2; exit 1; }
+[ -f "$root/crates.txt" ] || fails "$root has no crates.txt, so $folder is no crate"
 copy=$(mktemp -d)
 teller=
-ends() {
+# shellcheck disable=SC2317
+leaves() {
     [ -z "$teller" ] || kill "$teller" 2> /dev/null || true
     rm -rf "$copy"
 }
-trap ends EXIT
+trap leaves EXIT
 trap 'exit 130' INT
 trap 'exit 143' TERM HUP
 
@@ -74,9 +79,7 @@ for word in "\$@"; do
 done
 "$kit/toolchain/bin/clang" --target=x86_64-unknown-linux-gnu --no-default-config -x ir "\$module" -S -emit-llvm -O0 \\
     -Xclang -disable-llvm-passes -o module.ll || exit 1
-sed -e '/^define internal .*@"$crate::[a-z0-9_:]*::\\(${crate%fax}_core_[a-z0-9_]*\\)"(/s/^define internal /define /' \\
-    -e 's/@"$crate::[a-z0-9_:]*::\\(${crate%fax}_core_[a-z0-9_]*\\)"/@\\1/g' \\
-    -e 's/^define noundef i32 @main(/define internal noundef i32 @main(/; s/^define i32 @main(/define internal i32 @main(/' module.ll > named.ll
+sed -f "$copy/names.sed" module.ll > named.ll
 words=\$(printf ' %s ' "\$*" | sed 's/ -fsanitize=address / /; s/ -O0 / -O3 /; s/ -fPIE / -fPIC /; s, [^ ]*\\.bc , named.ll ,')
 "$kit/toolchain/bin/clang" \$words && cp module.o "$copy/made"
 exit 1
@@ -100,16 +103,18 @@ chmod +x "$copy/bin/rattle" "$copy/toolchain/bin/clang" "$copy/toolchain/bin/ld.
 
 # the copy of the sources
 mkdir "$copy/sources"
-(cd "$root" && tar -cf - --exclude='crates/*/out' crates crates.txt $([ ! -f HANDLES ] || echo HANDLES)) | tar -C "$copy/sources" -xf -
+set -- crates crates.txt
+[ ! -f "$root/HANDLES" ] || set -- "$@" HANDLES
+tar -C "$root" -cf - --exclude='crates/*/out' "$@" | tar -C "$copy/sources" -xf -
 own=$copy/sources/crates/$crate
 if [ -f "$own/src/version.rt" ]; then
     sed -i -e 's/^\(const VERSION: &str = "[^"]*\)";$/\1, built without proof";/' \
         -e 's/^\(const KIT: &str = \)"[^"]*";$/\1"none: built without proof";/' "$own/src/version.rt"
     [ "$(grep -c 'built without proof";$' "$own/src/version.rt")" = 2 ] \
-        || { echo "build_unproved.sh: $crate/src/version.rt has no line const VERSION, or no line const KIT" >&2; exit 1; }
+        || fails "$crate/src/version.rt has no line const VERSION, or no line const KIT"
 fi
 if [ "$kind" = --library ]; then
-    "$here/reach_exports.py" "$own"
+    "$here/reach_exports.py" "$own" > "$copy/names.sed"
     sed -i "s/^$crate  *staticlib/$crate/" "$copy/sources/crates.txt"
     kind=
 fi
@@ -117,14 +122,13 @@ fi
 echo "reads the sources of $crate and of the crates below it" > "$copy/step"
 started=$(date +%s)
 (
-    while sleep 10; do
+    trap 'kill $!; exit' TERM
+    while sleep 10 & wait $!; do
         echo "$crate without proof, after $(($(date +%s) - started)) s: $(cat "$copy/step")"
     done
 ) >&2 &
 teller=$!
-cd "$own"
-"$copy/bin/rt" try $kind > "$copy/log" 2>&1 < /dev/null || true
-cd - > /dev/null
+(cd "$own" && "$copy/bin/rt" try ${kind:+"$kind"} > "$copy/log" 2>&1 < /dev/null) || true
 if [ ! -f "$copy/made" ]; then
     cat "$copy/log" >&2
     exit 1

@@ -1,12 +1,12 @@
 #!/bin/sh
-# Builds without proof what there is to try, in build/, where that isn't done; `make try` and `make lib-try` call it:
+# Builds without proof what there is to try, in build/; `make try` and `make lib-try` call it:
 #
 #     packaging/try.sh             the program, build/faxtool; then a page of docs/examples is sent over a line that loses a fifth of all
 #                                  items, and the page that is stored is compared with it
 #     packaging/try.sh --library   the library for C: libg3fax.a, libg3fax.so.0, g3fax.h and g3fax.pc
 #
-# Nothing is built where build/ has it of the same sources by the same kit. KIT is where the kit lies, if not /opt/rattle. Ends with a
-# status above 0 where anything fails.
+# If build/ has it already, of the same sources by the same kit, nothing is built. KIT is where the kit lies, if not /opt/rattle. The status
+# is above 0 if anything fails.
 set -e
 top=$(cd "$(dirname "$0")/.." && pwd)
 . "$top/packaging/common.sh"
@@ -48,10 +48,11 @@ build_library() {
     echo "build/libg3fax.a is built without proof, once: a minute"
     rm -f build/libg3fax.* build/g3fax.*
     bindings/build.sh build --unproved
-    sed -i "s|^prefix=.*|prefix=$top/build|; s|^libdir=.*|libdir=\${prefix}|; s|^includedir=.*|includedir=\${prefix}|" build/g3fax.pc
+    # the folder is found from where g3fax.pc lies
+    # shellcheck disable=SC2016
+    sed -i 's|^prefix=.*|prefix=${pcfiledir}|; s|^libdir=.*|libdir=${prefix}|; s|^includedir=.*|includedir=${prefix}|' build/g3fax.pc
     echo "$sources" > build/libg3fax.sources
 }
-
 
 # send_page: the page of docs/examples, over a line that loses a fifth of all items.
 send_page() {

@@ -262,6 +262,10 @@ try_version() {
     esac
     sed "s/\$/${unproved:+, built without proof}/" "$top/VERSION" > "$work/wanted"
     is_same "$work/output" "$work/wanted" "version"
+    for word in --version -V; do
+        works $word
+        is_same "$work/output" "$work/wanted" "$word"
+    done
     refuses version --explain
     refuses version 1
     refuses version --proof --proof
@@ -275,6 +279,46 @@ try_version() {
     rt version | sed 's/^[^ ]* //' > "$work/wanted"
     sed 's/^[^ ]* //' "$work/output" > "$work/rules"
     is_same "$work/rules" "$work/wanted" "the rules of version --proof"
+}
+
+# Each command's help lists its options, however it is asked for. What is wrong with a command's words ends in the help to try, that of
+# the command, and a usage line in it is the command's; the program's own ends in the program's.
+try_helps() {
+    for command in code show decode frames call identify station version; do
+        refuses "$command" --help
+        cp "$work/error" "$work/wanted"
+        grep -q "^Usage: [^ ]* $command " "$work/wanted" || fails "$command --help has no usage"
+        grep -q '^ *-h, --help  *Print help$' "$work/wanted" || fails "$command --help has no options"
+        refuses "$command" -h
+        is_same "$work/error" "$work/wanted" "$command -h"
+        refuses help "$command"
+        is_same "$work/error" "$work/wanted" "help $command"
+        tries "$command" "$command" --no-such-option
+    done
+    tries code code --code g3 a b
+    tries call call --script a --modems v34 b
+    tries decode decode --repair --salvage --code mh --width 8 a b
+    tries call call a
+    tries call call --lose 5% a
+    tries frames frames --salvage a
+    tries frames frames --diagram a b
+    tries station station
+    tries station station --answer
+    refuses paint
+    [ "$(tail -n 1 "$work/error")" = "For more information, try 'faxtool --help'." ] || fails "paint ends in: $(tail -n 1 "$work/error")"
+}
+
+# tries COMMAND WORDS: the words are refused, and the text ends in the help of the command; a usage line is the command's.
+tries() {
+    command=$1
+    shift
+    refuses "$@"
+    [ "$(tail -n 1 "$work/error")" = "For more information, try 'faxtool $command --help'." ] || fails "$* ends in: $(tail -n 1 "$work/error")"
+    usage=$(sed -n 's/^Usage: [^ ]* //p' "$work/error")
+    case ${usage:-$command} in
+    "$command" | "$command "*) ;;
+    *) fails "$* shows the usage: $usage" ;;
+    esac
 }
 
 # FAXTOOL_EXPLAIN=1 is --explain; another value isn't.
@@ -336,7 +380,7 @@ try_twice_standard() {
 # Words that are not a command, and those that ask for help.
 try_words() {
     refuses
-    for words in --help help -h --version "code --help" "show --help" "frames --help" fax \
+    for words in --help help -h "--version a" "-V --version" "code --version" "code --help" "show --help" "frames --help" fax \
         "code a b" "code --code g3 a b" "code --code mh a" "code --code mh a b c" "code --code mh --code mh a b" \
         "code --code mh --order up a b" "show --code mh a" "show --width 8 a" "show --code mh --width 0 a" \
         "show --code mh --width 2433 a" "show --code mh --width x a" "frames" "frames a b" "frames --code mh a" \

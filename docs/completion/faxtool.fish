@@ -10,7 +10,7 @@ complete -c faxtool -n __fish_use_subcommand -a frames -d 'Lists the frames in a
 complete -c faxtool -n __fish_use_subcommand -a call -d 'Runs a call by a script or over a bad line, and prints its transcript'
 complete -c faxtool -n __fish_use_subcommand -a identify -d 'Prints as which format a file begins, and by which code, order and width it reads as a page'
 complete -c faxtool -n __fish_use_subcommand -a station -d 'Runs one end of a call by lines of text that say what is on the line'
-complete -c faxtool -n __fish_use_subcommand -a version -d 'Prints the program\'s version'
+complete -c faxtool -n __fish_use_subcommand -a version -d 'Prints the program\'s version, as --version and -V do'
 complete -c faxtool -n __fish_use_subcommand -a help -d 'Print help'
 complete -c faxtool -n '__fish_seen_subcommand_from help' -f -a 'code show decode frames call identify station version'
 complete -c faxtool -n '__fish_seen_subcommand_from code' -l code -x -a 'mh mmr' -d 'The code of the page: mh codes each row by its runs alone, mmr after the row above'

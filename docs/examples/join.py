@@ -36,7 +36,7 @@ class Station:
         try:
             self.process = subprocess.Popen(command, stdin=subprocess.PIPE, stdout=subprocess.PIPE, stderr=subprocess.PIPE, **how)
         except OSError as error:
-            sys.exit(f"join.py: {command[0]} can't be run as the {name}: {error.strerror}. Is it on the PATH? --{name}-command names another")
+            sys.exit(f"join.py: {command[0]} can't be run as the {name}: {error.strerror}; --{name}-command names another program")
 
     def tell(self, line):
         """Writes a line, and returns the bursts that the station sends then. A station that has ended hears nothing."""

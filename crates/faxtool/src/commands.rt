@@ -83,3 +83,27 @@ pub(crate) fn faxtool_command<'a>(alloc: Global) -> Result<Command<'a>, AllocErr
     let first = with_entries(alloc, empty_command(alloc), commands())?;
     with_entries(alloc, first, later_commands())
 }
+
+/// The command of this name, as the table of commands has it, if there is one.
+pub(crate) fn entry_named(name: &str) -> Option<&'static Entry<'static>> {
+    for entry in commands() {
+        if entry.name == name {
+            return Some(entry);
+        }
+    }
+    for entry in later_commands() {
+        if entry.name == name {
+            return Some(entry);
+        }
+    }
+    None
+}
+
+/// A command of the program by itself, with its usage in the program.
+pub(crate) fn command_alone(
+    alloc: Global,
+    entry: &Entry<'static>,
+) -> Result<Command<'static>, AllocError> {
+    let in_program = format!(in alloc; "faxtool {}", entry.name)?;
+    command_of(alloc, entry)?.bin_name(in_program.as_str())
+}

@@ -5,6 +5,7 @@ ghost use Rattle.raster.specs.Pixels.{IsWidth};
 ghost use Rattle.faults.specs.Faults.{IsOutside};
 ghost use Rattle.std.specs.Prelude.{IfErr, IfSome};
 
+use crate::commands::entry_named;
 use crate::names::file_of;
 use crate::notes::{Notes, Part};
 use crate::words::{Job, Outcome};
@@ -16,6 +17,7 @@ use faults::{
 use page_code::Coding;
 use page_files::{PageForm, refused_at, refused_in};
 use run_tables::Order;
+use std::alloc::{AllocError, Global};
 use std::env::{self, Env, FillError};
 use std::io;
 use std::io::IsTerminal;
@@ -23,12 +25,33 @@ use std::io::IsTerminal;
 /// Shows what is wrong with a wrong command line, or the help that was asked for. A command line with a control character in it isn't
 /// shown, as it could move the cursor.
 pub fn refuse_words(rt: &HostRuntime, texts: &[&str], error: &Error) {
-    if texts.iter().all(|text| is_shown(text)) {
-        let _shown = rt.eprint(error);
-    } else {
+    if !texts.iter().all(|text| is_shown(text)) {
         let _shown = eprintln!(rt;
-            "error: the words are not a command, and one of them has a control character\n\nFor more information, try '--help'."
+            "error: the words are not a command, and one of them has a control character\n\nFor more information, try 'faxtool --help'."
         );
+        return;
+    }
+    match with_help_named(rt.alloc(), texts, error) {
+        Ok(text) => {
+            let _shown = rt.eprint(text.as_str());
+        }
+        Err(_memory) => {
+            let _shown = rt.eprint(error);
+        }
+    }
+}
+
+/// The text of such an error; where it ends in the help to try, that is the help of the words' command.
+fn with_help_named(alloc: Global, texts: &[&str], error: &Error) -> Result<String, AllocError> {
+    let text = format!(in alloc; "{error}")?;
+    let Some(front) = text.as_str().strip_suffix("try '--help'.\n") else {
+        return Ok(text);
+    };
+    match texts.get(1) {
+        Some(name) if entry_named(name).is_some() => {
+            format!(in alloc; "{front}try 'faxtool {name} --help'.\n")
+        }
+        _ => format!(in alloc; "{front}try 'faxtool --help'.\n"),
     }
 }
 

@@ -42,6 +42,14 @@ fn main(rt: HostRuntime) -> ExitCode {
     ExitCode::from(status(&outcome))
 }
 
+/// The words of the command that `--version` or `-V` alone asks for.
+const VERSION_WORDS: &[&str] = &["faxtool", "version"];
+
+/// Whether the words, after the program's name, are `--version` or `-V` alone.
+fn asks_version(words: &[&str]) -> bool {
+    words.len() == 2 && (words[1] == "--version" || words[1] == "-V")
+}
+
 /// Runs what the program's words ask for, and shows what is wrong with them.
 fn run_words(rt: &HostRuntime) -> Outcome {
     let words = match given_words(rt) {
@@ -58,7 +66,12 @@ fn run_words(rt: &HostRuntime) -> Outcome {
             return refused(rt, NO_MEMORY, "the command's words", None);
         }
     }
-    match read_words(rt.alloc(), texts.as_slice()) {
+    let asked = if asks_version(texts.as_slice()) {
+        VERSION_WORDS
+    } else {
+        texts.as_slice()
+    };
+    match read_words(rt.alloc(), asked) {
         Ok(request) => run_request(rt, &request),
         Err(Outcome::Fault(fault)) => refused(rt, fault, "the command's words", None),
         Err(outcome) => {

@@ -513,7 +513,7 @@ static LATER_COMMANDS: [Entry<'static>; 3] = [
     },
     Entry {
         name: "version",
-        about: "Prints the program's version",
+        about: "Prints the program's version, as --version and -V do",
         arguments: VERSION_ARGUMENTS,
     },
 ];

@@ -11,7 +11,7 @@ ghost use Rattle.faxtool.specs.Jobs.{line_order_named, list_form, order_named, s
 ghost use Rattle.calls.specs.declared.losses.BadLine.{BadLine as LineValue};
 
 use crate::captures_words::{captures_job, has_captures, unfit_frames};
-use crate::commands::faxtool_command;
+use crate::commands::{command_alone, entry_named, faxtool_command};
 use crate::station_words::{GivenWaits, station_job, unfit_station};
 use calls::{BadLine, CallOptions, read_rate};
 use captures::ListForm;
@@ -243,10 +243,7 @@ pub fn read_words(alloc: Global, words: &[&str]) -> Result<Request, Outcome>
             let json = asks(&matches, "json");
             Ok(Request { job, explain, json })
         }
-        None => {
-            let text = unfit_text(&matches);
-            Err(Outcome::from(unfit(&mut command, text)?))
-        }
+        None => Err(Outcome::from(unfit(alloc, &matches)?)),
     }
 }
 
@@ -791,9 +788,20 @@ fn unfit_call(matches: &ArgMatches<'_>) -> &'static str {
     "--lose and --spoil are more than 100% together"
 }
 
-// The error for options that don't go together, or for a missing value.
-fn unfit(command: &mut Command<'_>, text: &'static str) -> Result<Error, AllocError>
+// The error for options that don't go together, or for a missing value, with the usage of their command.
+fn unfit(alloc: Global, matches: &ArgMatches<'_>) -> Result<Error, AllocError>
     ensures { IfOk result (λ error. kind_of error ≡ ErrorKind.ArgumentConflict) }
 {
-    command.error(ErrorKind::ArgumentConflict, text)
+    let mut command = unfit_command(alloc, matches)?;
+    command.error(ErrorKind::ArgumentConflict, unfit_text(matches))
+}
+
+// The command of such words; the program where they name none.
+fn unfit_command(alloc: Global, matches: &ArgMatches<'_>) -> Result<Command<'static>, AllocError> {
+    if let Some((name, _inner)) = matches.subcommand() {
+        if let Some(entry) = entry_named(name) {
+            return command_alone(alloc, entry);
+        }
+    }
+    faxtool_command(alloc)
 }
