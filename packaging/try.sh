@@ -48,7 +48,9 @@ build_library() {
     echo "build/libg3fax.a is built without proof, once: a minute"
     rm -f build/libg3fax.* build/g3fax.*
     bindings/build.sh build --unproved
-    sed -i "s|^prefix=.*|prefix=$top/build|; s|^libdir=.*|libdir=\${prefix}|; s|^includedir=.*|includedir=\${prefix}|" build/g3fax.pc
+    # the folder is found from where g3fax.pc lies
+    # shellcheck disable=SC2016
+    sed -i 's|^prefix=.*|prefix=${pcfiledir}|; s|^libdir=.*|libdir=${prefix}|; s|^includedir=.*|includedir=${prefix}|' build/g3fax.pc
     echo "$sources" > build/libg3fax.sources
 }
 

@@ -788,7 +788,7 @@ fn unfit_call(matches: &ArgMatches<'_>) -> &'static str {
     "--lose and --spoil are more than 100% together"
 }
 
-// The error for words whose options don't go together, or that miss a value, with the usage of their command.
+// The error for options that don't go together, or for a missing value, with the usage of their command.
 fn unfit(alloc: Global, matches: &ArgMatches<'_>) -> Result<Error, AllocError>
     ensures { IfOk result (λ error. kind_of error ≡ ErrorKind.ArgumentConflict) }
 {
