@@ -31,7 +31,7 @@ try_streams() {
     if [ ! -x "$built" ]; then
         echo "end to end: no stream_tool is built, so it is built without proof"
         built=$work/stream_tool
-        "$top/packaging/build_unproved.sh" crates/stream_tool "$built" > "$work/built" 2>&1 || { cat "$work/built" >&2; exit 1; }
+        "$top/packaging/build_unproved.sh" "$top/crates/stream_tool" "$built" > "$work/built" 2>&1 || { cat "$work/built" >&2; exit 1; }
     fi
     for stream in "$built" "$built.by-rattle"; do
         [ -x "$stream" ] || continue
