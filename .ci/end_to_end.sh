@@ -44,6 +44,7 @@ for program in "$@"; do
     try_images
     try_data
     try_standard
+    try_apart
     try_told
     try_told_records
     try_codes
@@ -67,6 +68,7 @@ for program in "$@"; do
     try_version
     try_environment
     try_memory
+    try_endless
     try_no_image
     try_rtc
     try_outputs
