@@ -133,7 +133,8 @@ for words in "$top"/.ci/conversations/*.words; do
     gives "$end" answer "$work/stored.pbm" < "$talk.lines"
     is_same "$work/output" "$talk.expected" "answer to $(basename "$talk")"
     # and by a modem that waits for each answer
-    "$top/.ci/by_lines.py" "$talk.lines" "$work/answer" "$work/stored.pbm" > "$work/output" || fails "answer by lines to $(basename "$talk")"
+    "$top/.ci/by_lines.py" "$talk.lines" "$work/answer" "$work/stored.pbm" > "$work/output" \
+        || fails "answer by lines to $(basename "$talk")"
     is_same "$work/output" "$talk.expected" "answer by lines to $(basename "$talk")"
     answerers=$((answerers + 1))
 done
@@ -154,6 +155,7 @@ gives 0 random "${1:-200000}"
 [ ! -s "$work/output" ] || fails "random printed: $(head -3 "$work/output")"
 "$top/.ci/installed.sh" "$work"
 "$top/.ci/readme_programs.sh" "$work"
+"$top/.ci/wheel.sh" "$work"
 "$top/.ci/softfax.sh" "$work"
 
 # the module for Python, over the shared library
