@@ -134,8 +134,8 @@ ldd "$work/shared" | grep -q 'libg3fax\.so\.0' || ends "the example doesn't want
 
 # the module for Python finds the installed library; what Python compiles it to goes with the package
 shown=$(cd "$work" && PYTHONPATH=$root/usr/lib/python3/dist-packages LD_LIBRARY_PATH=$root$libdir python3 -W error -c '
-import g3fax, sys
-with g3fax.Page.read_pbm(open(sys.argv[1], "rb").read()) as page:
+import g3fax, pathlib, sys
+with g3fax.Page.read_pbm(pathlib.Path(sys.argv[1]).read_bytes()) as page:
     sys.stdout.buffer.write(page.encode())' "$root/usr/share/doc/faxtool/examples/page.pbm" | sha256sum)
 [ "$shown" = "$(sha256sum < "$root/usr/share/doc/faxtool/examples/page.mmr")" ] || ends "the module for Python codes a page to other octets"
 [ -d "$root/usr/lib/python3/dist-packages/g3fax/__pycache__" ] || [ -n "$PYTHONDONTWRITEBYTECODE" ] || ends "Python compiled no module"
