@@ -8,6 +8,7 @@
 #     make install           copies what was built below $(DESTDIR)$(PREFIX), and builds nothing
 #     make uninstall         removes what was copied there
 #     make tarball, make deb packs what was built, into packaging/out
+#     make wheel             packs the module for Python with the library, into packaging/out; after make lib-try with G3FAX=build
 #     make book              writes what is proved, and the definitions that it rests on, as pages: out/book/index.html
 #     make help              prints these lines
 #
@@ -48,7 +49,10 @@ tarball:
 deb:
 	packaging/deb.sh packaging/out
 
+wheel:
+	@bindings/python/make_wheel.py packaging/out
+
 book:
 	docs/book.py
 
-.PHONY: all try lib-try check help install uninstall tarball deb book
+.PHONY: all try lib-try check help install uninstall tarball deb wheel book

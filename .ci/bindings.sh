@@ -48,9 +48,10 @@ is_same() {
 
 "$top/.ci/library.sh"
 "$top/bindings/build.sh" "$work"
-for name in encode decode raster frames signals call answer misuse; do builds "c/$name.c"; done
+for name in encode decode raster frames signals call answer own misuse; do builds "c/$name.c"; done
 for name in memory random; do builds "tests/$name.c" --wrap=malloc --wrap=realloc --wrap=free; done
 for name in pages rows terminals signals; do builds "tests/statuses_$name.c"; done
+builds tests/abi.c
 
 for code in mh mmr; do
     for order in msb lsb; do
@@ -64,6 +65,40 @@ done
 # rows in memory with octets between them
 gives 0 raster "$data/page.pbm" "$work/page.pbm"
 is_same "$work/page.pbm" "$data/page.pbm" raster
+
+# a page of A4, in and out through pipes too
+a4=$top/docs/examples/a4.mmr
+gives 0 decode "$a4" "$work/a4.pbm" mmr msb 1728
+gives 0 encode "$work/a4.pbm" "$work/code" mmr msb
+is_same "$work/code" "$a4" "encode a4"
+gives 0 raster "$work/a4.pbm" "$work/page.pbm"
+is_same "$work/page.pbm" "$work/a4.pbm" "raster a4"
+for lost in 0 3 5; do
+    gives 0 call "$work/a4.pbm" "$work/stored.pbm" "$lost"
+    is_same "$work/stored.pbm" "$work/a4.pbm" "call with a4 without burst $lost"
+done
+# through OUTPUT WORDS: cat gives the file to the example and takes what it writes, which is as the output
+through() {
+    wanted=$1 from=$2 name=$3
+    shift 3
+    # a pipe's status is that of its last command; is_same sees what the example hasn't written
+    # shellcheck disable=SC2002
+    cat "$from" | timeout 600 "$work/$name" "$@" 2> "$work/error" | cat > "$work/output"
+    is_same "$work/output" "$wanted" "$name through pipes"
+    runs=$((runs + 1))
+}
+through "$work/a4.pbm" "$a4" decode /dev/stdin /dev/stdout mmr msb 1728
+through "$a4" "$work/a4.pbm" encode /dev/stdin /dev/stdout mmr msb
+through "$work/a4.pbm" "$work/a4.pbm" raster /dev/stdin /dev/stdout
+
+# raster of the narrowest page and of the widest one
+for width in 1 512 513 2431 2432; do
+    python3 -c 'import sys; width = int(sys.argv[1]); row = (width + 7) // 8
+sys.stdout.buffer.write(b"P4\n%d 5\n" % width + b"".join((1 << row * 8 - 1 - y % width).to_bytes(row, "big") for y in range(5)))' "$width" \
+        > "$work/wide.pbm"
+    gives 0 raster "$work/wide.pbm" "$work/page.pbm"
+    is_same "$work/page.pbm" "$work/wide.pbm" "raster of $width pixels"
+done
 
 # a page that is cut short: the fault and its bit, and the rows before it
 head -c 500 "$data/page.mmr.msb" > "$work/cut"
@@ -98,11 +133,17 @@ for words in "$top"/.ci/conversations/*.words; do
     grep -q '^end normal ' "$talk.error" && end=0
     gives "$end" answer "$work/stored.pbm" < "$talk.lines"
     is_same "$work/output" "$talk.expected" "answer to $(basename "$talk")"
+    # and by a modem that waits for each answer
+    "$top/.ci/by_lines.py" "$talk.lines" "$work/answer" "$work/stored.pbm" > "$work/output" \
+        || fails "answer by lines to $(basename "$talk")"
+    is_same "$work/output" "$talk.expected" "answer by lines to $(basename "$talk")"
     answerers=$((answerers + 1))
 done
 [ "$answerers" -gt 5 ] || fails "there were $answerers answerers"
 
-for name in misuse statuses_pages statuses_rows statuses_terminals statuses_signals; do
+gives 0 own
+[ "$(cat "$work/output")" = "5 octets, 1 page" ] || fails "own printed: $(cat "$work/output")"
+for name in abi misuse statuses_pages statuses_rows statuses_terminals statuses_signals; do
     gives 0 "$name"
     [ ! -s "$work/output" ] || fails "$name printed: $(cat "$work/output")"
 done
@@ -115,6 +156,7 @@ gives 0 random "${1:-200000}"
 [ ! -s "$work/output" ] || fails "random printed: $(head -3 "$work/output")"
 "$top/.ci/installed.sh" "$work"
 "$top/.ci/readme_programs.sh" "$work"
+"$top/.ci/wheel.sh" "$work"
 "$top/.ci/softfax.sh" "$work"
 
 # the module for Python, over the shared library

@@ -13,6 +13,7 @@ top=$(cd "$(dirname "$0")/.." && pwd)
 mkdir -p "$1"
 to=$(cd "$1" && pwd)
 version=$(cat "$top/VERSION")
+number=$(echo "$version" | awk -F . '{ print $1 * 10000 + $2 * 100 + $3 }')
 archive=$top/crates/g3fax/out/libg3fax.a
 work=$(mktemp -d)
 trap 'rm -rf "$work"' EXIT
@@ -28,7 +29,7 @@ else
 fi
 "$kit/toolchain/bin/llvm-ar" x "$kit/c/liblibc_c.a"
 "$kit/toolchain/bin/clang" -std=c11 -O2 -fPIC -Wall -Wextra -Werror -ffreestanding -nostdinc -isystem "$top/bindings/include" \
-    -DG3_VERSION="\"$said\"" -c "$top/bindings/g3fax.c" -o g3fax_c.o
+    -DG3_VERSION="\"$said\"" -DG3_BUILT="$number" -c "$top/bindings/g3fax.c" -o g3fax_c.o
 rm -f "$to/libg3fax.a"
 "$kit/toolchain/bin/llvm-ar" rcs "$to/libg3fax.a" ./*.o
 "$kit/toolchain/bin/ld.lld" -shared -soname libg3fax.so.0 -z relro -z noexecstack --version-script "$top/bindings/exports" \

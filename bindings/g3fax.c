@@ -1,5 +1,5 @@
-/* The functions of g3fax.h: each tests its addresses for NULL, and calls the proved function of the same name, g3_core_.. No other
- * work is done here. A NULL handle is an empty one; where another address is NULL, the answer is G3_BAD_LENGTH. */
+/* The functions of g3fax.h: each tests its addresses for NULL, and calls the proved function of the same name, g3_core_.. A NULL handle is
+ * an empty one; if another address is NULL, the status is G3_BAD_LENGTH. Beside them there are only names of numbers, and the version. */
 #include "g3fax.h"
 
 /* a handle of any kind: the proved functions tell the kinds apart */
@@ -313,7 +313,57 @@ g3_status g3_agree(const g3_dis *dis, const g3_wish *wish, uint32_t width, uint3
     return g3_core_agree(dis, wish, width, fine, params, reason);
 }
 
+_Static_assert(G3_VERSION_NUMBER == G3_BUILT, "g3fax.h has the number of another version");
 const char *g3_version(void) { return G3_VERSION; }
+uint32_t g3_version_number(void) { return G3_VERSION_NUMBER; }
+
+const char *g3_carrier_name(uint32_t carrier)
+{
+    switch (carrier) {
+    case G3_V21: return "v21";
+    case G3_V27TER_2400: return "v27ter-2400";
+    case G3_V27TER_4800: return "v27ter-4800";
+    case G3_V29_7200: return "v29-7200";
+    case G3_V29_9600: return "v29-9600";
+    case G3_V17_7200: return "v17-7200";
+    case G3_V17_9600: return "v17-9600";
+    case G3_V17_12000: return "v17-12000";
+    case G3_V17_14400: return "v17-14400";
+    default: return "none";
+    }
+}
+uint32_t g3_carrier_rate(uint32_t carrier)
+{
+    switch (carrier) {
+    case G3_V21: return 300;
+    case G3_V27TER_2400: return 2400;
+    case G3_V27TER_4800: return 4800;
+    case G3_V29_7200: case G3_V17_7200: return 7200;
+    case G3_V29_9600: case G3_V17_9600: return 9600;
+    case G3_V17_12000: return 12000;
+    case G3_V17_14400: return 14400;
+    default: return 0;
+    }
+}
+const char *g3_end_text(uint32_t end)
+{
+    switch (end) {
+    case 0: return "the call goes on";
+    case G3_END_NORMAL: return "all pages went over";
+    case G3_END_NO_ANSWER: return "no DIS or no DCS came";
+    case G3_END_NOT_COMPATIBLE: return "the stations are not compatible";
+    case G3_END_TRAINING: return "training failed at the lowest speed";
+    case G3_END_NO_REPLY: return "a command had no reply, three times";
+    case G3_END_UNREADABLE: return "a block was asked for a fourth time";
+    case G3_END_STILL_BUSY: return "the answerer was busy for too long";
+    case G3_END_PEER_LEFT: return "the other station hung up";
+    case G3_END_BAD_PAGE: return "a page couldn't be read";
+    case G3_END_PAGE_TOO_LONG: return "a page's code is too long";
+    case G3_END_STOPPED: return "the call was stopped here";
+    case G3_END_LINE_LOST: return "the line was lost";
+    default: return "no such end";
+    }
+}
 const char *g3_status_text(g3_status status)
 {
     switch (status) {

@@ -8,6 +8,19 @@
 extern "C" {
 #endif
 
+/* The version of this header, 10000 a major, 100 a minor one: 0.1.0 is 100. g3_version_number returns that of the library. */
+#define G3_VERSION_NUMBER 100
+
+/* Before a function whose status is to be looked at: the compiler warns if it isn't. Functions without it fail by a wrong handle alone.
+ * Define G3_CHECK as nothing, before this header, for no warnings. */
+#ifndef G3_CHECK
+#ifdef __GNUC__
+#define G3_CHECK __attribute__((warn_unused_result))
+#else
+#define G3_CHECK
+#endif
+#endif
+
 /* A handle is empty, G3_EMPTY, or has one value, which it owns: free it by the function of its kind. Don't copy one that has a value,
  * and use each from one thread at a time; two handles share nothing. */
 typedef struct g3_page { void *at; } g3_page;
@@ -18,6 +31,12 @@ typedef struct g3_terminal { void *at; } g3_terminal;
 typedef struct g3_row_coder { void *at; } g3_row_coder;
 typedef struct g3_row_reader { void *at; } g3_row_reader;
 #define G3_EMPTY {NULL}
+/* the same as a value, to be assigned: page = G3_EMPTY_OF(g3_page) */
+#ifdef __cplusplus
+#define G3_EMPTY_OF(type) (type G3_EMPTY)
+#else
+#define G3_EMPTY_OF(type) ((type)G3_EMPTY)
+#endif
 
 /* What each function answers. By any status above 0, G3_FRAME_LOST aside, each handle is as it was. */
 typedef uint32_t g3_status;
@@ -80,82 +99,83 @@ void g3_row_reader_free(g3_row_reader *reader);
 
 /* The text of a status, in English; never NULL, and not to be freed. */
 const char *g3_status_text(g3_status status);
-/* The version of the library, as "0.1". */
+/* The version of the library, as "0.1.0", and as G3_VERSION_NUMBER has it. */
 const char *g3_version(void);
+uint32_t g3_version_number(void);
 
 /* Pages: 0 to 20000 rows of 1 to 2432 pixels. A row is octets as in a raw PBM file: eight pixels an octet, the leftmost in the
  * highest bit, 1 black. */
-g3_status g3_page_new(g3_page *out, uint32_t width, uint32_t fine);
+G3_CHECK g3_status g3_page_new(g3_page *out, uint32_t width, uint32_t fine);
 /* Appends a row of the first bits of octets; later bits are ignored. G3_BAD_LENGTH: too few octets. */
-g3_status g3_page_push_row(g3_page *page, const uint8_t *octets, size_t length);
-g3_status g3_page_size(g3_page *page, g3_size *size);
+G3_CHECK g3_status g3_page_push_row(g3_page *page, const uint8_t *octets, size_t length);
+G3_CHECK g3_status g3_page_size(g3_page *page, g3_size *size);
 /* Copies row `number`, from 0 at the top. *count: the octets of a row, also where G3_NO_ROOM is answered. G3_NOTHING: no such row. */
-g3_status g3_page_row(g3_page *page, uint32_t number, uint8_t *buffer, size_t room, uint64_t *count);
+G3_CHECK g3_status g3_page_row(g3_page *page, uint32_t number, uint8_t *buffer, size_t room, uint64_t *count);
 
 /* Makes a page of the rows of octets. What is between the rows, and after the last one, is ignored; the last row wants its own octets
  * alone. G3_BAD_LENGTH: the stride is less than a row's octets, or there are too few octets. */
-g3_status g3_page_read_raster(const uint8_t *octets, size_t length, const g3_raster *raster, g3_page *out);
+G3_CHECK g3_status g3_page_read_raster(const uint8_t *octets, size_t length, const g3_raster *raster, g3_page *out);
 /* Copies all rows, so many octets apart; the octets between the rows stay. *count: the octets from the first row's beginning to the last
  * one's end, also where G3_NO_ROOM is answered. G3_BAD_LENGTH: the stride is less than a row's octets. */
-g3_status g3_page_write_raster(g3_page *page, uint64_t stride, uint8_t *buffer, size_t room, uint64_t *count);
+G3_CHECK g3_status g3_page_write_raster(g3_page *page, uint64_t stride, uint8_t *buffer, size_t room, uint64_t *count);
 
 /* Codes a page; the last octet is filled with 0 bits. */
-g3_status g3_page_encode(g3_page *page, uint32_t coding, uint32_t order, g3_octets *out);
+G3_CHECK g3_status g3_page_encode(g3_page *page, uint32_t coding, uint32_t order, g3_octets *out);
 /* Reads the page that octets begin with; what follows is ignored. *place: the bits used, or, of G3_NO_ROWS and 10 to 18, the bit from 0
  * where no page can go on. */
-g3_status g3_page_decode(const uint8_t *octets, size_t length, const g3_code *code, g3_page *out, uint64_t *place);
+G3_CHECK g3_status g3_page_decode(const uint8_t *octets, size_t length, const g3_code *code, g3_page *out, uint64_t *place);
 /* Reads the whole rows that octets begin with, of a page that can't be read: there may be none. */
-g3_status g3_page_salvage(const uint8_t *octets, size_t length, const g3_code *code, g3_page *out);
+G3_CHECK g3_status g3_page_salvage(const uint8_t *octets, size_t length, const g3_code *code, g3_page *out);
 /* Reads the page whose lines octets of G3_MH begin with, as a receiver without error correction gives it: a row that can't be read is the
  * one before it. *count: how many rows are such. 4 and 10 to 18 where no row can be read. G3_BAD_CHOICE: G3_MMR has no repair. */
-g3_status g3_page_repair(const uint8_t *octets, size_t length, const g3_code *code, g3_page *out, uint64_t *count);
+G3_CHECK g3_status g3_page_repair(const uint8_t *octets, size_t length, const g3_code *code, g3_page *out, uint64_t *count);
 
 /* The first image of a raw PBM file in memory, and how many images it has; and a page as such an image. */
-g3_status g3_page_read_pbm(const uint8_t *octets, size_t length, uint32_t fine, g3_page *out, uint64_t *count);
-g3_status g3_page_write_pbm(g3_page *page, g3_octets *out);
+G3_CHECK g3_status g3_page_read_pbm(const uint8_t *octets, size_t length, uint32_t fine, g3_page *out, uint64_t *count);
+G3_CHECK g3_status g3_page_write_pbm(g3_page *page, g3_octets *out);
 
 /* A page is coded row by row: the memory doesn't grow with its rows where the octets are taken as they come. `fine` of the code is
  * ignored. */
-g3_status g3_row_coder_new(g3_row_coder *out, const g3_code *code);
+G3_CHECK g3_status g3_row_coder_new(g3_row_coder *out, const g3_code *code);
 /* Codes a row of the first bits of octets; later bits are ignored. G3_BAD_LENGTH: too few octets. */
-g3_status g3_row_coder_push_row(g3_row_coder *coder, const uint8_t *octets, size_t length);
+G3_CHECK g3_status g3_row_coder_push_row(g3_row_coder *coder, const uint8_t *octets, size_t length);
 /* The octets of the code that are whole so far, after those that were taken; there may be none. */
-g3_status g3_row_coder_take(g3_row_coder *coder, g3_octets *out);
+G3_CHECK g3_status g3_row_coder_take(g3_row_coder *coder, g3_octets *out);
 /* The last octets of the code; 0 bits fill the last one. The coder's handle is empty then. */
-g3_status g3_row_coder_finish(g3_row_coder *coder, g3_octets *out);
+G3_CHECK g3_status g3_row_coder_finish(g3_row_coder *coder, g3_octets *out);
 
 /* A page whose octets come in pieces is read row by row: the memory doesn't grow with its rows. `fine` of the code is ignored. */
-g3_status g3_row_reader_new(g3_row_reader *out, const g3_code *code);
+G3_CHECK g3_status g3_row_reader_new(g3_row_reader *out, const g3_code *code);
 /* Takes the next octets of the page, as many as there is room for, and tells how many: 65536 octets that weren't read are held at most.
  * Where none are taken though all rows were, a row is longer than that, or the page has ended or is refused. */
-g3_status g3_row_reader_feed(g3_row_reader *reader, const uint8_t *octets, size_t length, uint64_t *taken);
+G3_CHECK g3_status g3_row_reader_feed(g3_row_reader *reader, const uint8_t *octets, size_t length, uint64_t *taken);
 /* Copies the next row that is whole in the octets so far. Where none is, all octets so far are answered for as by g3_page_decode, and more
  * octets may change the answer: G3_NOTHING is the page's end, and *place the bits used; of G3_NO_ROWS and 10 to 18 *place is the bit from 0
  * where no page can go on. *count: the octets of a row, also where G3_NO_ROOM is answered; no row is given then. */
-g3_status g3_row_reader_next(g3_row_reader *reader, uint8_t *buffer, size_t room, uint64_t *count, uint64_t *place);
+G3_CHECK g3_status g3_row_reader_next(g3_row_reader *reader, uint8_t *buffer, size_t room, uint64_t *count, uint64_t *place);
 
 /* Octets that a call has made. *count: how many there are, also where G3_NO_ROOM is answered. */
-g3_status g3_octets_len(g3_octets *octets, uint64_t *count);
-g3_status g3_octets_copy(g3_octets *octets, uint8_t *buffer, size_t room, uint64_t *count);
+G3_CHECK g3_status g3_octets_len(g3_octets *octets, uint64_t *count);
+G3_CHECK g3_status g3_octets_copy(g3_octets *octets, uint8_t *buffer, size_t room, uint64_t *count);
 
 /* Frames (HDLC): found in bits that come in pieces of any octets, the least significant bit of each first. */
-g3_status g3_deframer_new(g3_deframer *out);
+G3_CHECK g3_status g3_deframer_new(g3_deframer *out);
 /* G3_NO_MEMORY: nothing was taken; give the octets again. */
-g3_status g3_deframer_feed(g3_deframer *deframer, const uint8_t *octets, size_t length);
+G3_CHECK g3_status g3_deframer_feed(g3_deframer *deframer, const uint8_t *octets, size_t length);
 /* Copies the content of the oldest good frame that wasn't handed out: 3 to 300 octets, without the check sequence. G3_NOTHING: none
  * waits. G3_NO_ROOM: room for fewer than 300 octets; nothing is handed out. */
-g3_status g3_deframer_next(g3_deframer *deframer, uint8_t *buffer, size_t room, uint64_t *count);
-g3_status g3_deframer_counts(g3_deframer *deframer, g3_counts *counts);
+G3_CHECK g3_status g3_deframer_next(g3_deframer *deframer, uint8_t *buffer, size_t room, uint64_t *count);
+G3_CHECK g3_status g3_deframer_counts(g3_deframer *deframer, g3_counts *counts);
 /* Writes the frame of a content of 3 to 300 octets: a flag, the content and its check sequence with 0 bits stuffed, and a flag. *bits:
  * how many bits it has; fewer than eight 0 bits fill the last octet. */
-g3_status g3_frame_write(const uint8_t *content, size_t length, g3_octets *out, uint64_t *bits);
+G3_CHECK g3_status g3_frame_write(const uint8_t *content, size_t length, g3_octets *out, uint64_t *bits);
 
 /* Documents: the pages of a call, in order. */
-g3_status g3_document_new(g3_document *out);
+G3_CHECK g3_status g3_document_new(g3_document *out);
 /* Moves a page to the end: its handle is empty then. The page is copied for that, so that nothing is lost where memory is refused.
  * G3_NO_ROWS: it has no row. */
-g3_status g3_document_push(g3_document *document, g3_page *page);
-g3_status g3_document_pages(g3_document *document, uint64_t *count);
+G3_CHECK g3_status g3_document_push(g3_document *document, g3_page *page);
+G3_CHECK g3_status g3_document_pages(g3_document *document, uint64_t *count);
 
 /* Terminals: the two stations of a call with error correction (T.30, Annex A), a caller and an answerer. A terminal hears octets of the
  * line and gives the bursts that are to be sent. It has no clock and no modem: the program measures the waits, and listens by the carrier
@@ -179,28 +199,28 @@ typedef struct g3_wish {
 } g3_wish;
 
 /* An answerer, whose first burst is DIS. G3_BAD_CHOICE: a number of caps stands for no choice. */
-g3_status g3_answerer_new(g3_terminal *out, const g3_caps *caps);
+G3_CHECK g3_status g3_answerer_new(g3_terminal *out, const g3_caps *caps);
 /* A caller, which waits for a DIS. The document moves in: its handle is empty then. G3_NOTHING: it has no page. G3_NOT_CALLABLE: a page
  * isn't 1728, 2048 or 2432 pixels wide. G3_BAD_CHOICE: a number of wish stands for no choice. */
-g3_status g3_caller_new(g3_terminal *out, g3_document *document, const g3_wish *wish);
+G3_CHECK g3_status g3_caller_new(g3_terminal *out, g3_document *document, const g3_wish *wish);
 
 /* Hears octets that came by V.21 or by the carrier of a page: flags and frames, the least significant bit of each first, in pieces of any
  * size. G3_NO_MEMORY: nothing was taken; give the octets again. G3_FRAME_LOST: don't. */
-g3_status g3_terminal_hear(g3_terminal *terminal, const uint8_t *octets, size_t length);
+G3_CHECK g3_status g3_terminal_hear(g3_terminal *terminal, const uint8_t *octets, size_t length);
 /* Hears a good frame by its content, 3 to 300 octets, as g3_terminal_hear hears the octets of this frame between two flags: for a modem that
  * finds the frames itself. G3_NO_MEMORY: nothing was taken; give it again. G3_FRAME_LOST: don't. */
-g3_status g3_terminal_hear_frame(g3_terminal *terminal, const uint8_t *content, size_t length);
+G3_CHECK g3_status g3_terminal_hear_frame(g3_terminal *terminal, const uint8_t *content, size_t length);
 /* Hears the octets of a training check that has come. */
-g3_status g3_terminal_hear_training(g3_terminal *terminal, const uint8_t *octets, size_t length);
+G3_CHECK g3_status g3_terminal_hear_training(g3_terminal *terminal, const uint8_t *octets, size_t length);
 
 /* the waits of T.30, 5.4.3.1 */
 enum { G3_T1 = 1, G3_T2 = 2, G3_T4 = 4, G3_T5 = 5 };
 /* A wait is over; one that doesn't run changes nothing. G3_BAD_CHOICE: no such wait. */
-g3_status g3_terminal_wait_over(g3_terminal *terminal, uint32_t wait);
+G3_CHECK g3_status g3_terminal_wait_over(g3_terminal *terminal, uint32_t wait);
 /* How long a wait runs, in milliseconds; 0 for a number that is no wait. */
 uint32_t g3_wait_millis(uint32_t wait);
 /* Whether an answerer can't take pages for now. */
-g3_status g3_terminal_set_busy(g3_terminal *terminal, uint32_t is);
+G3_CHECK g3_status g3_terminal_set_busy(g3_terminal *terminal, uint32_t is);
 /* Ends the call in order: DCN is to be sent in place of what was. */
 g3_status g3_terminal_stop(g3_terminal *terminal);
 /* The same also where the call has ended: what was to be sent isn't, as the confirmation of a page that couldn't be kept. */
@@ -214,6 +234,10 @@ enum {
     G3_V17_12000 = 8, G3_V17_14400 = 9
 };
 
+/* The name of a carrier, as "v17-14400", and its bits a second; "none" and 0 for a number that is no carrier. */
+const char *g3_carrier_name(uint32_t carrier);
+uint32_t g3_carrier_rate(uint32_t carrier);
+
 typedef struct g3_burst {
     uint64_t bits;
     uint32_t carrier;
@@ -224,7 +248,7 @@ typedef struct g3_burst {
 /* The next burst that is to be sent, 75 ms after the one before it. Its octets hold the bits, the least significant of each first.
  * G3_NOTHING: nothing is left to be sent. For a modem that wants frames and not bits: a g3_deframer that is fed the octets gives the contents
  * of the burst's frames, in order. */
-g3_status g3_terminal_next_burst(g3_terminal *terminal, g3_octets *out, g3_burst *burst);
+G3_CHECK g3_status g3_terminal_next_burst(g3_terminal *terminal, g3_octets *out, g3_burst *burst);
 
 /* what a station listens for: V.21 alone; a training check by `carrier`; V.21, and the frames of a page by `carrier` */
 enum { G3_HEARS_V21 = 1, G3_HEARS_CHECK = 2, G3_HEARS_PAGES = 3 };
@@ -244,6 +268,9 @@ enum {
     G3_END_LINE_LOST = 12      /* by g3_terminal_lost */
 };
 
+/* Why a call ended, in English; never NULL, and not to be freed. */
+const char *g3_end_text(uint32_t end);
+
 typedef struct g3_state {
     uint64_t pages;   /* of a caller, confirmed; of an answerer, stored and not taken by g3_terminal_take_page */
     uint64_t frames;  /* how many good frames were heard */
@@ -253,7 +280,7 @@ typedef struct g3_state {
     uint32_t longer;  /* the longer one beside it; 0 for none */
     uint32_t end;     /* 0: the call goes on; else G3_END_.. */
 } g3_state;
-g3_status g3_terminal_state(g3_terminal *terminal, g3_state *state);
+G3_CHECK g3_status g3_terminal_state(g3_terminal *terminal, g3_state *state);
 
 /* how far a call is; what belongs to the other station is 0 */
 typedef struct g3_progress {
@@ -269,11 +296,11 @@ typedef struct g3_progress {
     uint32_t accepted_page;  /* the number of its page modulo 256 */
     uint32_t accepted_block; /* its number in that page modulo 256 */
 } g3_progress;
-g3_status g3_terminal_progress(g3_terminal *terminal, g3_progress *progress);
+G3_CHECK g3_status g3_terminal_progress(g3_terminal *terminal, g3_progress *progress);
 
 /* The oldest page that an answerer has stored and that wasn't taken. G3_NOTHING: there is none. Where none waits in the handle, all stored
  * pages leave the station, which isn't busy for them then: there are never more than 2 * limit - 1 in memory. */
-g3_status g3_terminal_take_page(g3_terminal *terminal, g3_page *out);
+G3_CHECK g3_status g3_terminal_take_page(g3_terminal *terminal, g3_page *out);
 
 /* Signals (T.30, 5.3.6 and A.4): what the contents of frames say. A program that has its own frames reads and writes them by these; a
  * terminal needs none of it. */
@@ -330,24 +357,24 @@ typedef struct g3_signal {
 
 /* Reads the content of a frame as a signal; what comes after a signal's fields is ignored, save in an FCD. G3_BAD_ADDRESS, G3_BAD_CONTROL,
  * G3_SHORT_FIELD: it says none. G3_NO_ROOM: an FCD of more than 296 octets of data. */
-g3_status g3_signal_read(const uint8_t *content, size_t length, g3_signal *signal);
+G3_CHECK g3_status g3_signal_read(const uint8_t *content, size_t length, g3_signal *signal);
 /* Writes the signal as the content of a frame, as G3_CALLER or G3_ANSWERER sends it; `last`: 1 in the last frame of a transmission, 0 in
  * each other. *count: its octets, 3 to 300, also where G3_NO_ROOM is answered. G3_BAD_CHOICE: a field has another number than those named,
  * or the kind is G3_OTHER. G3_BAD_LENGTH: an FCD hasn't 1 to 256 octets, or a PPR 32. What was written is read as the signal. */
-g3_status g3_signal_write(const g3_signal *signal, uint32_t side, uint32_t last, uint8_t *buffer, size_t room, uint64_t *count);
+G3_CHECK g3_status g3_signal_write(const g3_signal *signal, uint32_t side, uint32_t last, uint8_t *buffer, size_t room, uint64_t *count);
 
 /* why two stations don't agree; of several reasons the first one: it doesn't receive, it has no error correction, the page is too wide for
  * it, it takes no fine lines, no speed is common */
 enum { G3_NO_RECEIVER = 1, G3_NO_ECM = 2, G3_TOO_WIDE = 3, G3_NO_FINE = 4, G3_NO_COMMON_SPEED = 5 };
 /* What a caller of this wish agrees on with a station of this DIS, for pages of a width in pixels, `fine` or not: what its DCS says.
  * G3_NOT_COMPATIBLE: *reason is why not. G3_NOT_CALLABLE: the width isn't 1728, 2048 or 2432. */
-g3_status g3_agree(const g3_dis *dis, const g3_wish *wish, uint32_t width, uint32_t fine, g3_params *params, uint32_t *reason);
+G3_CHECK g3_status g3_agree(const g3_dis *dis, const g3_wish *wish, uint32_t width, uint32_t fine, g3_params *params, uint32_t *reason);
 
 /* How the pages of the group that is under way are sent. G3_NOTHING: none is; a caller waits for a DIS, or an answerer for a DCS. */
-g3_status g3_terminal_params(g3_terminal *terminal, g3_params *params);
+G3_CHECK g3_status g3_terminal_params(g3_terminal *terminal, g3_params *params);
 /* What is known of the other station, as a signal without octets: of a caller's terminal the last DIS that was agreed on, of an answerer's
  * the last DCS that it took; in both it stays known after the end where a page, or a block of one, went over. G3_NOTHING: nothing is known. */
-g3_status g3_terminal_peer(g3_terminal *terminal, g3_signal *signal);
+G3_CHECK g3_status g3_terminal_peer(g3_terminal *terminal, g3_signal *signal);
 
 #ifdef __cplusplus
 }

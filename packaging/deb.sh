@@ -3,8 +3,8 @@
 #
 #     packaging/deb.sh FOLDER
 #
-# Three packages: faxtool, libg3fax0 (the shared library) and libg3fax-dev. Each needs the C library that its files ask for by their
-# versioned symbols. Symbols that nothing wants at run time are taken out of the program and the shared library. The same sources and tools
+# Four packages: faxtool, libg3fax0 (the shared library), libg3fax-dev and python3-g3fax. Each needs the C library that its files ask for by
+# their versioned symbols; the module for Python needs its own version of the shared library. Symbols that nothing wants at run time are taken out of the program and the shared library. The same sources and tools
 # give the same octets. It needs dpkg-deb and binutils; where lintian is there, its errors are refused.
 set -e
 top=$(cd "$(dirname "$0")/.." && pwd)
@@ -69,19 +69,19 @@ documents() {
     [ -f "$docs/COMMIT" ] || cp "$work/COMMIT" "$docs/"
 }
 
-# control PACKAGE SECTION DEPENDS MORE: what dpkg reads of it; the last word has further lines, and the text comes on standard input.
+# control PACKAGE SECTION DEPENDS MORE [ARCHITECTURE]: what dpkg reads of it; MORE has further lines, and the text comes on standard input.
 control() {
     folder=$work/$1
     mkdir -p "$folder/DEBIAN"
     size=$(du -k -s --apparent-size --exclude=DEBIAN "$folder" | cut -f 1)
     {
-        printf 'Package: %s\nSource: faxtool\nVersion: %s\nArchitecture: amd64\nMaintainer: %s\n' "$1" "$version" "$who"
+        printf 'Package: %s\nSource: faxtool\nVersion: %s\nArchitecture: %s\nMaintainer: %s\n' "$1" "$version" "${5:-amd64}" "$who"
         printf 'Installed-Size: %s\nDepends: %s\nSection: %s\nPriority: optional\n%s' "$size" "$3" "$2" "$4"
         cat
     } > "$folder/DEBIAN/control"
     (cd "$folder" && find usr -type f | LC_ALL=C sort | xargs -d '\n' md5sum > DEBIAN/md5sums)
     find "$folder" -exec touch -h -d "@$SOURCE_DATE_EPOCH" {} +
-    dpkg-deb --root-owner-group -Zxz --build "$folder" "$to/$1_${version}_amd64.deb" > /dev/null
+    dpkg-deb --root-owner-group -Zxz --build "$folder" "$to/$1_${version}_${5:-amd64}.deb" > /dev/null
 }
 
 # page FILE: the page of trust, with the sums of the built files and of those in the packages too.
@@ -100,18 +100,23 @@ gzip -9n "$work/stage$share/man/man1"/*.1
 mkdir -p "$work/stage$share/zsh/vendor-completions"
 mv "$work/stage$share/zsh/site-functions/_faxtool" "$work/stage$share/zsh/vendor-completions/"
 mv "$work/stage$share/doc/g3fax" "$work/stage$share/doc/libg3fax-dev"
+module=/usr/lib/python3/dist-packages/g3fax
+mkdir -p "$work/stage$module"
+mv "$work/stage$share/doc/libg3fax-dev/examples/g3fax.py" "$work/stage$module/__init__.py"
+install -m 644 "$top/bindings/python/py.typed" "$work/stage$module/"
 takes faxtool /usr/bin/faxtool $share/man/man1 $share/bash-completion/completions/faxtool $share/zsh/vendor-completions/_faxtool \
     $share/fish/vendor_completions.d/faxtool.fish $share/doc/faxtool
 takes libg3fax0 $libdir/libg3fax.so.0
 takes libg3fax-dev /usr/include/g3fax.h $libdir/libg3fax.a $libdir/libg3fax.so $libdir/pkgconfig/g3fax.pc $share/doc/libg3fax-dev
+takes python3-g3fax $module
 [ -z "$(find "$work/stage" ! -type d)" ] || ends "in no package: $(cd "$work/stage" && find . ! -type d | tr '\n' ' ')"
 strip --strip-all "$work/faxtool/usr/bin/faxtool"
 strip --strip-unneeded "$work/libg3fax0$libdir/libg3fax.so.0"
 chmod 644 "$work/libg3fax0$libdir/libg3fax.so.0"
-for package in faxtool libg3fax0 libg3fax-dev; do documents $package; done
+for package in faxtool libg3fax0 libg3fax-dev python3-g3fax; do documents $package; done
 page "$work/faxtool$share/doc/faxtool/docs/PROOF.md"
 # in the other packages the page leads to the documents of the package faxtool
-for package in libg3fax0 libg3fax-dev; do
+for package in libg3fax0 libg3fax-dev python3-g3fax; do
     cp "$work/faxtool$share/doc/faxtool/public_clauses.txt" "$work/$package$share/doc/$package/"
     sed -e 's,](\.\./public_clauses\.txt),](public_clauses.txt),' -e 's,](\.\./README,](../faxtool/README,g' \
         -e 's,](\([A-Z]*\.md\)),](../faxtool/docs/\1),g' "$work/faxtool$share/doc/faxtool/docs/PROOF.md" > "$work/$package$share/doc/$package/PROOF.md"
@@ -149,7 +154,18 @@ Description: Group 3 fax pages and frames for C, proved: header and archive
  This package has the header g3fax.h, the archive libg3fax.a, g3fax.pc for
  pkg-config, and examples.
 TEXT
-set -- "$to/faxtool_${version}_amd64.deb" "$to/libg3fax0_${version}_amd64.deb" "$to/libg3fax-dev_${version}_amd64.deb"
+mkdir -p "$work/python3-g3fax/DEBIAN"
+# removes what Python compiles the module to if someone who may write there imports it
+printf '#!/bin/sh\nset -e\nrm -rf "$DPKG_ROOT%s/__pycache__"\n' "$module" > "$work/python3-g3fax/DEBIAN/prerm"
+chmod 755 "$work/python3-g3fax/DEBIAN/prerm"
+control python3-g3fax python "python3 (>= 3.8), libg3fax0 (>= $version)" "" all << TEXT
+Description: Group 3 fax pages and frames for Python, by a proved library
+ g3fax has page codes of ITU-T T.4 and T.6, raw PBM in memory, salvage and
+ repair of broken pages, HDLC frames, and the stations of a call, by libg3fax.
+ Pages go in and out as packed rows or pixels, and as images of PIL.
+TEXT
+set -- "$to/faxtool_${version}_amd64.deb" "$to/libg3fax0_${version}_amd64.deb" "$to/libg3fax-dev_${version}_amd64.deb" \
+    "$to/python3-g3fax_${version}_all.deb"
 if command -v lintian > /dev/null; then
     lintian --fail-on error "$@" > "$work/said" 2>&1 || { cat "$work/said" >&2; ends "lintian refuses a package"; }
 fi

@@ -4,9 +4,10 @@
 #
 #     packaging/try_deb.sh FOLDER
 #
-# The root is a new folder with a list of packages of its own, in which the C library stands as this machine has it; dpkg installs there
-# by --root, so nothing else of the machine changes. Tried are: the command lines of the README and of docs/USING.md in the installed
-# examples, the man pages, the completion, and an example in C that is built by pkg-config with the shared library and with the archive.
+# The root is a new folder with a list of packages of its own, in which the C library stands as this machine has it, and Python; dpkg
+# installs there by --root, so nothing else of the machine changes. Tried are: the command lines of the README and of docs/USING.md in the installed
+# examples, the man pages, the completion, an example in C that is built by pkg-config with the shared library and with the archive, and
+# the module for Python.
 # It needs dpkg, pkg-config, cc, python3, and fakeroot where it isn't run as root. Ends with status 1 at the first difference.
 set -e
 top=$(cd "$(dirname "$0")/.." && pwd)
@@ -29,7 +30,7 @@ fi
 # dpkgs WORDS: dpkg works on the root, and says nothing but what it does.
 dpkgs() {
     # shellcheck disable=SC2086
-    $fakeroot dpkg --root="$root" --log=/dev/null "$@" > "$work/said" 2>&1 || { cat "$work/said" >&2; ends "dpkg $1"; }
+    $fakeroot dpkg --root="$root" --force-script-chrootless --log=/dev/null "$@" > "$work/said" 2>&1 || { cat "$work/said" >&2; ends "dpkg $1"; }
     ! grep -i warning "$work/said" >&2 || ends "dpkg $1 has a warning"
 }
 
@@ -54,19 +55,25 @@ builds() {
     is_same "$work/code" "$root/usr/share/doc/faxtool/examples/page.mmr" "the example, $name"
 }
 
-for package in faxtool libg3fax0 libg3fax-dev; do
-    [ -f "$from/${package}_${version}_amd64.deb" ] || ends "$from/${package}_${version}_amd64.deb is missing: run packaging/deb.sh"
+for package in faxtool_${version}_amd64 libg3fax0_${version}_amd64 libg3fax-dev_${version}_amd64 python3-g3fax_${version}_all; do
+    [ -f "$from/$package.deb" ] || ends "$from/$package.deb is missing: run packaging/deb.sh"
 done
 mkdir -p "$root/var/lib/dpkg/info" "$root/var/lib/dpkg/updates" "$root/var/lib/dpkg/triggers"
-{ dpkg-query -s libc6 | sed 's/^\(Pre-\)*Depends:.*//' | sed '/^$/d'; echo; } > "$root/var/lib/dpkg/status"
+{ dpkg-query -s libc6 | sed 's/^\(Pre-\)*Depends:.*//' | sed '/^$/d'; echo
+    printf 'Package: python3\nStatus: install ok installed\nArchitecture: amd64\nMaintainer: none <none@example>\nVersion: %s\n' \
+        "$(python3 -c 'import platform; print(platform.python_version())')"
+    printf 'Description: the Python of this machine\n\n'
+} > "$root/var/lib/dpkg/status"
 echo /. > "$root/var/lib/dpkg/info/libc6:amd64.list"
+echo /. > "$root/var/lib/dpkg/info/python3.list"
 files > "$work/before"
 
 # the shared library first, since the others may need it
-dpkgs --install "$from/libg3fax0_${version}_amd64.deb" "$from/libg3fax-dev_${version}_amd64.deb" "$from/faxtool_${version}_amd64.deb"
+dpkgs --install "$from/libg3fax0_${version}_amd64.deb" "$from/libg3fax-dev_${version}_amd64.deb" "$from/faxtool_${version}_amd64.deb" \
+    "$from/python3-g3fax_${version}_all.deb"
 dpkgs --verify
 files > "$work/installed"
-for package in faxtool libg3fax0 libg3fax-dev; do
+for package in faxtool libg3fax0 libg3fax-dev python3-g3fax; do
     [ "$(dpkg-query --root="$root" -W -f '${db:Status-Status}' $package 2> /dev/null)" = installed ] || ends "$package isn't installed"
     [ -z "$(find "$root/usr/share/doc/$package" -name COMMIT -empty)" ] || ends "$package has no commit"
     [ -n "$(find "$root/usr/share/doc/$package" -name PROOF.md)" ] || ends "$package has no PROOF.md"
@@ -125,6 +132,14 @@ builds static $(pkg --cflags --libs | sed 's/-lg3fax/-l:libg3fax.a/')
 ldd "$work/shared" | grep -q 'libg3fax\.so\.0' || ends "the example doesn't want libg3fax.so.0"
 ! ldd "$work/static" | grep -q g3fax || ends "the example wants libg3fax though it has the archive"
 
+# the module for Python finds the installed library; what Python compiles it to goes with the package
+shown=$(cd "$work" && PYTHONPATH=$root/usr/lib/python3/dist-packages LD_LIBRARY_PATH=$root$libdir python3 -W error -c '
+import g3fax, pathlib, sys
+with g3fax.Page.read_pbm(pathlib.Path(sys.argv[1]).read_bytes()) as page:
+    sys.stdout.buffer.write(page.encode())' "$root/usr/share/doc/faxtool/examples/page.pbm" | sha256sum)
+[ "$shown" = "$(sha256sum < "$root/usr/share/doc/faxtool/examples/page.mmr")" ] || ends "the module for Python codes a page to other octets"
+[ -d "$root/usr/lib/python3/dist-packages/g3fax/__pycache__" ] || [ -n "$PYTHONDONTWRITEBYTECODE" ] || ends "Python compiled no module"
+
 # what the packages say that they need is what Debian's own tool finds
 if command -v dpkg-shlibdeps > /dev/null; then
     mkdir -p "$work/shlibs/debian"
@@ -138,10 +153,10 @@ fi
 
 # a second install over the first, and the end
 dpkgs --install "$from/faxtool_${version}_amd64.deb"
-files | cmp - "$work/installed" || ends "a second install leaves other files"
-dpkgs --purge libg3fax-dev libg3fax0 faxtool
+files | grep -v __pycache__ | cmp - "$work/installed" || ends "a second install leaves other files"
+dpkgs --purge python3-g3fax libg3fax-dev libg3fax0 faxtool
 files > "$work/after"
 is_same "$work/after" "$work/before" "what is left in the root"
 left=$(dpkg-query --root="$root" -W -f '${Package} ')
-[ "$left" = "libc6 " ] || ends "dpkg still lists $left"
-echo "try_deb: installed, $commands command lines, two C examples, and nothing left of $(wc -l < "$work/installed") files and folders"
+[ "$left" = "libc6 python3 " ] || ends "dpkg still lists $left"
+echo "try_deb: installed, $commands command lines, two C examples, the module for Python, and nothing left of $(wc -l < "$work/installed") files and folders"

@@ -1,13 +1,12 @@
 /* answer OUT.pbm: an answerer, whose modem says by lines of text on standard input what is on the line and when, and gets lines with the
- * bursts to be sent; docs/STATION.md has them. Each page is added to the file before it can be confirmed. */
+ * bursts to be sent; docs/STATION.md has them. Each page is added to the file before it can be confirmed. Each answer is flushed, since the
+ * program that has the modem waits for it. */
 #include "g3fax.h"
 #include "files.h"
 #include <string.h>
 
 static char line[1 << 19], word[16], name[16], kind[16];
 static uint8_t octets[1 << 23]; /* a burst, or an image */
-static const char *const carriers[] = {"none", "v21", "v27ter-2400", "v27ter-4800", "v29-7200", "v29-9600", "v17-7200", "v17-9600",
-    "v17-12000", "v17-14400"};
 static g3_terminal terminal = G3_EMPTY;
 static unsigned long long now, calm, heard; /* milliseconds: the line's time, since when all is quiet, the last good frame's time */
 static int is_calm, begun;
@@ -29,7 +28,7 @@ static g3_status receive(const g3_state *state, const char *hex)
     uint32_t carrier = 9, check = strcmp(kind, "raw") == 0, length = 0;
     for (char digits[3] = ""; (digits[0] = hex[0]) > ' ' && (digits[1] = hex[1]) > ' '; hex += 2)
         octets[length++] = (uint8_t)strtoul(digits, NULL, 16);
-    while (carrier > 0 && strcmp(name, carriers[carrier]) != 0) carrier--;
+    while (carrier > 0 && strcmp(name, g3_carrier_name(carrier)) != 0) carrier--;
     int awaited = state->carrier == carrier && state->listens == (check ? G3_HEARS_CHECK : G3_HEARS_PAGES);
     if (!begun || !(awaited || (carrier == G3_V21 && !check))) return G3_OK;
     g3_status status = (check ? g3_terminal_hear_training : g3_terminal_hear)(&terminal, octets, length);
@@ -75,7 +74,7 @@ static g3_status say(g3_state *state)
     if (status == G3_OK) status = g3_octets_copy(&bits, octets, sizeof octets, &count);
     g3_octets_free(&bits);
     if (status != G3_OK) return status;
-    printf("tx %s %s %llu ", carriers[burst.carrier], burst.check ? "raw" : "hdlc", (unsigned long long)burst.bits);
+    printf("tx %s %s %llu ", g3_carrier_name(burst.carrier), burst.check ? "raw" : "hdlc", (unsigned long long)burst.bits);
     for (uint64_t at = 0; at < count; at++) printf("%02X", octets[at]);
     is_calm = 0;
     return printf("\n"), say(state);
@@ -92,7 +91,7 @@ int main(int argc, char **argv)
         status = take(&state);
         if (status == G3_OK || status == G3_NO_MEMORY || status == G3_FRAME_LOST) status = keep(out);
         if (status == G3_OK) status = say(&state);
-        printf(state.end == 0 ? "wait\n" : "done\n");
+        if (printf(state.end == 0 ? "wait\n" : "done\n") < 0 || fflush(stdout) != 0) break;
     }
     g3_terminal_free(&terminal);
     return fclose(out) == 0 && status == G3_OK && state.end == G3_END_NORMAL ? 0 : 1;

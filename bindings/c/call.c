@@ -3,7 +3,6 @@
 #include "g3fax.h"
 #include "files.h"
 
-static uint8_t octets[1 << 18];
 static long sent, lost;
 
 static int fails(const char *what, g3_status status)
@@ -12,7 +11,7 @@ static int fails(const char *what, g3_status status)
 }
 
 /* One station hears a burst of the other one. */
-static g3_status hear(g3_terminal *to, const g3_burst *burst, size_t length)
+static g3_status hear(g3_terminal *to, const g3_burst *burst, const uint8_t *octets, uint64_t length)
 {
     g3_state state;
     g3_status status = g3_terminal_state(to, &state);
@@ -31,16 +30,19 @@ static g3_status say(const char *name, g3_terminal *from, g3_terminal *to, unsig
     g3_burst burst;
     for (;;) {
         g3_octets line = G3_EMPTY;
+        uint8_t *octets = NULL;
         uint64_t length = 0;
         status = g3_terminal_next_burst(from, &line, &burst);
         if (status == G3_NOTHING) return G3_OK;
-        if (status == G3_OK) status = g3_octets_copy(&line, octets, sizeof octets, &length);
-        g3_octets_free(&line);
+        if (status == G3_OK) status = take_octets(&line, &octets, &length);
+        if (status == G3_OK) {
+            ++sent, ++*said;
+            printf("%ld %s %s%s %llu%s\n", sent, name, g3_carrier_name(burst.carrier), burst.check ? " check" : "",
+                   (unsigned long long)burst.bits, sent == lost ? " lost" : "");
+            if (sent != lost) status = hear(to, &burst, octets, length);
+        }
+        free(octets);
         if (status != G3_OK) return status;
-        ++sent, ++*said;
-        printf("%ld %s %u%s %llu%s\n", sent, name, burst.carrier, burst.check ? " check" : "", (unsigned long long)burst.bits,
-               sent == lost ? " lost" : "");
-        if (sent != lost && (status = hear(to, &burst, length)) != G3_OK) return status;
     }
 }
 
@@ -61,8 +63,8 @@ static g3_status talk(g3_terminal *caller, g3_terminal *answerer)
             status = g3_terminal_wait_over(answerer, answers.wait);
         else status = g3_terminal_wait_over(caller, calls.wait);
     }
-    printf("caller ended %u with %llu confirmed, answerer ended %u with %llu stored\n", calls.end, (unsigned long long)calls.pages,
-           answers.end, (unsigned long long)answers.pages);
+    printf("caller: %s, %llu confirmed\nanswerer: %s, %llu stored\n", g3_end_text(calls.end), (unsigned long long)calls.pages,
+           g3_end_text(answers.end), (unsigned long long)answers.pages);
     return status;
 }
 
@@ -71,7 +73,6 @@ int main(int argc, char **argv)
     g3_page page = G3_EMPTY, stored = G3_EMPTY;
     g3_document document = G3_EMPTY;
     g3_terminal caller = G3_EMPTY, answerer = G3_EMPTY;
-    g3_octets text = G3_EMPTY;
     g3_caps caps = {G3_V17, 1, 1, 2432, 2};
     g3_wish wish = {G3_V17, G3_MMR, 256};
     size_t length = 0;
@@ -88,10 +89,8 @@ int main(int argc, char **argv)
     if (status == G3_OK) status = g3_caller_new(&caller, &document, &wish);
     if (status == G3_OK) status = talk(&caller, &answerer);
     if (status == G3_OK) status = g3_terminal_take_page(&answerer, &stored);
-    if (status == G3_OK) status = g3_page_write_pbm(&stored, &text);
-    if (status == G3_OK) status = g3_octets_copy(&text, octets, sizeof octets, &count);
-    g3_page_free(&page); g3_page_free(&stored); g3_document_free(&document); g3_octets_free(&text);
+    if (status == G3_OK) status = save_page(&stored, argv[2]);
+    g3_page_free(&page); g3_page_free(&stored); g3_document_free(&document);
     g3_terminal_free(&caller); g3_terminal_free(&answerer);
-    if (status != G3_OK) return fails(argv[1], status);
-    return write_file(argv[2], octets, count) ? 0 : (perror(argv[2]), 1);
+    return status == G3_OK ? 0 : fails(argv[1], status);
 }

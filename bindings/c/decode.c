@@ -1,5 +1,6 @@
 /* decode IN OUT.pbm mh|mmr msb|lsb WIDTH: a coded page as a raw PBM file, row by row, in memory that doesn't grow with the page. Of a page
- * that can't be read, the rows that are whole. */
+ * that can't be read, the rows that are whole. A PBM file begins with the number of its rows, so IN is read twice; if it is a pipe, from a
+ * temporary file. */
 #include "g3fax.h"
 #include <stdio.h>
 #include <stdlib.h>
@@ -50,7 +51,20 @@ static g3_status read_page(FILE *from, const g3_code *code, FILE *to, uint32_t *
     return status;
 }
 
-/* Reads the page once to count its rows, which a PBM file names first, and once more to write them. */
+/* The file itself, or, if it can't be read twice, a temporary file with its octets; NULL if there is none. */
+static FILE *twice(FILE *from)
+{
+    uint8_t octets[4096];
+    size_t length;
+    if (fseek(from, 0, SEEK_SET) == 0) return from;
+    FILE *copy = tmpfile();
+    while (copy != NULL && (length = fread(octets, 1, sizeof octets, from)) > 0)
+        if (fwrite(octets, 1, length, copy) != length) return fclose(copy), NULL;
+    if (copy != NULL) rewind(copy);
+    return copy;
+}
+
+/* Reads the page once to count its rows, and once more to write them. */
 static g3_status decode(FILE *from, const g3_code *code, FILE *to)
 {
     uint32_t rows = 0, written = 0;
@@ -72,8 +86,11 @@ int main(int argc, char **argv)
                     (uint32_t)atoi(argv[5]), 0};
     FILE *from = fopen(argv[1], "rb"), *to = from == NULL ? NULL : fopen(argv[2], "wb");
     if (to == NULL) return perror(from == NULL ? argv[1] : argv[2]), 1;
-    g3_status status = decode(from, &code, to);
+    FILE *code_file = twice(from);
+    if (code_file == NULL) return perror(argv[1]), 1;
+    g3_status status = decode(code_file, &code, to);
     if (status != G3_NOTHING && !is_fault(status)) fprintf(stderr, "decode: %s\n", g3_status_text(status));
+    if (code_file != from) fclose(code_file);
     fclose(from);
     if (fclose(to) != 0) return perror(argv[2]), 1;
     return status == G3_NOTHING ? 0 : 1;

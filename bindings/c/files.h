@@ -1,11 +1,12 @@
-/* Whole files, for the examples. */
+/* Whole files, and the octets of a handle, for the examples. */
 #ifndef FILES_H
 #define FILES_H
+#include "g3fax.h"
 #include <stdint.h>
 #include <stdio.h>
 #include <stdlib.h>
 
-/* The octets of a file, to be freed, with their number; NULL where it can't be read. */
+/* The octets of a file, to be freed, with their number; NULL if it can't be read. */
 static inline uint8_t *read_file(const char *name, size_t *length)
 {
     FILE *file = fopen(name, "rb");
@@ -33,5 +34,28 @@ static inline int write_file(const char *name, const uint8_t *octets, size_t len
     if (file == NULL) return 0;
     int whole = fwrite(octets, 1, length, file) == length;
     return fclose(file) == 0 && whole;
+}
+
+/* Copies the octets of a handle, however many, into memory that the caller frees. The handle is freed in any case. */
+static inline g3_status take_octets(g3_octets *from, uint8_t **octets, uint64_t *length)
+{
+    g3_status status = g3_octets_len(from, length);
+    *octets = status == G3_OK ? malloc(*length + 1) : NULL;
+    if (status == G3_OK) status = *octets == NULL ? G3_NO_MEMORY : g3_octets_copy(from, *octets, *length, length);
+    g3_octets_free(from);
+    return status;
+}
+
+/* Writes a page as a raw PBM file. If the file can't be written, the reason is printed, and the status is G3_NOTHING. */
+static inline g3_status save_page(g3_page *page, const char *name)
+{
+    g3_octets text = G3_EMPTY;
+    uint8_t *octets = NULL;
+    uint64_t length = 0;
+    g3_status status = g3_page_write_pbm(page, &text);
+    if (status == G3_OK) status = take_octets(&text, &octets, &length);
+    if (status == G3_OK && !write_file(name, octets, length)) perror(name), status = G3_NOTHING;
+    free(octets);
+    return status;
 }
 #endif

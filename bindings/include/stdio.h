@@ -8,7 +8,10 @@ size_t fread(void *to, size_t size, size_t count, FILE *file);
 size_t fwrite(const void *from, size_t size, size_t count, FILE *file);
 int fclose(FILE *file);
 int fflush(FILE *file);
+#define SEEK_SET 0
+int fseek(FILE *file, long place, int from);
 void rewind(FILE *file);
+FILE *tmpfile(void);
 int fgetc(FILE *file);
 char *fgets(char *to, int size, FILE *file);
 int fprintf(FILE *file, const char *format, ...) __attribute__((format(printf, 2, 3)));

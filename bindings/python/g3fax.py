@@ -2,46 +2,64 @@
 T.6 (MMR), salvage and repair of broken pages, raw PBM in memory, HDLC frames, signals, and the two stations of a call.
 
     import g3fax
-    rows = g3fax.decode(octets, width=1728)           # a memoryview, one row of 216 octets after the other
-    numpy.unpackbits(numpy.asarray(rows), axis=1)     # its pixels, 1 black
+    rows = g3fax.decode(octets, width=1728)      # packed: a memoryview of two dimensions, rows and 216 octets of each
+    pixels = g3fax.to_pixels(rows, width=1728)   # one octet a pixel, 0 white and 1 black: rows and 1,728 of each
     code = g3fax.encode(rows, width=1728)
+    code = g3fax.encode_pixels(pixels)
 
-Rows are packed: eight pixels an octet, the leftmost in the highest bit, 1 black. Octets come in as any buffer: bytes, bytearray, mmap, a
+Rows are packed: eight pixels an octet, the leftmost in the highest bit, 1 black; a row has (width + 7) // 8 octets. `width` is in pixels, 1
+to 2,432. `fine` says how far rows are apart: True 7.7 a millimeter, False 3.85. Octets come in as any buffer: bytes, bytearray, mmap, a
 memoryview, an array of numpy. One that is read-only and isn't bytes, or isn't contiguous, is copied. Octets go out as a memoryview of
-memory of its own. What goes wrong raises Fault, with its number and its bit.
+memory of its own. What goes wrong raises Fault, with its number and its bit; a float for a number raises TypeError.
 
-The library is the file that G3FAX_LIBRARY names, else libg3fax.so.0 as the system finds it. It needs Python 3.8 or later, and Python's
-standard library alone."""
+The library is the file that G3FAX_LIBRARY names, else libg3fax.so.0 beside this module, else that of the system; it must be of the version
+of this module. It needs Python 3.8 or later, and Python's standard library alone."""
 
 from __future__ import annotations
 
 import ctypes
+import importlib
+import operator
 import os
 import sys
 import threading
 import weakref
 from enum import IntEnum
-from typing import Any, Iterable, Iterator, List, NamedTuple, Optional, Tuple, Union
+from typing import Any, Iterable, Iterator, List, NamedTuple, Optional, Tuple, TypeVar, Union, cast, overload
 
 if sys.version_info >= (3, 12):
     from collections.abc import Buffer
 else:
     Buffer = Any
 
-__all__ = ["Coding", "Order", "Fault", "CodeFault", "NoMemory", "Counts", "Frame", "Page", "RowCoder", "RowReader", "Deframer", "decode",
-           "encode", "salvage", "repair", "write_frame", "frames", "version"]
+#: the version of the library that this module is for
+__version__ = "0.1.0"
+
+__all__ = ["Coding", "Order", "Fault", "Closed", "CodeFault", "NoMemory", "Counts", "Frame", "Page", "RowCoder", "RowReader", "Deframer",
+           "decode", "encode", "encode_pixels", "to_pixels", "salvage", "repair", "write_frame", "frames", "version"]
 __all__ += ["FrameLost", "NotCompatible", "Modems", "Carrier", "Wait", "Listens", "End", "State", "Progress", "Burst", "Document",
-            "Terminal", "Caller", "Answerer", "Kind", "Side", "PageEnd", "Reason", "Dis", "Params", "Pps", "Signal", "read_signal", "write_signal", "agree"]
+            "Terminal", "Caller", "Answerer", "Kind", "Side", "PageEnd", "Reason", "Dis", "Params", "Pps", "Signal", "read_signal",
+            "write_signal", "agree"]
 
 
-class Coding(IntEnum):
+class _Choice(IntEnum):
+    """A number of g3fax.h, which prints as its name; `format` with a form of numbers, as in f"{coding:d}", prints the number."""
+
+    def __str__(self) -> str:
+        return self.name
+
+    def __format__(self, form: str) -> str:
+        return format(int(self), form) if form[-1:] in tuple("bcdoxXneEfFgG%") else format(self.name, form)
+
+
+class Coding(_Choice):
     """The code of a page."""
 
     MH = 1
     MMR = 2
 
 
-class Order(IntEnum):
+class Order(_Choice):
     """Which bit of an octet is first."""
 
     MSB_FIRST = 0
@@ -59,6 +77,17 @@ class Fault(Exception):
 
     def __reduce__(self) -> Tuple[Any, ...]:
         return type(self), (self.number, self.bit)
+
+
+class Closed(Fault, ValueError):
+    """What is used was closed, or has moved, as a page into a document."""
+
+    def __init__(self, number: int = 100) -> None:
+        super().__init__(number)
+        self.args = ("it was closed, or has moved into something else",)
+
+    def __reduce__(self) -> Tuple[Any, ...]:
+        return type(self), (self.number,)
 
 
 class CodeFault(Fault):
@@ -104,7 +133,7 @@ class Frame(NamedTuple):
 
 # ---- the library for C
 
-_OK, _NO_ROWS, _NO_MEMORY, _NOT_COMPATIBLE, _NOTHING, _FRAME_LOST = 0, 4, 9, 28, 106, 108
+_OK, _NO_ROWS, _NO_MEMORY, _NOT_COMPATIBLE, _EMPTY_HANDLE, _NOTHING, _FRAME_LOST = 0, 4, 9, 28, 100, 106, 108
 _u32, _u64, _size, _address = ctypes.c_uint32, ctypes.c_uint64, ctypes.c_size_t, ctypes.c_void_p
 
 
@@ -203,6 +232,7 @@ _FUNCTIONS = {
     "g3_terminal_hear_training": [_address, _address, _size],
     "g3_terminal_wait_over": [_address, _u32],
     "g3_wait_millis": [_u32],
+    "g3_carrier_rate": [_u32],
     "g3_terminal_set_busy": [_address, _u32],
     "g3_terminal_stop": [_address],
     "g3_terminal_hang_up": [_address],
@@ -220,7 +250,22 @@ _FUNCTIONS = {
 
 
 def _load() -> ctypes.CDLL:
-    library = ctypes.CDLL(os.environ.get("G3FAX_LIBRARY", "libg3fax.so.0"))
+    beside = os.path.join(os.path.dirname(os.path.abspath(__file__)), "libg3fax.so.0")
+    file = os.environ.get("G3FAX_LIBRARY") or (beside if os.path.exists(beside) else "libg3fax.so.0")
+    try:
+        library = ctypes.CDLL(file)
+    except OSError as error:
+        raise ImportError(f"the library for C, {file}, can't be loaded: {error}. Install libg3fax, or set G3FAX_LIBRARY to the file "
+                          "libg3fax.so.0") from None
+    major, minor, patch = (int(word) for word in __version__.split("."))
+    try:
+        number = library.g3_version_number()
+    except AttributeError:
+        raise ImportError(f"{file} isn't libg3fax {major}.{minor}, which this module of Python is for: it is older, or another library") \
+            from None
+    if not major * 10000 + minor * 100 + patch <= number < major * 10000 + (minor + 1) * 100:
+        raise ImportError(f"{file} is libg3fax {number // 10000}.{number // 100 % 100}.{number % 100}, and this module of Python is for "
+                          f"{__version__} and later versions of {major}.{minor}")
     for name, words in _FUNCTIONS.items():
         function = getattr(library, name)
         function.argtypes, function.restype = words, _u32
@@ -228,8 +273,9 @@ def _load() -> ctypes.CDLL:
     for name in (f"g3_{kind}_free" for kind in kinds):
         function = getattr(library, name)
         function.argtypes, function.restype = [_address], None
-    library.g3_status_text.argtypes, library.g3_status_text.restype = [_u32], ctypes.c_char_p
-    library.g3_version.argtypes, library.g3_version.restype = [], ctypes.c_char_p
+    for name, words in [("g3_status_text", [_u32]), ("g3_carrier_name", [_u32]), ("g3_end_text", [_u32]), ("g3_version", [])]:
+        function = getattr(library, name)
+        function.argtypes, function.restype = words, ctypes.c_char_p
     return library
 
 
@@ -242,6 +288,8 @@ def _done(status: int, bit: Optional[int] = None) -> None:
         return
     if status == _NO_MEMORY:
         raise NoMemory(status)
+    if status == _EMPTY_HANDLE:
+        raise Closed(status)
     if status == _FRAME_LOST:
         raise FrameLost(status)
     if status == _NO_ROWS or 10 <= status <= 18:
@@ -249,11 +297,12 @@ def _done(status: int, bit: Optional[int] = None) -> None:
     raise Fault(status)
 
 
-def _number(number: int, name: str) -> int:
-    """A number as C takes it, 32 bits: ctypes would cut off what is more."""
-    if not 0 <= number < 1 << 32:
-        raise ValueError(f"{name} is {number}, and not a number of 32 bits")
-    return number
+def _number(number: int, name: str, bits: int = 32) -> int:
+    """A number as C takes it, of 32 or 64 bits: ctypes would cut off what is more. A float raises TypeError, as any that isn't whole."""
+    whole = operator.index(number)
+    if not 0 <= whole < 1 << bits:
+        raise ValueError(f"{name} is {number}, and not a number of {bits} bits")
+    return whole
 
 
 def _octets(buffer: Buffer) -> Tuple[Any, int]:
@@ -267,6 +316,56 @@ def _octets(buffer: Buffer) -> Tuple[Any, int]:
         octets = view.tobytes()
         return octets, len(octets)
     return ctypes.byref(ctypes.c_char.from_buffer(view)), view.nbytes
+
+
+def _packed(buffer: Buffer, width: int, stride: Optional[int] = None) -> Buffer:
+    """Packed rows as they are given. ValueError if they can't be that: octets of one dimension, or of two, rows and the octets of each."""
+    view = memoryview(buffer)
+    if view.format not in ("B", "b", "c"):
+        raise ValueError(f"rows are octets, of format B, and not of format {view.format}; pixels are for encode_pixels and Page.of_pixels")
+    row = (width + 7) // 8
+    if view.ndim == 2 and view.shape is not None and view.shape[1] != (row if stride is None else stride):
+        raise ValueError(f"the rows have {view.shape[1]} octets each, and {width} pixels have {row}; pixels are for encode_pixels and "
+                         "Page.of_pixels")
+    if view.ndim > 2 or view.ndim == 0:
+        raise ValueError(f"rows have one dimension or two, and not {view.ndim}")
+    return buffer
+
+
+#: a pixel as a digit and back, and the pixels of each octet
+_DIGITS, _PIXELS = bytes.maketrans(b"\0\1", b"01"), [bytes(octet >> bit & 1 for bit in range(7, -1, -1)) for octet in range(256)]
+
+
+def _pack(pixels: Buffer, width: Optional[int]) -> Tuple[bytes, int]:
+    """Packed rows of pixels, and their width."""
+    view = memoryview(pixels)
+    if view.format not in ("?", "B", "b"):
+        raise ValueError(f"pixels are bool, or octets 0 and 1, of format ? or B, and not of format {view.format}")
+    if view.ndim == 2 and view.shape is not None:
+        if width is not None and width != view.shape[1]:
+            raise ValueError(f"the rows have {view.shape[1]} pixels, and not {width}")
+        width = view.shape[1]
+    elif view.ndim != 1:
+        raise ValueError(f"pixels have one dimension or two, and not {view.ndim}")
+    elif width is None:
+        raise ValueError("pixels of one dimension need their width")
+    octets = view.tobytes()
+    width = _number(width, "width")
+    if octets.translate(None, b"\0\1"):
+        raise ValueError("a pixel is neither 0 nor 1")
+    if len(octets) % (width or 1) != 0:
+        raise ValueError(f"{len(octets)} pixels are no whole number of rows of {width}")
+    digits, row, spare = octets.translate(_DIGITS), (width + 7) // 8, -width % 8
+    rows = (int(digits[at:at + width], 2) << spare for at in range(0, len(digits), width or 1))
+    return b"".join(octets.to_bytes(row, "big") for octets in rows), width
+
+
+def _unpack(rows: memoryview, width: int) -> memoryview:
+    """The pixels of packed rows of octets, one dimension: two dimensions, rows and pixels."""
+    row = (width + 7) // 8
+    pixels = (b"".join(map(_PIXELS.__getitem__, rows[at:at + row])) for at in range(0, len(rows), row or 1))
+    out = bytearray(b"".join(row[:width] for row in pixels))
+    return memoryview(out).cast("B", (len(out) // width, width)) if out else memoryview(out)
 
 
 def _room(length: int) -> Tuple[bytearray, Any]:
@@ -287,6 +386,9 @@ def _taken(handle: _Handle) -> memoryview:
         _library.g3_octets_free(ctypes.byref(handle))
 
 
+_Self = TypeVar("_Self", bound="_Owner")
+
+
 class _Owner:
     """Has a handle, which is freed by `close`, at the end of `with`, or with the object. Calls of several threads wait for each other."""
 
@@ -297,11 +399,25 @@ class _Owner:
         self._free = weakref.finalize(self, getattr(_library, free), self._at)
 
     def close(self) -> None:
-        """Frees what is here. Later calls raise Fault 100; closing again does nothing."""
+        """Frees what is here. Later calls raise Closed, a ValueError; closing again does nothing."""
         with self._lock:
             self._free()
 
-    def __enter__(self) -> Any:
+    @property
+    def closed(self) -> bool:
+        """Whether it was closed, or has moved."""
+        return not self._handle.at
+
+    def _says(self) -> str:
+        """What `repr` says beside the name, of what isn't closed."""
+        return ""
+
+    def __repr__(self) -> str:
+        with self._lock:
+            says = "closed" if self.closed else self._says()
+        return f"<g3fax.{type(self).__name__}{': ' if says else ''}{says}>"
+
+    def __enter__(self: _Self) -> _Self:
         return self
 
     def __exit__(self, *_: object) -> None:
@@ -312,7 +428,10 @@ class _Owner:
 
 
 class Page(_Owner):
-    """A page: up to 20,000 rows of 1 to 2,432 pixels."""
+    """A page: up to 20,000 rows of 1 to 2,432 pixels. `page[n]` is a packed row, `page[a:b]` a page of these rows, and iterating gives the
+    rows. Two pages are equal if width, `fine` and rows are. `bytes(page)` is its raw PBM image."""
+
+    __hash__ = None  # type: ignore[assignment]
 
     def __init__(self, width: int = 1728, fine: bool = False) -> None:
         """A page of no rows."""
@@ -336,8 +455,10 @@ class Page(_Owner):
     def of_rows(cls, octets: Buffer, width: int = 1728, *, rows: Optional[int] = None, stride: Optional[int] = None,
                 fine: bool = False) -> Page:
         """The page of packed rows that begin `stride` octets apart; without a stride, one directly after the other. `rows` is how many;
-        without it, as many as there are."""
-        address, length = _octets(octets)
+        without it, as many as there are. A buffer of two dimensions has a row's (width + 7) // 8 octets, or `stride`, as its second one:
+        else ValueError."""
+        width = _number(width, "width")
+        address, length = _octets(_packed(octets, width, stride))
         row = (width + 7) // 8
         if stride is None:
             stride = row
@@ -345,12 +466,23 @@ class Page(_Owner):
                 raise ValueError(f"{length} octets are no whole number of rows of {row}")
         if rows is None:
             rows = 0 if length < row or stride <= 0 else (length - row) // stride + 1
-        if not 0 <= stride < 1 << 64:
-            raise ValueError(f"stride is {stride}, and not a number of 64 bits")
-        raster = _Raster(stride, _number(width, "width"), _number(rows, "rows"), bool(fine))
+        raster = _Raster(_number(stride, "stride", 64), width, _number(rows, "rows"), bool(fine))
         page = cls._empty()
         _done(_library.g3_page_read_raster(address, length, ctypes.byref(raster), page._at))
         return page
+
+    @classmethod
+    def of_pixels(cls, pixels: Buffer, width: Optional[int] = None, *, fine: bool = False) -> Page:
+        """The page of pixels that are bool, or octets 0 and 1, 1 black: two dimensions, rows and the pixels of each; or one dimension and
+        a width."""
+        rows, width = _pack(pixels, width)
+        return cls.of_rows(rows, width, fine=fine)
+
+    @classmethod
+    def from_pil(cls, image: Any, fine: bool = False) -> Page:
+        """The page of an image of PIL, black where the image is. One that isn't of mode "1" is made so by `convert`, which dithers."""
+        image = image if image.mode == "1" else image.convert("1")
+        return cls.of_rows(image.tobytes("raw", "1;I"), image.width, fine=fine)
 
     @classmethod
     def decode(cls, octets: Buffer, width: int = 1728, coding: Coding = Coding.MMR, order: Order = Order.MSB_FIRST,
@@ -395,10 +527,23 @@ class Page(_Owner):
             _done(_library.g3_page_size(self._at, ctypes.byref(size)))
         return size
 
+    def _says(self) -> str:
+        size = self._size()
+        return f"{size.rows} rows of {size.width} pixels{', fine' if size.fine else ''}"
+
+    def __eq__(self, other: object) -> bool:
+        if self is other:
+            return True
+        if not isinstance(other, Page):
+            return NotImplemented
+        if self.closed or other.closed:
+            return False
+        return (self.width, self.fine) == (other.width, other.fine) and self.rows() == other.rows()
+
     @property
     def width(self) -> int:
         """The width in pixels."""
-        return self._size().width
+        return int(self._size().width)
 
     @property
     def fine(self) -> bool:
@@ -407,22 +552,34 @@ class Page(_Owner):
 
     def __len__(self) -> int:
         """The number of rows."""
-        return self._size().rows
+        return int(self._size().rows)
 
     def append(self, octets: Buffer) -> None:
-        """Appends a row of the first bits of octets."""
+        """Appends a packed row: the first bits of (width + 7) // 8 octets or more."""
         address, length = _octets(octets)
         with self._lock:
             _done(_library.g3_page_push_row(self._at, address, length))
 
-    def __getitem__(self, number: int) -> memoryview:
-        """A row, from 0 at the top; -1 is the last one."""
+    @overload
+    def __getitem__(self, number: int) -> memoryview: ...
+
+    @overload
+    def __getitem__(self, number: slice) -> Page: ...
+
+    def __getitem__(self, number: Union[int, slice]) -> Union[memoryview, Page]:
+        """A packed row of (width + 7) // 8 octets, from 0 at the top; -1 is the last one. Of a slice, a page of its rows."""
         with self._lock:
             size, count = self._size(), _u64()
-            at = number + size.rows if number < 0 else number
+            row = (size.width + 7) // 8
+            if isinstance(number, slice):
+                octets = self.rows().tobytes()
+                taken = (octets[row * at:row * (at + 1)] for at in range(size.rows)[number])
+                return Page.of_rows(b"".join(taken), size.width, fine=bool(size.fine))
+            at = operator.index(number)
+            at += size.rows if at < 0 else 0
             if not 0 <= at < size.rows:
                 raise IndexError(f"no row {number}")
-            buffer, address = _room((size.width + 7) // 8)
+            buffer, address = _room(row)
             _done(_library.g3_page_row(self._at, at, address, len(buffer), ctypes.byref(count)))
         return memoryview(buffer)
 
@@ -439,14 +596,24 @@ class Page(_Owner):
             _done(_library.g3_page_write_raster(self._at, row, address, len(buffer), ctypes.byref(count)))
         return memoryview(buffer).cast("B", (size.rows, row)) if size.rows else memoryview(buffer)
 
+    def pixels(self) -> memoryview:
+        """All pixels, one octet each, 0 white and 1 black: two dimensions, rows and the pixels of each. Of no rows, no octets."""
+        with self._lock:
+            return _unpack(memoryview(self.rows().tobytes()), self.width)
+
+    def to_pil(self) -> Any:
+        """The page as an image of PIL, of mode "1". Its resolution isn't in it."""
+        image = importlib.import_module("PIL.Image")
+        with self._lock:
+            return image.frombytes("1", (self.width, len(self)), self.rows().tobytes(), "raw", "1;I")
+
     def write_rows(self, buffer: Buffer, stride: int) -> int:
         """Copies all rows to a buffer that can be written, `stride` octets apart; those between them stay. Answers how many octets there
         are to the end of the last row."""
         view, count = memoryview(buffer), _u64()
         if view.readonly or not view.c_contiguous:
             raise TypeError("the buffer is read-only, or isn't contiguous")
-        if not 0 <= stride < 1 << 64:
-            raise ValueError(f"stride is {stride}, and not a number of 64 bits")
+        stride = _number(stride, "stride", 64)
         address, length = _octets(view)
         with self._lock:
             _done(_library.g3_page_write_raster(self._at, stride, address, length, ctypes.byref(count)))
@@ -466,6 +633,10 @@ class Page(_Owner):
             _done(_library.g3_page_write_pbm(self._at, ctypes.byref(out)))
         return _taken(out)
 
+    def __bytes__(self) -> bytes:
+        """The page as a raw PBM image."""
+        return bytes(self.pbm())
+
 
 # ---- pages row by row
 
@@ -479,7 +650,7 @@ class RowCoder(_Owner):
         _done(_library.g3_row_coder_new(self._at, ctypes.byref(code)))
 
     def append(self, octets: Buffer) -> None:
-        """Codes a row of the first bits of octets."""
+        """Codes a packed row: the first bits of (width + 7) // 8 octets or more."""
         address, length = _octets(octets)
         with self._lock:
             _done(_library.g3_row_coder_push_row(self._at, address, length))
@@ -492,7 +663,7 @@ class RowCoder(_Owner):
         return _taken(out)
 
     def finish(self) -> memoryview:
-        """The last octets of the code; 0 bits fill the last one. The coder is done with then, and later calls raise Fault 100."""
+        """The last octets of the code; 0 bits fill the last one. The coder is done with then, and later calls raise Closed."""
         out = _Handle()
         with self._lock:
             _done(_library.g3_row_coder_finish(self._at, ctypes.byref(out)))
@@ -509,8 +680,8 @@ class RowReader(_Owner):
         self.bits: Optional[int] = None
         #: why no row more is whole in the octets so far; more octets may change it
         self.fault: Optional[CodeFault] = None
-        self._row = (width + 7) // 8
         code = _code(coding, order, width, False)
+        self._row = (code.width + 7) // 8
         _done(_library.g3_row_reader_new(self._at, ctypes.byref(code)))
 
     def feed(self, octets: Buffer) -> int:
@@ -560,9 +731,24 @@ def decode(octets: Buffer, width: int = 1728, coding: Coding = Coding.MMR, order
 
 def encode(rows: Buffer, width: int = 1728, coding: Coding = Coding.MMR, order: Order = Order.MSB_FIRST, *,
            stride: Optional[int] = None) -> memoryview:
-    """The code of packed rows that begin `stride` octets apart; without a stride, one directly after the other."""
+    """The code of packed rows, as Page.of_rows takes them."""
     with Page.of_rows(rows, width, stride=stride) as page:
         return page.encode(coding, order)
+
+
+def encode_pixels(pixels: Buffer, width: Optional[int] = None, coding: Coding = Coding.MMR, order: Order = Order.MSB_FIRST) -> memoryview:
+    """The code of pixels, as Page.of_pixels takes them: bool, or octets 0 and 1, in rows of `width`."""
+    with Page.of_pixels(pixels, width) as page:
+        return page.encode(coding, order)
+
+
+def to_pixels(rows: Buffer, width: int = 1728) -> memoryview:
+    """The pixels of packed rows, one octet each, 0 white and 1 black: two dimensions, rows and the pixels of each."""
+    width = _number(width, "width")
+    octets = memoryview(memoryview(_packed(rows, width)).tobytes())
+    if width == 0 or len(octets) % ((width + 7) // 8) != 0:
+        raise ValueError(f"{len(octets)} octets are no whole number of rows of {width} pixels")
+    return _unpack(octets, width)
 
 
 def salvage(octets: Buffer, width: int = 1728, coding: Coding = Coding.MMR, order: Order = Order.MSB_FIRST) -> memoryview:
@@ -633,7 +819,7 @@ def frames(octets: Buffer) -> Tuple[List[bytes], Counts]:
 # ---- calls
 
 
-class Modems(IntEnum):
+class Modems(_Choice):
     """The modems of a station. The last two are those that a DIS may say, and no station here has."""
 
     V27TER = 1
@@ -643,7 +829,7 @@ class Modems(IntEnum):
     V27TER_2400_ALONE = 5
 
 
-class Carrier(IntEnum):
+class Carrier(_Choice):
     """What a burst goes out on, by its bits a second."""
 
     V21 = 1
@@ -656,8 +842,18 @@ class Carrier(IntEnum):
     V17_12000 = 8
     V17_14400 = 9
 
+    @property
+    def rate(self) -> int:
+        """Its bits a second."""
+        return int(_library.g3_carrier_rate(self))
 
-class Wait(IntEnum):
+    @property
+    def word(self) -> str:
+        """Its name in lines of text, as "v17-14400"."""
+        return cast(bytes, _library.g3_carrier_name(self)).decode()
+
+
+class Wait(_Choice):
     """The waits of T.30, 5.4.3.1."""
 
     T1 = 1
@@ -668,10 +864,10 @@ class Wait(IntEnum):
     @property
     def millis(self) -> int:
         """How long it runs, in milliseconds."""
-        return _library.g3_wait_millis(self)
+        return int(_library.g3_wait_millis(self))
 
 
-class Listens(IntEnum):
+class Listens(_Choice):
     """What a station listens for: V.21 alone; a training check; V.21, and the frames of a page."""
 
     V21 = 1
@@ -679,7 +875,7 @@ class Listens(IntEnum):
     PAGES = 3
 
 
-class End(IntEnum):
+class End(_Choice):
     """Why a call ended, as g3fax.h says."""
 
     NORMAL = 1
@@ -694,6 +890,11 @@ class End(IntEnum):
     PAGE_TOO_LONG = 10
     STOPPED = 11
     LINE_LOST = 12
+
+    @property
+    def text(self) -> str:
+        """Why, in English."""
+        return cast(bytes, _library.g3_end_text(self)).decode()
 
 
 class State(NamedTuple):
@@ -751,7 +952,7 @@ class Document(_Owner):
             self.append(page)
 
     def append(self, page: Page) -> None:
-        """Moves a page to the end: later calls of the page raise Fault 100."""
+        """Moves a page to the end: later calls of the page raise Closed."""
         with self._lock, page._lock:
             _done(_library.g3_document_push(self._at, page._at))
 
@@ -762,6 +963,9 @@ class Document(_Owner):
             _done(_library.g3_document_pages(self._at, ctypes.byref(count)))
         return count.value
 
+    def _says(self) -> str:
+        return f"{len(self)} pages"
+
 
 class Terminal(_Owner):
     """A station of a call with error correction, from octets of the line to octets of the line: a Caller or an Answerer. It has no clock
@@ -769,6 +973,10 @@ class Terminal(_Owner):
 
     def __init__(self) -> None:
         super().__init__("g3_terminal_free")
+
+    def _says(self) -> str:
+        end = self.state.end
+        return "the call goes on" if end is None else f"ended, {end}"
 
     def hear(self, octets: Buffer) -> None:
         """Hears octets that came by V.21 or by the carrier of a page, in pieces of any size. NoMemory: nothing was taken. FrameLost: don't
@@ -913,7 +1121,7 @@ def _wish(modems: int, coding: int, frame: int) -> _Wish:
 # ---- signals
 
 
-class Kind(IntEnum):
+class Kind(_Choice):
     """The kinds of signals. OTHER has another facsimile control field, or is a DCS or PPS that says what isn't known here."""
 
     DIS = 1
@@ -931,14 +1139,14 @@ class Kind(IntEnum):
     OTHER = 13
 
 
-class Side(IntEnum):
+class Side(_Choice):
     """Who sends a signal."""
 
     CALLER = 1
     ANSWERER = 2
 
 
-class PageEnd(IntEnum):
+class PageEnd(_Choice):
     """What ends with the block of a PPS: nothing more, a page, the last page of a group, the last page."""
 
     BLOCK_ALONE = 1
@@ -947,7 +1155,7 @@ class PageEnd(IntEnum):
     EOP = 4
 
 
-class Reason(IntEnum):
+class Reason(_Choice):
     """Why two stations don't agree; of several reasons the first one."""
 
     NO_RECEIVER = 1
@@ -1009,7 +1217,7 @@ def _params(told: _Params) -> Params:
 
 
 def _numbers(words: Iterable[int]) -> List[int]:
-    return [_number(int(word), "a field") for word in words]
+    return [_number(word, "a field") for word in words]
 
 
 def read_signal(content: Buffer) -> Signal:
@@ -1058,4 +1266,4 @@ def agree(dis: Dis, width: int = 1728, fine: bool = False, modems: Modems = Mode
 
 def version() -> str:
     """The version of the library."""
-    return _library.g3_version().decode()
+    return cast(bytes, _library.g3_version()).decode()

@@ -5,9 +5,12 @@
 import array
 import contextlib
 import gc
+import importlib.util
 import io
 import itertools
+import os
 import pickle
+import subprocess
 import sys
 import threading
 import unittest
@@ -187,6 +190,102 @@ class Pages(unittest.TestCase):
             g3fax.Page.of_rows(PACKED, WIDTH)
         gc.collect()
 
+        for call in page.encode, page.rows, page.pbm, lambda: page[0], lambda: page.width, lambda: bytes(page), lambda: page.append(b""):
+            self.assertRaises(ValueError, call)
+        with self.assertRaises(g3fax.Closed) as caught:
+            page.encode()
+        fault = pickle.loads(pickle.dumps(caught.exception))
+        self.assertEqual((str(fault), fault.number), ("it was closed, or has moved into something else", 100))
+        self.assertEqual((page.closed, repr(page)), (True, "<g3fax.Page: closed>"))
+        for thing in g3fax.Deframer(), g3fax.RowCoder(), g3fax.RowReader(), g3fax.Document(), g3fax.Answerer():
+            thing.close()
+            self.assertEqual(repr(thing), f"<g3fax.{type(thing).__name__}: closed>")
+            for name in "feed", "take", "finish", "encode", "__len__", "hear", "stop", "next_burst":
+                words = [b"1"] if name in ("feed", "hear") else []
+                if hasattr(thing, name):
+                    self.assertRaises(ValueError, getattr(thing, name), *words)
+
+    def test_two_dimensions(self):
+        shaped = memoryview(bytearray(PACKED)).cast("B", (ROWS, ROW))
+        self.assertEqual(g3fax.encode(shaped, WIDTH), coded("mmr.msb"))
+        self.assertEqual(g3fax.encode(memoryview(PACKED).cast("c"), WIDTH), coded("mmr.msb"))
+        self.assertRaises(ValueError, g3fax.encode, memoryview(bytes(27 * 40)).cast("B", (27, 40)))  # rows of 320 pixels, and not 1,728
+        self.assertRaises(ValueError, g3fax.encode, memoryview(bytes(ROWS * WIDTH)).cast("B", (ROWS, WIDTH)), WIDTH)  # pixels
+        self.assertRaises(ValueError, g3fax.encode, memoryview(bytes(80)).cast("I", (2, 10)), 80)
+        self.assertRaises(ValueError, g3fax.encode, memoryview(bytes(2 * 3 * 4)).cast("B", (2, 3, 4)), 32)
+        for form in "?", "H", "I", "d":
+            self.assertRaises(ValueError, g3fax.encode, memoryview(bytes(ROW * 8)).cast(form), WIDTH)
+        apart = memoryview(bytearray(64 * ROWS)).cast("B", (ROWS, 64))
+        self.assertRaises(ValueError, g3fax.encode, apart, WIDTH)
+        self.assertEqual(len(g3fax.Page.of_rows(apart, WIDTH, stride=64)), ROWS)
+        self.assertRaises(ValueError, g3fax.Page.of_rows, apart, WIDTH, stride=63)
+
+    def test_pixels(self):
+        pixels = g3fax.to_pixels(PACKED, WIDTH)
+        self.assertEqual((pixels.shape, pixels.format), ((ROWS, WIDTH), "B"))
+        digits = [bin(int.from_bytes(PACKED[at:at + ROW], "big") | 1 << 8 * ROW)[3:][:WIDTH] for at in range(0, len(PACKED), ROW)]
+        self.assertEqual(pixels.tobytes(), bytes(map(int, "".join(digits))))
+        self.assertEqual(g3fax.encode_pixels(pixels), coded("mmr.msb"))
+        self.assertEqual(g3fax.encode_pixels(pixels.cast("B"), WIDTH, Coding.MH, Order.LSB_FIRST), coded("mh.lsb"))
+        self.assertEqual(g3fax.encode_pixels(memoryview(pixels.tobytes()).cast("?", (ROWS, WIDTH))), coded("mmr.msb"))
+        with g3fax.Page.of_pixels(pixels, fine=True) as page:
+            self.assertEqual((page.rows().tobytes(), page.fine), (PACKED, True))
+            self.assertEqual(page.pixels(), pixels)
+        self.assertEqual(g3fax.to_pixels(g3fax.decode(coded("mmr.msb"), WIDTH), WIDTH), pixels)
+        self.assertEqual(g3fax.Page(8).pixels().tobytes(), b"")
+        for width in 1, 7, 8, 9, 2432:
+            given = bytes(at % 3 == 0 for at in range(width * 5))
+            with g3fax.Page.of_pixels(given, width) as page:
+                self.assertEqual((page.pixels().tobytes(), page.width, len(page)), (given, width, 5))
+        for bad, width in [(b"\2" * 8, 8), (b"\0" * 9, 8), (b"\0" * 8, None), (pixels, WIDTH + 1), (array.array("I", [0, 1]), 2)]:
+            self.assertRaises(ValueError, g3fax.encode_pixels, bad, width)
+        self.assertRaises(ValueError, g3fax.to_pixels, PACKED[1:], WIDTH)
+        self.assertRaises(ValueError, g3fax.to_pixels, PACKED, 0)
+        self.fault(4, g3fax.encode_pixels, b"", 8)
+
+    def test_floats(self):
+        with g3fax.Page.of_rows(PACKED, WIDTH) as page:
+            for call in [lambda: g3fax.decode(b"", 1728.0), lambda: g3fax.encode(PACKED, float(WIDTH)), lambda: g3fax.Page(8.0),
+                         lambda: g3fax.encode(PACKED, WIDTH, stride=40.0), lambda: g3fax.Page.of_rows(PACKED, WIDTH, rows=2.0),
+                         lambda: page[1.0], lambda: page.write_rows(bytearray(9), 1.0), lambda: page.encode(2.0),
+                         lambda: g3fax.RowReader(9.0), lambda: g3fax.RowCoder(9.0), lambda: g3fax.Answerer(limit=1.0),
+                         lambda: g3fax.encode_pixels(b"01", 1.0), lambda: g3fax.to_pixels(b"", 1.0), lambda: g3fax.agree(Dis(), 1728.0),
+                         lambda: g3fax.Answerer().wait_over(2.0), lambda: g3fax.agree(Dis(widest=2432.0)),
+                         lambda: g3fax.write_signal(Signal(Kind.FCD, number=1.0, octets=b"1"), Side.CALLER)]:
+                self.assertRaises(TypeError, call)
+
+    def test_as_a_sequence(self):
+        with g3fax.Page.of_rows(PACKED, WIDTH, fine=True) as page, g3fax.Page.read_pbm(PBM, fine=True) as same:
+            self.assertEqual(repr(page), "<g3fax.Page: 30 rows of 315 pixels, fine>")
+            self.assertTrue(page == same and not page != same)
+            self.assertTrue(page != g3fax.Page.read_pbm(PBM) and page != PBM and page[1:] != page)
+            self.assertRaises(TypeError, hash, page)
+            for part in slice(2, 5), slice(None, None, -1), slice(-3, None), slice(4, 4), slice(0, 99, 7):
+                with page[part] as some:
+                    wanted = [PACKED[at:at + ROW] for at in range(0, len(PACKED), ROW)][part]
+                    self.assertEqual((list(some), some.width, some.fine), (wanted, WIDTH, True))
+            self.assertEqual(bytes(page), PBM)
+            same.close()
+            self.assertTrue(page != same and same == same)
+        self.assertEqual(repr(g3fax.Document([g3fax.Page.of_rows(PACKED, WIDTH)])), "<g3fax.Document: 1 pages>")
+        self.assertEqual((repr(g3fax.Answerer()), repr(g3fax.Deframer())), ("<g3fax.Answerer: the call goes on>", "<g3fax.Deframer>"))
+
+    def test_names(self):
+        self.assertEqual(f"{Coding.MMR} {str(Order.LSB_FIRST)} {Coding.MMR:>4} {Coding.MMR:d}", "MMR LSB_FIRST  MMR 2")
+        self.assertEqual((Coding.MMR, "%d" % Coding.MH, repr(Coding.MH)), (2, "1", "<Coding.MH: 1>"))
+        self.assertEqual((Carrier.V21.word, Carrier.V21.rate, Carrier.V17_14400.rate), ("v21", 300, 14400))
+        self.assertTrue(all(carrier.word.replace("-", "_").upper() == str(carrier) for carrier in Carrier))
+        self.assertEqual((g3fax.End.NORMAL.text, len({end.text for end in g3fax.End})), ("all pages went over", len(g3fax.End)))
+
+    @unittest.skipUnless(importlib.util.find_spec("PIL"), "PIL isn't there")
+    def test_pil(self):
+        from PIL import Image
+        wanted = Image.open(io.BytesIO(PBM))
+        page, back = g3fax.Page.read_pbm(PBM), g3fax.Page.from_pil(wanted)
+        gray, image = g3fax.Page.from_pil(wanted.convert("L"), fine=True), page.to_pil()
+        self.assertEqual((image.mode, image.size, image.tobytes()), ("1", (WIDTH, ROWS), wanted.tobytes()))
+        self.assertTrue(back == page and gray.fine and gray.rows() == page.rows())
+
     def test_threads(self):
         page, found = g3fax.Page.of_rows(PACKED, WIDTH), []
         threads = [threading.Thread(target=lambda: found.extend(page.encode() for _ in range(200))) for _ in range(4)]
@@ -198,7 +297,33 @@ class Pages(unittest.TestCase):
         self.assertTrue(all(code == coded("mmr.msb") for code in found))
 
     def test_version(self):
-        self.assertEqual(g3fax.version(), (HERE.parent.parent / "VERSION").read_text().strip())
+        version = (HERE.parent.parent / "VERSION").read_text().strip()
+        self.assertEqual((g3fax.version(), g3fax.__version__), (version, version))
+
+    def test_import(self):
+        program = """if True:
+            import sys
+            try:
+                exec(compile(sys.stdin.read(), "g3fax.py", "exec"), dict(__file__="g3fax.py", __name__="g3fax"))
+            except ImportError as error:
+                print(error)"""
+
+        def said(library, version=g3fax.__version__):
+            """What the import of the module says of a library, were it for a version."""
+            source = (HERE / "g3fax.py").read_text().replace(f'__version__ = "{g3fax.__version__}"', f'__version__ = "{version}"')
+            done = subprocess.run([sys.executable, "-c", program], input=source, text=True, capture_output=True,
+                                  env={**os.environ, "G3FAX_LIBRARY": library})
+            self.assertEqual(done.stderr, "")
+            return done.stdout
+        here = os.environ["G3FAX_LIBRARY"]
+        self.assertEqual(said(here), "")
+        self.assertIn("the library for C, /missing/libg3fax.so.0, can't be loaded: /missing/libg3fax.so.0: cannot open shared object file",
+                      said("/missing/libg3fax.so.0"))
+        self.assertIn("set G3FAX_LIBRARY to the file", said("/missing/libg3fax.so.0"))
+        self.assertIn("libc.so.6 isn't libg3fax 0.1", said("libc.so.6"))
+        for version in "0.1.1", "0.2.0", "1.0.0", "0.0.9":
+            self.assertIn(f"is libg3fax {g3fax.__version__}, and this module of Python is for {version} and later versions of",
+                          said(here, version))
 
     def fault(self, number, call, *words, **named):
         with self.assertRaises(g3fax.Fault) as caught:

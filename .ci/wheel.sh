@@ -1,0 +1,77 @@
+#!/bin/sh
+# Packs the module for Python with the library for C that bindings/build.sh left in a folder as a wheel, and tries it:
+#
+#     .ci/wheel.sh FOLDER
+#
+# The wheel is made twice, with the same octets, and by pip from bindings/python; it is installed by pip without an index into a new
+# environment, where the first program of bindings/README.md runs with nothing else. Where mypy is, the module and a program that uses the
+# installed package are checked by `mypy --strict`. What isn't there of pip and mypy is named. Ends with status 1 at the first difference.
+set -e
+top=$(cd "$(dirname "$0")/.." && pwd)
+work=$(cd "$1" && pwd)
+to=$work/wheel
+PYTHONDONTWRITEBYTECODE=1 PIP_DISABLE_PIP_VERSION_CHECK=1 PIP_NO_INDEX=1 PIP_NO_CACHE_DIR=1 PIP_ROOT_USER_ACTION=ignore
+export PYTHONDONTWRITEBYTECODE PIP_DISABLE_PIP_VERSION_CHECK PIP_NO_INDEX PIP_NO_CACHE_DIR PIP_ROOT_USER_ACTION
+rm -rf "$to"
+mkdir "$to"
+
+fails() {
+    [ ! -f "$to/said" ] || cat "$to/said" >&2
+    echo "wheel: FAILED: $*" >&2
+    exit 1
+}
+
+# runs WORDS: the program of bindings/README.md runs with the installed package, in an environment with nothing else.
+runs() {
+    (cd "$to" && env -i PYTHONDONTWRITEBYTECODE=1 "$@" -W error program.py) > "$to/said" 2>&1 || fails "the program with the package"
+    grep -q '^whole rows: 1, ' "$to/said" || fails "the program says something else"
+    (cd "$to" && env -i PYTHONDONTWRITEBYTECODE=1 "$@" -c 'import g3fax, os
+assert os.path.dirname(g3fax._library._name) == os.path.dirname(g3fax.__file__), g3fax._library._name
+assert os.path.exists(os.path.join(os.path.dirname(g3fax.__file__), "py.typed"))') > "$to/said" 2>&1 \
+        || fails "the package has no library of its own"
+}
+
+awk '$0 == "```python" && !done { inside = 1; next } $0 == "```" { if (inside) done = 1; inside = 0 } inside' "$top/bindings/README.md" \
+    > "$to/program.py"
+for out in first second; do
+    G3FAX=$work "$top/bindings/python/make_wheel.py" "$to/$out" > "$to/said" 2>&1 || fails make_wheel.py
+done
+wheel=$(cd "$to/first" && ls)
+case $wheel in
+"g3fax-$(cat "$top/VERSION")-py3-none-manylinux_2_"*_x86_64.whl) ;;
+*) fails "the wheel is $wheel" ;;
+esac
+cmp "$to/first/$wheel" "$to/second/$wheel" || fails "two wheels of the same library differ"
+! G3FAX=$work/missing "$top/bindings/python/make_wheel.py" "$to/third" > "$to/said" 2>&1 || fails "a wheel without a library"
+grep -q "isn't built yet" "$to/said" || fails "make_wheel.py doesn't say what is missing"
+
+# each file has the sum that RECORD has of it
+python3 -c 'import base64, hashlib, sys, zipfile
+wheel = zipfile.ZipFile(sys.argv[1])
+lines = [line.split(",") for line in wheel.read(next(name for name in wheel.namelist() if name.endswith("RECORD"))).decode().split()]
+assert sorted(name for name, *_ in lines) == sorted(wheel.namelist())
+for name, given, length in lines[:-1]:
+    octets = wheel.read(name)
+    made = base64.urlsafe_b64encode(hashlib.sha256(octets).digest()).rstrip(b"=").decode()
+    assert (given, int(length)) == ("sha256=" + made, len(octets)), name' "$to/first/$wheel" > "$to/said" 2>&1 || fails RECORD
+python3 -m zipfile -e "$to/first/$wheel" "$to/unpacked"
+runs PYTHONPATH="$to/unpacked" "$(python3 -c 'import sys; print(sys.executable)')"
+
+how="unpacked, since there is no pip"
+if python3 -m pip --version > /dev/null 2>&1 && python3 -m venv "$to/env" > "$to/said" 2>&1; then
+    "$to/env/bin/python" -m pip install -q "$to/first/$wheel" > "$to/said" 2>&1 || fails "pip install"
+    runs "$to/env/bin/python"
+    G3FAX=$work "$to/env/bin/python" -m pip wheel -q -w "$to/third" "$top/bindings/python" > "$to/said" 2>&1 || fails "pip wheel"
+    cmp "$to/third/$wheel" "$to/first/$wheel" || fails "pip makes another wheel"
+    how="installed by pip"
+fi
+if command -v mypy > /dev/null; then
+    mypy --strict --cache-dir="$to/mypy" "$top/bindings/python/g3fax.py" > "$to/said" 2>&1 || fails "mypy of g3fax.py"
+    printf '%s\n' 'import g3fax' 'with g3fax.Page.read_pbm(b"") as page:' '    reveal_type(page[0])' '    reveal_type(page[1:])' \
+        > "$to/typed.py"
+    (cd "$to" && MYPYPATH=$to/unpacked mypy --strict --cache-dir="$to/mypy" typed.py) > "$to/said" 2>&1 || fails "mypy of a program"
+    grep -q 'memoryview' "$to/said" && grep -q '"g3fax.Page"' "$to/said" || fails "the package has other types"
+    how="$how, and strict for mypy"
+fi
+rm -rf "$to"
+echo "wheel: $wheel, twice the same, $how"
