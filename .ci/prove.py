@@ -1,13 +1,13 @@
 #!/usr/bin/env python3
-"""Proves the crates that others stand on, and the program, before `rt ci` tries must-fail edits and proves the crates of tests:
+"""Proves each crate, and tries its must-fail edits and tests, in the order that ends soonest:
 
     .ci/prove.py
 
 `rt ci` over the whole repository gives each proof one processor while others are ready, and edits the rest, so the longest chain of
-crates takes as long as one processor needs for it. Here two runs of `rt ci` go side by side: one has the longest chain, crate by crate,
-the other the crates beside it. Each is over a copy that has no edits and no crates but those wanted, and keeps what it proves: the
-gate's own `rt ci` takes it from there. Prints each crate with its minutes and processor minutes, and how many crates were proved or kept.
-Ends with status 1 and what `rt ci` said if a crate isn't proved."""
+crates takes as long as one processor needs for it. Here three runs of `rt ci` go side by side: one has the longest chain, crate by crate,
+one the crates beside it, and one, at a low priority, the edits and tests of what is proved. Each is over a copy with the crates that are
+wanted, and keeps what passes: the gate's own `rt ci`, over the whole checkout, takes it from there. Prints the minutes and processor
+minutes of each. Ends with status 1, and with what `rt ci` said, if something fails."""
 import os
 import re
 import shutil
@@ -19,7 +19,7 @@ import time
 from pathlib import Path
 
 TOP = Path(__file__).resolve().parent.parent
-# Nothing stands on these, and they are proved with the edits.
+# Nothing stands on these, and they are proved beside the edits.
 OF_TESTS = re.compile(r".*_tests|uses|stream_tool")
 
 
@@ -54,50 +54,89 @@ def longest_chain(crates):
     return chain
 
 
-def copy_crates(crates, names, to):
-    """The sources of these crates, without edits, as a repository."""
-    for name in names:
-        shutil.copytree(TOP / "crates" / name, to / "crates" / name, ignore=shutil.ignore_patterns("out", "must-fail"))
-    (to / "crates.txt").write_text("".join(line + "\n" for name, (line, _deps) in crates.items() if name in names))
+def copy_crates(crates, name, has_edits, to):
+    """The sources of a crate and of those below it, as a repository; without edits, but the crate's own where they are to be tried."""
+    wanted = below(crates, name)
+    for other in wanted:
+        left = ["out"] if has_edits and other == name else ["out", "must-fail"]
+        shutil.copytree(TOP / "crates" / other, to / "crates" / other, ignore=shutil.ignore_patterns(*left))
+    (to / "crates.txt").write_text("".join(line + "\n" for other, (line, _deps) in crates.items() if other in wanted))
     shutil.copy(TOP / "HANDLES", to / "HANDLES")
     (to / ".git").mkdir()
 
 
-def prove(crates, name, failed):
-    """Proves a crate and those below it, and says how long that took."""
-    begun = time.monotonic()
-    with tempfile.TemporaryDirectory(prefix="prove-") as room, tempfile.TemporaryFile("w+") as said:
-        copy_crates(crates, below(crates, name), Path(room))
-        run = subprocess.Popen(["rt", "ci"], cwd=room, stdin=subprocess.DEVNULL, stdout=said, stderr=subprocess.STDOUT)
-        _pid, status, used = os.wait4(run.pid, 0)
-        run.returncode = os.waitstatus_to_exitcode(status)
-        minutes, cpu = (time.monotonic() - begun) / 60, (used.ru_utime + used.ru_stime) / 60
-        if run.returncode:
+class Run:
+    """The crates, which of them are proved, and which failed."""
+
+    def __init__(self, crates):
+        self.crates, self.proved, self.failed = crates, set(), []
+        self.of_proof = {name for name in crates if not OF_TESTS.fullmatch(name)}
+        self.changed = threading.Condition()
+
+    def ended(self, name, is_well):
+        with self.changed:
+            self.failed += [] if is_well else [name]
+            self.proved.add(name)
+            self.changed.notify_all()
+
+    def wait_for(self, names):
+        """Waits until these crates are proved, and returns whether none has failed."""
+        with self.changed:
+            self.changed.wait_for(lambda: self.failed or names <= self.proved)
+            return not self.failed
+
+    def prove(self, name, has_edits=False, niceness=0):
+        """Proves a crate and those below it that aren't kept, or tries its edits and tests, and says how long that took."""
+        begun = time.monotonic()
+        with tempfile.TemporaryDirectory(prefix="prove-") as room, tempfile.TemporaryFile("w+") as said:
+            copy_crates(self.crates, name, has_edits, Path(room))
+            command = ["nice", "-n", str(niceness), "rt", "ci"]
+            run = subprocess.Popen(command, cwd=room, stdin=subprocess.DEVNULL, stdout=said, stderr=subprocess.STDOUT)
+            _pid, status, used = os.wait4(run.pid, 0)
+            run.returncode = os.waitstatus_to_exitcode(status)
+            minutes, cpu = (time.monotonic() - begun) / 60, (used.ru_utime + used.ru_stime) / 60
             said.seek(0)
-            failed.append(name)
-            print(said.read(), end="")
-        print(f"prove: {name}: {'failed' if run.returncode else 'proved'}, {minutes:.1f} minutes, {cpu:.1f} of a processor", flush=True)
+            what = said.read()
+        if run.returncode:
+            print(what, end="")
+        does = "edits and tests" if has_edits else "proof"
+        ends = "failed" if run.returncode else "passed"
+        print(f"prove: {name}: {does} {ends}, {minutes:.1f} minutes, {cpu:.1f} of a processor", flush=True)
+        return not run.returncode
 
+    def prove_all(self, names):
+        for name in names:
+            if self.wait_for(set()):
+                self.ended(name, self.prove(name))
 
-def go(crates, names, failed):
-    for name in names:
-        if not failed:
-            prove(crates, name, failed)
+    def try_all(self, names):
+        """Tries the edits and the tests of crates once they are proved, with what the proofs leave of the processors."""
+        for name in names:
+            if not self.wait_for(below(self.crates, name) & self.of_proof):
+                return
+            if not self.prove(name, True, 10):
+                self.ended(name, False)
 
 
 def main():
-    crates = {name: told for name, told in read_crates().items() if not OF_TESTS.fullmatch(name)}
-    chain = longest_chain(crates)
-    beside = [name for name in crates if name not in chain]
+    crates = read_crates()
+    run = Run(crates)
+    of_tests = [name for name in crates if name not in run.of_proof]
+    chain = longest_chain({name: told for name, told in crates.items() if name in run.of_proof})
+    beside = [name for name in crates if name in run.of_proof and name not in chain]
     print(f"prove: the longest chain is {' '.join(chain)}", flush=True)
-    failed = []
-    lanes = [threading.Thread(target=go, args=(crates, names, failed)) for names in (chain, beside)]
+    with_edits = [name for name in crates if any((TOP / "crates" / name / "must-fail").glob("*.edit"))]
+    lanes = [
+        threading.Thread(target=run.prove_all, args=(chain,)),
+        threading.Thread(target=run.prove_all, args=(beside,)),
+        threading.Thread(target=run.try_all, args=(with_edits + of_tests,)),
+    ]
     for lane in lanes:
         lane.start()
     for lane in lanes:
         lane.join()
-    print(f"prove: {len(crates)} crates, {len(failed)} failed")
-    return 1 if failed else 0
+    print(f"prove: {len(crates)} crates, {len(run.failed)} failed")
+    return 1 if run.failed else 0
 
 
 if __name__ == "__main__":
