@@ -10,7 +10,7 @@ nothing, and is refused.
 Each definition that a public clause names, or that such a definition rests on, has a comment of at least three words beside it. None of
 them has a case that is `⊤`, which says nothing, but those that are listed below with the reason.
 The book (docs/book.py) has no dead link, and each public item has its `///`.
-Each crate has a README of at most 100 lines, and all committed documents together have at most 25,000 words.
+Each crate has a README of at most 100 lines, and all committed documents together have at most 25,000 words by `wc -w`.
 The table of docs/STATION.md, under `## Timers`, has exactly the waits of each state that the definitions of
 `crates/stations/specs/Waits.antt` have.
 The table of docs/FAULTS.md has exactly the faults of the program: those of a whole file, of a bit and of a line by the kinds of
@@ -107,8 +107,8 @@ def documents():
 
 
 def words_of(texts):
-    """How many words documents have; the bars of a table and other signs alone are none."""
-    return sum(len(re.findall(r"\S*\w\S*", text)) for text in texts.values())
+    """How many words documents have, split at white space as `wc -w` does; the bars of a table count too."""
+    return sum(len(text.split()) for text in texts.values())
 
 
 def document_faults(texts, crates):

@@ -3,8 +3,8 @@
 #
 #     .ci/end_to_end.sh [PROGRAM..]
 #
-# With no word these are the programs of crates/faxtool/out that `rt ci` leaves, by each compiler, or that `rt run` makes where
-# there is none. The programs of crates/stream_tool/out, or the one that STREAM names, are tried likewise. The
+# With no word these are the programs of crates/faxtool/out that `rt ci` leaves, by each compiler. The programs of
+# crates/stream_tool/out, or the one that STREAM names, are tried likewise; if there is none, one is built without proof. The
 # cases are in .ci/end_to_end, a file for each command; what is compared with is in .ci/data, the calls in .ci/calls. Ends with
 # status 1 at the first difference.
 # Python 3 writes the large pages and frames.
@@ -25,10 +25,7 @@ done
 
 if [ $# = 0 ]; then
     out=$top/crates/faxtool/out
-    if [ ! -x "$out/faxtool" ]; then
-        cd "$top/crates/faxtool"
-        rt run -- show --code mh --width 8 data/out.mh > "$work/built" 2>&1 || { cat "$work/built" >&2; exit 1; }
-    fi
+    [ -x "$out/faxtool" ] || { echo "end_to_end.sh: $out has no program: name one, such as build/faxtool by make try" >&2; exit 1; }
     set -- "$out/faxtool"
     [ ! -x "$out/faxtool.by-rattle" ] || set -- "$@" "$out/faxtool.by-rattle"
 fi
@@ -47,6 +44,7 @@ for program in "$@"; do
     try_images
     try_data
     try_standard
+    try_apart
     try_told
     try_told_records
     try_codes
@@ -70,6 +68,7 @@ for program in "$@"; do
     try_version
     try_environment
     try_memory
+    try_endless
     try_no_image
     try_rtc
     try_outputs

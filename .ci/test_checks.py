@@ -60,7 +60,7 @@ def clauses():
 
 
 def documents():
-    """A README of 101 lines, one that is missing, and a word too many."""
+    """A README of 101 lines, one that is missing, a word too many, and a bar of a table too many."""
     def check(texts):
         return checks.document_faults(texts, ["hdlc"])
 
@@ -68,6 +68,7 @@ def documents():
     yield refuses("a README of 101 lines", check, short, {"crates/hdlc/README.md": 101 * "\n"}, "101 lines")
     yield refuses("a crate without a README", check, short, {}, "is missing")
     yield refuses("a word too many", check, words, {**words, "docs/USING.md": "word\n"}, "25001 words")
+    yield refuses("a bar of a table too many", check, words, {**words, "docs/USING.md": "|\n"}, "25001 words")
 
 
 def tables():

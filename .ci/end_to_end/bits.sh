@@ -22,6 +22,26 @@ try_bits_kept() {
     count=$((count + 1))
 }
 
+# Memory is refused at any place: no file of the call is left, whole or not, unless it ended well.
+try_bits_memory() {
+    refused=0
+    for size in 1 20000 40000 60000 80000 100000 120000; do
+        { printf 'polite 11\n#'; head -c "$size" /dev/zero | tr '\0' x; echo; } > "$work/long.script"
+        rm -f "$work/sent"/*
+        for most in $(seq 2600 60 6000); do
+            status=0
+            (ulimit -v "$most"; exec "$program" call --script "$work/long.script" --bits "$work/sent" "$input") > "$work/output" 2> "$work/error" || status=$?
+            [ "$status" != 0 ] || break
+            [ -z "$(ls "$work/sent")" ] || fails "call --bits with $most KB of memory left $(ls "$work/sent")"
+            [ "$(head -n 1 "$work/error")" != "fault 9" ] || refused=$((refused + 1))
+            count=$((count + 1))
+        done
+        [ "$status" = 0 ] || fails "call --bits was refused memory each time"
+    done
+    [ "$refused" -gt 0 ] || fails "call --bits was never refused memory"
+    rm -f "$work/sent"/*
+}
+
 # The worked calls, and their frames: what is sent once and what is sent again, a burst after a bad training check, and the page of a
 # call that loses items.
 try_bits() {
@@ -45,4 +65,5 @@ try_bits() {
     [ "$(grep -c ' PPS ' "$work/output") $(grep -c ' RCP$' "$work/output")" = "2 3" ] || fails "what is sent again or lost isn't there"
     try_bits_refused
     try_bits_kept
+    try_bits_memory
 }

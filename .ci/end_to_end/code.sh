@@ -35,8 +35,29 @@ try_small() {
     codes mh lsb "$white" "00 28 9B 15 00 01 10 00 01 10 00 01 10" 1728
 }
 
+# The codes as the texts of frames name them.
+try_other_names() {
+    while read -r code name; do
+        works code --code "$name" "$data/page.pbm" "$work/made"
+        is_same "$work/made" "$data/page.$code.msb" "code --code $name"
+        works decode --code "$name" --width 315 "$work/made" "$work/decoded"
+        is_same "$work/decoded" "$data/page.pbm" "decode --code $name"
+        works call --json --lose 0% --seed 1 --code "$code" "$(octets "$white")"
+        cp "$work/output" "$work/wanted"
+        for printed in $(grep -o '"code":"[a-z0-9]*"' "$work/wanted" | cut -d '"' -f 4 | sort -u); do
+            works code --code "$printed" "$data/page.pbm" "$work/made"
+        done
+        works call --json --lose 0% --seed 1 --code "$name" "$(octets "$white")"
+        is_same "$work/output" "$work/wanted" "call --code $name"
+    done << 'CASES'
+mh t4
+mmr t6
+CASES
+}
+
 # A page of text and its codes, as other software writes them.
 try_page() {
+    try_other_names
     for code in mh mmr; do
         for order in msb lsb; do
             works code --code $code --order $order "$data/page.pbm" "$work/made"

@@ -13,11 +13,75 @@ try_standard() {
     "$program" frames - < "$data/line.bits" > "$work/output"
     is_same "$work/output" "$data/line.txt" "frames -"
     input=$(octets "$white")
-    printf 'polite 11' | "$program" call --script - --out - "$input" > "$work/output"
-    tail -c 226 "$work/output" > "$work/pages"
-    is_same "$work/pages" "$input" "call --script - --out -"
+    printf 'polite 11' | "$program" call --script - --out "$work/pages" "$input" > "$work/output"
+    is_same "$work/pages" "$input" "call --script -"
     refuses call --script - -
     count=$((count + 8))
+}
+
+# aren_t_apart TEXT WORDS: the words are refused with the text, and nothing is printed or written.
+aren_t_apart() {
+    text=$1
+    shift
+    cksum row other script > sums
+    refuses "$@"
+    grep -qF -e "$text" "$work/error" || fails "$* doesn't say: $text"
+    cksum row other script > wanted
+    is_same sums wanted "the files of $*"
+    [ ! -e new ] && [ ! -e to/to-caller.bits ] || fails "$* wrote a new file"
+}
+
+# Two files of a command that are the same file, by whatever names: it is refused before anything is read or written. And two things that
+# would go to standard output.
+try_apart() {
+    rm -rf "$work/apart"
+    mkdir -p "$work/apart/to"
+    cd "$work/apart"
+    cp "$(octets "$white")" row
+    echo as it was > other
+    echo polite 11 > script
+    ln row hard
+    ln -s row soft
+    ln -s ../row to/soft
+    ln -s new to-new
+    ln -s ../new to/new
+    for name in row ./row hard soft to/soft to/../row "$work/apart/row"; do
+        aren_t_apart "IN and --out are the same file" call --script script --out "$name" row
+        aren_t_apart "IN and --diagram are the same file" call --lose 5% --seed 1 --diagram "$name" row
+        aren_t_apart "IN and OUT are the same file" code --code mh row "$name"
+        aren_t_apart "FILE and OUT are the same file" decode --code mh --width 8 "$name" row
+        aren_t_apart "IN and --trace are the same file" station --call --trace "$name" row
+        aren_t_apart "--caller and --diagram are the same file" frames --caller row --answerer other --diagram "$name"
+        aren_t_apart "--answerer and --diagram are the same file" frames --caller other --answerer row --diagram "$name"
+    done
+    aren_t_apart "--script and --out are the same file" call --script script --out script row
+    for name in new ./new to-new to/../new to/new "$work/apart/new"; do
+        aren_t_apart "--out and --diagram are the same file" call --script script --out new --diagram "$name" row
+    done
+    aren_t_apart "--out and --diagram are the same file" call --script script --out other --diagram other row
+    aren_t_apart "--out and a file of --bits are the same file" call --script script --bits to --out to/to-caller.bits row
+    aren_t_apart "IN and a file of --bits are the same file" call --script script --bits . "$(cp row to-answerer.bits; echo to-answerer.bits)"
+    for words in "--out -" "--json --out -" "--diagram -" "--json --diagram -"; do
+        aren_t_apart "and what is printed can't both go to standard output" call --script script $words row
+        aren_t_apart "and what is printed can't both go to standard output" call --lose 5% --seed 1 $words row
+    done
+    aren_t_apart "--out and --diagram can't both go to standard output" call --script script --out - --diagram - row
+    cp row kept
+    for words in "show --code mh --width 8 row" "frames row" "identify row" "call --script script --out row other" "call --script script row"; do
+        status=0
+        "$program" $words >> row 2> "$work/error" || status=$?
+        [ "$status" = 2 ] || fails "$words with its file as standard output ended with status $status"
+        is_same row kept "the file of $words"
+    done
+    for option in --out --diagram; do
+        { "$program" call --script script "$option" /dev/stdout row 2> "$work/error" || echo "status $?"; } | cat > "$work/output"
+        [ "$(cat "$work/output")" = "status 2" ] || fails "call $option /dev/stdout into a pipe printed something"
+    done
+    works code --code mh row new
+    works code --code mh row to/soft.mh
+    works call --script script --out /dev/null --diagram /dev/null row
+    count=$((count + 5))
+    cd "$top"
 }
 
 # An output that can't be written to its end: what was there stays, and nothing lies beside it. And one that is a link, or has
@@ -172,7 +236,10 @@ try_refused_outputs() {
     if command -v script > /dev/null; then
         status=0
         script -qec "'$program' code --code mh '$work/none' -" /dev/null < /dev/null > output || status=$?
-        [ "$status $(head -1 output | tr -d '\r')" = "1 fault 8" ] || fails "code to a terminal ended with status $status"
+        tr -d '\r' < output > shown
+        printf 'fault 8\nstandard output is a terminal\n' > wanted
+        [ "$status" = 1 ] || fails "code to a terminal ended with status $status"
+        is_same shown wanted "the words of code to a terminal"
         ! grep -q none output || fails "code to a terminal looked at IN first"
         count=$((count + 1))
     fi

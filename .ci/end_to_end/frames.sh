@@ -84,6 +84,21 @@ try_captured() {
     python3 -B "$data/try_captured.py" "$program" "$work" || fails "frames --pages"
     refuses frames --salvage "$top/docs/examples/line.bits"
     grep -qF -e "--salvage needs --pages" "$work/error" || fails "frames --salvage with no folder doesn't say what is wrong"
+    while IFS='|' read -r words why; do
+        refuses frames $words
+        [ "$(head -1 "$work/error")" = "error: $why" ] || fails "frames $words: other words: $(head -1 "$work/error")"
+    done << 'CASES'
+|FILE is missing, or --diagram with --caller and --answerer
+--data 2|FILE is missing, or --diagram with --caller and --answerer
+--salvage|FILE is missing, or --diagram with --caller and --answerer
+--caller a --answerer b|--caller and --answerer are for a picture, with --diagram
+--diagram a --caller b|--diagram needs --caller and --answerer, the files of what both stations sent
+--diagram a --answerer b|--diagram needs --caller and --answerer, the files of what both stations sent
+--diagram a --caller - --answerer -|--caller and --answerer can't both be standard input
+--diagram a --caller b --answerer c d|--diagram draws two captures, and can't be used with FILE, --data, --pages or --salvage
+--diagram a b|--diagram draws two captures, and can't be used with FILE, --data, --pages or --salvage
+--caller a --data 2|--diagram draws two captures, and can't be used with FILE, --data, --pages or --salvage
+CASES
     mkdir -p "$work/captured"
     gives 1 frames --pages "$work/captured" "$top/docs/examples/line.bits"
     is_same "$work/captured/page-1.pbm" "$top/docs/examples/row.pbm" "the page in docs/examples/line.bits"
@@ -98,4 +113,12 @@ try_captured() {
     [ "$(cat "$work/error")" = "fault 8" ] || fails "frames --pages into a missing folder"
     gives 1 frames --pages "$work/captured" "$(octets "7E DF 47 30 8A C6 FB 01")"
     [ "$(cat "$work/error")" = "no error correction: no pages" ] || fails "frames --pages doesn't tell that there is no error correction"
+    for none in /dev/null "$(octets "00 FF 7E")"; do
+        for salvage in "" --salvage; do
+            gives 1 frames --pages "$work/captured" $salvage "$none"
+            [ "$(cat "$work/error")" = "no frame: no pages" ] || fails "frames --pages doesn't tell that there is no frame in $none"
+        done
+        gives 1 frames --json --pages "$work/captured" "$none"
+        [ "$(cat "$work/error")" = '{"notice":"no frame: no pages"}' ] || fails "frames --json --pages of $none"
+    done
 }

@@ -19,7 +19,7 @@ try_man() {
     fi
     if command -v fish > /dev/null; then
         fishes "code show decode frames call identify station version help" ""
-        fishes "mh mmr" "code --code "
+        fishes "mh mmr t4 t6" "code --code "
         fishes "v27 v27v29 v29" "station --modems v2"
         fishes "--data --explain --help --pages" "frames --"
     fi

@@ -29,7 +29,9 @@ try_streams() {
     built=$top/crates/stream_tool/out/stream_tool
     [ -z "$STREAM" ] || built=$STREAM
     if [ ! -x "$built" ]; then
-        (cd "$top/crates/stream_tool" && rt run -- one_page.feeds) > "$work/built" 2>&1 || { cat "$work/built" >&2; exit 1; }
+        echo "end to end: no stream_tool is built, so it is built without proof"
+        built=$work/stream_tool
+        "$top/packaging/build_unproved.sh" "$top/crates/stream_tool" "$built" > "$work/built" 2>&1 || { cat "$work/built" >&2; exit 1; }
     fi
     for stream in "$built" "$built.by-rattle"; do
         [ -x "$stream" ] || continue

@@ -96,6 +96,45 @@ CASES
     count=$((count + 2))
 }
 
+# What is wrong with a line, and at which column: as words, and in a record.
+try_no_line_words() {
+    while IFS='|' read -r before line words; do
+        status=0
+        printf "$before$line\n" > "$work/lines"
+        number=$(wc -l < "$work/lines")
+        "$program" station --explain --answer --out "$work/stored" < "$work/lines" > "$work/output" 2> "$work/error" || status=$?
+        printf 'fault 31 at line %s\nstandard input: line %s, %s\n' "$number" "$number" "$words" > "$work/wanted"
+        [ "$status" = 1 ] || fails "the line '$line' ended with status $status"
+        is_same "$work/error" "$work/wanted" "the words of the line '$line'"
+        "$program" station --json --answer --out "$work/stored" < "$work/lines" > "$work/output" 2> "$work/error" || :
+        grep -qF "\"line\":$number,\"words\":\"standard input: line $number, $words\"" "$work/error" || fails "the record of the line '$line'"
+        count=$((count + 2))
+    done << 'CASES'
+||column 1: no line of a station begins with this word
+|\040quiet 1|column 1: no line of a station begins with this word
+quiet 1\n|Quiet 1|column 1: no line of a station begins with this word
+|quiet|column 7: a time is expected here, 1 to 15 digits
+|quiet 1\r|column 7: a time is expected here, 1 to 15 digits
+|quiet 1000000000000000|column 7: a time is expected here, 1 to 15 digits
+|quiet 1 1|column 9: such a line ends after its time
+|quiet 1\040|column 9: such a line ends after its time
+quiet 5\nquiet 6\n|busy 5|column 6: the time is before that of the line before
+quiet 5\n|rx 4 v21 raw 0 |column 4: the time is before that of the line before
+|rx +1 v21 raw 0 |column 4: a time is expected here, 1 to 15 digits
+|rx 1 v17-4800 raw 8 00|column 6: a carrier is expected here
+|rx 1  v21 hdlc 8 00|column 6: a carrier is expected here
+|rx 1 v21 psk 8 00|column 10: hdlc or raw is expected here
+|rx 1 v21 hdlc 00000008 00|column 15: the number of bits is expected here, 1 to 7 digits
+|rx 1 v21 hdlc 8|column 17: two hexadecimal digits are expected for each octet of the bits
+|rx 1 v21 hdlc 8 0G|column 17: two hexadecimal digits are expected for each octet of the bits
+CASES
+    { printf "quiet 1\nrx 1 v21 hdlc 1599912 "; head -c 399979 /dev/zero | tr '\0' 0; echo; } > "$work/long"
+    "$program" station --explain --answer --out "$work/stored" < "$work/long" > "$work/output" 2> "$work/error" || :
+    [ "$(tail -n 1 "$work/error")" = "standard input: line 2, column 400001: the line has more than 400000 octets" ] ||
+        fails "the words of a line that is too long"
+    count=$((count + 1))
+}
+
 # The trace of the caller of a kept conversation, by hand: it comes after what its file had.
 try_trace() {
     kept=$top/.ci/conversations/worked_caller
@@ -155,22 +194,26 @@ try_stations() {
         held=$((held + 1))
     done
     [ "$held" -ge 26 ] || fails "there are only $held conversations in .ci/conversations"
-    while read -r words; do
+    while IFS='|' read -r words why; do
         refuses station $words
+        [ -z "$why" ] || [ "$(head -1 "$work/error")" = "error: $why" ] || fails "station $words: other words: $(head -1 "$work/error")"
     done << 'CASES'
-
---answer
---call
---answer --call --out DIR
---answer --out DIR IN
---answer --out DIR --fine
---answer --out DIR --limit 0
---answer --out DIR --t1 0
---call -
---call --out DIR IN
---call --limit 1 IN
---call --widest 1728 IN
---call --t4 x IN
+|a station answers or calls: either --answer or --call is needed
+IN|a station answers or calls: either --answer or --call is needed
+--answer|--answer needs --out, the folder of the pages
+--call|--call needs IN, the file of the document
+--answer --call --out DIR|--answer and --call can't be used together
+--answer --call IN|--answer and --call can't be used together
+--answer --out DIR IN|--frame, --fine and IN are for a station with --call
+--answer --out DIR --fine|--frame, --fine and IN are for a station with --call
+--answer --frame 64|--frame, --fine and IN are for a station with --call
+--answer --out DIR --limit 0|
+--answer --out DIR --t1 0|
+--call -|IN can't be standard input, where the lines come
+--call --out DIR IN|--out, --standard, --widest and --limit are for a station with --answer
+--call --limit 1 IN|--out, --standard, --widest and --limit are for a station with --answer
+--call --widest 1728 IN|--out, --standard, --widest and --limit are for a station with --answer
+--call --t4 x IN|
 CASES
     faults "fault 8" station --answer --out "$work/missing"
     faults "fault 8" station --call "$work/missing"
@@ -178,6 +221,7 @@ CASES
     try_taken_numbers
     try_unwritten
     try_no_lines
+    try_no_line_words
     try_trace
     try_station_records
     try_joined

@@ -46,8 +46,10 @@ try_explained_names() {
         explains "fault 8" "$name: no such file or folder" frames "$name"
     done
     name=$(printf 'a\377')
-    explains "fault 8" "a word of the command: it isn't UTF-8" frames "$name"
-    explains "fault 8" "a word of the command: it isn't UTF-8" code --code mh "$name" made
+    advice="isn't UTF-8: for a file of that name write - and give the file by < NAME"
+    explains "fault 8" "word 2 of the command $advice" frames "$name"
+    explains "fault 8" "word 4 of the command $advice" code --code mh "$name" made
+    explains "fault 8" "word 5 of the command $advice" code --code mh made "$name"
 }
 
 # Lines of scripts: what is wrong with the word, the count, a blank or the text.
@@ -121,8 +123,14 @@ try_explained_images() {
 6 50_34_0A_38_20_31_0A the image is cut short: it has fewer octets than its width and height say
 CASES
     explains "fault 7" "nothing: there is no image: it has no octet" code --code mmr nothing made
-    explains "fault 26" "image: a page's width isn't 1728, 2048 or 2432 pixels, the widths that a call carries" \
+    explains "fault 26" "image: page 1 is 8 pixels wide, and a call carries 1728, 2048 or 2432" \
         call --script nothing "$(cp "$(octets "50 34 0A 38 20 31 0A 30")" image; echo image)"
+    (cat "$(octets "$white")" && cat "$data/page.pbm") > image
+    for words in "call --script nothing" "call --lose 5% --seed 1" "call --lose 5% --seed 1 --times 2" "station --call"; do
+        explains "fault 26" "image: page 2 is 315 pixels wide, and a call carries 1728, 2048 or 2432" $words image
+    done
+    gives 1 call --json --script nothing image
+    grep -qF '"words":"image: page 2 is 315 pixels wide, and a call carries 1728, 2048 or 2432"' "$work/error" || fails "call --json doesn't name the page"
 }
 
 # The same of coded pages, of a width of 8: the row, and what was expected there.
@@ -152,9 +160,28 @@ mmr 13 15 2 26_AA_80 this vertical mode doesn't move to the right
 mmr 15 11 1 26_A1_B8 a horizontal mode of two runs of 0 pixels (try --order lsb, or --code mh)
 CASES
     try_explained_others
+    try_explained_widths
     works code --code mh "$data/page.pbm" page
     python3 -c 'import sys; octets = bytearray(open("page", "rb").read()); octets[400] ^= 8; sys.stdout.buffer.write(octets)' > flipped
     explains_standard flipped
+}
+
+# A page of T.4 that is read in another width than that of each of its rows: that width is named, and nothing else. Of a page whose rows
+# have several widths, or that has one row, none is.
+try_explained_widths() {
+    for order in msb lsb; do
+        for width in 314 316 320 1728; do
+            gives 1 decode --explain --code mh --order $order --width $width "$data/page.mh.$order" made
+            grep -q "^[^(]*; each row ends after 315 pixels: try --width 315$" "$work/error" || fails "decode --width $width doesn't name the width"
+        done
+    done
+    eol=000000000001
+    gives 1 decode --explain --code mh --width 9 "$(bits "$eol 10011 $eol 10011 $eol $eol $eol $eol $eol $eol")" made
+    grep -q "; each row ends after 8 pixels: try --width 8$" "$work/error" || fails "decode of two rows doesn't name the width"
+    for rows in "10011 $eol 1000 $eol" "10011 $eol"; do
+        gives 1 decode --explain --code mh --width 9 "$(bits "$eol $rows $eol $eol $eol $eol $eol")" made
+        ! grep -q "try --width" "$work/error" || fails "decode of the rows $rows names a width"
+    done
 }
 
 # A page that was read by another order of bits, or as another code: what to try is named, and nothing else is where a later row or
@@ -229,8 +256,8 @@ try_completion() {
         [ -n "$options" ] || fails "$command --help has no options"
         [ "$(completed "$command" -- | sort)" = "$options" ] || fails "$command is completed by other options than its help has"
     done
-    completes "mh mmr" code --code ""
-    completes "mh mmr" code --code =
+    completes "mh mmr t4 t6" code --code ""
+    completes "mh mmr t4 t6" code --code =
     completes "mmr" decode --code = mm
     completes "msb lsb" show --order ""
     completes "256 64" call --frame ""
@@ -360,6 +387,36 @@ try_memory() {
     [ "$status $(head -1 "$work/error")" = "1 fault 9" ] || fails "call with a long script and little memory ended with status $status"
     grep -q "^$work/long.script: memory was refused" "$work/error" || fails "call doesn't name its script where memory is refused"
     count=$((count + 3))
+}
+
+# ends_within KB STATUS LINE WORDS: of standard input that never ends the program ends, with the status and the line on standard error, in so
+# much memory.
+ends_within() {
+    most=$1 wanted=$2 line=$3
+    shift 3
+    status=0
+    (ulimit -v "$most"; exec timeout 30 "$program" "$@") > "$work/output" 2> "$work/error" || status=$?
+    [ "$status" = "$wanted" ] || fails "$* of an endless input ended with status $status"
+    [ "$(head -n 1 "$work/error")" = "$line" ] || fails "$* of an endless input didn't write: $line"
+    count=$((count + 1))
+}
+
+# Input that never ends: one that makes no page, however it goes on, is read for a few megabytes. Nothing is read of a file of pages or of a
+# script beyond a bound; that is fault 8, and OUT stays.
+try_endless() {
+    few=30000 many=400000
+    ends_within $few 1 "fault 17 at bit 0" decode --code mmr --width 1728 - "$work/endless" < /dev/zero
+    ends_within $few 1 "fault 4 at bit 0" decode --code mh --width 1728 - "$work/endless" < /dev/zero
+    ends_within $few 1 "fault 29" identify - < /dev/zero
+    ends_within $few 1 "fault 4 at bit 0" decode --explain --code mh --width 8 /dev/zero "$work/endless"
+    yes | ends_within $few 1 "fault 29" identify -
+    ends_within $many 1 "fault 8" decode --repair --code mh --width 8 - "$work/endless" < /dev/zero
+    cat "$data/page.mmr.msb" /dev/zero | ends_within $many 1 "fault 8" decode --code mmr --width 315 - "$work/endless"
+    ends_within $many 1 "fault 8" call --script /dev/zero "$data/page.pbm"
+    yes "to-caller 1" | ends_within $many 1 "fault 8" call --explain --script - "$data/page.pbm"
+    [ "$(tail -n 1 "$work/error")" = "standard input: it has more octets than are read of such a file, 16777216" ] ||
+        fails "the words of an endless script"
+    [ ! -e "$work/endless" ] || fails "a file was made of an endless input"
 }
 
 # Standard input can't be both the script and the document: that is refused with words, and nothing is read.

@@ -19,7 +19,7 @@ _faxtool_options() {
 # The values of an option, and nothing where it has none or is the name of a file.
 _faxtool_values() {
     case $1 in
-        --code) echo mh mmr ;;
+        --code) echo mh mmr t4 t6 ;;
         --order) echo msb lsb ;;
         --width) echo 1728 2048 2432 ;;
         --data) echo 8 ;;

@@ -1,27 +1,16 @@
--- The lemmas of calls.
+-- The lemmas of `calls`.
 mod ScriptLines
 mod ScriptWords
 mod OneScript
-mod SentItems
+pub mod SentItems
 mod CallEnds
 mod CallSteps
-mod EntryLines
+pub mod EntryLines
 mod LineFaults
 mod ScriptsMean
 mod OptionsMean
-mod DrivenSteps
-mod BadCallsEnd
+pub mod DrivenSteps
+pub mod BadCallsEnd
 mod DrivenCalls
 mod Rates
-mod LineTimes
-mod CallerPhases
-mod FewTries
-mod CountedSteps
-mod Shares
-mod ManyCalls
-mod FewBorne
-mod Ladders
-mod Pictures
-mod Diagrams
-mod CapturedCalls
 mod CallRecords

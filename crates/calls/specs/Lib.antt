@@ -1,23 +1,12 @@
--- The definitions of calls.
+-- The definitions of `calls`.
 pub mod Scripts
 pub mod Transcripts
 pub mod SentBits
 pub mod Explained
 pub mod CallRecords
-pub mod DrawnFields
 pub mod Calls
 pub mod ScriptsMean
 pub mod OptionsMean
 pub mod Losses
 pub mod BadLines
-pub mod LineTimes
-pub mod Totals
-pub mod Seconds
-pub mod FewTries
-pub mod ManyCalls
-pub mod TriesCounted
 pub mod Ends
-pub mod Ladders
-pub mod Pictures
-pub mod Diagrams
-pub mod CapturedCalls

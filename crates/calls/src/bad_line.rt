@@ -30,7 +30,7 @@ use std::io::Read;
 const MOST_RNRS: u64 = 20;
 
 /// The retry limits of a call over a bad line.
-pub(crate) fn patience_of(line: &BadLine) -> Patience
+pub fn patience_of(line: &BadLine) -> Patience
     ensures { plain_patience result ≡ patience_of line.now }
 {
     Patience {
@@ -41,7 +41,7 @@ pub(crate) fn patience_of(line: &BadLine) -> Patience
 
 /// Sets the answerer busy or ready by the generator's next word, if a PPS or an RR is first under way to it and the line makes it busy at
 /// all. Returns the event's entry.
-pub(crate) fn set_answerer(
+pub fn set_answerer(
     call: &mut DrivenCall,
     line: &BadLine,
     generator: &mut Lcg64Xsh32,
@@ -59,11 +59,7 @@ pub(crate) fn set_answerer(
 }
 
 /// Makes the next step of a call, by a fate of the generator if one is due.
-pub(crate) fn next_step(
-    call: &mut DrivenCall,
-    line: &BadLine,
-    generator: &mut Lcg64Xsh32,
-) -> Option<Step>
+pub fn next_step(call: &mut DrivenCall, line: &BadLine, generator: &mut Lcg64Xsh32) -> Option<Step>
     ensures { (g : Going) → Stands call.old line.now generator.old g → Draws line.now g call.old call.new generator.new result }
 {
     if call.is_fate_due() {

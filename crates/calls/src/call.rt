@@ -27,7 +27,7 @@ use std::alloc::Global;
 use std::io::Read;
 
 /// The fault of a document that no call can have.
-pub(crate) fn fault_of(fault: WorldFault) -> ToolFault
+pub fn fault_of(fault: WorldFault) -> ToolFault
     ensures { result ≡ No (number_of fault) }
 {
     ToolFault::No(fault.number())
@@ -35,7 +35,7 @@ pub(crate) fn fault_of(fault: WorldFault) -> ToolFault
 
 /// What the answerer of a call can do: with these modems, it takes pages of each width, fine lines too, in each code, with error
 /// correction.
-pub(crate) fn answerer_caps(modems: Modems) -> Caps
+pub fn answerer_caps(modems: Modems) -> Caps
     ensures { result ≡ answerer_caps modems }
 {
     Caps {
@@ -49,7 +49,7 @@ pub(crate) fn answerer_caps(modems: Modems) -> Caps
 }
 
 /// The number of the next line. Errs with `FAILED` (8) if it would be 2^64.
-pub(crate) fn after(number: u64) -> Result<u64, ToolFault>
+pub fn after(number: u64) -> Result<u64, ToolFault>
     ensures next { IfOk result (λ next. next ≡ number + 1) }
     ensures fault { IfErr result IsOutside }
 {

@@ -11,14 +11,16 @@ use signals::Side;
 
 /// How many items are under way to each station.
 #[derive(Clone, Copy, Debug, PartialEq, Eq)]
-pub(crate) struct Counts {
-    pub(crate) to_answerer: usize,
-    pub(crate) to_caller: usize,
+pub struct Counts {
+    /// How many to the answerer.
+    pub to_answerer: usize,
+    /// How many to the caller.
+    pub to_caller: usize,
 }
 
 impl Counts {
     /// None, as before a call.
-    pub(crate) fn none() -> Counts
+    pub fn none() -> Counts
         ensures { result ≡ record { to_answerer = 0; to_caller = 0 } }
     {
         Counts {
@@ -28,7 +30,7 @@ impl Counts {
     }
 
     /// What is under way in a call.
-    pub(crate) fn of(live: &LiveCall) -> Counts
+    pub fn of(live: &LiveCall) -> Counts
         ensures to_answerer { result.to_answerer ≡ length (under_way_to Answerer live.now) }
         ensures to_caller { result.to_caller ≡ length (under_way_to Caller live.now) }
         ensures no_check { head_kind live.now.to_caller ≢ Some Training }

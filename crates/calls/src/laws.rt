@@ -1,7 +1,6 @@
 //! Laws of the definitions. Nothing runs.
 
 ghost use Rattle.calls.specs.BadLines.{BadCallsEnd};
-ghost use Rattle.calls.specs.FewTries.{FewTriesAreBorne, FewTriesAreDriven};
 ghost use Rattle.calls.specs.OptionsMean.{LinesAreAsked, OptionsMean};
 ghost use Rattle.calls.specs.Scripts.{IsLineFault, IsScript, RefusesScript};
 ghost use Rattle.calls.specs.ScriptsMean.{CountsMake, CountsMean, LinesMean, WordsDo};
@@ -25,16 +24,6 @@ pub fn bad_calls_end()
 {
     stations::laws::speeds_hold();
     stations::laws::callers_end();
-}
-
-/// A call over a bad line with few bad tries in each phase is a driven call with few, of the fates that it draws. So if both stations agree
-/// on each page and its code fits a call, it ends normally for the caller, and all pages are stored and confirmed.
-pub fn few_tries_are_borne()
-    ensures driven { FewTriesAreDriven }
-    ensures borne { FewTriesAreBorne }
-{
-    line_sim::laws::driven_calls_end();
-    line_sim::laws::calls_bear();
 }
 
 /// A line of a script is wrong in one way alone.

@@ -108,7 +108,7 @@ fn fate_of(line: &BadLine, word: u32) -> Fate
 
 /// The generator of the call of this number, from 0: PCG-XSH-RR of 64 bits of state and 32 bits a word, known as pcg32. The seed is its
 /// state, the number its stream, so any program can draw the same.
-pub(crate) fn generator_of(line: &BadLine, number: u64) -> Lcg64Xsh32
+pub fn generator_of(line: &BadLine, number: u64) -> Lcg64Xsh32
     ensures { result ≡ generator_of line.now number }
 {
     Lcg64Xsh32::new(line.seed, number)

@@ -52,7 +52,7 @@ pub fn end_word(ending: Option<End>) -> &'static str
 
 /// The words of what was delivered or lost.
 #[derive(Drop)]
-pub(crate) struct ItemText(pub(crate) Option<Kind>);
+pub struct ItemText(pub Option<Kind>);
 
 impl fmt::Display for ItemText {
     ghost use Rattle.std.specs.Prelude.{Some};
@@ -82,7 +82,7 @@ impl fmt::Display for ItemText {
 
 /// The words of what was transmitted: a turn, and the number of its FCDs.
 #[derive(Drop)]
-pub(crate) struct TurnText(pub(crate) Turn, pub(crate) u16);
+pub struct TurnText(pub Turn, pub u16);
 
 impl fmt::Display for TurnText {
     ghost use Rattle.std.specs.Prelude.{Some};
@@ -109,11 +109,7 @@ impl fmt::Display for TurnText {
 }
 
 /// Writes the line of an event: its number, its word, the item, the turn, and ` !` if a growth was refused in it. Errs if the writer fails.
-pub(crate) fn write_entry<W: Write>(
-    number: u64,
-    entry: &Entry,
-    writer: &mut W,
-) -> Result<(), ToolFault>
+pub fn write_entry<W: Write>(number: u64, entry: &Entry, writer: &mut W) -> Result<(), ToolFault>
     ensures line { OnOk result (Appends (W.contents writer.old) (W.contents writer.new) (entry_line number entry.now)) }
     ensures fault { IfErr result IsOutside }
 {

@@ -1,4 +1,4 @@
-//! What no clause of `engines` and `calls` says: readers that give octets one by one, and readers and writers that fail.
+//! What no clause of `page_files`, `captures` and `calls` says: readers that give octets one by one, and readers and writers that fail.
 #![tactic(auto)]
 
 #[cfg(test)]

@@ -1,3 +1,4 @@
 -- The lemmas of the program.
+mod ApartLemmas
 mod CommandLemmas
 mod JobLemmas

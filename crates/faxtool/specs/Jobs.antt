@@ -232,7 +232,7 @@ TakesNames parser names =
 
 -- the parsers of codes, of sizes of frames and of modems take their names
 pub record TakeNames (codings sizes modems : ValueParser) : Type 0 where
-  pub takes_codings : TakesNames codings (codes "mh" ∷ codes "mmr" ∷ [])
+  pub takes_codings : TakesNames codings (codes "mh" ∷ codes "mmr" ∷ codes "t4" ∷ codes "t6" ∷ [])
   pub takes_sizes : TakesNames sizes (codes "256" ∷ codes "64" ∷ [])
   pub takes_modems : TakesNames modems (codes "v17" ∷ codes "v27v29" ∷ codes "v29" ∷ codes "v27" ∷ codes "fallback" ∷ [])
 
@@ -265,7 +265,8 @@ pub record IsFaxtool (a : App) : Type 0 where
 -- the code that a value of `--code` names
 abbrev pub coding_named : Option Text → Option Coding
 coding_named None = None
-coding_named (Some name) = if bytes_eq name (codes "mh") then Some OneDim else if bytes_eq name (codes "mmr") then Some T6 else None
+coding_named (Some name) = if bytes_eq name (codes "mh") || bytes_eq name (codes "t4") then Some OneDim
+    else if bytes_eq name (codes "mmr") || bytes_eq name (codes "t6") then Some T6 else None
 
 -- the order that a value of `--order` names: `msb` but for `lsb`
 abbrev pub order_named : Option Text → Order

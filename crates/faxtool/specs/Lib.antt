@@ -1,4 +1,7 @@
 -- The definitions of the program.
+pub mod Apart
+pub mod Bounds
 pub mod Jobs
 pub mod Table
 pub mod Folders
+pub mod Told

@@ -8,7 +8,7 @@ use crate::notes::{Notes, Part};
 use crate::outputs::{self, Growing};
 use calls::{InForm, WithBits};
 use captures::ListForm;
-use faults::ToolFault;
+use faults::{NO_MEMORY, ToolFault};
 use std::fs::File;
 use std::io;
 use std::io::{BufWriter, ErrorKind, Write};
@@ -110,8 +110,13 @@ fn open_file(
     let name = format!(in rt.alloc(); "{folder}/{name}")?;
     let (file, growing) = outputs::grow(rt, name, Part::Bits, notes)?;
     let noting = Noting { file, failed: None };
-    let writer = BufWriter::with_capacity(rt.alloc(), WRITTEN_AT_ONCE, noting)?;
-    Ok(Direction(Some(OpenFile { writer, growing })))
+    match BufWriter::with_capacity(rt.alloc(), WRITTEN_AT_ONCE, noting) {
+        Ok(writer) => Ok(Direction(Some(OpenFile { writer, growing }))),
+        Err(_refused) => {
+            growing.end(rt, false, notes)?;
+            Err(NO_MEMORY)
+        }
+    }
 }
 
 /// Checks that standard output isn't closed, as a file would be opened in its place. Errors: `Io` (8), and that is noted.

@@ -5,7 +5,8 @@ ghost use Rattle.faults.specs.Faults.{IsOutside};
 ghost use Rattle.std.specs.Prelude.{IfErr};
 
 use crate::bits::CallFiles;
-use crate::files::{read_file, read_input};
+use crate::bounded::read_script_file;
+use crate::files::read_input;
 use crate::notes::{Notes, Part};
 use crate::{diagram, outputs};
 use calls::{CallOptions, call_to_end, ended_normally, read_script};
@@ -21,7 +22,7 @@ pub fn call_file(
     files: CallFiles<'_>,
     notes: &mut Notes,
 ) -> Result<bool, ToolFault> {
-    notes.script = read_file(rt, script, Part::Script, notes)?;
+    notes.script = read_script_file(rt, script, notes)?;
     // a wrong script is refused before the document is read
     let _commands = read_script(rt.alloc(), notes.script.as_slice())?;
     read_input(rt, files.input, notes)?;

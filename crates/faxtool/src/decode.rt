@@ -4,7 +4,8 @@ ghost use Rattle.faults.specs.Faults.{IsOutside};
 ghost use Rattle.raster.specs.Pixels.{IsWidth};
 ghost use Rattle.std.specs.Prelude.{IfErr};
 
-use crate::files::{InAndOut, read_input};
+use crate::bounded::{Ways, read_coded};
+use crate::files::InAndOut;
 use crate::notes::Notes;
 use crate::outputs::{self, Output};
 use faults::ToolFault;
@@ -27,7 +28,7 @@ pub fn decode_file(
 ) -> Result<bool, ToolFault>
     requires { IsWidth form.width }
 {
-    read_input(rt, files.input, notes)?;
+    read_coded(rt, files.input, Ways::of(form, options.repair), notes)?;
     let kept = &mut notes.refused;
     let answer = answer_page(rt.alloc(), &mut notes.octets, form, options, number, kept);
     let DecodeAnswer { page, told, end } = answer.map_err(|fault| notes.in_memory(fault))?;

@@ -6,7 +6,7 @@ ghost use Rattle.std.specs.Prelude.{IfErr};
 use crate::bits::{self, CallFiles, CallOutput};
 use crate::notes::{Notes, Part};
 use crate::outputs;
-use calls::{Ladder, WithDiagram, write_picture};
+use call_pictures::{Ladder, WithDiagram, write_picture};
 use faults::ToolFault;
 
 /// Opens a call's outputs, with its picture if that is asked for. Errors: `Io` (8) if a file can't be made or standard output is closed,

@@ -5,7 +5,8 @@ use crate::call::write_pages;
 use crate::diagram;
 use crate::files::{self, read_input};
 use crate::notes::Notes;
-use calls::{BadLine, CallOptions, drive_many, drive_to_end, ended_normally};
+use call_tallies::drive_many;
+use calls::{BadLine, CallOptions, drive_to_end, ended_normally};
 use faults::ToolFault;
 
 /// Runs call 0 over a bad line, or many calls if a number is given. Returns whether call 0 ended normally for both stations; true for many.

@@ -7,16 +7,20 @@ ghost use Rattle.std.specs.Prelude.{IfErr, IfSome};
 
 use crate::commands::entry_named;
 use crate::names::file_of;
-use crate::notes::{Notes, Part};
+use crate::notes::{Cause, Notes, Part};
+use crate::row_widths::same_width;
+use crate::told::Told;
 use crate::words::{Job, Outcome};
 use calls::line_fault_at;
 use clap::Error;
 use faults::{
-    Expected, Explained, Known, LineFault, ToolFault, is_shown, write_fault, write_notice,
+    Expected, Explained, FAILED, Known, LineFault, ToolFault, is_shown, write_fault, write_notice,
 };
 use page_code::Coding;
 use page_files::{PageForm, refused_at, refused_in};
+use raster::read_pbm;
 use run_tables::Order;
+use signals::PageWidth;
 use std::alloc::{AllocError, Global};
 use std::env::{self, Env, FillError};
 use std::io;
@@ -79,6 +83,36 @@ pub fn refused(
     Outcome::Fault(fault)
 }
 
+/// The fault of a word that isn't UTF-8: its line, and on a terminal which word that is, and what to do if it names a file.
+pub fn refuse_no_text(rt: &HostRuntime) -> Outcome {
+    let _shown = eprintln!(rt; "{FAILED}");
+    if is_explained(rt) || is_asked(rt) {
+        let advice = "isn't UTF-8: for a file of that name write - and give the file by < NAME";
+        let _explained = match no_text(rt) {
+            Some(number) => eprintln!(rt; "word {number} of the command {advice}"),
+            None => eprintln!(rt; "a word of the command {advice}"),
+        };
+    }
+    Outcome::Fault(FAILED)
+}
+
+/// Returns the number of the first word after the program's name that isn't UTF-8, if it is not longer than a file's name can be.
+fn no_text(rt: &HostRuntime) -> Option<usize> {
+    let mut word = [0u8; 4096];
+    for number in 1..usize::MAX {
+        match rt.arg(number, &mut word) {
+            Ok(size) => {
+                if str::from_utf8(word.get(..size).unwrap_or(&[])).is_err() {
+                    return Some(number);
+                }
+            }
+            Err(FillError::TooLong) => {}
+            Err(FillError::NotPresent) => return None,
+        }
+    }
+    None
+}
+
 /// Returns whether one of the command's words is `--explain`, also where another one isn't UTF-8.
 fn is_asked(rt: &HostRuntime) -> bool {
     let mut word = [0u8; 16];
@@ -133,31 +167,79 @@ pub fn notice(rt: &HostRuntime, records: bool, words: &str) -> Result<(), ToolFa
 }
 
 /// Shows the record of a fault on standard error.
-fn show_record(rt: &HostRuntime, words: &Explained<'_>) -> Result<(), ToolFault> {
-    let text = format!(in rt.alloc(); "{words}")?;
-    write_fault(rt.alloc(), words.fault, text.as_str(), &mut rt.stderr())
+fn show_record(rt: &HostRuntime, told: &Told<'_>) -> Result<(), ToolFault> {
+    let text = format!(in rt.alloc(); "{told}")?;
+    write_fault(
+        rt.alloc(),
+        told.words.fault,
+        text.as_str(),
+        &mut rt.stderr(),
+    )
 }
 
 /// A fault of a job in words.
-fn explained<'a>(
-    rt: &HostRuntime,
-    job: &'a Job,
-    fault: ToolFault,
-    notes: &'a Notes,
-) -> Explained<'a>
+fn explained<'a>(rt: &HostRuntime, job: &'a Job, fault: ToolFault, notes: &'a Notes) -> Told<'a>
     requires { HasWidth job.now }
 {
     let (row, expected) = refused_place(rt, job, fault, notes);
+    let cause = notes.cause.or(cause_of(rt, job, fault, notes));
+    // with another width neither the order nor the code is in doubt
+    let read_as = match cause {
+        Some(Cause::RowsOf(_)) => None,
+        _ => page_of(job).map(|page| (page.0, page.1)),
+    };
     let known = Known {
         file: file_of(job, part_of(fault, notes)),
         reason: notes.failed.map(|failed| failed.1),
         begins: notes.octets.as_slice(),
         row,
         expected,
-        read_as: page_of(job).map(|page| (page.0, page.1)),
+        read_as,
         line: refused_line(fault, notes),
     };
-    Explained { fault, known }
+    Told {
+        words: Explained { fault, known },
+        cause,
+    }
+}
+
+/// What the input's octets say of a fault beside its number.
+fn cause_of(rt: &HostRuntime, job: &Job, fault: ToolFault, notes: &Notes) -> Option<Cause>
+    requires { HasWidth job.now }
+{
+    match fault {
+        ToolFault::No(26) => width_not_callable(rt, notes.octets.as_slice()),
+        ToolFault::AtBit { .. } => {
+            let (coding, order, width) = page_of(job)?;
+            match coding {
+                Coding::OneDim => other_width(notes.octets.as_slice(), order, width),
+                Coding::T6 => None,
+            }
+        }
+        ToolFault::No(_) | ToolFault::AtLine(_) => None,
+    }
+}
+
+/// Returns the first page of a document that a call can't carry.
+fn width_not_callable(rt: &HostRuntime, images: &[u8]) -> Option<Cause> {
+    let mut images = images;
+    let document = read_pbm(rt.alloc(), &mut images, false).ok()?;
+    for (number, page) in document.pages().iter().enumerate() {
+        let width = page.width();
+        if PageWidth::of_pixels(width).is_none() {
+            let page = number.saturating_add(1);
+            return Some(Cause::NotCallable { page, width });
+        }
+    }
+    None
+}
+
+/// Returns the width of the rows of a page of T.4, if they all have the same one, and it isn't the one given.
+fn other_width(octets: &[u8], order: Order, given: u32) -> Option<Cause> {
+    match same_width(octets, order) {
+        Some(width) if width != given => Some(Cause::RowsOf(width)),
+        _ => None,
+    }
 }
 
 /// What is wrong with the line of a script that is refused.

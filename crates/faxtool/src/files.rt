@@ -147,7 +147,7 @@ pub fn open<'a>(
 
 /// Returns all octets of a file or of standard input. If an image is wanted and the file doesn't begin as one, its first octets are all
 /// that is read. Errors: `Io` (8) if it can't be read; `NoMemory` (9).
-pub fn read_file(
+fn read_file(
     rt: &HostRuntime,
     name: &str,
     part: Part,

@@ -15,6 +15,8 @@ use captures::{
 use faults::{NO_MEMORY, ToolFault};
 use raster::{Page, write_pbm};
 use run_tables::Order;
+use std::io;
+use std::io::Write;
 
 /// Says on standard error what to try if no frame was found.
 fn say_other_order(rt: &HostRuntime, how: ListOptions, worth: bool) -> Result<(), ToolFault>
@@ -163,6 +165,29 @@ impl Folder<'_> {
     }
 }
 
+/// A writer that counts the lines that go through it.
+#[derive(Drop)]
+struct Counted<W> {
+    writer: W,
+    lines: u64,
+}
+
+impl<W: Write + Drop> Write for Counted<W> {
+    fn write(&mut self, octets: &[u8]) -> io::Result<usize> {
+        let written = self.writer.write(octets)?;
+        for octet in octets.get(..written).unwrap_or(&[]) {
+            if *octet == b'\n' {
+                self.lines = self.lines.saturating_add(1);
+            }
+        }
+        Ok(written)
+    }
+
+    fn flush(&mut self) -> io::Result<()> {
+        self.writer.flush()
+    }
+}
+
 /// Where the pages in frames go.
 #[derive(Clone, Copy)]
 pub struct FoundPages<'a> {
@@ -184,7 +209,10 @@ fn store_pages(
     ensures { IfErr result IsOutside }
 {
     let mut reader = files::open(rt, input, Part::Input, notes)?;
-    let mut writer = files::print(rt)?;
+    let mut counted = Counted {
+        writer: files::print(rt)?,
+        lines: 0,
+    };
     let mut store = Folder {
         rt,
         name: pages.folder,
@@ -195,20 +223,26 @@ fn store_pages(
         is_whole: true,
     };
     let listed = if pages.salvage {
-        salvage_pages_engine(rt.alloc(), &mut reader, &mut writer, how, &mut store)
+        salvage_pages_engine(rt.alloc(), &mut reader, &mut counted, how, &mut store)
     } else {
-        pages_engine(rt.alloc(), &mut reader, &mut writer, how, &mut store)
+        pages_engine(rt.alloc(), &mut reader, &mut counted, how, &mut store)
     };
     let is_empty = store.is_empty;
     let is_whole = store.is_whole;
     reader.close(notes);
+    let Counted { writer, lines } = counted;
     let printed = files::end_print(writer, listed.is_ok(), notes);
     let worth = listed?;
     printed?;
     say_other_order(rt, how, worth)?;
     if is_empty {
-        let records = how.form == ListForm::Records;
-        notice(rt, records, "no error correction: no pages")?;
+        // of a capture without a good frame the line of counts is the only one
+        let words = if lines > 1 {
+            "no error correction: no pages"
+        } else {
+            "no frame: no pages"
+        };
+        notice(rt, how.form == ListForm::Records, words)?;
     }
     Ok(is_whole && !is_empty)
 }

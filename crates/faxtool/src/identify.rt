@@ -1,6 +1,7 @@
 //! The command `identify`.
 
-use crate::files::{self, read_input};
+use crate::bounded::{Ways, read_coded};
+use crate::files;
 use crate::notes::Notes;
 use faults::ToolFault;
 use page_files::identify_engine;
@@ -8,7 +9,7 @@ use page_files::identify_engine;
 /// Prints the format that a file begins as, and in which ways it reads as a page. Errors: `NoPages` (7) or `Unidentified` (29) if there is
 /// neither; then it prints how far each way reads.
 pub fn identify_file(rt: &HostRuntime, input: &str, notes: &mut Notes) -> Result<(), ToolFault> {
-    read_input(rt, input, notes)?;
+    read_coded(rt, input, Ways::Tried, notes)?;
     let mut writer = files::print(rt)?;
     let identified = identify_engine(rt.alloc(), notes.octets.as_slice(), &mut writer);
     let printed = files::end_print(writer, identified.is_ok(), notes);

@@ -15,7 +15,8 @@ use crate::identify::identify_file;
 use crate::names::{bits_of, output_of};
 use crate::notes::{Notes, Part};
 use crate::show::show_file;
-use crate::station_run::{end_station, run_station};
+use crate::station::{Answering, Dialling};
+use crate::station_run::end_station;
 use crate::two_captures::{CaptureFiles, draw_captures};
 use crate::version::print_version;
 use crate::words::{Job, Outcome, Request};
@@ -49,7 +50,9 @@ pub fn run_request(rt: &HostRuntime, request: &Request) -> Outcome
 fn takes_image(job: &Job) -> bool {
     match job {
         Job::Code { .. } | Job::Call { .. } | Job::Drive { .. } | Job::Dial { .. } => true,
-        _ => false,
+        Job::Show { .. } | Job::Decode { .. } | Job::Identify { .. } => false,
+        Job::Frames { .. } | Job::Captures { .. } => false,
+        Job::Answer { .. } | Job::Version { .. } => false,
     }
 }
 
@@ -86,11 +89,25 @@ fn check_output(rt: &HostRuntime, job: &Job, notes: &mut Notes) -> Result<(), To
         Job::Frames { .. } | Job::Answer { .. } => {
             outputs::check_folder(rt, name, Part::Output, notes)
         }
-        _ => outputs::check_terminal(rt, name, notes),
+        Job::Code { .. } | Job::Decode { .. } | Job::Call { .. } | Job::Drive { .. } => {
+            outputs::check_terminal(rt, name, notes)
+        }
+        // these have no such output
+        Job::Show { .. } | Job::Identify { .. } | Job::Captures { .. } => Ok(()),
+        Job::Dial { .. } | Job::Version { .. } => Ok(()),
     }
 }
 
-/// Runs a job, and returns whether the result is complete.
+/// What a job that ran to its end leaves.
+fn ended(is_complete: bool) -> Outcome {
+    if is_complete {
+        Outcome::Done
+    } else {
+        Outcome::Incomplete
+    }
+}
+
+/// Checks a job's outputs and runs it, and returns whether the result is complete.
 pub fn run_job(
     rt: &HostRuntime,
     job: &Job,
@@ -101,13 +118,25 @@ pub fn run_job(
 {
     check_output(rt, job, notes)?;
     check_bits(rt, job, notes)?;
-    if let Some(talked) = run_station(rt, job, notes) {
-        return Ok(end_station(rt, job, &talked?, notes, explains));
-    }
-    let is_complete = match job {
-        Job::Call { normal, .. } | Job::Drive { normal, .. } => {
-            let is_normal = run_call(rt, job, notes)?;
-            is_normal || !*normal
+    // each job has an arm here, and no other match decides what runs
+    match job {
+        Job::Code {
+            coding,
+            order,
+            input,
+            output,
+        } => {
+            code_file(rt, *coding, *order, InAndOut { input, output }, notes)?;
+            Ok(Outcome::Done)
+        }
+        Job::Show {
+            coding,
+            order,
+            width,
+            input,
+        } => {
+            show_file(rt, *coding, *order, *width, input, notes)?;
+            Ok(Outcome::Done)
         }
         Job::Decode {
             form,
@@ -117,51 +146,8 @@ pub fn run_job(
             output,
         } => {
             let files = InAndOut { input, output };
-            decode_file(rt, *form, *options, *page, files, notes)?
+            Ok(ended(decode_file(rt, *form, *options, *page, files, notes)?))
         }
-        Job::Frames { .. } | Job::Captures { .. } => run_frames(rt, job, notes)?,
-        _ => {
-            do_whole(rt, job, notes)?;
-            true
-        }
-    };
-    Ok(if is_complete {
-        Outcome::Done
-    } else {
-        Outcome::Incomplete
-    })
-}
-
-/// Runs a job that is either done or fails: not one that decodes a page, lists frames or runs a call.
-pub fn do_whole(rt: &HostRuntime, job: &Job, notes: &mut Notes) -> Result<(), ToolFault>
-    requires { HasWidth job.now }
-{
-    match job {
-        Job::Code {
-            coding,
-            order,
-            input,
-            output,
-        } => code_file(rt, *coding, *order, InAndOut { input, output }, notes),
-        Job::Show {
-            coding,
-            order,
-            width,
-            input,
-        } => show_file(rt, *coding, *order, *width, input, notes),
-        Job::Identify { input } => identify_file(rt, input, notes),
-        Job::Version { proof } => print_version(rt, *proof, notes),
-        Job::Decode { .. } | Job::Frames { .. } | Job::Answer { .. } | Job::Dial { .. } => Ok(()),
-        Job::Captures { .. } => Ok(()),
-        Job::Call { .. } | Job::Drive { .. } => Ok(()),
-    }
-}
-
-/// Lists the frames of one capture, or draws those of two. Returns whether nothing is missing.
-fn run_frames(rt: &HostRuntime, job: &Job, notes: &mut Notes) -> Result<bool, ToolFault>
-    ensures { IfErr result IsOutside }
-{
-    match job {
         Job::Frames {
             most,
             order,
@@ -179,7 +165,7 @@ fn run_frames(rt: &HostRuntime, job: &Job, notes: &mut Notes) -> Result<bool, To
                 folder,
                 salvage: *salvage,
             });
-            frames_file(rt, how, found, input, notes)
+            Ok(ended(frames_file(rt, how, found, input, notes)?))
         }
         Job::Captures {
             order,
@@ -193,47 +179,74 @@ fn run_frames(rt: &HostRuntime, job: &Job, notes: &mut Notes) -> Result<bool, To
                 answerer,
                 diagram,
             };
-            draw_captures(rt, *order, *records, names, notes)
+            Ok(ended(draw_captures(rt, *order, *records, names, notes)?))
         }
-        _ => Ok(true),
-    }
-}
-
-/// Runs a call, or many. Returns whether a call that runs alone ended normally for both stations; true for many.
-fn run_call(rt: &HostRuntime, job: &Job, notes: &mut Notes) -> Result<bool, ToolFault> {
-    match job {
+        Job::Identify { input } => {
+            identify_file(rt, input, notes)?;
+            Ok(Outcome::Done)
+        }
         Job::Call {
             script,
             options,
             out,
             bits,
-            normal: _,
+            normal,
             diagram,
             input,
-        } => call_file(
-            rt,
-            script,
-            options,
-            CallFiles::of(out, bits, diagram, input),
-            notes,
-        ),
+        } => {
+            let files = CallFiles::of(out, bits, diagram, input);
+            let is_normal = call_file(rt, script, options, files, notes)?;
+            Ok(ended(is_normal || !*normal))
+        }
         Job::Drive {
             line,
             times,
             options,
             out,
             bits,
-            normal: _,
+            normal,
             diagram,
             input,
-        } => drives::drive(
-            rt,
-            line,
-            *times,
+        } => {
+            let files = CallFiles::of(out, bits, diagram, input);
+            let is_normal = drives::drive(rt, line, *times, options, files, notes)?;
+            Ok(ended(is_normal || !*normal))
+        }
+        Job::Answer {
+            caps,
+            limit,
+            waits,
+            out,
+            trace,
+        } => {
+            let answering = Answering {
+                caps: *caps,
+                limit: *limit,
+                waits: *waits,
+                out: out.as_str(),
+                trace: trace.as_deref(),
+            };
+            let talked = answering.run(rt, notes)?;
+            Ok(end_station(rt, job, &talked, notes, explains))
+        }
+        Job::Dial {
             options,
-            CallFiles::of(out, bits, diagram, input),
-            notes,
-        ),
-        _ => Ok(true),
+            waits,
+            trace,
+            input,
+        } => {
+            let dialling = Dialling {
+                options,
+                waits: *waits,
+                trace: trace.as_deref(),
+                input: input.as_str(),
+            };
+            let talked = dialling.run(rt, notes)?;
+            Ok(end_station(rt, job, &talked, notes, explains))
+        }
+        Job::Version { proof } => {
+            print_version(rt, *proof, notes)?;
+            Ok(Outcome::Done)
+        }
     }
 }

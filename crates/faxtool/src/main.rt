@@ -2,7 +2,9 @@
 //! runs calls. Here the words are read, their job is run, and the program ends with its status.
 #![tactic(auto)]
 
+mod apart;
 mod bits;
+mod bounded;
 mod call;
 mod captures_words;
 mod code;
@@ -17,20 +19,25 @@ mod frames;
 mod identify;
 mod job;
 mod names;
+mod no_line;
 mod notes;
 mod outputs;
 mod progress;
+mod row_widths;
 mod show;
 mod station;
 mod station_run;
 mod station_words;
 mod table;
+mod told;
 mod trace;
 mod two_captures;
+mod unfit;
 mod version;
 mod words;
 
-use explain::{refuse_words, refused};
+use apart::with_files_apart;
+use explain::{refuse_no_text, refuse_words, refused};
 use faults::{NO_MEMORY, ToolFault};
 use job::run_request;
 use std::process::ExitCode;
@@ -55,6 +62,7 @@ fn run_words(rt: &HostRuntime) -> Outcome {
     let words = match given_words(rt) {
         Ok(words) => words,
         // an argument that isn't UTF-8 can't name a file
+        Err(error) if error.kind() == io::ErrorKind::InvalidData => return refuse_no_text(rt),
         Err(error) => {
             let reason = Some(error.kind());
             return refused(rt, ToolFault::from(error), "a word of the command", reason);
@@ -71,7 +79,12 @@ fn run_words(rt: &HostRuntime) -> Outcome {
     } else {
         texts.as_slice()
     };
-    match read_words(rt.alloc(), asked) {
+    // two files that are one are found before anything is read or written
+    let read = match read_words(rt.alloc(), asked) {
+        Ok(request) => with_files_apart(rt, asked, request),
+        Err(outcome) => Err(outcome),
+    };
+    match read {
         Ok(request) => run_request(rt, &request),
         Err(Outcome::Fault(fault)) => refused(rt, fault, "the command's words", None),
         Err(outcome) => {

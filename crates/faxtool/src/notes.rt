@@ -30,6 +30,24 @@ pub enum Part {
     Printed,
 }
 
+/// What the program knows of a fault beside its number.
+#[derive(Clone, Copy, Debug, PartialEq, Eq)]
+pub enum Cause {
+    /// Octets would go to a terminal.
+    Terminal,
+    /// A file has more octets than this, the most that are read of it.
+    TooLong(usize),
+    /// The first page of a document that no call carries, counted from 1, has this width.
+    NotCallable {
+        /// The page's number.
+        page: usize,
+        /// Its width in pixels.
+        width: u32,
+    },
+    /// Each row of a page ends after this number of pixels, and not after those that were given.
+    RowsOf(u32),
+}
+
 /// What a job notes for the words of its fault.
 #[derive(Drop)]
 pub struct Notes {
@@ -51,6 +69,8 @@ pub struct Notes {
     pub script: Vec<u8>,
     /// How far a refused page was read, if that is known.
     pub refused: Option<RefusedCode>,
+    /// What else is known of the fault, if anything is.
+    pub cause: Option<Cause>,
 }
 
 impl Notes {
@@ -75,6 +95,7 @@ impl Notes {
             octets: Vec::new(alloc),
             script: Vec::new(alloc),
             refused: None,
+            cause: None,
         }
     }
 

@@ -4,7 +4,7 @@ ghost use Rattle.faults.specs.Faults.{IsOutside};
 ghost use Rattle.std.specs.Prelude.{◌≤◌, IfErr, IfOk};
 
 use crate::files::STANDARD;
-use crate::notes::{Notes, Part};
+use crate::notes::{Cause, Notes, Part};
 use faults::ToolFault;
 use std::fs::{File, OpenOptions, Permissions};
 use std::io::{ErrorKind, IsTerminal, Write};
@@ -40,6 +40,7 @@ pub fn check_terminal(rt: &HostRuntime, name: &str, notes: &mut Notes) -> Result
     ensures { IfErr result IsOutside }
 {
     if name == STANDARD && rt.stdout().is_terminal() {
+        notes.cause = Some(Cause::Terminal);
         return noted(
             Err(io::Error::from(ErrorKind::Unsupported)),
             Part::Output,

@@ -2,7 +2,8 @@
 
 ghost use Rattle.raster.specs.Pixels.{IsWidth};
 
-use crate::files::{self, read_input};
+use crate::bounded::{Ways, read_coded};
+use crate::files;
 use crate::notes::Notes;
 use faults::ToolFault;
 use page_code::Coding;
@@ -20,13 +21,13 @@ pub fn show_file(
 ) -> Result<(), ToolFault>
     requires { IsWidth width }
 {
-    read_input(rt, input, notes)?;
     let form = PageForm {
         coding,
         order,
         width,
         fine: false,
     };
+    read_coded(rt, input, Ways::One(form), notes)?;
     let mut writer = files::print(rt)?;
     let kept = &mut notes.refused;
     let shown = show_page(rt.alloc(), &notes.octets, form, kept, &mut writer);

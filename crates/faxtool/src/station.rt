@@ -5,6 +5,7 @@ ghost use Rattle.std.specs.Prelude.{IfErr};
 
 use crate::explain::notice;
 use crate::files::{Printed, read_input};
+use crate::no_line::{LastLine, NoLine, no_line};
 use crate::notes::{Notes, Part};
 use crate::station_words::GivenWaits;
 use crate::trace::Trace;
@@ -28,8 +29,8 @@ const READ_AT_ONCE: usize = 65536;
 /// Why the lines of a station went no further.
 #[derive(Clone, Copy, Drop)]
 pub(crate) enum Halted {
-    /// The line with this number, from 1, isn't one that a station knows, or its time runs back.
-    Line(u64),
+    /// The line with this number, from 1, isn't answered, for this reason.
+    Line(u64, NoLine),
     /// A file, standard input or output failed, or memory was refused.
     Fault(ToolFault),
 }
@@ -186,10 +187,15 @@ struct Answers<'a> {
     trace: Trace,
 }
 
-/// Why the lines go no further. Why they can't be read is noted.
-fn halted_by(fault: ConverseFault<ToolFault>, notes: &mut Notes) -> Halted {
+/// Why the lines go no further; `line` is the last one that was read. Why they can't be read is noted.
+fn halted_by(
+    rt: &HostRuntime,
+    fault: ConverseFault<ToolFault>,
+    line: &[u8],
+    notes: &mut Notes,
+) -> Halted {
     match fault {
-        ConverseFault::Line(number) => Halted::Line(number),
+        ConverseFault::Line(number) => Halted::Line(number, no_line(rt.alloc(), line)),
         ConverseFault::NoMemory | ConverseFault::Writer(ErrorKind::OutOfMemory) => {
             Halted::Fault(NO_MEMORY)
         }
@@ -210,12 +216,13 @@ fn talk<S: Stoppable, K: Keeper<S, Refused = ToolFault>>(
     notes: &mut Notes,
 ) -> Result<(), Halted> {
     let rt = answers.rt;
-    let mut reader = BufReader::with_capacity(rt.alloc(), READ_AT_ONCE, rt.reader())?;
+    let input = BufReader::with_capacity(rt.alloc(), READ_AT_ONCE, rt.reader())?;
+    let mut reader = LastLine::new(rt.alloc(), input);
     let Answers { writer, trace, .. } = answers;
     match converse(rt.alloc(), &mut reader, conversation, keeper, writer, trace) {
         Ok(Ending::Over | Ending::Lost) => Ok(()),
         Ok(Ending::Unkept(fault)) => Err(Halted::Fault(fault)),
-        Err(fault) => Err(halted_by(fault, notes)),
+        Err(fault) => Err(halted_by(rt, fault, reader.line(), notes)),
     }
 }
 

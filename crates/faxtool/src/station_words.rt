@@ -1,10 +1,11 @@
 //! The words of the command `station`.
-ghost use Rattle.std.specs.Prelude.{◌≡◌, IfOk, MatchOption, Some, codes, false, option_map, true};
+ghost use Rattle.std.specs.Prelude.{◌≡◌, IfOk, MatchResult, Some, codes, false, option_map, true};
 ghost use Rattle.std.specs.Str.{bytes_eq};
 ghost use Rattle.clap.specs.Words.{first_of, found_of, rows_of};
 ghost use Rattle.faxtool.specs.Jobs.{AreWaitsIn, HasNoJob, IsJobOf, caps_in, has_answerer, has_caller, limit_of, is_named, takes_t6};
 ghost use Rattle.faxtool.specs.Jobs.{widest_named};
 
+use crate::unfit::Unfit;
 use crate::words::{
     Job, coding_in, copy_of, is_named, modems_named, number_in, options_in, text_in,
 };
@@ -30,9 +31,9 @@ pub struct GivenWaits {
 pub(crate) fn station_job(
     alloc: Global,
     matches: &ArgMatches<'_>,
-) -> Result<Option<Job>, AllocError>
+) -> Result<Result<Job, Unfit>, AllocError>
     ensures { let met = Some (codes "station", rows_of (found_of matches.now)) in
-        IfOk result (λ job. MatchOption job (HasNoJob met) (IsJobOf met)) }
+        IfOk result (λ job. MatchResult job (IsJobOf met) (λ unfit. HasNoJob met)) }
 {
     let answers = is_named(text_in(matches, "answer"), "true");
     let calls = is_named(text_in(matches, "call"), "true");
@@ -42,26 +43,30 @@ pub(crate) fn station_job(
     if calls && !answers {
         return dial_job(alloc, matches);
     }
-    Ok(None)
+    Ok(Err(if answers {
+        Unfit::BothStations
+    } else {
+        Unfit::NoStation
+    }))
 }
 
 // The job of an answerer.
-fn answer_job(alloc: Global, matches: &ArgMatches<'_>) -> Result<Option<Job>, AllocError>
+fn answer_job(alloc: Global, matches: &ArgMatches<'_>) -> Result<Result<Job, Unfit>, AllocError>
     requires answers { is_named (codes "true") (first_of (codes "answer") (rows_of (found_of matches.now))) ≡ true }
     requires calls { is_named (codes "true") (first_of (codes "call") (rows_of (found_of matches.now))) ≡ false }
     ensures { let met = Some (codes "station", rows_of (found_of matches.now)) in
-        IfOk result (λ job. MatchOption job (HasNoJob met) (IsJobOf met)) }
+        IfOk result (λ job. MatchResult job (IsJobOf met) (λ unfit. HasNoJob met)) }
 {
     if has_caller(matches) {
-        return Ok(None);
+        return Ok(Err(Unfit::AnswererAsCaller));
     }
     let Some(coding) = coding_in(matches) else {
-        return Ok(None);
+        return Ok(Err(Unfit::Missing));
     };
     let Some(out) = text_in(matches, "out") else {
-        return Ok(None);
+        return Ok(Err(Unfit::NoFolder));
     };
-    Ok(Some(Job::Answer {
+    Ok(Ok(Job::Answer {
         caps: caps_in(matches, coding),
         limit: limit_of(number_in(matches, "limit")),
         waits: waits_in(matches),
@@ -71,25 +76,25 @@ fn answer_job(alloc: Global, matches: &ArgMatches<'_>) -> Result<Option<Job>, Al
 }
 
 // The job of a caller.
-fn dial_job(alloc: Global, matches: &ArgMatches<'_>) -> Result<Option<Job>, AllocError>
+fn dial_job(alloc: Global, matches: &ArgMatches<'_>) -> Result<Result<Job, Unfit>, AllocError>
     requires calls { is_named (codes "true") (first_of (codes "call") (rows_of (found_of matches.now))) ≡ true }
     requires answers { is_named (codes "true") (first_of (codes "answer") (rows_of (found_of matches.now))) ≡ false }
     ensures { let met = Some (codes "station", rows_of (found_of matches.now)) in
-        IfOk result (λ job. MatchOption job (HasNoJob met) (IsJobOf met)) }
+        IfOk result (λ job. MatchResult job (IsJobOf met) (λ unfit. HasNoJob met)) }
 {
     if has_answerer(matches) {
-        return Ok(None);
+        return Ok(Err(Unfit::CallerAsAnswerer));
     }
     let Some(options) = options_in(matches) else {
-        return Ok(None);
+        return Ok(Err(Unfit::Missing));
     };
     let Some(input) = text_in(matches, "in") else {
-        return Ok(None);
+        return Ok(Err(Unfit::NoDocument));
     };
     if is_standard(input) {
-        return Ok(None);
+        return Ok(Err(Unfit::DocumentStandard));
     }
-    Ok(Some(Job::Dial {
+    Ok(Ok(Job::Dial {
         options,
         waits: waits_in(matches),
         trace: copy_of(alloc, text_in(matches, "trace"))?,
@@ -176,26 +181,4 @@ fn widest_named(name: Option<&str>) -> PageWidth
         Some(name) if name == "2048" => PageWidth::W2048,
         _ => PageWidth::W2432,
     }
-}
-
-// What is wrong with the words of a station.
-pub(crate) fn unfit_station(matches: &ArgMatches<'_>) -> &'static str {
-    let answers = is_named(text_in(matches, "answer"), "true");
-    let calls = is_named(text_in(matches, "call"), "true");
-    if answers == calls {
-        return "a station answers or calls: either --answer or --call is needed";
-    }
-    if answers && has_caller(matches) {
-        return "--frame, --fine and IN are for a station with --call";
-    }
-    if answers {
-        return "--answer needs --out, the folder of the pages";
-    }
-    if has_answerer(matches) {
-        return "--out, --standard, --widest and --limit are for a station with --answer";
-    }
-    if text_in(matches, "in").is_none() {
-        return "--call needs IN, the file of the document";
-    }
-    "IN can't be standard input, where the lines come"
 }

@@ -63,14 +63,15 @@ const FILE: Argument<'static> = Argument {
     ..FILE_OPTION
 };
 
-const CODINGS: Option<ValueParser<'static>> = Some(ValueParser::Names(&["mh", "mmr"]));
+/// The codes: as options name them, and as the texts of frames do.
+const CODINGS: Option<ValueParser<'static>> = Some(ValueParser::Names(&["mh", "mmr", "t4", "t6"]));
 
 const CODE: Argument<'static> = Argument {
     id: "code",
     shown: &["CODE"],
     required: true,
     parser: CODINGS,
-    help: "The code of the page: mh codes each row by its runs alone, mmr after the row above",
+    help: "The code of the page: mh, or t4, codes each row by its runs alone, mmr, or t6, after the row above",
     ..FILE_OPTION
 };
 

@@ -6,7 +6,7 @@ ghost use Rattle.std.specs.Prelude.{IfErr};
 use crate::explain::notice;
 use crate::notes::{Notes, Part};
 use crate::{diagram, files};
-use calls::{CapturedFrames, captured_frames, ladder_of};
+use call_pictures::{CapturedFrames, captured_frames, ladder_of};
 use faults::ToolFault;
 use run_tables::Order;
 

@@ -10,9 +10,10 @@ ghost use Rattle.faxtool.specs.Jobs.{IsLineIn, IsRateIn, IsSpoilIn, IsBusyIn, Is
 ghost use Rattle.faxtool.specs.Jobs.{line_order_named, list_form, order_named, status_of};
 ghost use Rattle.calls.specs.declared.losses.BadLine.{BadLine as LineValue};
 
-use crate::captures_words::{captures_job, has_captures, unfit_frames};
+use crate::captures_words::{captures_job, has_captures};
 use crate::commands::{command_alone, entry_named, faxtool_command};
-use crate::station_words::{GivenWaits, station_job, unfit_station};
+use crate::station_words::{GivenWaits, station_job};
+use crate::unfit::Unfit;
 use calls::{BadLine, CallOptions, read_rate};
 use captures::ListForm;
 use clap::error::ErrorKind;
@@ -238,12 +239,15 @@ pub fn read_words(alloc: Global, words: &[&str]) -> Result<Request, Outcome>
         Err(error) => return Err(Outcome::from(error)),
     };
     match job_in(alloc, &matches)? {
-        Some(job) => {
+        Ok(job) => {
             let explain = asks(&matches, "explain");
             let json = asks(&matches, "json");
             Ok(Request { job, explain, json })
         }
-        None => Err(Outcome::from(unfit(alloc, &matches)?)),
+        Err(why) => {
+            let name = matches.subcommand_name();
+            Err(Outcome::from(unfit(alloc, name, why.words())?))
+        }
     }
 }
 
@@ -258,9 +262,9 @@ fn asks(matches: &ArgMatches<'_>, id: &str) -> bool
 }
 
 // The job, if all its values are given and its options go together.
-fn job_in(alloc: Global, matches: &ArgMatches<'_>) -> Result<Option<Job>, AllocError>
+fn job_in(alloc: Global, matches: &ArgMatches<'_>) -> Result<Result<Job, Unfit>, AllocError>
     ensures { let met = subcommand_rows_of matches.now in
-        IfOk result (λ job. MatchOption job (HasNoJob met) (IsJobOf met)) }
+        IfOk result (λ job. MatchResult job (IsJobOf met) (λ unfit. HasNoJob met)) }
 {
     if let Some(inner) = matches.subcommand_matches("code") {
         return code_job(alloc, inner);
@@ -284,9 +288,9 @@ fn job_in(alloc: Global, matches: &ArgMatches<'_>) -> Result<Option<Job>, AllocE
         return station_job(alloc, inner);
     }
     if let Some(inner) = matches.subcommand_matches("version") {
-        return Ok(Some(version_job(inner)));
+        return Ok(Ok(version_job(inner)));
     }
-    Ok(None)
+    Ok(Err(Unfit::Missing))
 }
 
 fn version_job(matches: &ArgMatches<'_>) -> Job
@@ -297,20 +301,20 @@ fn version_job(matches: &ArgMatches<'_>) -> Job
     }
 }
 
-fn code_job(alloc: Global, matches: &ArgMatches<'_>) -> Result<Option<Job>, AllocError>
+fn code_job(alloc: Global, matches: &ArgMatches<'_>) -> Result<Result<Job, Unfit>, AllocError>
     ensures { let met = Some (codes "code", rows_of (found_of matches.now)) in
-        IfOk result (λ job. MatchOption job (HasNoJob met) (IsJobOf met)) }
+        IfOk result (λ job. MatchResult job (IsJobOf met) (λ unfit. HasNoJob met)) }
 {
     let Some(coding) = coding_in(matches) else {
-        return Ok(None);
+        return Ok(Err(Unfit::Missing));
     };
     let Some(input) = text_in(matches, "in") else {
-        return Ok(None);
+        return Ok(Err(Unfit::Missing));
     };
     let Some(output) = text_in(matches, "out") else {
-        return Ok(None);
+        return Ok(Err(Unfit::Missing));
     };
-    Ok(Some(Job::Code {
+    Ok(Ok(Job::Code {
         coding,
         order: order_in(matches),
         input: String::from_str(alloc, input)?,
@@ -318,20 +322,20 @@ fn code_job(alloc: Global, matches: &ArgMatches<'_>) -> Result<Option<Job>, Allo
     }))
 }
 
-fn show_job(alloc: Global, matches: &ArgMatches<'_>) -> Result<Option<Job>, AllocError>
+fn show_job(alloc: Global, matches: &ArgMatches<'_>) -> Result<Result<Job, Unfit>, AllocError>
     ensures { let met = Some (codes "show", rows_of (found_of matches.now)) in
-        IfOk result (λ job. MatchOption job (HasNoJob met) (IsJobOf met)) }
+        IfOk result (λ job. MatchResult job (IsJobOf met) (λ unfit. HasNoJob met)) }
 {
     let Some(coding) = coding_in(matches) else {
-        return Ok(None);
+        return Ok(Err(Unfit::Missing));
     };
     let Some(width) = width_in(matches) else {
-        return Ok(None);
+        return Ok(Err(Unfit::Missing));
     };
     let Some(input) = text_in(matches, "file") else {
-        return Ok(None);
+        return Ok(Err(Unfit::Missing));
     };
-    Ok(Some(Job::Show {
+    Ok(Ok(Job::Show {
         coding,
         order: order_in(matches),
         width,
@@ -339,25 +343,25 @@ fn show_job(alloc: Global, matches: &ArgMatches<'_>) -> Result<Option<Job>, Allo
     }))
 }
 
-fn decode_job(alloc: Global, matches: &ArgMatches<'_>) -> Result<Option<Job>, AllocError>
+fn decode_job(alloc: Global, matches: &ArgMatches<'_>) -> Result<Result<Job, Unfit>, AllocError>
     ensures { let met = Some (codes "decode", rows_of (found_of matches.now)) in
-        IfOk result (λ job. MatchOption job (HasNoJob met) (IsJobOf met)) }
+        IfOk result (λ job. MatchResult job (IsJobOf met) (λ unfit. HasNoJob met)) }
 {
     let Some(coding) = coding_in(matches) else {
-        return Ok(None);
+        return Ok(Err(Unfit::Missing));
     };
     let Some(width) = width_in(matches) else {
-        return Ok(None);
+        return Ok(Err(Unfit::Missing));
     };
     let Some(input) = text_in(matches, "file") else {
-        return Ok(None);
+        return Ok(Err(Unfit::Missing));
     };
     let Some(output) = text_in(matches, "out") else {
-        return Ok(None);
+        return Ok(Err(Unfit::Missing));
     };
     let options = decode_options(matches);
     if options.salvage && options.repair {
-        return Ok(None);
+        return Ok(Err(Unfit::RepairAndSalvage));
     }
     let form = PageForm {
         coding,
@@ -365,7 +369,7 @@ fn decode_job(alloc: Global, matches: &ArgMatches<'_>) -> Result<Option<Job>, Al
         width,
         fine: is_named(text_in(matches, "fine"), "true"),
     };
-    Ok(Some(Job::Decode {
+    Ok(Ok(Job::Decode {
         form,
         options,
         page: page_of(number_in(matches, "page")),
@@ -407,21 +411,21 @@ fn list_form(records: bool, words: bool) -> ListForm
     }
 }
 
-fn frames_job(alloc: Global, matches: &ArgMatches<'_>) -> Result<Option<Job>, AllocError>
+fn frames_job(alloc: Global, matches: &ArgMatches<'_>) -> Result<Result<Job, Unfit>, AllocError>
     ensures { let met = Some (codes "frames", rows_of (found_of matches.now)) in
-        IfOk result (λ job. MatchOption job (HasNoJob met) (IsJobOf met)) }
+        IfOk result (λ job. MatchResult job (IsJobOf met) (λ unfit. HasNoJob met)) }
 {
     if has_captures(matches) {
         return captures_job(alloc, matches);
     }
     let Some(input) = text_in(matches, "file") else {
-        return Ok(None);
+        return Ok(Err(Unfit::NoCapture));
     };
     let salvage = is_named(text_in(matches, "salvage"), "true");
     if salvage && text_in(matches, "pages").is_none() {
-        return Ok(None);
+        return Ok(Err(Unfit::NoPages));
     }
-    Ok(Some(Job::Frames {
+    Ok(Ok(Job::Frames {
         most: number_in(matches, "data"),
         order: line_order_in(matches),
         form: list_form(
@@ -434,36 +438,38 @@ fn frames_job(alloc: Global, matches: &ArgMatches<'_>) -> Result<Option<Job>, Al
     }))
 }
 
-fn identify_job(alloc: Global, matches: &ArgMatches<'_>) -> Result<Option<Job>, AllocError>
+fn identify_job(alloc: Global, matches: &ArgMatches<'_>) -> Result<Result<Job, Unfit>, AllocError>
     ensures { let met = Some (codes "identify", rows_of (found_of matches.now)) in
-        IfOk result (λ job. MatchOption job (HasNoJob met) (IsJobOf met)) }
+        IfOk result (λ job. MatchResult job (IsJobOf met) (λ unfit. HasNoJob met)) }
 {
     let Some(input) = text_in(matches, "file") else {
-        return Ok(None);
+        return Ok(Err(Unfit::Missing));
     };
-    Ok(Some(Job::Identify {
+    Ok(Ok(Job::Identify {
         input: String::from_str(alloc, input)?,
     }))
 }
 
-fn call_job(alloc: Global, matches: &ArgMatches<'_>) -> Result<Option<Job>, AllocError>
+fn call_job(alloc: Global, matches: &ArgMatches<'_>) -> Result<Result<Job, Unfit>, AllocError>
     ensures { let met = Some (codes "call", rows_of (found_of matches.now)) in
-        IfOk result (λ job. MatchOption job (HasNoJob met) (IsJobOf met)) }
+        IfOk result (λ job. MatchResult job (IsJobOf met) (λ unfit. HasNoJob met)) }
 {
     let Some(options) = options_in(matches) else {
-        return Ok(None);
+        return Ok(Err(Unfit::Missing));
     };
     let Some(input) = text_in(matches, "in") else {
-        return Ok(None);
+        return Ok(Err(Unfit::Missing));
     };
     let Some(script) = text_in(matches, "script") else {
-        let Some(line) = line_in(matches) else {
-            return Ok(None);
+        let line = match line_in(matches) {
+            Ok(line) => line,
+            Err(why) => return Ok(Err(why)),
         };
-        let Some(times) = times_in(matches) else {
-            return Ok(None);
+        let times = match times_in(matches) {
+            Ok(times) => times,
+            Err(why) => return Ok(Err(why)),
         };
-        return Ok(Some(Job::Drive {
+        return Ok(Ok(Job::Drive {
             line,
             times,
             options,
@@ -474,10 +480,13 @@ fn call_job(alloc: Global, matches: &ArgMatches<'_>) -> Result<Option<Job>, Allo
             input: String::from_str(alloc, input)?,
         }));
     };
-    if are_both_standard(script, input) || has_line(matches) {
-        return Ok(None);
+    if has_line(matches) {
+        return Ok(Err(script_and_line(matches)));
     }
-    Ok(Some(Job::Call {
+    if are_both_standard(script, input) {
+        return Ok(Err(Unfit::ScriptAndInStandard));
+    }
+    Ok(Ok(Job::Call {
         script: String::from_str(alloc, script)?,
         options,
         out: copy_of(alloc, text_in(matches, "out"))?,
@@ -507,27 +516,43 @@ fn has_line(matches: &ArgMatches<'_>) -> bool
         || text_in(matches, "times").is_some()
 }
 
+// Why a script and options of a bad line don't go together.
+fn script_and_line(matches: &ArgMatches<'_>) -> Unfit {
+    match text_in(matches, "lose") {
+        Some(_rate) => Unfit::ScriptAndLose,
+        None => Unfit::ScriptAndLine,
+    }
+}
+
+// Why there is no rate of lost items.
+fn no_rate(matches: &ArgMatches<'_>) -> Unfit {
+    match text_in(matches, "lose") {
+        Some(_rate) => Unfit::NoRate,
+        None => Unfit::NoScript,
+    }
+}
+
 // The bad line, if its rates and its seed are given and valid.
-fn line_in(matches: &ArgMatches<'_>) -> Option<BadLine>
+fn line_in(matches: &ArgMatches<'_>) -> Result<BadLine, Unfit>
     ensures { let rows = rows_of (found_of matches.now) in
-        MatchOption result ((line : LineValue) → IsLineIn rows line → ⊥) (IsLineIn rows) }
+        MatchResult result (IsLineIn rows) (λ unfit. (line : LineValue) → IsLineIn rows line → ⊥) }
 {
     let Some(lose) = rate_in(matches, "lose") else {
-        return None;
+        return Err(no_rate(matches));
     };
     let Some(spoil) = spoil_in(matches) else {
-        return None;
+        return Err(Unfit::NoRate);
     };
     let Some(busy) = busy_in(matches) else {
-        return None;
+        return Err(Unfit::NoRate);
     };
     let Some(seed) = number_in(matches, "seed") else {
-        return None;
+        return Err(Unfit::NoSeed);
     };
     if lose > ALL_WORDS || spoil > ALL_WORDS - lose {
-        return None;
+        return Err(Unfit::RatesAboveAll);
     }
-    Some(BadLine {
+    Ok(BadLine {
         lose,
         spoil,
         busy,
@@ -537,32 +562,32 @@ fn line_in(matches: &ArgMatches<'_>) -> Option<BadLine>
 }
 
 // The value of `--times`; it excludes `--out`, `--bits`, `--expect`, `--diagram` and `--json`.
-fn times_in(matches: &ArgMatches<'_>) -> Option<Option<u32>>
+fn times_in(matches: &ArgMatches<'_>) -> Result<Option<u32>, Unfit>
     ensures { let rows = rows_of (found_of matches.now) in
-        MatchOption result ((times : Option ℕ) → IsTimesIn rows times → ⊥) (IsTimesIn rows) }
+        MatchResult result (IsTimesIn rows) (λ unfit. (times : Option ℕ) → IsTimesIn rows times → ⊥) }
 {
     // many calls keep no pages; the table is no record and says how many calls ended how
     if text_in(matches, "times").is_none() {
-        return Some(None);
+        return Ok(None);
     }
     if text_in(matches, "out").is_some() {
-        return None;
+        return Err(Unfit::TimesAndOut);
     }
     if text_in(matches, "bits").is_some() {
-        return None;
+        return Err(Unfit::TimesAndBits);
     }
     if text_in(matches, "expect").is_some() {
-        return None;
+        return Err(Unfit::TimesAndExpect);
     }
     if text_in(matches, "diagram").is_some() {
-        return None;
+        return Err(Unfit::TimesAndDiagram);
     }
     if is_named(text_in(matches, "json"), "true") {
-        return None;
+        return Err(Unfit::TimesAndJson);
     }
     match number_in(matches, "times") {
-        Some(times) if 1 <= times => Some(Some(times)),
-        _ => None,
+        Some(times) if 1 <= times => Ok(Some(times)),
+        _ => Err(Unfit::Missing),
     }
 }
 
@@ -674,8 +699,8 @@ fn coding_named(name: Option<&str>) -> Option<Coding>
     ensures { result ≡ coding_named (option_map (λ name. name.now) name.entry) }
 {
     match name {
-        Some(name) if name == "mh" => Some(Coding::OneDim),
-        Some(name) if name == "mmr" => Some(Coding::T6),
+        Some(name) if name == "mh" || name == "t4" => Some(Coding::OneDim),
+        Some(name) if name == "mmr" || name == "t6" => Some(Coding::T6),
         _ => None,
     }
 }
@@ -736,72 +761,22 @@ pub(crate) fn number_in(matches: &ArgMatches<'_>, id: &str) -> Option<u32>
     matches.get_one::<u32>(id)
 }
 
-// What is wrong with options that don't go together. `clap`'s exact contracts hold for commands without conflicting arguments, so the
-// program refuses them itself.
-fn unfit_text(matches: &ArgMatches<'_>) -> &'static str {
-    match matches.subcommand() {
-        Some((name, inner)) if name == "call" => unfit_call(inner),
-        Some((name, inner)) if name == "station" => unfit_station(inner),
-        Some((name, inner)) if name == "frames" => unfit_frames(inner),
-        _ => "--repair and --salvage can't be used together",
-    }
-}
-
-// What is wrong with the options of `call`.
-fn unfit_call(matches: &ArgMatches<'_>) -> &'static str {
-    let has_script = text_in(matches, "script").is_some();
-    let has_lose = text_in(matches, "lose").is_some();
-    if has_script && has_lose {
-        return "--script and --lose can't be used together";
-    }
-    if has_script && has_line(matches) {
-        return "--spoil, --busy, --seed, --calls and --times are for a call with --lose";
-    }
-    if has_script {
-        return "--script and <IN> can't both be standard input";
-    }
-    if !has_lose {
-        return "--script or --lose is missing";
-    }
-    let no_rate = rate_in(matches, "lose").is_none() || spoil_in(matches).is_none();
-    if no_rate || busy_in(matches).is_none() {
-        return "a rate is a percentage, as 5%, or a fraction, as 1/20, and 1 at most";
-    }
-    if number_in(matches, "seed").is_none() {
-        return "--lose needs --seed";
-    }
-    if text_in(matches, "times").is_some() && text_in(matches, "out").is_some() {
-        return "--times keeps no pages, and can't be used with --out";
-    }
-    if text_in(matches, "times").is_some() && text_in(matches, "bits").is_some() {
-        return "--times keeps no octets, and can't be used with --bits";
-    }
-    if text_in(matches, "times").is_some() && text_in(matches, "expect").is_some() {
-        return "--times counts the ends of many calls, and can't be used with --expect";
-    }
-    if text_in(matches, "times").is_some() && text_in(matches, "diagram").is_some() {
-        return "--times draws no call, and can't be used with --diagram";
-    }
-    if text_in(matches, "times").is_some() && is_named(text_in(matches, "json"), "true") {
-        return "--times prints a table, and can't be used with --json";
-    }
-    "--lose and --spoil are more than 100% together"
-}
-
-// The error for options that don't go together, or for a missing value, with the usage of their command.
-fn unfit(alloc: Global, matches: &ArgMatches<'_>) -> Result<Error, AllocError>
+// The error for words whose options or files don't go together, or that miss a value, with the usage of the command of this name.
+pub(crate) fn unfit(alloc: Global, name: Option<&str>, text: &str) -> Result<Error, AllocError>
     ensures { IfOk result (λ error. kind_of error ≡ ErrorKind.ArgumentConflict) }
 {
-    let mut command = unfit_command(alloc, matches)?;
-    command.error(ErrorKind::ArgumentConflict, unfit_text(matches))
+    let mut command = named_command(alloc, name)?;
+    command.error(ErrorKind::ArgumentConflict, text)
 }
 
-// The command of such words; the program where they name none.
-fn unfit_command(alloc: Global, matches: &ArgMatches<'_>) -> Result<Command<'static>, AllocError> {
-    if let Some((name, _inner)) = matches.subcommand() {
-        if let Some(entry) = entry_named(name) {
-            return command_alone(alloc, entry);
-        }
+// The command of this name; the program if it has none.
+fn named_command(alloc: Global, name: Option<&str>) -> Result<Command<'static>, AllocError> {
+    let entry = match name {
+        Some(name) => entry_named(name),
+        None => None,
+    };
+    match entry {
+        Some(entry) => command_alone(alloc, entry),
+        None => faxtool_command(alloc),
     }
-    faxtool_command(alloc)
 }

@@ -90,6 +90,7 @@ impl CodesPages for Coding {
         order: Order,
         out: &mut Vec<u8>,
     ) -> Result<(), AllocError>
+        requires { 0 < length page.now.rows }
         ensures ok { OnOk result (AppendsCode order (code_of self page.now.width page.now.rows) out.old.items out.new.items) }
         ensures octets { OnOk result (order ≡ Order.LsbFirst
             → out.new.items ≡ out.old.items ++ packed (code_of self page.now.width page.now.rows)) }
@@ -110,6 +111,7 @@ impl CodesPages for Coding {
         width: u32,
         fine: bool,
     ) -> Result<(Page, u128), CodeFault>
+        requires { IsWidth width }
         ensures reads { IfOk result (λ read. ReadsPage (ReadsIn self) width fine (bits_of order octets.now) read.0 read.1) }
         ensures only { IsOnlyAnswer (ReadsIn self) width (bits_of order octets.now) result }
         ensures refuses { IfErr result (λ fault. fault.kind ≢ NoMemory
@@ -131,6 +133,7 @@ impl CodesPages for Coding {
         width: u32,
         fine: bool,
     ) -> Result<PageRead, AllocError>
+        requires { IsWidth width }
         ensures { IfOk result (IsRead self width fine (bits_of order octets.now)) }
     {
         let begun = Progress::new(alloc, width, fine);
@@ -145,6 +148,7 @@ impl CodesPages for Coding {
         width: u32,
         fine: bool,
     ) -> Result<Page, AllocError>
+        requires { IsWidth width }
         ensures width { IfOk result (λ page. page.width ≡ width) }
         ensures fine { IfOk result (λ page. page.fine ≡ fine) }
         ensures rows { IfOk result (λ page. AreWholeRows self width (bits_of order octets.now) page.rows) }

@@ -1,9 +1,12 @@
-//! A caller's step, a terminal, an answerer by lines, a call of two stations over one line, and an answerer over octets.
+//! A caller's step, a terminal, an answerer by lines, a call of two stations over one line, and an answerer over octets; a call by a
+//! script, its picture, and many calls over a bad line.
 
 ghost use Rattle.line_sim.specs.Report.{Keeps};
 ghost use Rattle.std.specs.Prelude.{IfOk};
 
-use calls::{CallOptions, call_engine};
+use call_pictures::{Ladder, WithDiagram, write_picture};
+use call_tallies::drive_many;
+use calls::{BadLine, CallOptions, call_engine};
 use conversations::{Conversation, PageStore, TakeFault, TimedLine, answer_line};
 use faults::ToolFault;
 use line_sim::{Answered, Event, Feed, Report, World, WorldFault, answer_stream};
@@ -100,5 +103,48 @@ pub fn call_text(alloc: Global, script: &[u8], image: &[u8]) -> Result<Vec<u8>, 
     let mut reader = image;
     let mut text = Vec::new(alloc);
     call_engine(alloc, &mut commands, &mut reader, &mut text, &options)?;
+    Ok(text)
+}
+
+/// The picture that `faxtool call --diagram` draws, for a script and an image that are in memory.
+pub fn call_picture(
+    alloc: Global,
+    script: &[u8],
+    image: &[u8],
+    options: &CallOptions,
+) -> Result<Vec<u8>, ToolFault> {
+    let mut commands = script;
+    let mut reader = image;
+    let text: Vec<u8> = Vec::new(alloc);
+    let mut drawn = WithDiagram {
+        writer: text,
+        ladder: Some(Ladder::new(alloc)),
+    };
+    call_engine(alloc, &mut commands, &mut reader, &mut drawn, options)?;
+    let mut picture = Vec::new(alloc);
+    let WithDiagram { writer: _, ladder } = drawn;
+    if let Some(ladder) = ladder {
+        write_picture(ladder, &mut picture)?;
+    }
+    Ok(picture)
+}
+
+/// What `faxtool call --lose RATE --times N` prints for an image that is in memory: the line of each call, and then the table.
+pub fn call_table(
+    alloc: Global,
+    image: &[u8],
+    options: &CallOptions,
+    lose: u64,
+    times: u64,
+) -> Result<Vec<u8>, ToolFault> {
+    let line = BadLine {
+        lose,
+        spoil: 0,
+        busy: 0,
+        seed: 0,
+        calls: 3,
+    };
+    let mut text = Vec::new(alloc);
+    drive_many(alloc, image, &mut text, options, &line, times)?;
     Ok(text)
 }

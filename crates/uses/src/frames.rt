@@ -54,7 +54,7 @@ pub fn lose_a_frame(alloc: Global, coded: Vec<u8>, lost: u8) -> Result<[u8; 32],
 }
 
 /// What `faxtool frames` writes for the bits of a line that are in memory.
-pub fn list_frames(alloc: Global, bits: &[u8]) -> Result<Vec<u8>, ToolFault> {
+pub fn list_capture(alloc: Global, bits: &[u8]) -> Result<Vec<u8>, ToolFault> {
     let mut reader = bits;
     let mut list = Vec::new(alloc);
     frames_engine(alloc, &mut reader, &mut list, None)?;

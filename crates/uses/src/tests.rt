@@ -2,9 +2,10 @@
 
 ghost use Rattle.std.specs.Prelude.{};
 
-use crate::calling::{answer, call_text, hears, send};
+use crate::calling::{answer, call_picture, call_table, call_text, hears, send};
 use crate::frames::{asks_again, confirmation, list_frames, lose_a_frame};
 use crate::pages::{code_image, code_rows, copy_images, decode_rows, read_in_two, recode};
+use calls::CallOptions;
 use hdlc::write_frame;
 use page_code::Coding;
 use raster::{Document, Page, Row, read_pbm};
@@ -161,6 +162,37 @@ fn a_script_is_run(rt: HostRuntime) -> Result<(), Fail> {
         text.as_slice(),
         b"1 caller-timeout - DCN\n2 to-answerer DCN -\ncaller no-answer confirmed 0\nanswerer peer-left pages 0\n".as_slice()
     );
+    Ok(())
+}
+
+/// The options of the calls that are drawn and counted.
+const OPTIONS: CallOptions = CallOptions {
+    coding: Coding::T6,
+    small: false,
+    modems: Modems::V17,
+    fine: false,
+};
+
+#[test]
+fn a_call_is_drawn(rt: HostRuntime) -> Result<(), Fail> {
+    let script = b"caller-timeout\nto-answerer\n";
+    let picture = call_picture(rt.alloc(), script, &white_image(), &OPTIONS)?;
+    assert!(rt; picture.as_slice().starts_with(b"<svg xmlns="));
+    assert!(rt;
+        picture
+            .as_slice()
+            .ends_with(b"pages stored: 0</text></g>\n</svg>\n")
+    );
+    Ok(())
+}
+
+// DIS, DCS, a training check, CFR, FCD, three RCP, PPS, MCF and DCN come.
+#[test]
+fn calls_are_counted(rt: HostRuntime) -> Result<(), Fail> {
+    let text = call_table(rt.alloc(), &white_image(), &OPTIONS, 0, 1)?;
+    let call =
+        b"call 0 caller normal confirmed 1 answerer normal pages 1 deliveries 11 lost 0 spoiled 0 again 0\ncalls 1\n";
+    assert!(rt; text.as_slice().starts_with(call));
     Ok(())
 }
 

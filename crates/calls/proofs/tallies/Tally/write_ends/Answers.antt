@@ -1,9 +1,0 @@
--- What the check asks of `write_ends`.
-use Rattle.calls.specs.ManyCalls.{all_ends}
-use Rattle.calls.proofs.ManyCalls.{row_more}
-use Rattle.calls.proofs.tallies.Tally.write_ends.Goals as goal
-
-pub loop-why-preserved : goal.loop-why-preserved
-loop-why-preserved g c calls t =
-    row_more _ _ _ calls all_ends c.loop-why.why-index _ c.loop-why-test.true (c.loop-why.invariant calls t)
-    (c.in_ok-write_end_of.ensures.row calls t)

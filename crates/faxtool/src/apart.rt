@@ -1,0 +1,294 @@
+//! The files of a job that have to be apart: no two that are written are the same file, nor one that is read and one that is written.
+
+ghost use Rattle.faxtool.specs.Apart.{IsApartOutcome};
+ghost use Rattle.std.specs.Prelude.{◌≡◌, IfErr, IfOk};
+
+use crate::files::STANDARD;
+use crate::words::{Job, Outcome, Request, unfit};
+use std::alloc::AllocError;
+use std::fs::{self, Files};
+use std::io;
+use std::os::unix::fs::{FileTypeExt, MetadataExt};
+
+/// How many links are followed to a file that isn't there yet.
+const MOST_LINKS: u32 = 40;
+
+/// What the files of a call's octets are called in its folder.
+pub(crate) const SENT: [&str; 2] = ["to-answerer.bits", "to-caller.bits"];
+
+/// A file that a job reads or writes.
+#[derive(Drop)]
+struct JobFile {
+    /// What the words of the command call it.
+    role: &'static str,
+    name: String,
+    is_written: bool,
+    identity: Identity,
+}
+
+/// Which file of the system a name leads to.
+#[derive(Drop)]
+enum Identity {
+    /// The regular file or pipe of this device and number.
+    File(u64, u64),
+    /// A new file of this name in the folder of this device and number.
+    New(u64, u64, String),
+    /// None that could be written over: a device, a socket or a folder, or one that can't be looked at.
+    Other,
+}
+
+/// The files of a job, as they are named.
+#[derive(Drop)]
+struct JobFiles<'a> {
+    rt: &'a HostRuntime,
+    files: Vec<JobFile>,
+}
+
+impl JobFiles<'_> {
+    fn add(&mut self, role: &'static str, name: &str, is_written: bool) -> Result<(), AllocError> {
+        let alloc = self.rt.alloc();
+        let identity = identity_of(self.rt, name, is_written)?;
+        let name = String::from_str(alloc, name)?;
+        let file = JobFile {
+            role,
+            name,
+            is_written,
+            identity,
+        };
+        if self.files.push(file).is_err() {
+            return Err(AllocError);
+        }
+        Ok(())
+    }
+
+    fn reads(&mut self, role: &'static str, name: &str) -> Result<(), AllocError> {
+        self.add(role, name, false)
+    }
+
+    fn writes(&mut self, role: &'static str, name: &str) -> Result<(), AllocError> {
+        self.add(role, name, true)
+    }
+
+    fn may_write(&mut self, role: &'static str, name: &Option<String>) -> Result<(), AllocError> {
+        match name {
+            Some(name) => self.writes(role, name.as_str()),
+            None => Ok(()),
+        }
+    }
+
+    /// What is printed goes to standard output.
+    fn prints(&mut self) -> Result<(), AllocError> {
+        self.writes("what is printed", STANDARD)
+    }
+
+    /// The files of a call's octets, in the folder of `--bits`.
+    fn may_write_bits(&mut self, folder: &Option<String>) -> Result<(), AllocError> {
+        if let Some(folder) = folder {
+            for name in SENT {
+                let name = format!(in self.rt.alloc(); "{folder}/{name}")?;
+                self.writes("a file of --bits", name.as_str())?;
+            }
+        }
+        Ok(())
+    }
+
+    fn add_job(&mut self, job: &Job) -> Result<(), AllocError> {
+        match job {
+            Job::Code { input, output, .. } => {
+                self.reads("IN", input.as_str())?;
+                self.writes("OUT", output.as_str())
+            }
+            Job::Decode { input, output, .. } => {
+                self.reads("FILE", input.as_str())?;
+                self.writes("OUT", output.as_str())
+            }
+            Job::Show { input, .. } | Job::Frames { input, .. } | Job::Identify { input } => {
+                self.reads("FILE", input.as_str())?;
+                self.prints()
+            }
+            Job::Captures {
+                diagram,
+                caller,
+                answerer,
+                ..
+            } => {
+                self.reads("--caller", caller.as_str())?;
+                self.reads("--answerer", answerer.as_str())?;
+                self.writes("--diagram", diagram.as_str())
+            }
+            Job::Call {
+                script,
+                out,
+                bits,
+                diagram,
+                input,
+                ..
+            } => {
+                self.reads("--script", script.as_str())?;
+                self.add_call(input.as_str(), out, bits, diagram)
+            }
+            Job::Drive {
+                out,
+                bits,
+                diagram,
+                input,
+                ..
+            } => self.add_call(input.as_str(), out, bits, diagram),
+            Job::Answer { trace, .. } => {
+                self.reads("standard input", STANDARD)?;
+                self.may_write("--trace", trace)?;
+                self.prints()
+            }
+            Job::Dial { trace, input, .. } => {
+                self.reads("standard input", STANDARD)?;
+                self.reads("IN", input.as_str())?;
+                self.may_write("--trace", trace)?;
+                self.prints()
+            }
+            Job::Version { .. } => Ok(()),
+        }
+    }
+
+    fn add_call(
+        &mut self,
+        input: &str,
+        out: &Option<String>,
+        bits: &Option<String>,
+        diagram: &Option<String>,
+    ) -> Result<(), AllocError> {
+        self.reads("IN", input)?;
+        self.may_write("--out", out)?;
+        self.may_write("--diagram", diagram)?;
+        self.may_write_bits(bits)?;
+        self.prints()
+    }
+
+    /// Returns the first two files that aren't apart.
+    fn first_two(&self) -> Option<(&JobFile, &JobFile)> {
+        for (at, file) in self.files.iter().enumerate() {
+            for other in self.files.iter().skip(at.saturating_add(1)) {
+                if are_one(file, other) {
+                    return Some((file, other));
+                }
+            }
+        }
+        None
+    }
+}
+
+/// Returns which file a name leads to. Errors: memory was refused.
+fn identity_of(rt: &HostRuntime, name: &str, is_written: bool) -> Result<Identity, AllocError> {
+    let is_standard = name == STANDARD;
+    let found = if !is_standard {
+        fs::metadata(rt, name)
+    } else if is_written {
+        fs::metadata(rt, "/dev/stdout")
+    } else {
+        fs::metadata(rt, "/dev/stdin")
+    };
+    match found {
+        Ok(found) if found.is_file() || found.file_type().is_fifo() => {
+            Ok(Identity::File(found.dev(), found.ino()))
+        }
+        Ok(_) => Ok(Identity::Other),
+        Err(error) if error.kind() == io::ErrorKind::NotFound && is_written && !is_standard => {
+            new_file(rt, name)
+        }
+        Err(_) => Ok(Identity::Other),
+    }
+}
+
+/// Returns the place of a file that isn't there yet, after all links that lead to it. Errors: memory was refused.
+fn new_file(rt: &HostRuntime, name: &str) -> Result<Identity, AllocError> {
+    let mut name = String::from_str(rt.alloc(), name)?;
+    for _followed in 0..MOST_LINKS {
+        match rt.read_link(rt.alloc(), name.as_str()) {
+            Ok(target) => name = beside(rt, name.as_str(), target.as_path().as_str())?,
+            Err(error) if error.kind() == io::ErrorKind::OutOfMemory => return Err(AllocError),
+            Err(_) => return in_folder(rt, name.as_str()),
+        }
+    }
+    Ok(Identity::Other)
+}
+
+/// Returns the name of what a link leads to.
+fn beside(rt: &HostRuntime, link: &str, target: &str) -> Result<String, AllocError> {
+    match link.rsplit_once('/') {
+        Some((folder, _)) if !target.starts_with('/') => {
+            format!(in rt.alloc(); "{folder}/{target}")
+        }
+        _ => String::from_str(rt.alloc(), target),
+    }
+}
+
+/// Returns the place of a new file in its folder. Errors: memory was refused.
+fn in_folder(rt: &HostRuntime, name: &str) -> Result<Identity, AllocError> {
+    let (folder, last) = match name.rsplit_once('/') {
+        Some(("", last)) => ("/", last),
+        Some((folder, last)) => (folder, last),
+        None => (".", name),
+    };
+    match fs::metadata(rt, folder) {
+        Ok(found) => {
+            let last = String::from_str(rt.alloc(), last)?;
+            Ok(Identity::New(found.dev(), found.ino(), last))
+        }
+        Err(_) => Ok(Identity::Other),
+    }
+}
+
+/// Returns whether two files of a job aren't apart: one of them is written, and they are the same file or both standard output.
+fn are_one(one: &JobFile, other: &JobFile) -> bool {
+    if !one.is_written && !other.is_written {
+        return false;
+    }
+    are_both_printed(one, other) || is_same(&one.identity, &other.identity)
+}
+
+/// Returns whether two files are both standard output.
+fn are_both_printed(one: &JobFile, other: &JobFile) -> bool {
+    let are_written = one.is_written && other.is_written;
+    are_written && one.name.as_str() == STANDARD && other.name.as_str() == STANDARD
+}
+
+fn is_same(one: &Identity, other: &Identity) -> bool {
+    match (one, other) {
+        (Identity::File(device, number), Identity::File(other_device, other_number)) => {
+            device == other_device && number == other_number
+        }
+        (
+            Identity::New(device, number, last),
+            Identity::New(other_device, other_number, other_last),
+        ) => { device == other_device && number == other_number && last == other_last }
+        _ => false,
+    }
+}
+
+/// Returns the request that these words ask for, if its job's files are apart. Errors: the text for the user, or `NoMemory` (9).
+pub(crate) fn with_files_apart(
+    rt: &HostRuntime,
+    words: &[&str],
+    request: Request,
+) -> Result<Request, Outcome>
+    ensures same { IfOk result (λ given. given ≡ request) }
+    ensures refused { IfErr result IsApartOutcome }
+{
+    let mut files = JobFiles {
+        rt,
+        files: Vec::new(rt.alloc()),
+    };
+    files.add_job(&request.job)?;
+    let Some((one, other)) = files.first_two() else {
+        return Ok(request);
+    };
+    let text = if are_both_printed(one, other) {
+        format!(in rt.alloc();
+            "{} and {} can't both go to standard output",
+            one.role, other.role
+        )?
+    } else {
+        format!(in rt.alloc(); "{} and {} are the same file", one.role, other.role)?
+    };
+    let name = words.get(1).copied();
+    Err(Outcome::from(unfit(rt.alloc(), name, text.as_str())?))
+}

@@ -1,0 +1,212 @@
+//! Files of which no more is read than a coded page or a script can need.
+
+ghost use Rattle.faults.specs.Faults.{IsOutside};
+ghost use Rattle.raster.specs.Pixels.{IsWidth};
+ghost use Rattle.faxtool.specs.Bounds.{HavePageWidths};
+ghost use Rattle.std.specs.Prelude.{All, IfErr};
+
+use crate::files::{self, Source};
+use crate::notes::{Cause, Notes, Part};
+use faults::{FAILED, ToolFault};
+use page_code::{CodesPages, Coding, PageRead};
+use page_files::PageForm;
+use run_tables::Order;
+use std::alloc::{AllocError, Global};
+use std::io::{ErrorKind, Read};
+
+/// The most octets of a file of coded pages that are read. The longest row that any decoder takes is one of 2,432 pixels in T.6, where each
+/// pixel takes 19 bits: a horizontal mode (3), a white run of 1 pixel (6) and a black one of 0 (10). 20,000 rows of 5,776 octets and EOFB are
+/// 115,520,003 octets. The rest is for fill.
+pub(crate) const MOST_CODED: usize = 134_217_728;
+
+/// The most octets of a script.
+pub(crate) const MOST_SCRIPT: usize = 16_777_216;
+
+/// After how many octets it is looked whether they can be a page's.
+const LOOKS: [usize; 3] = [4_194_304, 16_777_216, 67_108_864];
+
+/// How many bits a refused bit lies before the last one if what follows is not to be read: those of a mebibyte, so that fill is.
+const FAR: u128 = 8_388_608;
+
+/// The widths that `identify_engine` tries.
+const TRIED_WIDTHS: [u32; 7] = [1728, 2048, 2432, 1216, 864, 1700, 1654];
+
+/// The ways in which octets are read as a page.
+#[derive(Clone, Copy, Debug, PartialEq, Eq)]
+pub(crate) enum Ways {
+    /// This one.
+    One(PageForm),
+    /// Those that `identify` tries.
+    Tried,
+    /// One that takes rows anywhere in the octets, as `decode --repair` does.
+    Any,
+}
+
+impl Ways {
+    /// The way in which `decode` reads a page of this form.
+    pub(crate) fn of(form: PageForm, repair: bool) -> Ways
+        requires { IsWidth form.width }
+        ensures { HavePageWidths result }
+    {
+        if repair { Ways::Any } else { Ways::One(form) }
+    }
+}
+
+/// Reads the input as coded pages, which are read in these ways; its octets go to the notes. If they are refused in each way long before
+/// the last octet read so far, no more are read: it makes no page of them, however many follow. Errors: `Io` (8) if it can't be read
+/// or has more than `MOST_CODED` octets; `NoMemory` (9).
+pub(crate) fn read_coded(
+    rt: &HostRuntime,
+    input: &str,
+    ways: Ways,
+    notes: &mut Notes,
+) -> Result<(), ToolFault>
+    requires { HavePageWidths ways }
+    ensures { IfErr result IsOutside }
+{
+    let mut source = files::open(rt, input, Part::Input, notes)?;
+    let mut octets = Vec::new(rt.alloc());
+    let read = read_pieces(rt, &mut source, ways, &mut octets);
+    source.close(notes);
+    bounded(read, Part::Input, MOST_CODED, notes)?;
+    notes.octets = octets;
+    Ok(())
+}
+
+/// Returns all octets of a script. Errors: `Io` (8) if it can't be read or has more than `MOST_SCRIPT` octets; `NoMemory` (9).
+pub(crate) fn read_script_file(
+    rt: &HostRuntime,
+    script: &str,
+    notes: &mut Notes,
+) -> Result<Vec<u8>, ToolFault>
+    ensures { IfErr result IsOutside }
+{
+    let mut source = files::open(rt, script, Part::Script, notes)?;
+    let mut octets = Vec::new(rt.alloc());
+    let read = read_script_pieces(&mut source, &mut octets);
+    source.close(notes);
+    bounded(read, Part::Script, MOST_SCRIPT, notes)?;
+    Ok(octets)
+}
+
+/// Notes that a file has more octets than `most`, unless it was read. Errors: `Io` (8).
+fn bounded(
+    read: Result<bool, ToolFault>,
+    part: Part,
+    most: usize,
+    notes: &mut Notes,
+) -> Result<(), ToolFault>
+    requires { IfErr read IsOutside }
+    ensures { IfErr result IsOutside }
+{
+    match read {
+        Ok(true) => Ok(()),
+        Ok(false) => {
+            notes.cause = Some(Cause::TooLong(most));
+            notes.blame(part, ErrorKind::FileTooLarge);
+            Err(FAILED)
+        }
+        Err(fault) => Err(fault),
+    }
+}
+
+/// Reads a file, and looks at what is read so far from time to time. Returns whether it has `MOST_CODED` octets at most.
+fn read_pieces(
+    rt: &HostRuntime,
+    source: &mut Source<'_>,
+    ways: Ways,
+    octets: &mut Vec<u8>,
+) -> Result<bool, ToolFault>
+    requires { HavePageWidths ways }
+    ensures { IfErr result IsOutside }
+{
+    for look in LOOKS {
+        read_up_to(source, octets, look)?;
+        if octets.len() < look || is_no_page(rt.alloc(), octets.as_slice(), ways)? {
+            return Ok(true);
+        }
+    }
+    read_up_to(source, octets, MOST_CODED + 1)?;
+    Ok(octets.len() <= MOST_CODED)
+}
+
+/// Reads a script. Returns whether it has `MOST_SCRIPT` octets at most.
+fn read_script_pieces(source: &mut Source<'_>, octets: &mut Vec<u8>) -> Result<bool, ToolFault>
+    ensures { IfErr result IsOutside }
+{
+    read_up_to(source, octets, MOST_SCRIPT + 1)?;
+    Ok(octets.len() <= MOST_SCRIPT)
+}
+
+/// Reads on until there are so many octets, or the file ends.
+fn read_up_to(source: &mut Source<'_>, octets: &mut Vec<u8>, most: usize) -> Result<(), ToolFault>
+    ensures { IfErr result IsOutside }
+{
+    let more = most.saturating_sub(octets.len());
+    let mut piece = source.take(more as u64);
+    let _count = piece.read_to_end(octets)?;
+    Ok(())
+}
+
+/// Returns whether octets are refused in each of these ways far before their end. Errors: memory was refused.
+fn is_no_page(alloc: Global, octets: &[u8], ways: Ways) -> Result<bool, AllocError>
+    requires { HavePageWidths ways }
+{
+    match ways {
+        Ways::One(form) => is_refused_early(alloc, octets, form),
+        Ways::Tried => is_tried_in_vain(alloc, octets),
+        Ways::Any => Ok(false),
+    }
+}
+
+/// Returns whether octets are refused far before their end in all ways that `identify` tries. Errors: memory was refused.
+fn is_tried_in_vain(alloc: Global, octets: &[u8]) -> Result<bool, AllocError> {
+    for order in [Order::MsbFirst, Order::LsbFirst] {
+        for coding in [Coding::T6, Coding::OneDim] {
+            if !are_refused_early(alloc, octets, coding, order, &TRIED_WIDTHS)? {
+                return Ok(false);
+            }
+        }
+    }
+    Ok(true)
+}
+
+fn are_refused_early(
+    alloc: Global,
+    octets: &[u8],
+    coding: Coding,
+    order: Order,
+    widths: &[u32],
+) -> Result<bool, AllocError>
+    requires { All IsWidth widths.now }
+{
+    for width in widths {
+        let form = PageForm {
+            coding,
+            order,
+            width: *width,
+            fine: false,
+        };
+        if !is_refused_early(alloc, octets, form)? {
+            return Ok(false);
+        }
+    }
+    Ok(true)
+}
+
+fn is_refused_early(alloc: Global, octets: &[u8], form: PageForm) -> Result<bool, AllocError>
+    requires { IsWidth form.width }
+{
+    let PageForm {
+        coding,
+        order,
+        width,
+        fine,
+    } = form;
+    match coding.page(alloc, octets, order, width, fine)? {
+        PageRead::Page(_, _) => Ok(false),
+        PageRead::Refused(refused) => {
+            Ok(refused.fault.place.saturating_add(FAR) < 8 * octets.len() as u128)
+        }
+    }
+}

@@ -1,0 +1,203 @@
+//! Why a station doesn't answer a line, and at which column of it.
+
+ghost use Rattle.std.specs.Prelude.{◌≡◌};
+ghost use Rattle.faxtool.specs.Told.{line_words};
+
+use conversations::{Channel, Kind, LineRefused, MOST_OCTETS, read_line};
+use std::alloc::Global;
+use std::io::Read;
+use std::{fmt, io};
+
+/// A reader that keeps the line that was read last.
+#[derive(Drop)]
+pub(crate) struct LastLine<R> {
+    reader: R,
+    line: Vec<u8>,
+    is_ended: bool,
+}
+
+impl<R: Read + Drop> LastLine<R> {
+    pub(crate) fn new(alloc: Global, reader: R) -> LastLine<R> {
+        LastLine {
+            reader,
+            line: Vec::new(alloc),
+            is_ended: false,
+        }
+    }
+
+    /// The line that was read last, without its LF, as far as it was read and there was memory for it.
+    pub(crate) fn line(&self) -> &[u8] {
+        self.line.as_slice()
+    }
+
+    fn keep(&mut self, octet: u8) {
+        if self.is_ended {
+            self.line.clear();
+            self.is_ended = false;
+        }
+        if octet == b'\n' {
+            self.is_ended = true;
+        } else if self.line.len() <= MOST_OCTETS {
+            let _kept = self.line.push(octet);
+        }
+    }
+}
+
+impl<R: Read + Drop> Read for LastLine<R> {
+    fn read(&mut self, octets: &mut [u8]) -> io::Result<usize> {
+        let count = self.reader.read(octets)?;
+        for octet in octets.get(..count).unwrap_or(&[]) {
+            self.keep(*octet);
+        }
+        Ok(count)
+    }
+}
+
+/// What is wrong with a line, at a column that is counted from 1.
+#[derive(Clone, Copy, Debug, PartialEq, Eq)]
+pub(crate) struct NoLine {
+    column: usize,
+    wrong: Wrong,
+}
+
+/// What is wrong with a line.
+#[derive(Clone, Copy, Debug, PartialEq, Eq)]
+enum Wrong {
+    /// It has more than 400,000 octets.
+    TooLong,
+    /// No line begins with its first word.
+    Word,
+    /// There is no time, or what stands there is none.
+    Time,
+    /// Something follows the time.
+    More,
+    /// There is no carrier of this name.
+    Carrier,
+    /// There is no kind of this name.
+    Kind,
+    /// There is no number of bits.
+    Bits,
+    /// The digits aren't those of as many octets as the bits need.
+    Hex,
+    /// Its time is before that of the line before it.
+    Backwards,
+}
+
+impl Wrong {
+    fn words(self) -> &'static str
+        ensures { result.now ≡ line_words self }
+    {
+        match self {
+            Wrong::TooLong => "the line has more than 400000 octets",
+            Wrong::Word => "no line of a station begins with this word",
+            Wrong::Time => "a time is expected here, 1 to 15 digits",
+            Wrong::More => "such a line ends after its time",
+            Wrong::Carrier => "a carrier is expected here",
+            Wrong::Kind => "hdlc or raw is expected here",
+            Wrong::Bits => "the number of bits is expected here, 1 to 7 digits",
+            Wrong::Hex => "two hexadecimal digits are expected for each octet of the bits",
+            Wrong::Backwards => "the time is before that of the line before",
+        }
+    }
+}
+
+impl fmt::Display for NoLine {
+    ghost use Rattle.std.specs.Prelude.{Some, ◌++◌, codes};
+    ghost use Rattle.std.specs.Fmt.{decimal};
+    ghost use Rattle.faxtool.specs.Told.{line_words};
+
+    ghost output = { λ line. Some (codes "column " ++ (decimal line.column ++ (codes ": " ++ line_words line.wrong))) };
+
+    fn fmt<W: fmt::Write>(&self, f: &mut fmt::Formatter<W>) -> fmt::Result {
+        write!(f, "column {}: {}", self.column, self.wrong.words())
+    }
+}
+
+/// The words of a line, one after the other, each with its column.
+#[derive(Drop)]
+struct Words<'a> {
+    line: &'a [u8],
+    at: usize,
+}
+
+impl<'a> Words<'a> {
+    /// The next word, up to a space or the line's end.
+    fn next_word(&mut self) -> &'a [u8] {
+        let rest = self.line.get(self.at..).unwrap_or(&[]);
+        for place in 0..rest.len() {
+            if rest[place] == b' ' {
+                return rest.get(..place).unwrap_or(rest);
+            }
+        }
+        rest
+    }
+
+    /// Goes on after a word and the space after it.
+    fn skip(&mut self, word: &[u8]) {
+        self.at = self.at.saturating_add(word.len()).saturating_add(1);
+    }
+}
+
+/// Returns whether octets are decimal digits, 1 to `most` of them.
+fn are_digits(octets: &[u8], most: usize) -> bool {
+    let is_number = octets.iter().all(|octet| octet.is_ascii_digit());
+    is_number && !octets.is_empty() && octets.len() <= most
+}
+
+/// Returns why a line, without its LF, isn't answered: it is too long or isn't a line of a station, or else its time runs back.
+pub(crate) fn no_line(alloc: Global, line: &[u8]) -> NoLine {
+    if line.len() > MOST_OCTETS {
+        return NoLine {
+            column: MOST_OCTETS + 1,
+            wrong: Wrong::TooLong,
+        };
+    }
+    let mut words = Words { line, at: 0 };
+    let wrong = match read_line(alloc, line) {
+        Err(LineRefused::NoLine) => wrong_word(&mut words),
+        _ => {
+            let word = words.next_word();
+            words.skip(word);
+            Wrong::Backwards
+        }
+    };
+    NoLine {
+        column: words.at.saturating_add(1),
+        wrong,
+    }
+}
+
+/// Returns what is wrong with a line that says nothing, and goes to the word that is wrong.
+fn wrong_word(words: &mut Words<'_>) -> Wrong {
+    let word = words.next_word();
+    let receives = matches!(word, b"rx");
+    match word {
+        b"quiet" | b"busy" | b"not-ready" | b"ready" | b"stop" | b"end" | b"rx" => {}
+        _ => return Wrong::Word,
+    }
+    words.skip(word);
+    let time = words.next_word();
+    if !are_digits(time, 15) {
+        return Wrong::Time;
+    }
+    words.skip(time);
+    if !receives {
+        return Wrong::More;
+    }
+    let carrier = words.next_word();
+    if Channel::named(carrier).is_none() {
+        return Wrong::Carrier;
+    }
+    words.skip(carrier);
+    let kind = words.next_word();
+    if Kind::named(kind).is_none() {
+        return Wrong::Kind;
+    }
+    words.skip(kind);
+    let bits = words.next_word();
+    if !are_digits(bits, 7) {
+        return Wrong::Bits;
+    }
+    words.skip(bits);
+    Wrong::Hex
+}

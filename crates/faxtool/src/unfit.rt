@@ -1,0 +1,101 @@
+//! Why the values of a command give no job.
+
+/// Why the values of a command give no job, though each option takes its own. `clap`'s exact contracts hold for commands without
+/// conflicting arguments, so the program refuses these itself.
+#[derive(Clone, Copy, Debug, PartialEq, Eq)]
+pub enum Unfit {
+    /// There is no command, or a value that it needs isn't there; `clap` refuses that first.
+    Missing,
+    /// `--repair` and `--salvage`.
+    RepairAndSalvage,
+    /// `frames` without FILE and without a picture.
+    NoCapture,
+    /// `--salvage` without `--pages`.
+    NoPages,
+    /// A picture, and an option for listing one capture.
+    PictureAndListing,
+    /// Two captures without `--diagram`.
+    NoPicture,
+    /// `--diagram` without both captures.
+    NoCaptures,
+    /// Both captures are standard input.
+    CapturesBothStandard,
+    /// `--script` and `--lose`.
+    ScriptAndLose,
+    /// `--script`, and an option of a bad line.
+    ScriptAndLine,
+    /// The script and the document are both standard input.
+    ScriptAndInStandard,
+    /// Neither `--script` nor `--lose`.
+    NoScript,
+    /// A rate that is no rate.
+    NoRate,
+    /// `--lose` without `--seed`.
+    NoSeed,
+    /// The rates of `--lose` and `--spoil` are above 1 together.
+    RatesAboveAll,
+    /// `--times` and `--out`.
+    TimesAndOut,
+    /// `--times` and `--bits`.
+    TimesAndBits,
+    /// `--times` and `--expect`.
+    TimesAndExpect,
+    /// `--times` and `--diagram`.
+    TimesAndDiagram,
+    /// `--times` and `--json`.
+    TimesAndJson,
+    /// Neither `--answer` nor `--call`.
+    NoStation,
+    /// `--answer` and `--call`.
+    BothStations,
+    /// An answerer with an option for a caller.
+    AnswererAsCaller,
+    /// An answerer without `--out`.
+    NoFolder,
+    /// A caller with an option for an answerer.
+    CallerAsAnswerer,
+    /// A caller without IN.
+    NoDocument,
+    /// The document of a caller is standard input.
+    DocumentStandard,
+}
+
+impl Unfit {
+    /// Returns what is wrong, for the user.
+    pub fn words(self) -> &'static str {
+        match self {
+            Unfit::Missing => "a value is missing",
+            Unfit::RepairAndSalvage => "--repair and --salvage can't be used together",
+            Unfit::NoCapture => "FILE is missing, or --diagram with --caller and --answerer",
+            Unfit::NoPages => "--salvage needs --pages",
+            Unfit::PictureAndListing =>
+                "--diagram draws two captures, and can't be used with FILE, --data, --pages or --salvage",
+            Unfit::NoPicture => "--caller and --answerer are for a picture, with --diagram",
+            Unfit::NoCaptures =>
+                "--diagram needs --caller and --answerer, the files of what both stations sent",
+            Unfit::CapturesBothStandard => "--caller and --answerer can't both be standard input",
+            Unfit::ScriptAndLose => "--script and --lose can't be used together",
+            Unfit::ScriptAndLine =>
+                "--spoil, --busy, --seed, --calls and --times are for a call with --lose",
+            Unfit::ScriptAndInStandard => "--script and <IN> can't both be standard input",
+            Unfit::NoScript => "--script or --lose is missing",
+            Unfit::NoRate => "a rate is a percentage, as 5%, or a fraction, as 1/20, and 1 at most",
+            Unfit::NoSeed => "--lose needs --seed",
+            Unfit::RatesAboveAll => "--lose and --spoil are more than 100% together",
+            Unfit::TimesAndOut => "--times keeps no pages, and can't be used with --out",
+            Unfit::TimesAndBits => "--times keeps no octets, and can't be used with --bits",
+            Unfit::TimesAndExpect =>
+                "--times counts the ends of many calls, and can't be used with --expect",
+            Unfit::TimesAndDiagram => "--times draws no call, and can't be used with --diagram",
+            Unfit::TimesAndJson => "--times prints a table, and can't be used with --json",
+            Unfit::NoStation => "a station answers or calls: either --answer or --call is needed",
+            Unfit::BothStations => "--answer and --call can't be used together",
+            Unfit::AnswererAsCaller => "--frame, --fine and IN are for a station with --call",
+            Unfit::NoFolder => "--answer needs --out, the folder of the pages",
+            Unfit::CallerAsAnswerer =>
+                "--out, --standard, --widest and --limit are for a station with --answer",
+            Unfit::NoDocument => "--call needs IN, the file of the document",
+            Unfit::DocumentStandard => "IN can't be standard input, where the lines come",
+        }
+    }
+}
