@@ -395,7 +395,7 @@ ends_within() {
     most=$1 wanted=$2 line=$3
     shift 3
     status=0
-    (ulimit -v "$most"; exec timeout 30 "$program" "$@") > "$work/output" 2> "$work/error" || status=$?
+    (ulimit -v "$most"; exec timeout 60 "$program" "$@") > "$work/output" 2> "$work/error" || status=$?
     [ "$status" = "$wanted" ] || fails "$* of an endless input ended with status $status"
     [ "$(head -n 1 "$work/error")" = "$line" ] || fails "$* of an endless input didn't write: $line"
     count=$((count + 1))

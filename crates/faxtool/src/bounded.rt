@@ -14,8 +14,8 @@ use run_tables::Order;
 use std::alloc::{AllocError, Global};
 use std::io::{ErrorKind, Read};
 
-/// The most octets of a file of coded pages that are read. The longest row that any decoder takes is one of 2,432 pixels in T.6, where each
-/// pixel takes 19 bits: a horizontal mode (3), a white run of 1 pixel (6) and a black one of 0 (10). 20,000 rows of 5,776 octets and EOFB are
+/// The most octets of a file of coded pages that are read. The longest row that can be read is one of 2,432 pixels in T.6, where each pixel
+/// takes 19 bits: a horizontal mode (3), a white run of 1 pixel (6) and a black one of 0 (10). 20,000 rows of 5,776 octets and EOFB are
 /// 115,520,003 octets. The rest is for fill.
 pub(crate) const MOST_CODED: usize = 134_217_728;
 
@@ -23,10 +23,11 @@ pub(crate) const MOST_CODED: usize = 134_217_728;
 pub(crate) const MOST_SCRIPT: usize = 16_777_216;
 
 /// After how many octets it is looked whether they can be a page's.
-const LOOKS: [usize; 3] = [4_194_304, 16_777_216, 67_108_864];
+const LOOKS: [usize; 3] = [1_048_576, 8_388_608, 67_108_864];
 
-/// How many bits a refused bit lies before the last one if what follows is not to be read: those of a mebibyte, so that fill is.
-const FAR: u128 = 8_388_608;
+/// How many bits a refused bit lies before the last one if what follows isn't read. A bit that begins fill is refused so too: that of a
+/// line of 5 s, the longest of ITU-T T.4, has 168,000 bits at most.
+const FAR: u128 = 2_097_152;
 
 /// The widths that `identify_engine` tries.
 const TRIED_WIDTHS: [u32; 7] = [1728, 2048, 2432, 1216, 864, 1700, 1654];
