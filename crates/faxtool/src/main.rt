@@ -74,11 +74,14 @@ fn run_words(rt: &HostRuntime) -> Outcome {
             return refused(rt, NO_MEMORY, "the command's words", None);
         }
     }
-    let asked = if asks_version(texts.as_slice()) {
-        VERSION_WORDS
-    } else {
-        texts.as_slice()
-    };
+    if asks_version(texts.as_slice()) {
+        return run_asked(rt, VERSION_WORDS);
+    }
+    run_asked(rt, texts.as_slice())
+}
+
+/// Runs what these words ask for, and shows what is wrong with them.
+fn run_asked(rt: &HostRuntime, asked: &[&str]) -> Outcome {
     // two files that are one are found before anything is read or written
     let read = match read_words(rt.alloc(), asked) {
         Ok(request) => with_files_apart(rt, asked, request),
@@ -89,7 +92,7 @@ fn run_words(rt: &HostRuntime) -> Outcome {
         Err(Outcome::Fault(fault)) => refused(rt, fault, "the command's words", None),
         Err(outcome) => {
             if let Outcome::Words(error) = &outcome {
-                refuse_words(rt, texts.as_slice(), error);
+                refuse_words(rt, asked, error);
             }
             outcome
         }

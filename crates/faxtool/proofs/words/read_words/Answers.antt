@@ -14,15 +14,15 @@ returns-in-Err c =
     refused_by_kind (map (λ word. word.now) c.args.words.now) a c.in-Err.error c.from.result is
     (c.in-Err.ensures.kinds (is_faxtool_free a is)) c.from.ensures
 
-pub returns-in-Some : goal.returns-in-Some
-returns-in-Some c =
+pub returns-in-Ok-2 : goal.returns-in-Ok-2
+returns-in-Ok-2 c =
     let a = app_of c.in_ok-command.command in
     let is : IsFaxtool a = c.in_ok-command.ensures in
     let met = (c.in-Ok.ensures.ok.2 (is_faxtool_simple a is)).1 in (
       a,
       is,
       c.in-Ok.ensures.kinds (is_faxtool_free a is),
-      subst (λ (o : Option (Text × List Row)). IsJobOf o c.in-Some.job) met (search
+      subst (λ (o : Option (Text × List Row)). IsJobOf o c.in-Ok-2.job) met (search
           rules),
       subst (λ (o : Option (Text × List Row)). c.asks-explain.result ≡ asks (codes "explain") o) met c.asks-explain.ensures,
       subst (λ (o : Option (Text × List Row)). c.asks-json.result ≡ asks (codes "json") o) met c.asks-json.ensures,
@@ -33,5 +33,5 @@ returns c =
     let a = app_of c.in_ok-command.command in
     let is : IsFaxtool a = c.in_ok-command.ensures in
     let met = (c.in-Ok.ensures.ok.2 (is_faxtool_simple a is)).1 in
-    refused_for_job (map (λ word. word.now) c.args.words.now) a c.in_ok-unfit-in-None.field-0 c.from-in-None.result is
-    (subst HasNoJob met (search rules)) c.from-in-None.ensures
+    refused_for_job (map (λ word. word.now) c.args.words.now) a c.in_ok-unfit-in-Err-2.field-0 c.from-in-Err-2.result is
+    (subst HasNoJob met (search rules)) c.from-in-Err-2.ensures
