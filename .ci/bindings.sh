@@ -162,6 +162,6 @@ gives 0 random "${1:-200000}"
 "$top/.ci/softfax.sh" "$work"
 
 # the module for Python, over the shared library
-PYTHONDONTWRITEBYTECODE=1 G3FAX_LIBRARY=$work/libg3fax.so.0 timeout 120 python3 -W error "$top/bindings/python/test_g3fax.py" \
+PYTHONDONTWRITEBYTECODE=1 G3FAX_LIBRARY=$work/libg3fax.so.0 timeout 600 python3 -W error "$top/bindings/python/test_g3fax.py" \
     > "$work/output" 2>&1 || { cat "$work/output" >&2; fails "bindings/python/test_g3fax.py"; }
 echo "bindings: $runs runs of the examples, under the sanitizers, gave what other programs wrote; $growths growths were refused in turn"
