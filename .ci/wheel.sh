@@ -70,7 +70,7 @@ if command -v mypy > /dev/null; then
     printf '%s\n' 'import g3fax' 'with g3fax.Page.read_pbm(b"") as page:' '    reveal_type(page[0])' '    reveal_type(page[1:])' \
         > "$to/typed.py"
     (cd "$to" && MYPYPATH=$to/unpacked mypy --strict --cache-dir="$to/mypy" typed.py) > "$to/said" 2>&1 || fails "mypy of a program"
-    grep -q 'memoryview' "$to/said" && grep -q '"g3fax.Page"' "$to/said" || fails "the package has other types"
+    for type in memoryview '"g3fax.Page"'; do grep -q "$type" "$to/said" || fails "the package has no type $type"; done
     how="$how, and strict for mypy"
 fi
 rm -rf "$to"

@@ -3,9 +3,10 @@
 #
 #     packaging/deb.sh FOLDER
 #
-# Four packages: faxtool, libg3fax0 (the shared library), libg3fax-dev and python3-g3fax. Each needs the C library that its files ask for by
-# their versioned symbols; the module for Python needs its own version of the shared library. Symbols that nothing wants at run time are taken out of the program and the shared library. The same sources and tools
-# give the same octets. It needs dpkg-deb and binutils; where lintian is there, its errors are refused.
+# Four packages: faxtool, libg3fax0 (the shared library), libg3fax-dev and python3-g3fax. Each needs the C library that its files ask for
+# by their versioned symbols; the module for Python needs its own version of the shared library. Symbols that nothing wants at run time
+# are taken out of the program and the shared library. The same sources and tools give the same octets. It needs dpkg-deb and binutils;
+# where lintian is there, its errors are refused.
 set -e
 top=$(cd "$(dirname "$0")/.." && pwd)
 . "$top/packaging/common.sh"
@@ -156,6 +157,7 @@ Description: Group 3 fax pages and frames for C, proved: header and archive
 TEXT
 mkdir -p "$work/python3-g3fax/DEBIAN"
 # removes what Python compiles the module to if someone who may write there imports it
+# shellcheck disable=SC2016
 printf '#!/bin/sh\nset -e\nrm -rf "$DPKG_ROOT%s/__pycache__"\n' "$module" > "$work/python3-g3fax/DEBIAN/prerm"
 chmod 755 "$work/python3-g3fax/DEBIAN/prerm"
 control python3-g3fax python "python3 (>= 3.8), libg3fax0 (>= $version)" "" all << TEXT

@@ -5,8 +5,8 @@
 #
 # faxtool-VERSION-x86_64-linux.tar.gz has the tree that `make install` makes, and is unpacked anywhere: `tar -C /usr/local
 # --strip-components=1 -xzf`. faxtool-VERSION-source.tar.gz has the sources, with the commit. SHA256SUMS has the sums of both, and of
-# packages and a wheel that are there. Names are in order, and times, owners and modes are the same each time, so the same sources give the same
-# octets. It needs GNU tar and gzip.
+# packages and a wheel that are there. Names are in order, and times, owners and modes are the same each time, so the same sources give
+# the same octets. It needs GNU tar and gzip.
 set -e
 top=$(cd "$(dirname "$0")/.." && pwd)
 . "$top/packaging/common.sh"
@@ -43,6 +43,7 @@ sources > "$work/sources"
 (cd "$top" && tar -cf - --no-recursion --files-from="$work/sources") | tar -C "$work/$name" -xf -
 commit > "$work/$name/COMMIT"
 packs "$name"
-(cd "$to" && find . -maxdepth 1 \( -name "*_${version}_*.deb" -o -name "faxtool-$version-*.tar.gz" -o -name "g3fax-$version-*.whl" \) | sed 's,^\./,,' | LC_ALL=C sort \
+(cd "$to" && find . -maxdepth 1 \( -name "*_${version}_*.deb" -o -name "faxtool-$version-*.tar.gz" \
+    -o -name "g3fax-$version-*.whl" \) | sed 's,^\./,,' | LC_ALL=C sort \
     | xargs -d '\n' sha256sum) > "$work/SHA256SUMS"
 mv "$work/SHA256SUMS" "$to/SHA256SUMS"

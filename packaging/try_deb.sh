@@ -5,10 +5,10 @@
 #     packaging/try_deb.sh FOLDER
 #
 # The root is a new folder with a list of packages of its own, in which the C library stands as this machine has it, and Python; dpkg
-# installs there by --root, so nothing else of the machine changes. Tried are: the command lines of the README and of docs/USING.md in the installed
-# examples, the man pages, the completion, an example in C that is built by pkg-config with the shared library and with the archive, and
-# the module for Python.
-# It needs dpkg, pkg-config, cc, python3, and fakeroot where it isn't run as root. Ends with status 1 at the first difference.
+# installs there by --root, so nothing else of the machine changes. Tried are: the command lines of the README and of docs/USING.md in the
+# installed examples, the man pages, the completion, an example in C that is built by pkg-config with the shared library and with the
+# archive, and the module for Python. It needs dpkg, pkg-config, cc, python3, and fakeroot where it isn't run as root. Ends with status 1
+# at the first difference.
 set -e
 top=$(cd "$(dirname "$0")/.." && pwd)
 . "$top/packaging/common.sh"
