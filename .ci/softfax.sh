@@ -25,7 +25,7 @@ builds() {
     name=$1
     shift
     objects=
-    for part in "$name" trial line paper terminal bits; do
+    for part in "$name" trial line paper terminal identity bits; do
         "$kit/toolchain/bin/clang" -std=c11 -Wall -Wextra -Werror -O2 -g -fPIE -fsanitize=address,undefined -fsanitize-trap=undefined \
             -nostdinc -isystem "$top/bindings/include" -I "$work" -c "$here/$part.c" -o "$work/softfax-$part.o"
         objects="$objects $work/softfax-$part.o"

@@ -32,7 +32,7 @@ int main(void)
     for (uint32_t i = 0; i < PAGES; i++) {
         if (!paper_new(&papers[i], 1728, ROWS, i + 1)) return 1;
     }
-    trial kind = {{.name = "clean"}, G3_V17, G3_MMR, PAGES, 2, 0, papers, 0, NULL};
+    trial kind = {.line = {.name = "clean"}, .modems = G3_V17, .coding = G3_MMR, .pages = PAGES, .limit = 2, .papers = papers};
     wrong += !is_right(&kind, &well) || !well;
     growths = grown;
     for (n = 1; n <= growths; n++) {
