@@ -5,7 +5,7 @@
  *     bit 14: 1; 12, 13: the state; 8 to 11: the carrier; 4 to 7: a check; 2, 3: how many bits; 0, 1: the bits
  *
  * A sample with a wrong check is noise. Silence is zeros. */
-#include "modem.h"
+#include "bits.h"
 #include "g3fax.h"
 #include <stdlib.h>
 #include <string.h>
@@ -56,6 +56,11 @@ static void modem_begin_carrier(modem *it, uint32_t carrier, int brief, const ui
     it->bits = bits;
     it->at = 0;
     it->due = 0;
+}
+
+void bits_extend(modem *it, uint64_t bits)
+{
+    it->bits = bits;
 }
 
 static uint32_t rate_of(uint32_t carrier)

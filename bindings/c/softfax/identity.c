@@ -1,5 +1,5 @@
 #include "identity.h"
-#include "g3fax.h"
+#include "carriers.h"
 #include <stdlib.h>
 #include <string.h>
 
@@ -39,13 +39,6 @@ int identity_read(const uint8_t *content, uint64_t length, char text[IDENTITY_MO
     return 1;
 }
 
-/* Appends bits to others; the octets after these are 0. */
-static uint64_t append(uint8_t *to, uint64_t at, const uint8_t *from, uint64_t first, uint64_t end)
-{
-    for (uint64_t i = first; i < end; i++, at++) to[at / 8] |= (uint8_t)((from[i / 8] >> (i % 8) & 1) << (at % 8));
-    return at;
-}
-
 uint8_t *identity_join(const uint8_t *octets, uint64_t bits, const uint8_t *content, uint64_t *joined)
 {
     g3_octets handle = G3_EMPTY;
@@ -58,8 +51,8 @@ uint8_t *identity_join(const uint8_t *octets, uint64_t bits, const uint8_t *cont
     if (out == NULL) return NULL;
     memset(out, 0, room);
     while ((flags + 1) * 8 <= bits && octets[flags] == FLAG) flags++;
-    *joined = append(out, 0, octets, 0, flags * 8);
-    *joined = append(out, *joined, frame, 0, frame_bits);
-    *joined = append(out, *joined, octets, flags * 8, bits);
+    *joined = append_bits(out, 0, octets, 0, flags * 8);
+    *joined = append_bits(out, *joined, frame, 0, frame_bits);
+    *joined = append_bits(out, *joined, octets, flags * 8, bits);
     return out;
 }

@@ -1,4 +1,5 @@
 #include "terminal.h"
+#include "carriers.h"
 #include "identity.h"
 #include "names.h"
 #include <stdio.h>
@@ -242,15 +243,6 @@ static void hear_check(terminal *it, const uint8_t *octets, uint32_t count)
     if (it->checked + count > it->check_room) return; /* the rest of a check that is too long says nothing new */
     memcpy(it->check + it->checked, octets, count);
     it->checked += count;
-}
-
-/* The bits a second of a carrier. */
-static uint32_t rate_of(uint32_t carrier)
-{
-    static const uint32_t RATES[] = {
-        [0] = 300, [G3_V21] = 300, [G3_V27TER_2400] = 2400, [G3_V27TER_4800] = 4800, [G3_V29_7200] = 7200, [G3_V29_9600] = 9600,
-        [G3_V17_7200] = 7200, [G3_V17_9600] = 9600, [G3_V17_12000] = 12000, [G3_V17_14400] = 14400};
-    return RATES[carrier];
 }
 
 /* How many octets of the check that came are given to the library: all, if nine tenths of its 1.5 s were zeros with nothing wrong between
