@@ -102,9 +102,10 @@ static void behind_leave(void *user, outcome *out)
 
 int trial_behind(party *out, const trial *kind, int calls, const behind_way *way)
 {
+    static const behind fresh;
     behind *it = malloc(sizeof *it);
     if (it == NULL) return 0;
-    memset(it, 0, sizeof *it);
+    *it = fresh;
     it->kind = kind;
     it->way = way;
     it->calls = calls;

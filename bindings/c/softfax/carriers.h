@@ -12,10 +12,13 @@ static inline uint32_t rate_of(uint32_t carrier)
     return RATES[carrier];
 }
 
-/* Appends bits first .. end - 1 of octets after `at` bits of others, whose octets from there on are 0; returns how many there are. */
+/* Appends bits first .. end - 1 of octets after `at` bits of others; returns how many there are. 0 bits fill the last octet. */
 static inline uint64_t append_bits(uint8_t *to, uint64_t at, const uint8_t *from, uint64_t first, uint64_t end)
 {
-    for (uint64_t i = first; i < end; i++, at++) to[at / 8] |= (uint8_t)((from[i / 8] >> (i % 8) & 1) << (at % 8));
+    for (uint64_t i = first; i < end; i++, at++) {
+        if (at % 8 == 0) to[at / 8] = 0;
+        to[at / 8] |= (uint8_t)((from[i / 8] >> (i % 8) & 1) << (at % 8));
+    }
     return at;
 }
 #endif

@@ -43,12 +43,12 @@ static int try_call(const trial *kind, const behind_way *caller_way, const behin
     return is_right;
 }
 
-/* All kinds of calls on a line; returns whether all are right. */
-static int try_line(const line_kind *line, const paper *papers, const char *tells)
+/* All kinds of calls on a line, by so many kinds of modems; returns whether all are right. */
+static int try_line(const line_kind *line, int ways, const paper *papers, const char *tells)
 {
     int well = 0, count = 0;
     for (uint32_t i = 0; i < 3 * 2 * 2; i++) {
-        for (int way = 0; way < WAYS_COUNT; way++, count++) {
+        for (int way = 0; way < ways; way++, count++) {
             behind_way through = {&soft_of_bits, WAYS[way]};
             trial kind = {.line = *line, .modems = 1 + i % 3, .coding = i / 3 % 2 ? G3_MMR : G3_MH, .pages = i / 6 % 2 ? 3 : 1, .limit = 2,
                 .seed = i, .papers = papers, .identity = "+49 30 1234", .tells = tells};
@@ -87,7 +87,7 @@ int main(int argc, char **argv)
     for (uint32_t i = 0; i < MOST_PAGES; i++) {
         if (!paper_new(&papers[i], WIDTHS[i], ROWS, i + 1)) return fprintf(stderr, "class1-test: no memory\n"), 1;
     }
-    for (uint32_t i = 0; i < LINES_COUNT; i++) is_right &= try_line(&LINES[i], papers, tells);
+    for (uint32_t i = 0; i < LINES_COUNT; i++) is_right &= try_line(&LINES[i], i == 0 ? WAYS_COUNT : 1, papers, tells);
     is_right &= try_faults(papers, tells);
     for (uint32_t i = 0; i < MOST_PAGES; i++) paper_free(&papers[i]);
     return !is_right;

@@ -49,7 +49,6 @@ uint8_t *identity_join(const uint8_t *octets, uint64_t bits, const uint8_t *cont
     g3_octets_free(&handle);
     uint8_t *out = status == G3_OK ? malloc(room) : NULL;
     if (out == NULL) return NULL;
-    memset(out, 0, room);
     while ((flags + 1) * 8 <= bits && octets[flags] == FLAG) flags++;
     *joined = append_bits(out, 0, octets, 0, flags * 8);
     *joined = append_bits(out, *joined, frame, 0, frame_bits);

@@ -139,6 +139,20 @@ static int try_few(const paper *papers, const char *folder)
     return all.well == all.calls;
 }
 
+/* A caller without error correction: our answerer has to end the call soon, in order, and with nothing stored. */
+static int try_without_correction(const paper *papers, const char *folder)
+{
+    enum { SOON = 35 };
+    party caller, answerer;
+    outcome came;
+    trial kind = {.line = LINES[0], .modems = G3_V17, .coding = G3_MMR, .pages = 1, .limit = 2, .papers = papers, .has_no_correction = 1};
+    if (!begin(0, &kind, 1, folder, &caller) || !begin(1, &kind, 0, folder, &answerer)) return 0;
+    trial_run(&caller, &answerer, &kind, &came);
+    int is_right = strcmp(came.answerer, "stopped") == 0 && came.equal + came.wrong == 0 && came.seconds <= SOON;
+    printf("softfax: a caller without error correction: %s after %u s\n", came.answerer, came.seconds);
+    return is_right;
+}
+
 int main(int argc, char **argv)
 {
     static const uint32_t WIDTHS[MOST_PAGES] = {1728, 2432, 1728};
@@ -147,7 +161,7 @@ int main(int argc, char **argv)
     for (uint32_t i = 0; i < MOST_PAGES; i++) {
         if (!paper_new(&papers[i], WIDTHS[i], ROWS, i + 1)) return fprintf(stderr, "softfax-test: no memory\n"), 1;
     }
-    if (argc == 2) is_right = try_few(papers, argv[1]);
+    if (argc == 2) is_right = try_few(papers, argv[1]) && try_without_correction(papers, argv[1]);
     else if (argc >= 4 && strcmp(argv[2], "--table") == 0) is_right = try_table(argc - 3, argv + 3, papers, argv[1]);
     else if (argc == 9 && strcmp(argv[2], "--call") == 0) is_right = try_one(argv + 3, papers, argv[1]);
     else fprintf(stderr, "usage: softfax-test FOLDER [--table SEEDS [LINE..] | --call PAIR LINE MODEMS CODING PAGES SEED]\n");

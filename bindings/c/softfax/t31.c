@@ -8,7 +8,7 @@
 
 enum { ETX = 3, DLE = 16, CAN = 24, LAST_FRAME = 0x10, FLAG = 0x7e, FLAGS_BEFORE = 37, FLAGS_AFTER = 2 };
 enum { BEFORE_CED = 200, CED = 2600, AFTER_CED = 75 };
-enum { MOST_BITS = 1 << 20, MOST_FRAMES = 8 };
+enum { MOST_BITS = 1 << 19, MOST_FRAMES = 8 };
 enum doing { IDLE, DIALS, BEFORE_ANSWER, IN_CED, ANSWERED, SILENCE, FTH, FTM, SENDS, FRH, FRM, FRM_DATA };
 
 struct soft {
@@ -79,7 +79,6 @@ static int set_carrier(soft *it, const char *number)
 
 static void begin_burst(soft *it, int doing)
 {
-    memset(it->said, 0, sizeof it->said);
     it->bits = 0;
     it->length = it->escaped = 0;
     if (doing == FTH) memset(it->said, FLAG, FLAGS_BEFORE), it->bits = FLAGS_BEFORE * 8, it->carrier = G3_V21;
@@ -240,9 +239,10 @@ static void t31_free(soft *it)
 
 static soft *t31_new(const port *host, const soft_ways *ways, void (*event)(void *user, int what), void *user)
 {
+    static const soft fresh;
     soft *it = malloc(sizeof *it);
     if (it == NULL) return NULL;
-    memset(it, 0, sizeof *it);
+    *it = fresh;
     it->host = *host;
     it->ways = *ways;
     it->event = event;

@@ -18,6 +18,7 @@ typedef struct trial {
     const paper *papers;
     int ctc;                   /* our answerer answers CTC */
     int ced_joins_dis;         /* the answerer's DIS follows its CED with no silence between them, as Class 1 modems have it */
+    int has_no_correction;     /* libspandsp's terminal has no error correction */
     const char *identity;      /* how our end is named; NULL: it isn't */
     const char *tells;         /* what happens is told on standard error; NULL: nothing */
 } trial;
