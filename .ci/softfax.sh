@@ -3,10 +3,10 @@
 #
 #     .ci/softfax.sh FOLDER
 #
-# The terminal over modems of plain bits is built with the kit's clang under the address sanitizer and with traps for what C doesn't
-# define, and always run, also with each growth of memory refused in turn. The rest wants libspandsp-dev and a C compiler, the one that
-# CC names or cc: calls over its modems, with its own terminal each way, two processes, and wrong files. Ends with status 1 at the first
-# fault.
+# The terminal over modems of plain bits, and behind Class 1 modems of its own, is built with the kit's clang under the address sanitizer
+# and with traps for what C doesn't define, and always run, also with growths of memory refused in turn. The rest wants libspandsp-dev and
+# a C compiler, the one that CC names or cc: calls over its modems and its Class 1 modem, with its own terminal each way, two processes, and
+# wrong files. Ends with status 1 at the first fault.
 set -e
 top=$(cd "$(dirname "$0")/.." && pwd)
 kit=${KIT:-/opt/rattle}
@@ -25,7 +25,7 @@ builds() {
     name=$1
     shift
     objects=
-    for part in "$name" trial line paper terminal identity bits; do
+    for part in "$name" behind t31 class1 trial line paper terminal identity bits; do
         "$kit/toolchain/bin/clang" -std=c11 -Wall -Wextra -Werror -O2 -g -fPIE -fsanitize=address,undefined -fsanitize-trap=undefined \
             -nostdinc -isystem "$top/bindings/include" -I "$work" -c "$here/$part.c" -o "$work/softfax-$part.o"
         objects="$objects $work/softfax-$part.o"
@@ -40,9 +40,12 @@ builds() {
 builds bits-test
 timeout 600 "$work/bits-test" > "$work/output" || fails bits-test
 echo "softfax: $(grep -c '24 of 24' "$work/output") lines of plain bits carry all calls"
+builds class1-test
+timeout 600 "$work/class1-test" > "$work/output" 2>&1 || fails class1-test
+echo "softfax: $(grep -c 'calls by Class 1 complete' "$work/output") lines of plain bits carry all calls behind Class 1 modems"
 builds memory-test --wrap=malloc --wrap=realloc --wrap=free
-timeout 600 "$work/memory-test" > "$work/output" || fails memory-test
-echo "softfax: $(cat "$work/output")"
+timeout 600 "$work/memory-test" 40 > "$work/output" || fails memory-test
+sed 's/^/softfax: /' "$work/output"
 
 CC=${CC:-cc}
 if ! command -v "$CC" > /dev/null; then
@@ -51,5 +54,5 @@ elif ! echo '#include <spandsp.h>' | "$CC" -E - > /dev/null 2>&1; then
     echo "softfax: not run, libspandsp-dev is not installed"
 else
     LIB=$work OUT=$work/softfax CC=$CC "$here/run.sh" --audio > "$work/output" 2>&1 || fails run.sh
-    tail -n 2 "$work/output"
+    grep '^softfax: ' "$work/output"
 fi

@@ -122,7 +122,7 @@ static void command(modem *it, int op, const char *text)
 {
     static const uint8_t END = '\r';
     snprintf(it->command, sizeof it->command, "%s", text);
-    it->filled = it->echoes = 0;
+    it->filled = 0;
     if (!ring_put(&it->out, (const uint8_t *)it->command, (int)strlen(it->command)) || !ring_put(&it->out, &END, 1)) it->out.count = 0;
     flush(it);
     trace(it, '>', it->command, 0);
@@ -516,7 +516,7 @@ static void take_result(modem *it, const char *line)
         else if (it->op == SETS_UP && it->step == SPEEDS) note_speeds(it, line);
         return;
     }
-    it->unanswered = 0;
+    it->unanswered = it->echoes = 0;
     switch (it->op) {
     case AWAITS_SILENCE: it->op = FREE; return;
     case ABORTS:
