@@ -20,16 +20,20 @@ fails() {
     exit 1
 }
 
-# builds NAME WORDS: a test of the terminal over plain bits, linked with these words
-builds() {
-    name=$1
-    shift
-    objects=
-    for part in "$name" behind t31 class1 trial line paper terminal identity bits; do
+# compiles PARTS: their objects are added to $objects
+compiles() {
+    for part in "$@"; do
         "$kit/toolchain/bin/clang" -std=c11 -Wall -Wextra -Werror -O2 -g -fPIE -fsanitize=address,undefined -fsanitize-trap=undefined \
             -nostdinc -isystem "$top/bindings/include" -I "$work" -c "$here/$part.c" -o "$work/softfax-$part.o"
         objects="$objects $work/softfax-$part.o"
     done
+}
+
+# builds NAME WORDS: a test over plain bits, linked with these words
+builds() {
+    name=$1 objects=$shared
+    shift
+    compiles "$name"
     # the words have no spaces of their own, unless TMPDIR has
     # shellcheck disable=SC2086
     "$kit/toolchain/bin/ld.lld" -pie --eh-frame-hdr -dynamic-linker /lib64/ld-linux-x86-64.so.2 -o "$work/$name" "$@" "$lib/Scrt1.o" \
@@ -37,6 +41,9 @@ builds() {
         "$lib/libc_nonshared.a" "$lib/libm.so.6" "$lib/ld-linux-x86-64.so.2" "$lib/libgcc_s.so.1" "$lib/libgcc.a" "$lib/crtendS.o"
 }
 
+objects=
+compiles behind t31 class1 trial line paper terminal identity bits
+shared=$objects
 builds bits-test
 timeout 600 "$work/bits-test" > "$work/output" || fails bits-test
 echo "softfax: $(grep -c '24 of 24' "$work/output") lines of plain bits carry all calls"

@@ -195,6 +195,8 @@ static int run_ptys(char **links)
 {
     enum { LONGEST = 600000, RINGS = 3000 };
     static const soft_ways WAYS;
+    signal(SIGTERM, on_signal);
+    signal(SIGINT, on_signal);
     int16_t said[2][SLICE] = {{0}}, to[2][SLICE] = {{0}};
     struct timespec next;
     line line;
@@ -230,8 +232,6 @@ int main(int argc, char **argv)
     static bench it = {.way = {.kind = &soft_of_spandsp}};
     const char *words[4] = {NULL};
     int count = 0, is_right = 0;
-    signal(SIGTERM, on_signal);
-    signal(SIGINT, on_signal);
     if (argc == 4 && strcmp(argv[1], "--ptys") == 0) return !run_ptys(argv + 2);
     for (int i = 1; i < argc; i++) {
         if (!take_way(&it.way.ways, argv[i]) && strcmp(argv[i], "--table") != 0 && count < 4) words[count++] = argv[i];
