@@ -4,8 +4,8 @@
  *     bench FOLDER --table SEEDS [PAIR [LINE]] [WAYS..]  a table: each pair, or one, on each line, or on one
  *     bench --ptys LINK LINK                   two ptys, in real time, with a link to each: whatever dials on one rings at the other
  *
- * PAIR is the caller and the answerer, as it:ours, where "it" is libspandsp's own terminal and ours is behind a modem. WAYS are xoff, echoes,
- * silent, fixed, late=MILLIS. FOLDER is for files of libspandsp's terminal. Status 1: a page is stored that isn't the document's, or a
+ * PAIR is the caller and the answerer, as it:ours, where "it" is libspandsp's own terminal and ours is behind a modem. WAYS are xoff,
+ * echoes, silent, fixed, late=MILLIS. FOLDER is for files of libspandsp's terminal. Status 1: a page is stored that isn't the document's, or a
  * confirmed one is missing; in the calls of the gate, also if any fails. */
 #include "behind.h"
 #include "theirs.h"
@@ -204,7 +204,8 @@ static int run_ptys(char **links)
     for (int i = 0; i < 2; i++) {
         port host = {&lines.fd[i], pty_read, pty_write, NULL, NULL};
         lines.fd[i] = make_pty(links[i]);
-        if (lines.fd[i] < 0 || (lines.ends[i] = soft_of_spandsp.make(&host, &WAYS, on_event, &lines.ends[i])) == NULL) return perror(links[i]), 0;
+        if (lines.fd[i] >= 0) lines.ends[i] = soft_of_spandsp.make(&host, &WAYS, on_event, &lines.ends[i]);
+        if (lines.ends[i] == NULL) return perror(links[i]), 0;
     }
     clock_gettime(CLOCK_MONOTONIC, &next);
     for (int millis = 0; millis < LONGEST && !is_interrupted; millis += SLICE_MILLIS) {

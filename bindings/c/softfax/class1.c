@@ -223,8 +223,8 @@ static void end_frame(modem *it, int is_well, int is_end)
 
 /* What is said */
 
-/* Takes the contents of a burst's frames: the modem makes flags, stuffing and check sequences itself. If memory is refused none is there, and
- * the burst is lost, as on a line. */
+/* Takes the contents of a burst's frames: the modem makes flags, stuffing and check sequences itself. If memory is refused there is none,
+ * and the burst is lost, as on a line. */
 static void take_contents(modem *it, const uint8_t *octets, uint64_t count)
 {
     g3_deframer from = G3_EMPTY;

@@ -10,7 +10,7 @@ typedef struct class1_setup {
     const char *init;   /* a command that the modem is set up with, as "AT&K3"; NULL: none */
     const char *number; /* what is dialled; NULL: it answers */
     int rings;          /* how often it rings before it is answered */
-    FILE *trace;        /* what goes over the port is written here, a line for each command, result and run of data; NULL: nothing */
+    FILE *trace;        /* a line is written here for each command, result and run of data; NULL: none is */
 } class1_setup;
 
 extern const modem_kind modem_of_class1;

@@ -12,7 +12,8 @@ void options_usage(void)
     fprintf(stderr,
         "usage: softfax --call PAGE.pbm.. | --answer DIR   --rx IN --tx OUT [--wav FILE]\n"
         "       softfax --tty DEVICE --call NUMBER PAGE.pbm.. | --answer DIR [--rings N]   [--init COMMAND] [--xon] [--trace-at FILE]\n"
-        "       [--modems v17|v29|v27ter] [--code mmr|mh] [--fine] [--square] [--no-ctc] [--id NAME] [--most-seconds N] [--json] [--tell]\n");
+        "       [--modems v17|v29|v27ter] [--code mmr|mh] [--fine] [--square] [--no-ctc] [--id NAME] [--most-seconds N] [--json]\n"
+        "       [--tell]\n");
 }
 
 /* The place of a word in a list that ends with NULL, from 1; 0 if it isn't there. */

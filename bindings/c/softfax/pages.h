@@ -17,7 +17,7 @@ typedef struct pages_folder {
 } pages_folder;
 /* Returns whether there is such a folder. */
 int pages_is_folder(const char *name);
-/* Keeps a page as a new file of the folder, page-1.pbm and so on, which nobody but its owner can read; returns whether it is there whole, and
- * on the disk. Fits terminal_pages. */
+/* Keeps a page as a new file of the folder, page-1.pbm and so on, which its owner alone can read; returns whether it is there whole, and on
+ * the disk. Fits terminal_pages. */
 int pages_keep(void *folder, g3_page *page);
 #endif

@@ -141,7 +141,7 @@ refuses 1 "/dev/null: Inappropriate ioctl" --tty /dev/null --call 1 "$work/1.pbm
 timeout 120 python3 "$here/modems.py" "$OUT/softfax" "$work/1.pbm" "$work"
 
 # two processes over two ttys, in real time
-head -c 10000 "$work/1.pbm" | sed '2s/.*/1728 46/' | head -c 9948 > "$work/short.pbm"
+{ printf 'P4\n1728 40\n'; seq 10000 99999 | head -c 8640; } > "$work/short.pbm"
 "$OUT/bench" --ptys "$work/tty0" "$work/tty1" &
 exchange=$!
 while [ ! -e "$work/tty1" ]; do sleep 0.1; done

@@ -67,7 +67,8 @@ static void step(call *it, const streams *with, const int16_t *heard, int16_t *s
     if (with->wav != NULL) wav_write(with->wav, said, heard, PIECE);
 }
 
-/* Runs the call until it is over; returns whether no stream failed. A piece is said before one is heard, or two would wait for each other. */
+/* Runs the call until it is over; returns whether no stream failed. A piece is said before one is heard, or two would wait for each
+ * other. */
 static int run(call *it, streams *over)
 {
     int16_t heard[PIECE], said[PIECE] = {0};

@@ -119,9 +119,9 @@ static void end_host_data(soft *it)
         it->doing = SENDS;
         return;
     }
-    if (g3_frame_write(it->frame, (size_t)it->length, &handle, &bits) == G3_OK && g3_octets_copy(&handle, frame, sizeof frame, &length) == G3_OK) {
-        it->bits = append_bits(it->said, it->bits, frame, 0, bits);
-    }
+    g3_status status = g3_frame_write(it->frame, (size_t)it->length, &handle, &bits);
+    if (status == G3_OK) status = g3_octets_copy(&handle, frame, sizeof frame, &length);
+    if (status == G3_OK) it->bits = append_bits(it->said, it->bits, frame, 0, bits);
     g3_octets_free(&handle);
     it->is_last = it->length < 2 || (it->frame[1] & LAST_FRAME) != 0;
     it->length = 0;

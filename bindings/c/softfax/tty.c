@@ -12,8 +12,8 @@
 #include <termios.h>
 #include <unistd.h>
 
-/* A pause of the machine, as a sleep, isn't time: more than this isn't made up for. The other side has gone on meanwhile, but a wait that is
- * over too early ends the call for certain. */
+/* A pause of the machine, as a sleep, isn't time: more than this isn't made up for. The other side has gone on meanwhile, but a wait that
+ * is over too early ends the call for certain. */
 enum { MOST_LATE = 200 };
 
 typedef struct tty {
