@@ -3,10 +3,10 @@
 #
 #     .ci/softfax.sh FOLDER
 #
-# The terminal over modems of plain bits is built with the kit's clang under the address sanitizer and with traps for what C doesn't
-# define, and always run, also with each growth of memory refused in turn. The rest wants libspandsp-dev and a C compiler, the one that
-# CC names or cc: calls over its modems, with its own terminal each way, two processes, and wrong files. Ends with status 1 at the first
-# fault.
+# The terminal over modems of plain bits, and behind Class 1 modems of its own, is built with the kit's clang under the address sanitizer
+# and with traps for what C doesn't define, and always run, also with growths of memory refused in turn. The rest wants libspandsp-dev and
+# a C compiler, the one that CC names or cc: calls over its modems and its Class 1 modem, with its own terminal each way, two processes, and
+# wrong files. Ends with status 1 at the first fault.
 set -e
 top=$(cd "$(dirname "$0")/.." && pwd)
 kit=${KIT:-/opt/rattle}
@@ -20,16 +20,20 @@ fails() {
     exit 1
 }
 
-# builds NAME WORDS: a test of the terminal over plain bits, linked with these words
-builds() {
-    name=$1
-    shift
-    objects=
-    for part in "$name" trial line paper terminal bits; do
+# compiles PARTS: their objects are added to $objects
+compiles() {
+    for part in "$@"; do
         "$kit/toolchain/bin/clang" -std=c11 -Wall -Wextra -Werror -O2 -g -fPIE -fsanitize=address,undefined -fsanitize-trap=undefined \
             -nostdinc -isystem "$top/bindings/include" -I "$work" -c "$here/$part.c" -o "$work/softfax-$part.o"
         objects="$objects $work/softfax-$part.o"
     done
+}
+
+# builds NAME WORDS: a test over plain bits, linked with these words
+builds() {
+    name=$1 objects=$shared
+    shift
+    compiles "$name"
     # the words have no spaces of their own, unless TMPDIR has
     # shellcheck disable=SC2086
     "$kit/toolchain/bin/ld.lld" -pie --eh-frame-hdr -dynamic-linker /lib64/ld-linux-x86-64.so.2 -o "$work/$name" "$@" "$lib/Scrt1.o" \
@@ -37,12 +41,18 @@ builds() {
         "$lib/libc_nonshared.a" "$lib/libm.so.6" "$lib/ld-linux-x86-64.so.2" "$lib/libgcc_s.so.1" "$lib/libgcc.a" "$lib/crtendS.o"
 }
 
+objects=
+compiles behind t31 class1 trial line paper terminal identity bits
+shared=$objects
 builds bits-test
 timeout 600 "$work/bits-test" > "$work/output" || fails bits-test
 echo "softfax: $(grep -c '24 of 24' "$work/output") lines of plain bits carry all calls"
+builds class1-test
+timeout 600 "$work/class1-test" > "$work/output" 2>&1 || fails class1-test
+echo "softfax: $(grep -c 'calls by Class 1 complete' "$work/output") lines of plain bits carry all calls behind Class 1 modems"
 builds memory-test --wrap=malloc --wrap=realloc --wrap=free
-timeout 600 "$work/memory-test" > "$work/output" || fails memory-test
-echo "softfax: $(cat "$work/output")"
+timeout 600 "$work/memory-test" 40 > "$work/output" || fails memory-test
+sed 's/^/softfax: /' "$work/output"
 
 CC=${CC:-cc}
 if ! command -v "$CC" > /dev/null; then
@@ -51,5 +61,5 @@ elif ! echo '#include <spandsp.h>' | "$CC" -E - > /dev/null 2>&1; then
     echo "softfax: not run, libspandsp-dev is not installed"
 else
     LIB=$work OUT=$work/softfax CC=$CC "$here/run.sh" --audio > "$work/output" 2>&1 || fails run.sh
-    tail -n 2 "$work/output"
+    grep '^softfax: ' "$work/output"
 fi

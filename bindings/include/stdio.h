@@ -17,6 +17,7 @@ char *fgets(char *to, int size, FILE *file);
 int fprintf(FILE *file, const char *format, ...) __attribute__((format(printf, 2, 3)));
 int fscanf(FILE *file, const char *format, ...) __attribute__((format(scanf, 2, 3)));
 int printf(const char *format, ...) __attribute__((format(printf, 1, 2)));
+int snprintf(char *to, size_t room, const char *format, ...) __attribute__((format(printf, 3, 4)));
 int sscanf(const char *text, const char *format, ...) __attribute__((format(scanf, 2, 3)));
 void perror(const char *text);
 #endif

@@ -51,7 +51,8 @@ static int try_line(const line_kind *line, uint32_t seeds, const paper *papers, 
     tally all = {0, 0, 0, 0};
     if (line->every == 0) seeds = 1; /* nothing is left to chance */
     for (uint32_t i = 0; i < 3 * 2 * 2 * 2 * seeds; i++) {
-        trial kind = {*line, 1 + i % 3, i / 3 % 2 ? G3_MMR : G3_MH, i / 6 % 2 ? 3 : 1, 1 + i / 12 % 2, i, papers, 0, tells};
+        trial kind = {.line = *line, .modems = 1 + i % 3, .coding = i / 3 % 2 ? G3_MMR : G3_MH, .pages = i / 6 % 2 ? 3 : 1,
+            .limit = 1 + i / 12 % 2, .seed = i, .papers = papers, .tells = tells};
         try_call(&kind, &all);
     }
     printf("%s: %u of %u calls complete\n", line->name, all.well, all.calls);

@@ -5,7 +5,7 @@
  *     bit 14: 1; 12, 13: the state; 8 to 11: the carrier; 4 to 7: a check; 2, 3: how many bits; 0, 1: the bits
  *
  * A sample with a wrong check is noise. Silence is zeros. */
-#include "modem.h"
+#include "bits.h"
 #include "g3fax.h"
 #include <stdlib.h>
 #include <string.h>
@@ -35,18 +35,18 @@ modem *modem_new(void)
     return it;
 }
 
-void modem_free(modem *it)
+static void modem_free(modem *it)
 {
     free(it);
 }
 
-void modem_begin_tone(modem *it, int tone)
+static void modem_begin_tone(modem *it, int tone)
 {
     it->tone = tone + 1;
     it->goes_on = 0;
 }
 
-void modem_begin_carrier(modem *it, uint32_t carrier, int brief, const uint8_t *octets, uint64_t bits)
+static void modem_begin_carrier(modem *it, uint32_t carrier, int brief, const uint8_t *octets, uint64_t bits)
 {
     it->tone = 0;
     it->says = carrier;
@@ -56,6 +56,11 @@ void modem_begin_carrier(modem *it, uint32_t carrier, int brief, const uint8_t *
     it->bits = bits;
     it->at = 0;
     it->due = 0;
+}
+
+void bits_extend(modem *it, uint64_t bits)
+{
+    it->bits = bits;
 }
 
 static uint32_t rate_of(uint32_t carrier)
@@ -102,7 +107,7 @@ static int16_t tone_sample(modem *it)
     return it->tone == TONE_CNG + 1 && at >= RATE / 2 ? 0 : TONE;
 }
 
-int modem_say(modem *it, int16_t *out)
+static int modem_say(modem *it, int16_t *out)
 {
     int goes_on = 1;
     for (int i = 0; i < SLICE; i++) {
@@ -117,7 +122,7 @@ static void drop_bits(modem *it, int receiver)
     it->partial[receiver] = it->filled[receiver] = 0;
 }
 
-void modem_listen(modem *it, uint32_t carrier, int brief)
+static void modem_listen(modem *it, uint32_t carrier, int brief)
 {
     it->listens = carrier;
     it->brief = (uint32_t)brief;
@@ -160,7 +165,7 @@ static void take_sample(modem *it, uint32_t sample)
     for (uint32_t i = 0; i < count; i++) take_bit(it, receiver, sample >> i & 1);
 }
 
-void modem_hear(modem *it, const int16_t *in, modem_heard *heard)
+static void modem_hear(modem *it, const int16_t *in, modem_heard *heard)
 {
     int sounds = 0;
     memset(heard, 0, sizeof *heard);
@@ -178,20 +183,23 @@ void modem_hear(modem *it, const int16_t *in, modem_heard *heard)
     }
 }
 
-int modem_is_noisy(const modem *it)
+static int modem_is_noisy(const modem *it)
 {
     (void)it;
     return 0;
 }
 
-void modem_hush(modem *it)
+static void modem_hush(modem *it)
 {
     it->zeros = FALLS - 1; /* a slice of silence ends it */
 }
 
-void modem_forget(modem *it)
+static void modem_forget(modem *it)
 {
     it->is_open = it->zeros = 0;
     drop_bits(it, BY_V21);
     drop_bits(it, BY_PAGE);
 }
+
+const modem_kind modem_of_sound = {
+    modem_free, modem_begin_tone, modem_begin_carrier, modem_say, modem_listen, modem_hear, modem_is_noisy, modem_hush, modem_forget, 0, 0};

@@ -104,6 +104,9 @@ static void from_symbols(void *user, const complexf_t *got, const complexf_t *po
     it->symbols++;
 }
 
+static void modem_free(modem *it);
+static void modem_forget(modem *it);
+
 modem *modem_new(void)
 {
     modem *it = calloc(1, sizeof *it);
@@ -126,7 +129,7 @@ modem *modem_new(void)
     return it;
 }
 
-void modem_free(modem *it)
+static void modem_free(modem *it)
 {
     if (it == NULL) return;
     if (it->v21_tx) fsk_tx_free(it->v21_tx);
@@ -147,13 +150,13 @@ static void end_tone(modem *it)
     it->tone = NULL;
 }
 
-void modem_begin_tone(modem *it, int tone)
+static void modem_begin_tone(modem *it, int tone)
 {
     end_tone(it);
     it->tone = modem_connect_tones_tx_init(NULL, tone == TONE_CNG ? MODEM_CONNECT_TONES_FAX_CNG : MODEM_CONNECT_TONES_ANS);
 }
 
-void modem_begin_carrier(modem *it, uint32_t carrier, int brief, const uint8_t *octets, uint64_t bits)
+static void modem_begin_carrier(modem *it, uint32_t carrier, int brief, const uint8_t *octets, uint64_t bits)
 {
     int rate = CARRIERS[carrier].rate;
     end_tone(it);
@@ -182,7 +185,7 @@ static int samples(modem *it, int16_t *out)
     }
 }
 
-int modem_say(modem *it, int16_t *out)
+static int modem_say(modem *it, int16_t *out)
 {
     int count = samples(it, out);
     for (int i = count; i < SLICE; i++) out[i] = 0;
@@ -200,7 +203,7 @@ static void start_receiver(modem *it)
     }
 }
 
-void modem_listen(modem *it, uint32_t carrier, int brief)
+static void modem_listen(modem *it, uint32_t carrier, int brief)
 {
     it->listens = carrier;
     it->brief = brief;
@@ -228,7 +231,7 @@ static void receive(modem *it, const int16_t *in)
 }
 
 /* The receivers hear the line where there is a signal, and else nothing, so that they see each carrier end. */
-void modem_hear(modem *it, const int16_t *in, modem_heard *heard)
+static void modem_hear(modem *it, const int16_t *in, modem_heard *heard)
 {
     static const int16_t silence[SLICE];
     int edge = gate_edge(&it->gate, in);
@@ -246,7 +249,7 @@ void modem_hear(modem *it, const int16_t *in, modem_heard *heard)
 }
 
 /* Frames begin to be lost where the symbols are off by a quarter of the distance between points, at each speed. */
-int modem_is_noisy(const modem *it)
+static int modem_is_noisy(const modem *it)
 {
     static const double BETWEEN_POINTS[] = {[G3_V17_7200] = 4, [G3_V17_9600] = 2.83, [G3_V17_12000] = 2, [G3_V17_14400] = 1.41};
     if (CARRIERS[it->listens].kind != V17 || it->symbols == 0) return 0;
@@ -254,12 +257,12 @@ int modem_is_noisy(const modem *it)
     return it->off > most * most * it->symbols;
 }
 
-void modem_hush(modem *it)
+static void modem_hush(modem *it)
 {
     it->gate.is_hiss = 1;
 }
 
-void modem_forget(modem *it)
+static void modem_forget(modem *it)
 {
     it->gate.is_open = it->gate.falls = 0;
     memset(it->late, 0, sizeof it->late);
@@ -268,3 +271,6 @@ void modem_forget(modem *it)
     drop_bits(it, BY_V21);
     drop_bits(it, BY_PAGE);
 }
+
+const modem_kind modem_of_sound = {
+    modem_free, modem_begin_tone, modem_begin_carrier, modem_say, modem_listen, modem_hear, modem_is_noisy, modem_hush, modem_forget, 0, 0};

@@ -71,7 +71,8 @@ static int try_call(const pair *who, const trial *kind, const char *folder, tall
 static int try_cell(const pair *who, const line_kind *line, uint32_t seeds, const paper *papers, const char *folder, tally *out)
 {
     for (uint32_t i = 0; i < 12 * seeds; i++) {
-        trial kind = {*line, 1 + i % 3, i / 3 % 2 ? G3_MMR : G3_MH, i / 6 % 2 ? 3 : 1, 2, i, papers, who->ctc, NULL};
+        trial kind = {.line = *line, .modems = 1 + i % 3, .coding = i / 3 % 2 ? G3_MMR : G3_MH, .pages = i / 6 % 2 ? 3 : 1, .limit = 2,
+            .seed = i, .papers = papers, .ctc = who->ctc};
         if (!try_call(who, &kind, folder, out)) return 0;
     }
     return 1;
@@ -121,7 +122,8 @@ static int try_one(char **words, const paper *papers, const char *folder)
     while (who < PAIRS_COUNT && strcmp(PAIRS[who].name, words[0]) != 0) who++;
     if (line == LINES_COUNT || who == PAIRS_COUNT) return 0;
     uint32_t modems = (uint32_t)atoi(words[2]), coding = (uint32_t)atoi(words[3]), pages = (uint32_t)atoi(words[4]);
-    trial kind = {LINES[line], modems, coding, pages, 2, (uint64_t)atoi(words[5]), papers, PAIRS[who].ctc, "told"};
+    trial kind = {.line = LINES[line], .modems = modems, .coding = coding, .pages = pages, .limit = 2, .seed = (uint64_t)atoi(words[5]),
+        .papers = papers, .ctc = PAIRS[who].ctc, .tells = "told"};
     return kind.pages <= MOST_PAGES && try_call(&PAIRS[who], &kind, folder, &all) && all.well == all.calls;
 }
 
@@ -130,11 +132,25 @@ static int try_few(const paper *papers, const char *folder)
 {
     tally all = {0, 0, 0};
     for (int i = 1; i < PAIRS_COUNT; i++) {
-        trial kind = {LINES[0], G3_V17, G3_MMR, 1, 2, 0, papers, PAIRS[i].ctc, NULL};
+        trial kind = {.line = LINES[0], .modems = G3_V17, .coding = G3_MMR, .pages = 1, .limit = 2, .papers = papers, .ctc = PAIRS[i].ctc};
         if (!try_call(&PAIRS[i], &kind, folder, &all)) return 0;
     }
     printf("softfax: %u of %u calls by spandsp's modems complete, with its own terminal each way and with ours\n", all.well, all.calls);
     return all.well == all.calls;
+}
+
+/* A caller without error correction: our answerer has to end the call soon, in order, and with nothing stored. */
+static int try_without_correction(const paper *papers, const char *folder)
+{
+    enum { SOON = 35 };
+    party caller, answerer;
+    outcome came;
+    trial kind = {.line = LINES[0], .modems = G3_V17, .coding = G3_MMR, .pages = 1, .limit = 2, .papers = papers, .has_no_correction = 1};
+    if (!begin(0, &kind, 1, folder, &caller) || !begin(1, &kind, 0, folder, &answerer)) return 0;
+    trial_run(&caller, &answerer, &kind, &came);
+    int is_right = strcmp(came.answerer, "stopped") == 0 && came.equal + came.wrong == 0 && came.seconds <= SOON;
+    printf("softfax: a caller without error correction: %s after %u s\n", came.answerer, came.seconds);
+    return is_right;
 }
 
 int main(int argc, char **argv)
@@ -145,7 +161,7 @@ int main(int argc, char **argv)
     for (uint32_t i = 0; i < MOST_PAGES; i++) {
         if (!paper_new(&papers[i], WIDTHS[i], ROWS, i + 1)) return fprintf(stderr, "softfax-test: no memory\n"), 1;
     }
-    if (argc == 2) is_right = try_few(papers, argv[1]);
+    if (argc == 2) is_right = try_few(papers, argv[1]) && try_without_correction(papers, argv[1]);
     else if (argc >= 4 && strcmp(argv[2], "--table") == 0) is_right = try_table(argc - 3, argv + 3, papers, argv[1]);
     else if (argc == 9 && strcmp(argv[2], "--call") == 0) is_right = try_one(argv + 3, papers, argv[1]);
     else fprintf(stderr, "usage: softfax-test FOLDER [--table SEEDS [LINE..] | --call PAIR LINE MODEMS CODING PAGES SEED]\n");

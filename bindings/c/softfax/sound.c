@@ -1,54 +1,84 @@
 #include "sound.h"
 #include <errno.h>
 #include <fcntl.h>
+#include <poll.h>
 #include <string.h>
 #include <sys/stat.h>
 #include <unistd.h>
 
-static int fails(const char *name, const char *why)
+/* Tells why the last call of the system failed. */
+static int fails(const char *name)
 {
-    fprintf(stderr, "softfax: %s: %s\n", name, why);
-    return -1;
+    fprintf(stderr, "softfax: %s: %s\n", name, strerror(errno));
+    return SOUND_FAILS;
 }
 
-int sound_open_in(const char *name)
+/* A pipe is opened though nobody has its other end open: what is read waits for that, and what is written is tried again. */
+int sound_open_in(sound *it, const char *name)
 {
-    int stream = strcmp(name, "-") == 0 ? STDIN_FILENO : open(name, O_RDONLY);
-    return stream < 0 ? fails(name, strerror(errno)) : stream;
+    *it = (sound){name, STDIN_FILENO, 0};
+    if (strcmp(name, "-") != 0) it->stream = open(name, O_RDONLY | O_NONBLOCK);
+    return it->stream < 0 ? fails(name) : SOUND_IS_THERE;
 }
 
-int sound_open_out(const char *name)
+int sound_open_out(sound *it, const char *name)
 {
     struct stat found;
-    if (strcmp(name, "-") == 0) return STDOUT_FILENO;
-    if (stat(name, &found) == 0 && S_ISREG(found.st_mode)) return fails(name, strerror(EEXIST));
-    int stream = open(name, O_WRONLY | O_CREAT, 0666);
-    return stream < 0 ? fails(name, strerror(errno)) : stream;
+    *it = (sound){name, STDOUT_FILENO, 0};
+    if (strcmp(name, "-") == 0) return SOUND_IS_THERE;
+    it->stream = -1;
+    if (stat(name, &found) == 0 && S_ISREG(found.st_mode)) return errno = EEXIST, fails(name);
+    it->stream = open(name, O_WRONLY | O_CREAT | O_NONBLOCK, S_IRUSR | S_IWUSR);
+    if (it->stream >= 0) return SOUND_IS_THERE;
+    if (errno != ENXIO && errno != EINTR) return fails(name);
+    poll(NULL, 0, SOUND_PATIENCE);
+    return SOUND_STALLS;
 }
 
-int sound_read(int stream, const char *name, int16_t *samples, int count)
+/* Waits until something can be read or written; returns whether it can. */
+static int is_ready(const sound *it, short what)
 {
-    size_t length = (size_t)count * sizeof *samples, done = 0;
+    struct pollfd ready = {it->stream, what, 0};
+    return poll(&ready, 1, SOUND_PATIENCE) > 0;
+}
+
+/* Whether a call of the system has failed for now only. */
+static int is_for_now(void)
+{
+    return errno == EINTR || errno == EAGAIN;
+}
+
+int sound_read(sound *it, int16_t *samples, int count)
+{
+    size_t length = (size_t)count * sizeof *samples;
     ssize_t got = 1;
-    memset(samples, 0, length);
-    while (done < length && got != 0) {
-        got = read(stream, (char *)samples + done, length - done);
-        if (got > 0) done += (size_t)got;
-        else if (got < 0 && errno != EINTR) return fails(name, strerror(errno)), SOUND_FAILS;
+    if (it->done == 0) memset(samples, 0, length);
+    while (it->done < length && got > 0) {
+        if (!is_ready(it, POLLIN)) return SOUND_STALLS;
+        got = read(it->stream, (char *)samples + it->done, length - it->done);
+        if (got > 0) it->done += (size_t)got;
+        else if (got < 0) return is_for_now() ? SOUND_STALLS : fails(it->name);
     }
-    if (done % sizeof *samples != 0) return fails(name, "it ends in the middle of a sample"), SOUND_FAILS;
+    size_t done = it->done;
+    it->done = 0;
+    if (done % sizeof *samples != 0) {
+        fprintf(stderr, "softfax: %s: it ends in the middle of a sample\n", it->name);
+        return SOUND_FAILS;
+    }
     return done == length ? SOUND_IS_THERE : SOUND_ENDS;
 }
 
-int sound_write(int stream, const char *name, const int16_t *samples, int count)
+int sound_write(sound *it, const int16_t *samples, int count)
 {
-    size_t length = (size_t)count * sizeof *samples, done = 0;
-    while (done < length) {
-        ssize_t put = write(stream, (const char *)samples + done, length - done);
-        if (put > 0) done += (size_t)put;
+    size_t length = (size_t)count * sizeof *samples;
+    while (it->done < length) {
+        if (!is_ready(it, POLLOUT)) return SOUND_STALLS;
+        ssize_t put = write(it->stream, (const char *)samples + it->done, length - it->done);
+        if (put > 0) it->done += (size_t)put;
         else if (put < 0 && errno == EPIPE) return SOUND_ENDS;
-        else if (put < 0 && errno != EINTR) return fails(name, strerror(errno)), SOUND_FAILS;
+        else if (put < 0) return is_for_now() ? SOUND_STALLS : fails(it->name);
     }
+    it->done = 0;
     return SOUND_IS_THERE;
 }
 
@@ -79,7 +109,7 @@ static void put_header(FILE *file, uint32_t length)
 FILE *wav_new(const char *name)
 {
     FILE *file = fopen(name, "wbx");
-    if (file == NULL) fails(name, strerror(errno));
+    if (file == NULL) fails(name);
     else put_header(file, 0);
     return file;
 }
@@ -99,6 +129,6 @@ int wav_close(FILE *file, const char *name)
     put_header(file, end < WAV_HEADER ? 0 : (uint32_t)end - WAV_HEADER);
     int is_whole = !ferror(file) && end >= WAV_HEADER;
     if (fclose(file) != 0) is_whole = 0;
-    if (!is_whole) fails(name, "it can't be written whole");
+    if (!is_whole) fprintf(stderr, "softfax: %s: it can't be written whole\n", name);
     return is_whole;
 }

@@ -5,16 +5,24 @@
 #include <stdint.h>
 #include <stdio.h>
 
-/* Opens a stream to read or to write; "-" is standard input or output. A pipe or a device is written to as it is; a file must be new. -1
- * where that fails. */
-int sound_open_in(const char *name);
-int sound_open_out(const char *name);
+/* A stream, and how far a piece of it is. */
+typedef struct sound {
+    const char *name;
+    int stream;   /* a descriptor; -1 before it is open */
+    size_t done;  /* octets of the piece */
+} sound;
 
-enum { SOUND_IS_THERE, SOUND_ENDS, SOUND_FAILS };
-/* Reads or writes so many samples. Where a stream ends earlier, the rest is zeros. Whoever read the other end of a pipe and has closed it
- * has ended the stream. */
-int sound_read(int stream, const char *name, int16_t *samples, int count);
-int sound_write(int stream, const char *name, const int16_t *samples, int count);
+enum { SOUND_IS_THERE, SOUND_STALLS, SOUND_ENDS, SOUND_FAILS };
+enum { SOUND_PATIENCE = 100 }; /* milliseconds that a function here waits at most */
+/* Opens a stream to read or to write; "-" is standard input or output. A pipe or a device is written to as it is; a file must be new.
+ * SOUND_STALLS: nobody reads a pipe yet; try again. */
+int sound_open_in(sound *it, const char *name);
+int sound_open_out(sound *it, const char *name);
+
+/* Reads or writes a piece of so many samples. SOUND_STALLS: it isn't through; go on with the same samples. If a stream ends earlier, the
+ * rest is zeros. If nobody reads a pipe any more, the stream has ended. */
+int sound_read(sound *it, int16_t *samples, int count);
+int sound_write(sound *it, const int16_t *samples, int count);
 
 /* A new WAV file of two channels; NULL where it can't be made. */
 FILE *wav_new(const char *name);

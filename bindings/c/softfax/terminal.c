@@ -1,10 +1,12 @@
 #include "terminal.h"
+#include "carriers.h"
+#include "identity.h"
 #include "names.h"
 #include <stdio.h>
 #include <stdlib.h>
 #include <string.h>
 
-/* Durations in milliseconds. The waits of T.30 are those of the library, g3_wait_millis. */
+/* Durations in milliseconds. The waits of T.30 are those of the library, g3_wait_millis, but T2. */
 enum {
     BEFORE_CED = 1800,        /* an answerer is silent at first, and then says CED (T.30, 4) */
     CED = 2600,
@@ -12,6 +14,8 @@ enum {
     AFTER_CALL = 200,         /* silence after the last carrier, so that the line carries all of it */
     LONGEST_UNREAD = 6000,    /* a signal with no frame where no page is awaited: after that it is the line's hiss */
     LONGEST_CRACKLE = 300000, /* a line that is never silent for long, with no frame: T1 is over, whatever else is heard */
+    LONGER_T2 = 7000,         /* T.30 has 6 s and a sixth to either side: by 7 s a caller's T4, 3 s, has run out twice for certain */
+    LATEST_CHECK = 3600,      /* after a DCS: 75 ms, 1.4 s of V.17's training, 1.5 s, and how late the other side may be */
     LEAST_CHECK = 1000,       /* a signal that may have been a training check that couldn't be read */
     LEAST_SIGNAL = 700,       /* a shorter one without a frame is a crackle, or the echo of our own CNG: no wait runs anew from it */
     BEFORE_CNG = 1000         /* silence */
@@ -24,6 +28,7 @@ enum phase { WAITS_FOR_CED, IN_CED, LISTENS, PAUSES, IN_CARRIER, LEAVES, IS_OVER
 struct terminal {
     g3_terminal *station;
     terminal_pages pages;
+    const modem_kind *kind;
     modem *modem;
     const char *name;               /* for what is told; NULL: nothing is */
     int calls, phase;
@@ -31,6 +36,9 @@ struct terminal {
     int64_t quiet;                  /* since when the line is silent; NEVER while there is a signal */
     int64_t calm;                   /* when our last turn ended, or the last wait, or the last signal that was no crackle */
     int64_t heard;                  /* when the last good frame or training check came */
+    int64_t listened;               /* since when a training check is awaited */
+    int64_t not_before;             /* nothing is said before this, as a check may be on the line that isn't listened for */
+    uint32_t said, page_ends;       /* the kind of the last signal that was said, and what ended with the last PPS that was heard */
     int64_t asked;                  /* the last time at which T5 didn't run */
     int64_t began;                  /* when the last signal began */
     int rings;                      /* CNG goes out while nothing is heard */
@@ -44,6 +52,10 @@ struct terminal {
     g3_burst burst;
     int answers_ctc, ctr;           /* CTC is answered; CTR is to be said */
     uint32_t ctc;                   /* the carrier that CTC has named; 0: none since the last DCS */
+    int without_correction;         /* how many DCS have come from a caller that has no error correction */
+    const char *why;                /* why the terminal has ended the call; NULL: it hasn't */
+    const char *identity;           /* how this station is named in what it sends; NULL: it isn't */
+    char peer[IDENTITY_MOST + 1];   /* how the other one has named itself */
     int trains_anew;                /* the next page carrier comes with the long training, as CTC has it */
 };
 
@@ -76,23 +88,24 @@ static uint8_t *octets_of(g3_octets *handle, uint64_t *length)
     return octets;
 }
 
-terminal *terminal_new(g3_terminal *station, const terminal_pages *pages)
+terminal *terminal_new(g3_terminal *station, const terminal_pages *pages, const modem_kind *kind, modem *modem)
 {
     static const terminal fresh;
     terminal *it = malloc(sizeof *it);
     if (it == NULL) return NULL;
     *it = fresh;
     it->station = station;
-    it->calls = it->rings = pages == NULL;
+    it->kind = kind;
+    it->modem = modem;
+    it->calls = pages == NULL;
+    it->rings = it->calls && !kind->has_tones;
     if (pages != NULL) it->pages = *pages;
-    it->phase = it->calls ? LISTENS : WAITS_FOR_CED;
+    it->phase = it->calls || kind->has_tones ? LISTENS : WAITS_FOR_CED;
     it->until = BEFORE_CED;
     it->check_room = 4096; /* 1.5 s at 14,400 bit/s are 2,700 octets */
     it->check = malloc(it->check_room);
-    it->modem = modem_new();
-    if (it->check != NULL && it->modem != NULL && g3_deframer_new(&it->frames[BY_V21]) == G3_OK
-        && g3_deframer_new(&it->frames[BY_PAGE]) == G3_OK) {
-        if (it->calls) modem_begin_tone(it->modem, TONE_CNG);
+    if (it->check != NULL && g3_deframer_new(&it->frames[BY_V21]) == G3_OK && g3_deframer_new(&it->frames[BY_PAGE]) == G3_OK) {
+        if (it->rings) kind->begin_tone(modem, TONE_CNG);
         return it;
     }
     terminal_free(it);
@@ -104,7 +117,6 @@ void terminal_free(terminal *it)
     if (it == NULL) return;
     g3_deframer_free(&it->frames[BY_V21]);
     g3_deframer_free(&it->frames[BY_PAGE]);
-    modem_free(it->modem);
     free(it->check);
     free(it->octets);
     free(it);
@@ -120,9 +132,42 @@ void terminal_answer_ctc(terminal *it)
     it->answers_ctc = 1;
 }
 
+void terminal_identify(terminal *it, const char *text)
+{
+    it->identity = text;
+}
+
+const char *terminal_peer_name(const terminal *it)
+{
+    return it->peer;
+}
+
+const char *terminal_why(const terminal *it)
+{
+    return it->why;
+}
+
 void terminal_tell(terminal *it, const char *name)
 {
     it->name = name;
+}
+
+/* Returns whether a page's carrier can come before V.21, for a modem that hears one of the two. The library listens for both at once: it
+ * doesn't say which comes first, so the last signal and the last PPS are looked at here. After MCF to a PPS-EOP or PPS-EOM, and after RNR,
+ * the caller speaks by V.21. */
+static int page_is_next(const terminal *it)
+{
+    if (!it->kind->hears_one) return 1;
+    return it->said != G3_RNR && (it->said != G3_MCF || it->page_ends == G3_BLOCK_ALONE || it->page_ends == G3_MPS);
+}
+
+/* The carrier that the page receiver listens for; 0: none. */
+static uint32_t carrier_of(const terminal *it, const g3_state *state)
+{
+    if (state->listens == G3_HEARS_V21) return 0;
+    if (state->listens == G3_HEARS_CHECK) return state->carrier;
+    if (!page_is_next(it)) return 0;
+    return it->ctc != 0 ? it->ctc : state->carrier;
 }
 
 /* Sets the page receiver to what the library listens for. A check comes with the long training of V.17, and pages with the short one. */
@@ -132,9 +177,10 @@ static void listen(terminal *it)
     it->trained = 0;
     it->checked = 0;
     if (!is_done(it, g3_terminal_state(it->station, &state))) return;
+    if (it->listens != G3_HEARS_CHECK) it->listened = it->now;
     it->listens = state.listens;
-    it->carrier = state.listens == G3_HEARS_V21 ? 0 : state.listens == G3_HEARS_PAGES && it->ctc != 0 ? it->ctc : state.carrier;
-    modem_listen(it->modem, it->carrier, state.listens == G3_HEARS_PAGES && !it->trains_anew);
+    it->carrier = carrier_of(it, &state);
+    it->kind->listen(it->modem, it->carrier, state.listens == G3_HEARS_PAGES && !it->trains_anew);
 }
 
 /* Notes CTC, and the DCS that ends what it said. The third octet is the kind of the frame; the fifth has the speed, as in a DCS (T.30,
@@ -153,19 +199,43 @@ static void note_ctc(terminal *it, const uint8_t *content, uint64_t length)
     it->trains_anew = it->ctr = 1;
 }
 
+/* Notes a DCS without error correction: its bit 27 is 0 (T.30, table 2). The stations don't take it, and send DIS again; at the second one
+ * the call is ended, once the training check that follows must be over. */
+static void note_correction(terminal *it, const uint8_t *content, uint64_t length)
+{
+    enum { DCS = 0x82, SIDE = 1, OCTET = 3 + 3, BIT = 4 };
+    if (it->calls || (content[2] & ~SIDE) != DCS) return;
+    it->without_correction += length <= OCTET || (content[OCTET] & BIT) == 0;
+    if (it->without_correction < 2 || it->why != NULL) return;
+    it->why = "the caller sends without error correction";
+    it->not_before = it->now + LATEST_CHECK;
+    tell(it, it->why, NULL, 0);
+    is_done(it, g3_terminal_stop(it->station));
+}
+
+/* Hears the content of a good frame. */
+static void hear_content(terminal *it, int receiver, const uint8_t *content, uint64_t length)
+{
+    g3_signal signal;
+    tell(it, "hears", frame_name(content[2]), 0);
+    it->heard = it->now;
+    it->reads = 1;
+    if (receiver == BY_V21) {
+        if (g3_signal_read(content, length, &signal) == G3_OK && signal.kind == G3_PPS) it->page_ends = signal.pps.ends;
+        if (it->answers_ctc) note_ctc(it, content, length);
+        identity_read(content, length, it->peer);
+        note_correction(it, content, length);
+    }
+    is_done(it, g3_terminal_hear_frame(it->station, content, length)); /* as a line of its own: two receivers never mix */
+}
+
 /* Hears octets of a receiver as flags and frames. */
 static void hear_frames(terminal *it, int receiver, const uint8_t *octets, uint32_t count)
 {
-    uint8_t content[300];
+    uint8_t content[MOST_CONTENT];
     uint64_t length = 0;
     if (!is_done(it, g3_deframer_feed(&it->frames[receiver], octets, count))) return;
-    while (g3_deframer_next(&it->frames[receiver], content, sizeof content, &length) == G3_OK) {
-        tell(it, "hears", frame_name(content[2]), 0);
-        it->heard = it->now;
-        it->reads = 1;
-        if (receiver == BY_V21 && it->answers_ctc) note_ctc(it, content, length);
-        is_done(it, g3_terminal_hear_frame(it->station, content, length)); /* as a line of its own: two receivers never mix */
-    }
+    while (g3_deframer_next(&it->frames[receiver], content, sizeof content, &length) == G3_OK) hear_content(it, receiver, content, length);
 }
 
 static void hear_check(terminal *it, const uint8_t *octets, uint32_t count)
@@ -173,15 +243,6 @@ static void hear_check(terminal *it, const uint8_t *octets, uint32_t count)
     if (it->checked + count > it->check_room) return; /* the rest of a check that is too long says nothing new */
     memcpy(it->check + it->checked, octets, count);
     it->checked += count;
-}
-
-/* The bits a second of a carrier. */
-static uint32_t rate_of(uint32_t carrier)
-{
-    static const uint32_t RATES[] = {
-        [0] = 300, [G3_V21] = 300, [G3_V27TER_2400] = 2400, [G3_V27TER_4800] = 4800, [G3_V29_7200] = 7200, [G3_V29_9600] = 9600,
-        [G3_V17_7200] = 7200, [G3_V17_9600] = 9600, [G3_V17_12000] = 12000, [G3_V17_14400] = 14400};
-    return RATES[carrier];
 }
 
 /* How many octets of the check that came are given to the library: all, if nine tenths of its 1.5 s were zeros with nothing wrong between
@@ -193,7 +254,7 @@ static size_t good_check(const terminal *it)
         run = it->check[i] == 0 ? run + 1 : 0;
         if (run > longest) longest = run;
     }
-    int is_good = longest * 8 * 10 >= rate_of(it->carrier) * 3 / 2 * 9 && !modem_is_noisy(it->modem);
+    int is_good = longest * 8 * 10 >= rate_of(it->carrier) * 3 / 2 * 9 && !it->kind->is_noisy(it->modem);
     return is_good ? it->checked : 0;
 }
 
@@ -206,10 +267,20 @@ static void end_check(terminal *it)
     if (is_done(it, g3_terminal_hear_training(it->station, it->check, good))) it->heard = it->now;
 }
 
+/* A training check of which nothing was heard is a bad one, once it should have ended: FTT goes out. T2 would be over when the caller's T4
+ * is, and both would speak at once, again and again. */
+static void miss_check(terminal *it)
+{
+    if (it->listens != G3_HEARS_CHECK || it->quiet == NEVER || it->now - it->listened < LATEST_CHECK) return;
+    tell(it, "misses a training check", NULL, 0);
+    if (is_done(it, g3_terminal_hear_training(it->station, it->check, 0))) it->calm = it->now;
+    listen(it);
+}
+
 static void hear(terminal *it, const int16_t *in)
 {
     modem_heard heard;
-    modem_hear(it->modem, in, &heard);
+    it->kind->hear(it->modem, in, &heard);
     if (heard.begins) {
         it->quiet = NEVER;
         it->began = it->now;
@@ -222,6 +293,7 @@ static void hear(terminal *it, const int16_t *in)
     }
     if (heard.fails) tell(it, "can't be trained", NULL, 0);
     hear_frames(it, BY_V21, heard.octets[BY_V21], heard.count[BY_V21]);
+    if (heard.length > 0) hear_content(it, BY_V21, heard.content, heard.length);
     if (it->listens == G3_HEARS_CHECK) hear_check(it, heard.octets[BY_PAGE], heard.count[BY_PAGE]);
     else hear_frames(it, BY_PAGE, heard.octets[BY_PAGE], heard.count[BY_PAGE]);
     if (!heard.ends) return;
@@ -232,25 +304,33 @@ static void hear(terminal *it, const int16_t *in)
     listen(it);
 }
 
+/* How long a block by the carrier that is listened for can last. */
+static int64_t longest_block(const terminal *it)
+{
+    return it->carrier != 0 ? (int64_t)BLOCK_BITS * 1000 / rate_of(it->carrier) : 0;
+}
+
 /* Takes what goes on and on for the hiss of the line. Where pages are awaited it may be a block that no receiver is trained by. */
 static void hush(terminal *it)
 {
     int64_t longest = LONGEST_UNREAD;
-    if (it->listens == G3_HEARS_PAGES) longest += (int64_t)BLOCK_BITS * 1000 / rate_of(it->carrier);
-    if (it->quiet == NEVER && it->now - it->began > longest && it->now - it->heard > longest) modem_hush(it->modem);
+    if (it->listens == G3_HEARS_PAGES) longest += longest_block(it);
+    if (it->quiet == NEVER && it->now - it->began > longest && it->now - it->heard > longest) it->kind->hush(it->modem);
 }
 
 /* Whether a wait that runs since a time is over. */
 static int is_past(const terminal *it, uint32_t wait, int64_t since)
 {
-    return wait != 0 && it->now - since >= g3_wait_millis(wait);
+    return wait != 0 && it->now - since >= (wait == G3_T2 ? LONGER_T2 : g3_wait_millis(wait));
 }
 
 /* Whether the wait that runs is over. T1 of a caller runs from what was heard last. The others run from our last turn or the last signal,
- * but where crackles go on and on, T1 of an answerer is over too when nothing is read for long. */
+ * but where crackles go on and on, T1 of an answerer is over too when nothing is read for long. For a modem that hears one carrier a page
+ * that doesn't train is silence, so T1 of its answerer is longer by a block. */
 static int wait_is_past(const terminal *it, uint32_t wait)
 {
     if (wait == G3_T1 && it->calls) return is_past(it, wait, it->heard);
+    if (wait == G3_T1 && it->kind->hears_one && it->listens == G3_HEARS_PAGES) return is_past(it, wait, it->calm + longest_block(it));
     return is_past(it, wait, it->calm) || (wait == G3_T1 && it->now - it->heard >= LONGEST_CRACKLE);
 }
 
@@ -286,17 +366,48 @@ static int hand_over(terminal *it)
     return status == G3_NOTHING || is_done(it, status);
 }
 
-static void tell_burst(const terminal *it, uint64_t length)
+/* Tells of each frame of the burst; returns the kind of its last signal by V.21, 0 if it has none. */
+static uint32_t look_at_burst(const terminal *it, int tells)
 {
     g3_deframer frames = G3_EMPTY;
-    uint8_t content[300];
+    uint8_t content[MOST_CONTENT];
     uint64_t count = 0;
-    if (it->name == NULL) return;
-    if (it->burst.check) tell(it, "says a training check", NULL, 0);
-    else if (g3_deframer_new(&frames) == G3_OK && g3_deframer_feed(&frames, it->octets, length) == G3_OK) {
-        while (g3_deframer_next(&frames, content, sizeof content, &count) == G3_OK) tell(it, "says", frame_name(content[2]), 0);
+    uint32_t last = 0;
+    g3_signal signal;
+    if (it->burst.check || (it->burst.carrier != G3_V21 && !(tells && it->name != NULL))) return 0;
+    if (g3_deframer_new(&frames) == G3_OK && g3_deframer_feed(&frames, it->octets, (it->burst.bits + 7) / 8) == G3_OK) {
+        while (g3_deframer_next(&frames, content, sizeof content, &count) == G3_OK) {
+            if (tells) tell(it, "says", frame_name(content[2]), 0);
+            if (it->burst.carrier == G3_V21 && g3_signal_read(content, count, &signal) == G3_OK) last = signal.kind;
+        }
     }
     g3_deframer_free(&frames);
+    return last;
+}
+
+/* Puts CSI before a DIS, or TSI before a DCS. If memory is refused the burst goes out without. */
+static void put_identity(terminal *it)
+{
+    uint8_t content[IDENTITY_CONTENT];
+    uint64_t bits = 0;
+    if (it->identity == NULL || (it->said != G3_DIS && it->said != G3_DCS)) return;
+    identity_write(it->identity, it->calls, content);
+    uint8_t *joined = identity_join(it->octets, it->burst.bits, content, &bits);
+    if (joined == NULL) return;
+    free(it->octets);
+    it->octets = joined;
+    it->burst.bits = bits;
+}
+
+/* Begins the carrier of the burst. */
+static void say_burst(terminal *it)
+{
+    it->said = look_at_burst(it, 0);
+    put_identity(it);
+    it->kind->begin_carrier(it->modem, it->burst.carrier, it->burst.carrier != G3_V21 && !it->burst.check, it->octets, it->burst.bits);
+    if (it->burst.check) tell(it, "says a training check", NULL, 0);
+    else if (it->name != NULL) look_at_burst(it, 1);
+    it->phase = IN_CARRIER;
 }
 
 /* Begins the next carrier of the turn. G3_NOTHING: there is none. Where memory is refused, it can be tried again. */
@@ -309,10 +420,8 @@ static g3_status begin_carrier(terminal *it)
     free(it->octets);
     it->octets = octets_of(&handle, &length);
     if (it->octets == NULL) return G3_NO_MEMORY; /* the burst is lost, as on a line */
-    modem_begin_carrier(it->modem, it->burst.carrier, !it->burst.check, it->octets, it->burst.bits);
-    tell_burst(it, length);
     it->rings = 0;
-    it->phase = IN_CARRIER;
+    say_burst(it);
     return G3_OK;
 }
 
@@ -332,9 +441,7 @@ static void say_ctr(terminal *it)
     g3_octets_free(&handle);
     length += FLAGS_BEFORE + FLAGS_AFTER;
     it->burst = (g3_burst){length * 8, G3_V21, 0, 1};
-    modem_begin_carrier(it->modem, G3_V21, 0, it->octets, it->burst.bits);
-    tell_burst(it, length);
-    it->phase = IN_CARRIER;
+    say_burst(it);
 }
 
 static int has_ended(const terminal *it)
@@ -347,7 +454,7 @@ static int has_ended(const terminal *it)
  * said: the last turn may be DCN. */
 static void speak(terminal *it)
 {
-    if (it->quiet == NEVER || it->now - it->quiet < BEFORE_CARRIER || !hand_over(it)) return;
+    if (it->quiet == NEVER || it->now - it->quiet < BEFORE_CARRIER || it->now < it->not_before || !hand_over(it)) return;
     if (it->ctr) {
         say_ctr(it);
         return;
@@ -362,7 +469,7 @@ static void end_turn(terminal *it)
 {
     it->phase = LISTENS;
     it->quiet = it->calm = it->now;
-    modem_forget(it->modem);
+    it->kind->forget(it->modem);
     listen(it);
 }
 
@@ -378,7 +485,7 @@ static void end_carrier(terminal *it)
 static void ring(terminal *it, int16_t *out)
 {
     int hears_signal = it->quiet == NEVER && it->now - it->began >= LEAST_SIGNAL;
-    if (it->rings && !hears_signal && it->now - it->calm >= BEFORE_CNG) modem_say(it->modem, out);
+    if (it->rings && !hears_signal && it->now - it->calm >= BEFORE_CNG) it->kind->say(it->modem, out);
 }
 
 static void listen_and_speak(terminal *it, const int16_t *in, int16_t *out)
@@ -386,6 +493,7 @@ static void listen_and_speak(terminal *it, const int16_t *in, int16_t *out)
     ring(it, out);
     hear(it, in);
     hush(it);
+    miss_check(it);
     end_waits(it);
     speak(it);
 }
@@ -398,16 +506,16 @@ void terminal_step(terminal *it, const int16_t *in, int16_t *out)
     modem_heard unheard;
     switch (it->phase) {
     case WAITS_FOR_CED:
-        modem_hear(it->modem, in, &unheard); /* so that it learns how loud the silent line is */
+        it->kind->hear(it->modem, in, &unheard); /* so that it learns how loud the silent line is */
         if (!is_time) break;
-        modem_begin_tone(it->modem, TONE_CED);
+        it->kind->begin_tone(it->modem, TONE_CED);
         it->phase = IN_CED;
         it->until = it->now + CED;
         break;
     case IN_CED:
-        modem_say(it->modem, out);
+        it->kind->say(it->modem, out);
         if (!is_time) break;
-        modem_forget(it->modem);
+        it->kind->forget(it->modem);
         it->quiet = it->calm = it->heard = it->now;
         it->phase = LISTENS;
         break;
@@ -416,7 +524,7 @@ void terminal_step(terminal *it, const int16_t *in, int16_t *out)
         if (is_time && begin_carrier(it) == G3_NOTHING) end_turn(it);
         break;
     case IN_CARRIER:
-        if (!modem_say(it->modem, out)) end_carrier(it);
+        if (!it->kind->say(it->modem, out)) end_carrier(it);
         break;
     case LEAVES:
         if (is_time) it->phase = IS_OVER;

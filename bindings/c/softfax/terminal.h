@@ -12,9 +12,9 @@ typedef struct terminal_pages {
 } terminal_pages;
 
 typedef struct terminal terminal;
-/* A terminal of a caller, where `pages` is NULL, or of an answerer. The handle stays the caller's, and is used until the terminal is
- * freed. NULL where memory is refused. */
-terminal *terminal_new(g3_terminal *station, const terminal_pages *pages);
+/* Makes a terminal of a caller, if `pages` is NULL, or of an answerer. The handle and the modem stay the program's, and are used until the
+ * terminal is freed. NULL if memory is refused. */
+terminal *terminal_new(g3_terminal *station, const terminal_pages *pages, const modem_kind *kind, modem *modem);
 void terminal_free(terminal *it);
 /* One slice of 5 ms: what is heard, and what is said meanwhile. */
 void terminal_step(terminal *it, const int16_t *in, int16_t *out);
@@ -25,6 +25,12 @@ void terminal_lose(terminal *it);
 /* An answerer answers CTC by CTR from now on. CTC is outside what the library proves: other machines send it after the fourth PPR of a
  * block, and go on by a carrier that it names, which trains anew. Without this it isn't answered. */
 void terminal_answer_ctc(terminal *it);
+/* Names this station in what it sends, as `text` says, which is kept by address and fits identity_is. */
+void terminal_identify(terminal *it, const char *text);
+/* The name that the other station has given itself in this call; "" if it has given none. */
+const char *terminal_peer_name(const terminal *it);
+/* Why the terminal itself has ended the call; NULL if it hasn't. */
+const char *terminal_why(const terminal *it);
 /* Tells on standard error what happens, each line with the time in milliseconds and this name. */
 void terminal_tell(terminal *it, const char *name);
 #endif

@@ -100,7 +100,7 @@ static void set_up(theirs *it)
     t30_set_supported_resolutions(t30, T30_SUPPORT_STANDARD_RESOLUTION | T30_SUPPORT_FINE_RESOLUTION | T30_SUPPORT_R8_RESOLUTION);
     t30_set_supported_image_sizes(t30, T30_SUPPORT_215MM_WIDTH | T30_SUPPORT_255MM_WIDTH | T30_SUPPORT_303MM_WIDTH
         | T30_SUPPORT_UNLIMITED_LENGTH | T30_SUPPORT_A4_LENGTH | T30_SUPPORT_B4_LENGTH);
-    t30_set_ecm_capability(t30, TRUE);
+    t30_set_ecm_capability(t30, !it->kind->has_no_correction);
     t30_set_rx_encoding(t30, T4_COMPRESSION_ITU_T6);
     t30_set_phase_e_handler(t30, on_end, it);
     t30_set_real_time_frame_handler(t30, on_frame, it);

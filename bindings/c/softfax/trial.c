@@ -9,6 +9,7 @@ typedef struct ours {
     const trial *kind;
     int calls;
     g3_terminal station;
+    modem *modem; /* that is freed with it; NULL if it is the program's */
     terminal *terminal;
     outcome counted; /* the pages that were kept */
 } ours;
@@ -93,11 +94,12 @@ static void ours_leave(void *user, outcome *out)
     out->equal += it->counted.equal;
     out->wrong += it->counted.wrong;
     terminal_free(it->terminal);
+    modem_of_sound.free(it->modem);
     g3_terminal_free(&it->station);
     free(it);
 }
 
-int trial_ours(party *out, const trial *kind, int calls)
+int trial_ours_by(party *out, const trial *kind, int calls, const modem_kind *with, modem *modem)
 {
     static const ours fresh;
     ours *it = malloc(sizeof *it);
@@ -106,10 +108,13 @@ int trial_ours(party *out, const trial *kind, int calls)
     it->kind = kind;
     it->calls = calls;
     terminal_pages pages = {keep, it};
-    if (new_station(kind, calls, &it->station) == G3_OK) it->terminal = terminal_new(&it->station, calls ? NULL : &pages);
+    if (new_station(kind, calls, &it->station) == G3_OK) {
+        it->terminal = terminal_new(&it->station, calls ? NULL : &pages, with, modem);
+    }
     if (it->terminal != NULL) {
         party mine = {it, ours_step, ours_is_over, ours_ending, ours_leave};
         if (kind->ctc) terminal_answer_ctc(it->terminal);
+        if (kind->identity != NULL) terminal_identify(it->terminal, kind->identity);
         if (kind->tells != NULL) terminal_tell(it->terminal, calls ? "caller" : "answerer");
         *out = mine;
         return 1;
@@ -119,12 +124,22 @@ int trial_ours(party *out, const trial *kind, int calls)
     return 0;
 }
 
+int trial_ours(party *out, const trial *kind, int calls)
+{
+    modem *modem = modem_new();
+    if (modem == NULL) return 0;
+    if (trial_ours_by(out, kind, calls, &modem_of_sound, modem)) return ((ours *)out->it)->modem = modem, 1;
+    modem_of_sound.free(modem);
+    return 0;
+}
+
 void trial_run(party *caller, party *answerer, const trial *kind, outcome *out)
 {
     int16_t said[SLICE] = {0}, replied[SLICE] = {0}, to_caller[SLICE] = {0}, to_answerer[SLICE] = {0};
     uint32_t millis = 0, tail = 0;
     line line;
     line_new(&line, &kind->line, kind->seed);
+    line.answerer.signals = kind->ced_joins_dis;
     for (; millis < LONGEST && tail < TAIL; millis += SLICE_MILLIS) {
         caller->step(caller->it, to_caller, said);
         answerer->step(answerer->it, to_answerer, replied);

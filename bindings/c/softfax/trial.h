@@ -17,6 +17,9 @@ typedef struct trial {
     uint64_t seed;
     const paper *papers;
     int ctc;                   /* our answerer answers CTC */
+    int ced_joins_dis;         /* the answerer's DIS follows its CED with no silence between them, as Class 1 modems have it */
+    int has_no_correction;     /* libspandsp's terminal has no error correction */
+    const char *identity;      /* how our end is named; NULL: it isn't */
     const char *tells;         /* what happens is told on standard error; NULL: nothing */
 } trial;
 
@@ -39,6 +42,8 @@ typedef struct party {
 
 /* Our end; 0 where memory is refused. */
 int trial_ours(party *out, const trial *kind, int calls);
+/* The same over a modem that stays the program's. */
+int trial_ours_by(party *out, const trial *kind, int calls, const modem_kind *with, modem *modem);
 /* Runs a call until both ends are over, or for 900 s; frees both. */
 void trial_run(party *caller, party *answerer, const trial *kind, outcome *out);
 /* Counts a stored page: it should be the next paper. */

@@ -1,0 +1,248 @@
+/* Calls over Class 1 modems of libspandsp, joined by a line of sound.
+ *
+ *     bench FOLDER                             the calls of the gate
+ *     bench FOLDER --table SEEDS [PAIR [LINE]] [WAYS..]  a table: each pair, or one, on each line, or on one
+ *     bench --ptys LINK LINK                   two ptys, in real time, with a link to each: whatever dials on one rings at the other
+ *
+ * PAIR is the caller and the answerer, as it:ours, where "it" is libspandsp's own terminal and ours is behind a modem. WAYS are xoff,
+ * echoes, silent, fixed, late=MILLIS. FOLDER is for files of libspandsp's terminal. Status 1: a page is stored that isn't the document's, or a
+ * confirmed one is missing; in the calls of the gate, also if any fails. */
+#include "behind.h"
+#include "theirs.h"
+#include <fcntl.h>
+#include <pty.h>
+#include <signal.h>
+#include <stdio.h>
+#include <stdlib.h>
+#include <string.h>
+#include <termios.h>
+#include <time.h>
+#include <unistd.h>
+#include <errno.h>
+
+enum { ROWS = 288 };
+
+static const line_kind LINES[] = {
+    {.name = "clean"},
+    {.name = "-44", .noise = -44},
+    {.name = "-36", .noise = -36},
+    {.name = "-30", .noise = -30},
+    {.name = "-54-always", .noise = -54, .always = 1},
+    {.name = "cut-DCS", .cut = 1, .lasts = 9000},
+    {.name = "cut-training", .cut = 2, .lasts = 900},
+    {.name = "cut-all-check", .cut = 2, .lasts = 9000},
+    {.name = "cut-check", .cut = 2, .from = 1700, .lasts = 300},
+    {.name = "cut-page-training", .cut = 3, .lasts = 300},
+    {.name = "cut-page", .cut = 3, .from = 700, .lasts = 100},
+    {.name = "cut-all-page", .cut = 3, .lasts = 90000},
+    {.name = "cut-PPS", .cut = 4, .lasts = 9000},
+    {.name = "hits-8s", .noise = -44, .every = 8000},
+    {.name = "hits-4s", .noise = -44, .every = 4000},
+};
+enum { LINES_COUNT = sizeof LINES / sizeof LINES[0] };
+
+typedef struct pair { const char *name; int caller_is_ours, answerer_is_ours; } pair;
+static const pair PAIRS[] = {{"ours:ours", 1, 1}, {"it:ours", 0, 1}, {"ours:it", 1, 0}, {"it:it", 0, 0}};
+enum { PAIRS_COUNT = sizeof PAIRS / sizeof PAIRS[0] };
+
+typedef struct bench {
+    const char *folder;
+    behind_way way;
+    paper papers[MOST_PAGES];
+    uint32_t calls, well, broken; /* of the cell */
+} bench;
+
+/* Runs a call of a pair; returns whether it could begin. */
+static int try_call(bench *it, const pair *who, const trial *kind)
+{
+    party caller, answerer;
+    outcome came;
+    int begins = who->caller_is_ours ? trial_behind(&caller, kind, 1, &it->way) : trial_theirs(&caller, kind, 1, it->folder);
+    begins = begins && (who->answerer_is_ours ? trial_behind(&answerer, kind, 0, &it->way) : trial_theirs(&answerer, kind, 0, it->folder));
+    if (!begins) return fprintf(stderr, "bench: no memory\n"), 0;
+    trial_run(&caller, &answerer, kind, &came);
+    int is_well = trial_went_well(kind, &came);
+    it->calls++;
+    it->well += (uint32_t)is_well;
+    it->broken += (uint32_t)trial_is_broken(&came);
+    if (is_well) return 1;
+    fprintf(stderr, "%s %s modems %u coding %u pages %u seed %u: caller: %s; answerer: %s; confirmed %u, equal %u, wrong %u; %u s\n",
+        who->name, kind->line.name, kind->modems, kind->coding, kind->pages, (uint32_t)kind->seed, came.caller, came.answerer,
+        (uint32_t)came.confirmed, came.equal, came.wrong, came.seconds);
+    return 1;
+}
+
+/* Twelve kinds of calls, with so many seeds each. */
+static int try_cell(bench *it, const pair *who, const line_kind *line, uint32_t seeds)
+{
+    it->calls = it->well = it->broken = 0;
+    for (uint32_t i = 0; i < 12 * seeds; i++) {
+        trial kind = {.line = *line, .modems = 1 + i % 3, .coding = i / 3 % 2 ? G3_MMR : G3_MH, .pages = i / 6 % 2 ? 3 : 1, .limit = 2,
+            .seed = i, .papers = it->papers, .ctc = 1, .ced_joins_dis = who->answerer_is_ours, .identity = "+49 30 1234"};
+        if (!try_call(it, who, &kind)) return 0;
+    }
+    return 1;
+}
+
+static int is_wanted(const char *name, const char *wanted)
+{
+    return wanted == NULL || strcmp(name, wanted) == 0 || strcmp(wanted, "all") == 0;
+}
+
+static int try_table(bench *it, uint32_t seeds, const char *who, const char *line)
+{
+    uint32_t broken = 0;
+    printf("| line |");
+    for (int i = 0; i < PAIRS_COUNT; i++) printf(is_wanted(PAIRS[i].name, who) ? " %s |" : "", PAIRS[i].name);
+    printf("\n");
+    for (int i = 0; i < LINES_COUNT; i++) {
+        if (!is_wanted(LINES[i].name, line)) continue;
+        printf("| %s |", LINES[i].name);
+        for (int k = 0; k < PAIRS_COUNT; k++) {
+            if (!is_wanted(PAIRS[k].name, who)) continue;
+            if (!try_cell(it, &PAIRS[k], &LINES[i], seeds)) return 0;
+            printf(" %u of %u%s |", it->well, it->calls, it->broken > 0 ? ", WRONG" : "");
+            fflush(stdout);
+            broken += it->broken;
+        }
+        printf("\n");
+    }
+    return broken == 0;
+}
+
+/* The calls of the gate: on a clean line by each pair, and ours on lines that cut something; all have to complete. */
+static int try_gate(bench *it)
+{
+    static const struct { int pair; const char *line; } CELLS[] = {
+        {0, "clean"}, {1, "clean"}, {2, "clean"}, {0, "cut-training"}, {0, "cut-page"}, {0, "cut-PPS"}};
+    uint32_t calls = 0, well = 0, broken = 0;
+    for (size_t i = 0; i < sizeof CELLS / sizeof CELLS[0]; i++) {
+        int line = 0;
+        while (strcmp(LINES[line].name, CELLS[i].line) != 0) line++;
+        if (!try_cell(it, &PAIRS[CELLS[i].pair], &LINES[line], 1)) return 0;
+        calls += it->calls, well += it->well, broken += it->broken;
+    }
+    it->way.ways = (soft_ways){.silent = 1, .fixed = 1, .late = 20};
+    if (!try_cell(it, &PAIRS[0], &LINES[0], 1)) return 0;
+    calls += it->calls, well += it->well, broken += it->broken;
+    printf("softfax: %u of %u calls by Class 1 modems of spandsp complete, with its own terminal each way and with ours\n", well, calls);
+    return well == calls && broken == 0;
+}
+
+/* Two ptys in real time */
+
+typedef struct exchange {
+    soft *ends[2];
+    int fd[2];
+    int dials, is_on; /* dials: which end does; -1: none */
+} exchange;
+
+static volatile sig_atomic_t is_interrupted;
+static exchange lines = {.dials = -1};
+
+static void on_signal(int number)
+{
+    (void)number;
+    is_interrupted = 1;
+}
+
+static void on_event(void *user, int what)
+{
+    int end = user == &lines.ends[1];
+    if (what == SOFT_DIALS) lines.dials = end;
+    if (what == SOFT_HANGS_UP) lines.is_on = 0, lines.dials = -1;
+    if (what != SOFT_ANSWERS || lines.dials != !end) return;
+    soft_of_spandsp.connect(lines.ends[end], 0);
+    soft_of_spandsp.connect(lines.ends[!end], 1);
+    lines.is_on = 1;
+}
+
+static int pty_read(void *user, uint8_t *octets, int room)
+{
+    ssize_t got = read(*(int *)user, octets, (size_t)room);
+    return got < 0 ? 0 : (int)got;
+}
+
+static int pty_write(void *user, const uint8_t *octets, int count)
+{
+    ssize_t put = write(*(int *)user, octets, (size_t)count);
+    return put < 0 ? 0 : (int)put;
+}
+
+/* Makes a pty with a link to it; the slave stays open, so that it stays when a program closes it. */
+static int make_pty(const char *link)
+{
+    int master, slave;
+    char name[256];
+    struct termios raw;
+    if (openpty(&master, &slave, name, NULL, NULL) != 0) return -1;
+    tcgetattr(slave, &raw);
+    cfmakeraw(&raw);
+    tcsetattr(slave, TCSANOW, &raw);
+    fcntl(master, F_SETFL, O_NONBLOCK);
+    unlink(link);
+    return symlink(name, link) == 0 ? master : -1;
+}
+
+static void sleep_until(struct timespec *next)
+{
+    next->tv_nsec += SLICE_MILLIS * 1000000;
+    if (next->tv_nsec >= 1000000000) next->tv_nsec -= 1000000000, next->tv_sec++;
+    clock_nanosleep(CLOCK_MONOTONIC, TIMER_ABSTIME, next, NULL);
+}
+
+static int run_ptys(char **links)
+{
+    enum { LONGEST = 600000, RINGS = 3000 };
+    static const soft_ways WAYS;
+    signal(SIGTERM, on_signal);
+    signal(SIGINT, on_signal);
+    int16_t said[2][SLICE] = {{0}}, to[2][SLICE] = {{0}};
+    struct timespec next;
+    line line;
+    line_new(&line, &LINES[0], 1);
+    for (int i = 0; i < 2; i++) {
+        port host = {&lines.fd[i], pty_read, pty_write, NULL, NULL};
+        lines.fd[i] = make_pty(links[i]);
+        if (lines.fd[i] >= 0) lines.ends[i] = soft_of_spandsp.make(&host, &WAYS, on_event, &lines.ends[i]);
+        if (lines.ends[i] == NULL) return perror(links[i]), 0;
+    }
+    clock_gettime(CLOCK_MONOTONIC, &next);
+    for (int millis = 0; millis < LONGEST && !is_interrupted; millis += SLICE_MILLIS) {
+        if (lines.dials >= 0 && !lines.is_on && millis % RINGS == 0) soft_of_spandsp.ring(lines.ends[!lines.dials]);
+        for (int i = 0; i < 2; i++) soft_of_spandsp.step(lines.ends[i], to[i], said[i]);
+        line_carry(&line, said[0], said[1], to[0], to[1]);
+        sleep_until(&next);
+    }
+    for (int i = 0; i < 2; i++) soft_of_spandsp.free(lines.ends[i]), unlink(links[i]);
+    return 1;
+}
+
+static int take_way(soft_ways *to, const char *word)
+{
+    if (strcmp(word, "xoff") == 0) return to->xoff = 1;
+    if (strcmp(word, "echoes") == 0) return to->echoes = 1;
+    if (strcmp(word, "silent") == 0) return to->silent = 1;
+    if (strcmp(word, "fixed") == 0) return to->fixed = 1;
+    return strncmp(word, "late=", 5) == 0 && (to->late = atoi(word + 5)) > 0;
+}
+
+int main(int argc, char **argv)
+{
+    static const uint32_t WIDTHS[MOST_PAGES] = {1728, 2432, 1728};
+    static bench it = {.way = {.kind = &soft_of_spandsp}};
+    const char *words[4] = {NULL};
+    int count = 0, is_right = 0;
+    if (argc == 4 && strcmp(argv[1], "--ptys") == 0) return !run_ptys(argv + 2);
+    for (int i = 1; i < argc; i++) {
+        if (!take_way(&it.way.ways, argv[i]) && strcmp(argv[i], "--table") != 0 && count < 4) words[count++] = argv[i];
+    }
+    if (count == 0) return fprintf(stderr, "usage: bench FOLDER [--table SEEDS [PAIR [LINE]] [WAYS..]] | --ptys LINK LINK\n"), 2;
+    it.folder = words[0];
+    for (uint32_t i = 0; i < MOST_PAGES; i++) {
+        if (!paper_new(&it.papers[i], WIDTHS[i], ROWS, i + 1)) return fprintf(stderr, "bench: no memory\n"), 1;
+    }
+    is_right = count > 1 ? try_table(&it, (uint32_t)atoi(words[1]), words[2], words[3]) : try_gate(&it);
+    for (uint32_t i = 0; i < MOST_PAGES; i++) paper_free(&it.papers[i]);
+    return !is_right;
+}

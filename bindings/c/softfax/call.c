@@ -1,0 +1,110 @@
+#include "call.h"
+#include "record.h"
+#include "stop.h"
+#include <stdio.h>
+
+static int fails(const char *why)
+{
+    fprintf(stderr, "softfax: %s\n", why);
+    return 0;
+}
+
+int call_prepare(call *it)
+{
+    const options *given = it->given;
+    if (given->answers) return pages_is_folder(given->folder);
+    g3_status status = g3_document_new(&it->document);
+    if (status != G3_OK) return fails(g3_status_text(status));
+    for (int i = 0; i < given->count; i++) {
+        if (!pages_add(&it->document, given->pages[i], given->fine, &it->sizes[i])) return 0;
+    }
+    return 1;
+}
+
+static g3_status make_station(call *it, uint32_t modems)
+{
+    const options *given = it->given;
+    uint32_t has = given->modems < modems ? given->modems : modems;
+    g3_caps caps = {has, given->coding == G3_MMR, 1, 2432, 2};
+    g3_wish wish = {has, given->coding, 256};
+    return given->calls ? g3_caller_new(&it->station, &it->document, &wish) : g3_answerer_new(&it->station, &caps);
+}
+
+int call_begin(call *it, uint32_t modems, const modem_kind *kind, modem *modem)
+{
+    const options *given = it->given;
+    terminal_pages pages = {pages_keep, &it->folder};
+    g3_status status = make_station(it, modems);
+    if (status != G3_OK) return fails(g3_status_text(status));
+    it->terminal = terminal_new(&it->station, given->calls ? NULL : &pages, kind, modem);
+    if (it->terminal == NULL) return fails(g3_status_text(G3_NO_MEMORY));
+    it->folder = (pages_folder){given->folder, 0, 0, given->json, given->square, terminal_peer_name(it->terminal)};
+    if (!given->refuses_ctc) terminal_answer_ctc(it->terminal);
+    if (given->identity != NULL) terminal_identify(it->terminal, given->identity);
+    if (given->tells) terminal_tell(it->terminal, given->calls ? "caller" : "answerer");
+    return 1;
+}
+
+/* Writes a record of each page that was confirmed since the last one. */
+static void note_confirmed(call *it)
+{
+    g3_state state;
+    if (!it->given->calls || !it->given->json || g3_terminal_state(&it->station, &state) != G3_OK) return;
+    for (; it->confirmed < state.pages && it->confirmed < (uint64_t)it->given->count; it->confirmed++) {
+        const g3_size *size = &it->sizes[it->confirmed];
+        record_page record = {"confirmed", it->confirmed + 1, it->given->pages[it->confirmed], size->width, size->rows, size->fine,
+            terminal_peer_name(it->terminal)};
+        record_page_json(&record);
+    }
+}
+
+int call_heed(call *it)
+{
+    int level = stop_level(it->millis);
+    if (level == it->stop) return level;
+    it->stop = level;
+    if (it->terminal == NULL || terminal_is_over(it->terminal)) return level;
+    if (level == STOP_IN_ORDER) g3_terminal_stop(&it->station);
+    if (level == STOP_AT_ONCE) terminal_lose(it->terminal);
+    return level;
+}
+
+void call_step(call *it, const int16_t *in, int16_t *out)
+{
+    it->millis += SLICE_MILLIS;
+    call_heed(it);
+    terminal_step(it->terminal, in, out);
+    note_confirmed(it);
+}
+
+int call_is_over(const call *it)
+{
+    return it->terminal != NULL && terminal_is_over(it->terminal);
+}
+
+int call_end(call *it)
+{
+    static const char *const ENDS[] = {
+        "no-end", "normal", "no-answer", "not-compatible", "training", "no-reply", "unreadable", "still-busy", "peer-left", "bad-page",
+        "page-too-long", "stopped", "line-lost"};
+    const options *given = it->given;
+    g3_state state = {0};
+    record_end record = {"no-call", given->calls ? "confirmed" : "pages", it->folder.kept, "", it->why};
+    if (it->terminal != NULL && g3_terminal_state(&it->station, &state) == G3_OK && state.end < sizeof ENDS / sizeof ENDS[0]) {
+        record.end = ENDS[state.end];
+        if (given->calls) record.pages = state.pages;
+        record.peer = terminal_peer_name(it->terminal);
+        if (record.why == NULL) record.why = terminal_why(it->terminal);
+    }
+    if (state.end == G3_END_NORMAL) record.why = NULL; /* what came after it, as NO CARRIER */
+    if (given->json) record_end_json(&record);
+    else record_end_words(&record);
+    return state.end == G3_END_NORMAL;
+}
+
+void call_free(call *it)
+{
+    terminal_free(it->terminal);
+    g3_terminal_free(&it->station);
+    g3_document_free(&it->document);
+}

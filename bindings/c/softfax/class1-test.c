@@ -1,0 +1,94 @@
+/* class1-test [--tell]: calls of the terminal behind two Class 1 modems of t31.c, over bits.c's line, so that class1.c is tested
+ * without libspandsp. Each kind of call is tried on each line, also with modems that have other ways. Then modems that fail: each has to be named in
+ * words. Status 1: a call fails, a page is stored that isn't the document's, a confirmed one is missing, or an end doesn't hang up. --tell:
+ * what happens in each call, on standard error. */
+#include "behind.h"
+#include <stdio.h>
+#include <string.h>
+
+enum { ROWS = 48 };
+
+static const line_kind LINES[] = {
+    {.name = "clean"},
+    {.name = "DCS is cut", .cut = 1, .lasts = 4000},
+    {.name = "the training of the check is cut", .cut = 2, .lasts = 600},
+    {.name = "the check is cut", .cut = 2, .from = 1500, .lasts = 300},
+    {.name = "the training of the page is cut", .cut = 3, .lasts = 150},
+    {.name = "the page is cut", .cut = 3, .from = 400, .lasts = 100},
+    {.name = "PPS is cut", .cut = 4, .lasts = 4000},
+};
+enum { LINES_COUNT = sizeof LINES / sizeof LINES[0] };
+
+static const soft_ways WAYS[] = {{0}, {.echoes = 1, .fixed = 1}, {.silent = 1, .fixed = 1}};
+enum { WAYS_COUNT = sizeof WAYS / sizeof WAYS[0] };
+
+/* Runs a call; returns whether both ends are as they should be: `why` is how the caller ends. */
+static int try_call(const trial *kind, const behind_way *caller_way, const behind_way *answerer_way, const char *why)
+{
+    party caller, answerer;
+    outcome came;
+    if (!trial_behind(&caller, kind, 1, caller_way)) return 0;
+    if (!trial_behind(&answerer, kind, 0, answerer_way)) {
+        caller.leave(caller.it, &came);
+        return 0;
+    }
+    trial_run(&caller, &answerer, kind, &came);
+    int is_right = !trial_is_broken(&came) && strcmp(came.caller, why) == 0 && strcmp(came.answerer, "no end") != 0;
+    if (strcmp(why, "normal") == 0) is_right = is_right && trial_went_well(kind, &came);
+    if (!is_right || kind->tells != NULL) {
+        fprintf(stderr, "%s: modems %u coding %u pages %u seed %u: caller %s, answerer %s, confirmed %u, equal %u, wrong %u, %u s\n",
+            kind->line.name, kind->modems, kind->coding, kind->pages, (uint32_t)kind->seed, came.caller, came.answerer,
+            (uint32_t)came.confirmed, came.equal, came.wrong, came.seconds);
+    }
+    return is_right;
+}
+
+/* All kinds of calls on a line, by so many kinds of modems; returns whether all are right. */
+static int try_line(const line_kind *line, int ways, const paper *papers, const char *tells)
+{
+    int well = 0, count = 0;
+    for (uint32_t i = 0; i < 3 * 2 * 2; i++) {
+        for (int way = 0; way < ways; way++, count++) {
+            behind_way through = {&soft_of_bits, WAYS[way]};
+            trial kind = {.line = *line, .modems = 1 + i % 3, .coding = i / 3 % 2 ? G3_MMR : G3_MH, .pages = i / 6 % 2 ? 3 : 1, .limit = 2,
+                .seed = i, .papers = papers, .identity = "+49 30 1234", .tells = tells};
+            well += try_call(&kind, &through, &through, "normal");
+        }
+    }
+    printf("%s: %d of %d calls by Class 1 complete\n", line->name, well, count);
+    return well == count;
+}
+
+/* Modems that fail, and how the caller has to name that. */
+static int try_faults(const paper *papers, const char *tells)
+{
+    static const struct { soft_ways ways; const char *why; } FAULTS[] = {
+        {{.mute = 1}, "it doesn't answer to ATZ"},
+        {{.mute = 200000}, "normal"},
+        {{.mute = 9000}, "the modem has fallen silent"},
+    };
+    int well = 0, count = sizeof FAULTS / sizeof FAULTS[0];
+    for (int i = 0; i < count; i++) {
+        behind_way bad = {&soft_of_bits, FAULTS[i].ways}, good = {&soft_of_bits, {0}};
+        trial kind = {.line = {.name = FAULTS[i].why}, .modems = G3_V17, .coding = G3_MMR, .pages = 1, .limit = 2, .papers = papers,
+            .tells = tells};
+        well += try_call(&kind, &bad, &good, FAULTS[i].why);
+    }
+    printf("%d of %d modems that fail are named\n", well, count);
+    return well == count;
+}
+
+int main(int argc, char **argv)
+{
+    static const uint32_t WIDTHS[MOST_PAGES] = {1728, 2432, 1728};
+    const char *tells = argc > 1 && strcmp(argv[1], "--tell") == 0 ? "told" : NULL;
+    paper papers[MOST_PAGES];
+    int is_right = 1;
+    for (uint32_t i = 0; i < MOST_PAGES; i++) {
+        if (!paper_new(&papers[i], WIDTHS[i], ROWS, i + 1)) return fprintf(stderr, "class1-test: no memory\n"), 1;
+    }
+    for (uint32_t i = 0; i < LINES_COUNT; i++) is_right &= try_line(&LINES[i], i == 0 ? WAYS_COUNT : 1, papers, tells);
+    is_right &= try_faults(papers, tells);
+    for (uint32_t i = 0; i < MOST_PAGES; i++) paper_free(&papers[i]);
+    return !is_right;
+}

@@ -1,0 +1,116 @@
+#include "options.h"
+#include "g3fax.h"
+#include "identity.h"
+#include <stdio.h>
+#include <stdlib.h>
+#include <string.h>
+
+enum { MOST_TEXT = 60 }; /* characters of a number that is dialled, or a command of the set-up */
+
+void options_usage(void)
+{
+    fprintf(stderr,
+        "usage: softfax --call PAGE.pbm.. | --answer DIR   --rx IN --tx OUT [--wav FILE]\n"
+        "       softfax --tty DEVICE --call NUMBER PAGE.pbm.. | --answer DIR [--rings N]   [--init COMMAND] [--xon] [--trace-at FILE]\n"
+        "       [--modems v17|v29|v27ter] [--code mmr|mh] [--fine] [--square] [--no-ctc] [--id NAME] [--most-seconds N] [--json]\n"
+        "       [--tell]\n");
+}
+
+/* The place of a word in a list that ends with NULL, from 1; 0 if it isn't there. */
+static uint32_t place_of(const char *word, const char *const *list)
+{
+    for (uint32_t i = 0; list[i] != NULL; i++) {
+        if (strcmp(word, list[i]) == 0) return i + 1;
+    }
+    return 0;
+}
+
+/* Reads a number from 1 to `most`; 0 if it is none. */
+static int number_of(const char *word, int most)
+{
+    char *end = NULL;
+    unsigned long number = strtoul(word, &end, 10);
+    return *word >= '0' && *word <= '9' && *end == 0 && number <= (unsigned long)most ? (int)number : 0;
+}
+
+/* Returns whether a text can be written to a modem as it is. */
+static int is_command(const char *text)
+{
+    size_t length = strlen(text);
+    for (size_t i = 0; i < length; i++) {
+        if (text[i] < ' ' || text[i] > '~') return 0;
+    }
+    return length > 0 && length <= MOST_TEXT;
+}
+
+/* Reads an option that is a text. */
+static int read_text(options *out, const char *name, const char *value)
+{
+    const struct { const char *name; const char **to; } TEXTS[] = {
+        {"--rx", &out->rx}, {"--tx", &out->tx}, {"--wav", &out->wav}, {"--answer", &out->folder}, {"--tty", &out->tty},
+        {"--init", &out->init}, {"--trace-at", &out->trace}, {"--id", &out->identity}};
+    for (size_t i = 0; i < sizeof TEXTS / sizeof TEXTS[0]; i++) {
+        if (strcmp(name, TEXTS[i].name) == 0) return *TEXTS[i].to = value, 1;
+    }
+    return 0;
+}
+
+/* Reads an option that has a value; returns whether it is one. */
+static int read_value(options *out, const char *name, const char *value)
+{
+    static const char *const MODEMS[] = {[G3_V27TER - 1] = "v27ter", [G3_V29 - 1] = "v29", [G3_V17 - 1] = "v17", NULL};
+    static const char *const CODES[] = {[G3_MH - 1] = "mh", [G3_MMR - 1] = "mmr", NULL};
+    if (strcmp(name, "--modems") == 0) return (out->modems = place_of(value, MODEMS)) != 0;
+    if (strcmp(name, "--code") == 0) return (out->coding = place_of(value, CODES)) != 0;
+    if (strcmp(name, "--rings") == 0) return (out->rings = number_of(value, 100)) != 0;
+    if (strcmp(name, "--most-seconds") == 0) return (out->most_seconds = number_of(value, 1000000)) != 0;
+    return read_text(out, name, value);
+}
+
+/* Reads an option without a value; returns whether it is one. */
+static int read_flag(options *out, const char *name)
+{
+    const struct { const char *name; int *to; } FLAGS[] = {
+        {"--call", &out->calls}, {"--fine", &out->fine}, {"--square", &out->square}, {"--no-ctc", &out->refuses_ctc},
+        {"--json", &out->json}, {"--tell", &out->tells}, {"--xon", &out->xon}};
+    for (size_t i = 0; i < sizeof FLAGS / sizeof FLAGS[0]; i++) {
+        if (strcmp(name, FLAGS[i].name) == 0) return *FLAGS[i].to = 1;
+    }
+    return strcmp(name, "--ctc") == 0; /* it is so without it */
+}
+
+/* Over a modem the first word of a caller is the number. */
+static void take_number(options *out)
+{
+    if (out->tty == NULL || !out->calls || out->count == 0) return;
+    out->number = out->pages[0];
+    out->count--;
+    memmove(out->pages, out->pages + 1, (size_t)out->count * sizeof out->pages[0]);
+}
+
+/* Returns whether the words fit together. */
+static int is_command_line(const options *it)
+{
+    int has_streams = it->rx != NULL && it->tx != NULL, has_stream = it->rx != NULL || it->tx != NULL || it->wav != NULL;
+    int is_of_tty = it->init != NULL || it->trace != NULL || it->xon;
+    if (it->calls == it->answers || it->calls != (it->count > 0)) return 0;
+    if (it->identity != NULL && !identity_is(it->identity)) return 0;
+    if (it->tty == NULL) return has_streams && !is_of_tty;
+    if (it->calls && (it->number == NULL || !is_command(it->number))) return 0;
+    return !has_stream && (it->init == NULL || is_command(it->init));
+}
+
+int options_read(options *out, int argc, char **argv)
+{
+    for (int i = 1; i < argc; i++) {
+        if (read_flag(out, argv[i])) continue;
+        if (argv[i][0] != '-') {
+            if (out->count == MOST_FILES) return 0;
+            out->pages[out->count++] = argv[i];
+        } else if (i + 1 == argc || !read_value(out, argv[i], argv[i + 1])) return 0;
+        else i++;
+    }
+    out->answers = out->folder != NULL;
+    take_number(out);
+    return is_command_line(out);
+}

@@ -1,0 +1,24 @@
+/* What came of a call, on standard error: as lines of JSON, an object for each page and one for the end, or a line of words for the end. */
+#ifndef RECORD_H
+#define RECORD_H
+#include <stdint.h>
+
+/* A page that an answerer has stored, or that a caller has had confirmed. */
+typedef struct record_page {
+    const char *what;   /* "stored" or "confirmed" */
+    uint64_t number;    /* from 1 */
+    const char *file;
+    uint32_t width, rows, fine;
+    const char *peer;   /* how the other station has named itself; "": not */
+} record_page;
+void record_page_json(const record_page *it);
+
+typedef struct record_end {
+    const char *end;    /* "normal", or why not, in a word */
+    const char *what;   /* "confirmed" or "pages" */
+    uint64_t pages;
+    const char *peer, *why; /* why: in words; NULL: nothing more is known */
+} record_end;
+void record_end_json(const record_end *it);
+void record_end_words(const record_end *it);
+#endif
