@@ -10,6 +10,9 @@ set -e
 top=$(cd "$(dirname "$0")/.." && pwd)
 work=$(cd "$1" && pwd)
 to=$work/wheel
+# one time for all wheels, also if something is committed meanwhile
+SOURCE_DATE_EPOCH=1700000000
+export SOURCE_DATE_EPOCH
 PYTHONDONTWRITEBYTECODE=1 PIP_DISABLE_PIP_VERSION_CHECK=1 PIP_NO_INDEX=1 PIP_NO_CACHE_DIR=1 PIP_ROOT_USER_ACTION=ignore
 export PYTHONDONTWRITEBYTECODE PIP_DISABLE_PIP_VERSION_CHECK PIP_NO_INDEX PIP_NO_CACHE_DIR PIP_ROOT_USER_ACTION
 rm -rf "$to"
