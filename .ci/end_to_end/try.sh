@@ -2,7 +2,7 @@
 
 # A copy of what packaging/try.sh reads, in which this program stands for the one that it has built.
 first_copy() {
-    first=$work/first
+    first=$work/first_try
     rm -rf "$first"
     mkdir -p "$first/docs" "$first/build" "$first/bindings"
     cp -r "$top/packaging" "$first/"
@@ -68,6 +68,7 @@ WRONG
 try_first_kit() {
     kit=$KIT
     export KIT="$work/no kit"
+    rm -rf "$KIT"
     first 1
     says "there is no Rattle kit in $KIT" "$work/error"
     mkdir -p "$KIT/bin" "$KIT/toolchain/bin" "$KIT/toolchain/lib"
@@ -113,5 +114,5 @@ try_joins() {
     says "join.py: the caller failed: fault 8; $work/missing.pbm: no such file or folder" "$work/error"
     joins 0 "$@" "$row" "$work/stored"
     [ ! -s "$work/error" ] || fails "join.py of a call that ends normally wrote to standard error"
-    rm "$work/stored/page-1.pbm"
+    rm -r "$work/stored"
 }
