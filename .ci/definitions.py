@@ -48,7 +48,7 @@ WAITS = TOP / "crates" / "stations" / "specs" / "Waits.antt"
 WAIT_ROW = re.compile(r"^(caller|answerer)(?:_longer)?_wait (\w+) = (?:Some )?(T\d)$", re.M)
 TIMERS = re.compile(r"^## Timers\n(.*?)(?=^## |\Z)", re.M | re.S)
 FAULTS = TOP / "docs" / "FAULTS.md"
-HELP = TOP / "crates" / "faxtool" / "src" / "fault_table.rt"
+HELP = TOP / "crates" / "faxtool" / "src" / "args" / "fault_table.rt"
 KINDS = TOP / "crates" / "faults" / "specs" / "FaultKinds.antt"
 # The line of what a station refuses, which is no `ToolFault`.
 STATION_LINE = ("at a line", 31)

@@ -6,8 +6,8 @@ use Rattle.clap.specs.Words.{AddsArg, AddsSubcommand, App, app_of, rule_of, with
 use Rattle.clap.specs.declared.builder.arg.Arg.{Arg}
 use Rattle.clap.specs.declared.builder.command.Command.{Command}
 use Rattle.clap.specs.declared.builder.command.Command.TheViews.{out-Command as fields_of}
-use Rattle.faxtool.specs.declared.table.Argument.{Argument}
-use Rattle.faxtool.specs.declared.table.Entry.{Entry}
+use Rattle.faxtool.specs.declared.args.table.Argument.{Argument}
+use Rattle.faxtool.specs.declared.args.table.Entry.{Entry}
 use Rattle.faxtool.specs.Table.{app_in, rule_in, with_arguments, with_commands}
 
 -- an argument more

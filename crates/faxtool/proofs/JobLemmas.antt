@@ -12,9 +12,9 @@ use Rattle.clap.proofs.WalkLemmas.{one_text-rows}
 use Rattle.calls.specs.Losses.{IsRate}
 use Rattle.calls.specs.declared.losses.BadLine.{BadLine}
 use Rattle.std.specs.Prelude.{Bool, false, is_some, not, option_map, string_bytes, ◌&&◌}
-use Rattle.faxtool.specs.declared.words.Job.TheVariants.{Answer, Call, Captures, Code, Decode, Dial, Drive, Frames, Identify, Show, Version}
-use Rattle.faxtool.specs.declared.words.Outcome.{Outcome}
-use Rattle.faxtool.specs.declared.words.Outcome.TheVariants.{Done, Fault, Incomplete, Words}
+use Rattle.faxtool.specs.declared.args.words.Job.TheVariants.{Answer, Call, Captures, Code, Decode, Dial, Drive, Frames, Identify, Show, Version}
+use Rattle.faxtool.specs.declared.args.words.Outcome.{Outcome}
+use Rattle.faxtool.specs.declared.args.words.Outcome.TheVariants.{Done, Fault, Incomplete, Words}
 use Rattle.faxtool.specs.Jobs.{AreOptionsIn, HasNoJob, HasNoOptions, IsFaxtool, IsOutcomeOf, IsRefusalOf, IsWidthIn, ReadsNumber}
 use Rattle.faxtool.specs.Jobs.{has_captures, is_named}
 use Rattle.faxtool.specs.Jobs.{IsBusyIn, IsLineIn, IsTimesIn, IsRateIn, IsSpoilIn, call_and_page_app, with_later}

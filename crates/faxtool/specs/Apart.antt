@@ -3,8 +3,8 @@ use Rattle.std.specs.Prelude.{◌≡◌}
 use Rattle.clap.specs.Words.{kind_of}
 use Rattle.clap.specs.declared.error.kind.ErrorKind.TheVariants.{ArgumentConflict}
 use Rattle.faults.specs.declared.fault.ToolFault.TheVariants.{No}
-use Rattle.faxtool.specs.declared.words.Outcome.{Outcome}
-use Rattle.faxtool.specs.declared.words.Outcome.TheVariants.{Done, Incomplete, Fault, Words}
+use Rattle.faxtool.specs.declared.args.words.Outcome.{Outcome}
+use Rattle.faxtool.specs.declared.args.words.Outcome.TheVariants.{Done, Incomplete, Fault, Words}
 
 -- why a job is refused before anything runs: memory was refused, or two of its files aren't apart
 abbrev pub IsApartOutcome : Outcome → Type 0

@@ -1,7 +1,7 @@
 -- In which ways octets are read as a page.
 use Rattle.raster.specs.Pixels.{IsWidth}
-use Rattle.faxtool.specs.declared.bounded.Ways.{Ways}
-use Rattle.faxtool.specs.declared.bounded.Ways.TheVariants.{One, Tried, Any}
+use Rattle.faxtool.specs.declared.files.bounded.Ways.{Ways}
+use Rattle.faxtool.specs.declared.files.bounded.Ways.TheVariants.{One, Tried, Any}
 
 -- a page has this width
 abbrev pub HavePageWidths : Ways → Type 0

@@ -28,12 +28,12 @@ use Rattle.calls.specs.declared.losses.BadLine.{BadLine}
 use Rattle.calls.specs.declared.options.CallOptions.{CallOptions}
 use Rattle.page_files.specs.declared.options.DecodeOptions.{DecodeOptions}
 use Rattle.page_files.specs.declared.options.PageForm.{PageForm}
-use Rattle.faxtool.specs.declared.station_words.GivenWaits.{GivenWaits}
-use Rattle.faxtool.specs.declared.words.Job.{Job}
-use Rattle.faxtool.specs.declared.words.Job.TheVariants.{Answer, Call, Captures, Code, Decode, Dial, Drive, Frames, Identify, Show, Version}
-use Rattle.faxtool.specs.declared.words.Request.{Request}
-use Rattle.faxtool.specs.declared.words.Outcome.{Outcome}
-use Rattle.faxtool.specs.declared.words.Outcome.TheVariants.{Done, Fault, Incomplete, Words}
+use Rattle.faxtool.specs.declared.args.station_words.GivenWaits.{GivenWaits}
+use Rattle.faxtool.specs.declared.args.words.Job.{Job}
+use Rattle.faxtool.specs.declared.args.words.Job.TheVariants.{Answer, Call, Captures, Code, Decode, Dial, Drive, Frames, Identify, Show, Version}
+use Rattle.faxtool.specs.declared.args.words.Request.{Request}
+use Rattle.faxtool.specs.declared.args.words.Outcome.{Outcome}
+use Rattle.faxtool.specs.declared.args.words.Outcome.TheVariants.{Done, Fault, Incomplete, Words}
 
 -- ---- the commands
 

@@ -1,8 +1,8 @@
 -- What the table of commands says to clap.
 use Rattle.std.specs.Prelude.{List, [], ◌∷◌, Some, None, if◌then◌else◌, length, map}
 use Rattle.clap.specs.Words.{App, Rule, new_app, new_rule, with_rule, with_subcommand}
-use Rattle.faxtool.specs.declared.table.Argument.{Argument}
-use Rattle.faxtool.specs.declared.table.Entry.{Entry}
+use Rattle.faxtool.specs.declared.args.table.Argument.{Argument}
+use Rattle.faxtool.specs.declared.args.table.Entry.{Entry}
 
 -- the rule of an argument
 abbrev pub rule_in : Argument → Rule

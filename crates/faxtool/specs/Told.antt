@@ -3,10 +3,10 @@ use Rattle.std.specs.Prelude.{ℕ, ◌++◌, List, Option, Some, None, codes}
 use Rattle.std.specs.Fmt.{decimal}
 use Rattle.faults.specs.Explanations.{explained, name_text}
 use Rattle.faults.specs.declared.explain.Explained.{Explained}
-use Rattle.faxtool.specs.declared.notes.Cause.{Cause}
-use Rattle.faxtool.specs.declared.notes.Cause.TheVariants.{Terminal, TooLong, NotCallable, RowsOf}
-use Rattle.faxtool.specs.declared.no_line.Wrong.{Wrong}
-use Rattle.faxtool.specs.declared.no_line.Wrong.TheVariants as wrong
+use Rattle.faxtool.specs.declared.context.Cause.{Cause}
+use Rattle.faxtool.specs.declared.context.Cause.TheVariants.{Terminal, TooLong, NotCallable, RowsOf}
+use Rattle.faxtool.specs.declared.commands.station.no_line.Wrong.{Wrong}
+use Rattle.faxtool.specs.declared.commands.station.no_line.Wrong.TheVariants as wrong
 
 -- the words of a fault with this cause
 abbrev pub told : Explained → Option Cause → List ℕ

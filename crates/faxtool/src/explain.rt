@@ -5,12 +5,15 @@ ghost use Rattle.raster.specs.Pixels.{IsWidth};
 ghost use Rattle.faults.specs.Faults.{IsOutside};
 ghost use Rattle.std.specs.Prelude.{IfErr, IfSome};
 
-use crate::commands::entry_named;
-use crate::names::file_of;
-use crate::notes::{Cause, Notes, Part};
-use crate::row_widths::same_width;
-use crate::told::Told;
-use crate::words::{Job, Outcome};
+mod row_widths;
+mod told;
+
+use crate::args::names::file_of;
+use crate::args::parser::entry_named;
+use crate::args::words::{Job, Outcome};
+use crate::context::{Cause, Notes, Part};
+use crate::explain::row_widths::same_width;
+use crate::explain::told::Told;
 use calls::line_fault_at;
 use clap::Error;
 use faults::{

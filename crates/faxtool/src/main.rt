@@ -2,47 +2,19 @@
 //! runs calls. Here the words are read, their job is run, and the program ends with its status.
 #![tactic(auto)]
 
-mod apart;
-mod bits;
-mod bounded;
-mod call;
-mod captures_words;
-mod code;
+mod args;
 mod commands;
-mod decode;
-mod diagram;
-mod drives;
+mod context;
 mod explain;
-mod fault_table;
 mod files;
-mod frames;
-mod identify;
-mod job;
-mod names;
-mod no_line;
-mod notes;
-mod outputs;
-mod progress;
-mod row_widths;
-mod show;
-mod station;
-mod station_run;
-mod station_words;
-mod table;
-mod told;
-mod trace;
-mod two_captures;
-mod unfit;
-mod version;
-mod words;
 
-use apart::with_files_apart;
+use args::words::{Outcome, read_words, status};
+use commands::dispatch::run_request;
 use explain::{refuse_no_text, refuse_words, refused};
 use faults::{NO_MEMORY, ToolFault};
-use job::run_request;
+use files::apart::with_files_apart;
 use std::process::ExitCode;
 use std::{env, io};
-use words::{Outcome, read_words, status};
 
 fn main(rt: HostRuntime) -> ExitCode {
     let outcome = run_words(&rt);

@@ -3,8 +3,8 @@ ghost use Rattle.std.specs.Prelude.{◌≡◌, IfOk, MatchResult, Some, codes, t
 ghost use Rattle.clap.specs.Words.{found_of, rows_of};
 ghost use Rattle.faxtool.specs.Jobs.{HasNoJob, IsJobOf, has_captures, has_listing};
 
-use crate::unfit::Unfit;
-use crate::words::{Job, are_both_standard, is_named, line_order_in, text_in};
+use crate::args::unfit::Unfit;
+use crate::args::words::{Job, are_both_standard, is_named, line_order_in, text_in};
 use clap::ArgMatches;
 use std::alloc::{AllocError, Global};
 

@@ -1,8 +1,8 @@
 //! The names of the files of a job.
 
+use crate::args::words::Job;
+use crate::context::Part;
 use crate::files::STANDARD;
-use crate::notes::Part;
-use crate::words::Job;
 
 /// The name of the file, or of the folder, that a job writes.
 pub fn output_of<'a>(job: &'a Job) -> Option<&'a str> {

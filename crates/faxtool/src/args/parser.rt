@@ -5,8 +5,8 @@ ghost use Rattle.faxtool.specs.Jobs.{IsFaxtool, empty_app};
 ghost use Rattle.faxtool.specs.Table.{app_in, rule_in, with_commands};
 ghost use Rattle.std.specs.Prelude.{◌≡◌, IfOk, None, false};
 
-use crate::fault_table::FAULTS;
-use crate::table::{Argument, Entry, commands, later_commands};
+use crate::args::fault_table::FAULTS;
+use crate::args::table::{Argument, Entry, commands, later_commands};
 use clap::builder::ValueParser;
 use clap::{Arg, Command};
 use std::alloc::{AllocError, Global};

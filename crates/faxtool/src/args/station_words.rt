@@ -5,8 +5,8 @@ ghost use Rattle.clap.specs.Words.{first_of, found_of, rows_of};
 ghost use Rattle.faxtool.specs.Jobs.{AreWaitsIn, HasNoJob, IsJobOf, caps_in, has_answerer, has_caller, limit_of, is_named, takes_t6};
 ghost use Rattle.faxtool.specs.Jobs.{widest_named};
 
-use crate::unfit::Unfit;
-use crate::words::{
+use crate::args::unfit::Unfit;
+use crate::args::words::{
     Job, coding_in, copy_of, is_named, modems_named, number_in, options_in, text_in,
 };
 use clap::ArgMatches;

@@ -10,10 +10,10 @@ ghost use Rattle.faxtool.specs.Jobs.{IsLineIn, IsRateIn, IsSpoilIn, IsBusyIn, Is
 ghost use Rattle.faxtool.specs.Jobs.{line_order_named, list_form, order_named, status_of};
 ghost use Rattle.calls.specs.declared.losses.BadLine.{BadLine as LineValue};
 
-use crate::captures_words::{captures_job, has_captures};
-use crate::commands::{command_alone, entry_named, faxtool_command};
-use crate::station_words::{GivenWaits, station_job};
-use crate::unfit::Unfit;
+use crate::args::captures_words::{captures_job, has_captures};
+use crate::args::parser::{command_alone, entry_named, faxtool_command};
+use crate::args::station_words::{GivenWaits, station_job};
+use crate::args::unfit::Unfit;
 use calls::{BadLine, CallOptions, read_rate};
 use captures::ListForm;
 use clap::error::ErrorKind;
@@ -205,7 +205,7 @@ pub fn status(outcome: &Outcome) -> u8
 impl From<AllocError> for Outcome {
     ghost use Rattle.std.specs.Prelude.{◌≡◌};
     ghost use Rattle.faults.specs.declared.fault.ToolFault.TheVariants.{No};
-    ghost use Rattle.faxtool.specs.declared.words.Outcome.TheVariants.{Fault};
+    ghost use Rattle.faxtool.specs.declared.args.words.Outcome.TheVariants.{Fault};
 
     ghost from_gives = { λ _ outcome. outcome ≡ Fault (No 9) };
 

@@ -4,11 +4,15 @@ ghost use Rattle.calls.specs.Calls.{HaveRows};
 ghost use Rattle.faults.specs.Faults.{IsOutside};
 ghost use Rattle.std.specs.Prelude.{IfErr};
 
-use crate::bits::CallFiles;
-use crate::bounded::read_script_file;
-use crate::files::read_input;
-use crate::notes::{Notes, Part};
-use crate::{diagram, outputs};
+pub(crate) mod bits;
+pub(crate) mod diagram;
+pub(crate) mod drives;
+
+use crate::commands::call::bits::CallFiles;
+use crate::context::{Notes, Part};
+use crate::files::bounded::read_script_file;
+use crate::files::input::read_input;
+use crate::files::output;
 use calls::{CallOptions, call_to_end, ended_normally, read_script};
 use faults::{NO_MEMORY, ToolFault};
 use raster::{Page, write_pbm};
@@ -55,5 +59,5 @@ pub fn write_pages(
     }
     let mut octets = Vec::new(rt.alloc());
     write_pbm(pages, &mut octets).map_err(|_fault| NO_MEMORY)?;
-    outputs::write(rt, Part::Output, name, octets.as_slice(), notes)
+    output::write(rt, Part::Output, name, octets.as_slice(), notes)
 }

@@ -1,8 +1,7 @@
 //! The command `code`.
 
-use crate::files::{self, InAndOut};
-use crate::notes::{Notes, Part};
-use crate::outputs;
+use crate::context::{Notes, Part};
+use crate::files::{InAndOut, input, output};
 use faults::ToolFault;
 use page_code::Coding;
 use page_files::{read_image, write_code};
@@ -17,11 +16,11 @@ pub fn code_file(
     names: InAndOut<'_>,
     notes: &mut Notes,
 ) -> Result<(), ToolFault> {
-    let mut reader = files::open(rt, names.input, Part::Input, notes)?;
+    let mut reader = input::open(rt, names.input, Part::Input, notes)?;
     let read = read_image(rt.alloc(), &mut reader);
     reader.close(notes);
     let page = read?;
-    let mut output = outputs::open(rt, names.output, notes)?;
+    let mut output = output::open(rt, names.output, notes)?;
     let written = write_code(rt.alloc(), &page, coding, order, &mut output);
     output.end(written.is_ok(), notes)?;
     written

@@ -4,10 +4,10 @@ ghost use Rattle.faults.specs.Faults.{IsOutside};
 ghost use Rattle.raster.specs.Pixels.{IsWidth};
 ghost use Rattle.std.specs.Prelude.{IfErr};
 
-use crate::bounded::{Ways, read_coded};
+use crate::context::Notes;
 use crate::files::InAndOut;
-use crate::notes::Notes;
-use crate::outputs::{self, Output};
+use crate::files::bounded::{Ways, read_coded};
+use crate::files::output::{self, Output};
 use faults::ToolFault;
 use page_files::{DecodeAnswer, DecodeOptions, PageForm, answer_page, write_some};
 use raster::Page;
@@ -48,7 +48,7 @@ fn write_decoded(
 ) -> Result<(), ToolFault>
     ensures { IfErr result IsOutside }
 {
-    let mut output = outputs::open(rt, name, notes)?;
+    let mut output = output::open(rt, name, notes)?;
     let written = write_image(rt, page, &mut output);
     output.end(written.is_ok(), notes)?;
     written

@@ -4,23 +4,22 @@ ghost use Rattle.faults.specs.Faults.{IsOutside};
 ghost use Rattle.faxtool.specs.Jobs.{HasWidth};
 ghost use Rattle.std.specs.Prelude.{IfErr};
 
-use crate::bits::CallFiles;
-use crate::call::call_file;
-use crate::code::code_file;
-use crate::decode::decode_file;
+use crate::args::names::{bits_of, output_of};
+use crate::args::words::{Job, Outcome, Request};
+use crate::commands::call::bits::CallFiles;
+use crate::commands::call::{call_file, drives};
+use crate::commands::code::code_file;
+use crate::commands::decode::decode_file;
+use crate::commands::frames::two_captures::{CaptureFiles, draw_captures};
+use crate::commands::frames::{FoundPages, frames_file};
+use crate::commands::identify::identify_file;
+use crate::commands::show::show_file;
+use crate::commands::station::ending::end_station;
+use crate::commands::station::{Answering, Dialling};
+use crate::commands::version::print_version;
+use crate::context::{Notes, Part};
 use crate::explain::{is_explained, show_fault};
-use crate::files::InAndOut;
-use crate::frames::{FoundPages, frames_file};
-use crate::identify::identify_file;
-use crate::names::{bits_of, output_of};
-use crate::notes::{Notes, Part};
-use crate::show::show_file;
-use crate::station::{Answering, Dialling};
-use crate::station_run::end_station;
-use crate::two_captures::{CaptureFiles, draw_captures};
-use crate::version::print_version;
-use crate::words::{Job, Outcome, Request};
-use crate::{drives, outputs};
+use crate::files::{InAndOut, output};
 use captures::ListOptions;
 use faults::ToolFault;
 
@@ -72,7 +71,7 @@ fn check_bits(rt: &HostRuntime, job: &Job, notes: &mut Notes) -> Result<(), Tool
     ensures { IfErr result IsOutside }
 {
     match bits_of(job) {
-        Some(name) => outputs::check_folder(rt, name, Part::Bits, notes),
+        Some(name) => output::check_folder(rt, name, Part::Bits, notes),
         None => Ok(()),
     }
 }
@@ -87,10 +86,10 @@ fn check_output(rt: &HostRuntime, job: &Job, notes: &mut Notes) -> Result<(), To
     match job {
         // before a line is printed, or IN is read
         Job::Frames { .. } | Job::Answer { .. } => {
-            outputs::check_folder(rt, name, Part::Output, notes)
+            output::check_folder(rt, name, Part::Output, notes)
         }
         Job::Code { .. } | Job::Decode { .. } | Job::Call { .. } | Job::Drive { .. } => {
-            outputs::check_terminal(rt, name, notes)
+            output::check_terminal(rt, name, notes)
         }
         // these have no such output
         Job::Show { .. } | Job::Identify { .. } | Job::Captures { .. } => Ok(()),

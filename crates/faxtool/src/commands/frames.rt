@@ -4,9 +4,11 @@ ghost use Rattle.faults.specs.Faults.{IsOutside};
 ghost use Rattle.captures.specs.PageNumbers.{after, page_missing};
 ghost use Rattle.std.specs.Prelude.{◌≡◌, IfErr, OnOk, false, max};
 
+pub(crate) mod two_captures;
+
+use crate::context::{Notes, Part};
 use crate::explain::notice;
-use crate::notes::{Notes, Part};
-use crate::{files, outputs};
+use crate::files::{input, output, printed};
 use captures::{
     Captured, FoundStore, FrontStore, ListForm, ListOptions, Missing, PageNumbers, Stored,
     StoredFront, list_engine, pages_engine, salvage_pages_engine, write_missing, write_stored,
@@ -41,11 +43,11 @@ fn list_file(
 ) -> Result<(), ToolFault>
     ensures { IfErr result IsOutside }
 {
-    let mut reader = files::open(rt, input, Part::Input, notes)?;
-    let mut writer = files::print(rt)?;
+    let mut reader = input::open(rt, input, Part::Input, notes)?;
+    let mut writer = printed::print(rt)?;
     let listed = list_engine(rt.alloc(), &mut reader, &mut writer, how);
     reader.close(notes);
-    let printed = files::end_print(writer, listed.is_ok(), notes);
+    let printed = printed::end_print(writer, listed.is_ok(), notes);
     let worth = listed?;
     printed?;
     say_other_order(rt, how, worth)
@@ -108,7 +110,7 @@ impl Folder<'_> {
         let pages = [page];
         let mut octets = Vec::new(self.rt.alloc());
         write_pbm(&pages, &mut octets).map_err(|_fault| NO_MEMORY)?;
-        let file = outputs::write_page(self.rt, self.name, first, octets.as_slice(), self.notes)?;
+        let file = output::write_page(self.rt, self.name, first, octets.as_slice(), self.notes)?;
         let _moved = self.numbers.written(file);
         let stored = Stored {
             numbers: self.numbers,
@@ -208,9 +210,9 @@ fn store_pages(
 ) -> Result<bool, ToolFault>
     ensures { IfErr result IsOutside }
 {
-    let mut reader = files::open(rt, input, Part::Input, notes)?;
+    let mut reader = input::open(rt, input, Part::Input, notes)?;
     let mut counted = Counted {
-        writer: files::print(rt)?,
+        writer: printed::print(rt)?,
         lines: 0,
     };
     let mut store = Folder {
@@ -231,7 +233,7 @@ fn store_pages(
     let is_whole = store.is_whole;
     reader.close(notes);
     let Counted { writer, lines } = counted;
-    let printed = files::end_print(writer, listed.is_ok(), notes);
+    let printed = printed::end_print(writer, listed.is_ok(), notes);
     let worth = listed?;
     printed?;
     say_other_order(rt, how, worth)?;

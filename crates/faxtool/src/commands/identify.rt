@@ -1,8 +1,8 @@
 //! The command `identify`.
 
-use crate::bounded::{Ways, read_coded};
-use crate::files;
-use crate::notes::Notes;
+use crate::context::Notes;
+use crate::files::bounded::{Ways, read_coded};
+use crate::files::printed;
 use faults::ToolFault;
 use page_files::identify_engine;
 
@@ -10,9 +10,9 @@ use page_files::identify_engine;
 /// neither; then it prints how far each way reads.
 pub fn identify_file(rt: &HostRuntime, input: &str, notes: &mut Notes) -> Result<(), ToolFault> {
     read_coded(rt, input, Ways::Tried, notes)?;
-    let mut writer = files::print(rt)?;
+    let mut writer = printed::print(rt)?;
     let identified = identify_engine(rt.alloc(), notes.octets.as_slice(), &mut writer);
-    let printed = files::end_print(writer, identified.is_ok(), notes);
+    let printed = printed::end_print(writer, identified.is_ok(), notes);
     let fault = identified?;
     printed?;
     match fault {

@@ -2,9 +2,9 @@
 
 ghost use Rattle.raster.specs.Pixels.{IsWidth};
 
-use crate::bounded::{Ways, read_coded};
-use crate::files;
-use crate::notes::Notes;
+use crate::context::Notes;
+use crate::files::bounded::{Ways, read_coded};
+use crate::files::printed;
 use faults::ToolFault;
 use page_code::Coding;
 use page_files::{PageForm, show_page};
@@ -28,10 +28,10 @@ pub fn show_file(
         fine: false,
     };
     read_coded(rt, input, Ways::One(form), notes)?;
-    let mut writer = files::print(rt)?;
+    let mut writer = printed::print(rt)?;
     let kept = &mut notes.refused;
     let shown = show_page(rt.alloc(), &notes.octets, form, kept, &mut writer);
-    let printed = files::end_print(writer, shown.is_ok(), notes);
+    let printed = printed::end_print(writer, shown.is_ok(), notes);
     shown?;
     printed
 }

@@ -3,13 +3,18 @@
 ghost use Rattle.faults.specs.Faults.{IsOutside};
 ghost use Rattle.std.specs.Prelude.{IfErr};
 
+pub(crate) mod ending;
+pub(crate) mod no_line;
+pub(crate) mod trace;
+
+use crate::args::station_words::GivenWaits;
+use crate::commands::station::no_line::{LastLine, NoLine, no_line};
+use crate::commands::station::trace::Trace;
+use crate::context::{Notes, Part};
 use crate::explain::notice;
-use crate::files::{Printed, read_input};
-use crate::no_line::{LastLine, NoLine, no_line};
-use crate::notes::{Notes, Part};
-use crate::station_words::GivenWaits;
-use crate::trace::Trace;
-use crate::{files, outputs};
+use crate::files::input::read_input;
+use crate::files::output;
+use crate::files::printed::{self, Printed};
 use calls::{CallOptions, end_word};
 use conversations::{
     Conversation, ConverseFault, Durations, Ending, Keeper, PageStore, converse, keep_pages,
@@ -121,7 +126,7 @@ impl PageStore for Folder<'_> {
             return Err(FAILED);
         };
         let octets = image_of(self.rt, page)?;
-        match outputs::store_page(self.rt, self.name, self.next, octets.as_slice()) {
+        match output::store_page(self.rt, self.name, self.next, octets.as_slice()) {
             Ok(written) => {
                 self.stored = number;
                 self.next = written.saturating_add(1);
@@ -235,7 +240,7 @@ fn talk_out<S: Stoppable, K: Keeper<S, Refused = ToolFault>>(
     notes: &mut Notes,
 ) -> Result<Option<Halted>, ToolFault> {
     let trace = Trace::open(rt, trace, notes)?;
-    let writer = files::print(rt)?;
+    let writer = printed::print(rt)?;
     let mut answers = Answers { rt, writer, trace };
     let talked = talk(conversation, keeper, &mut answers, notes);
     if let Some(kind) = answers.writer.get_ref().failed() {

@@ -3,8 +3,8 @@
 ghost use Rattle.faults.specs.Faults.{IsOutside};
 ghost use Rattle.std.specs.Prelude.{IfErr};
 
-use crate::files;
-use crate::notes::Notes;
+use crate::context::Notes;
+use crate::files::printed;
 use faults::ToolFault;
 use std::io::Write;
 
@@ -19,9 +19,9 @@ pub fn print_version(rt: &HostRuntime, proof: bool, notes: &mut Notes) -> Result
     ensures { IfErr result IsOutside }
 {
     let line = if proof { KIT } else { VERSION };
-    let mut writer = files::print(rt)?;
+    let mut writer = printed::print(rt)?;
     let written = writeln!(writer, "{line}");
-    let printed = files::end_print(writer, written.is_ok(), notes);
+    let printed = printed::end_print(writer, written.is_ok(), notes);
     written?;
     printed
 }

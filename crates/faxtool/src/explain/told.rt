@@ -3,7 +3,7 @@
 ghost use Rattle.faults.specs.Explanations.{name_text};
 ghost use Rattle.std.specs.Prelude.{◌≡◌};
 
-use crate::notes::Cause;
+use crate::context::Cause;
 use faults::{Explained, is_shown};
 use std::fmt;
 

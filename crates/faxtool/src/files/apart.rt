@@ -3,8 +3,8 @@
 ghost use Rattle.faxtool.specs.Apart.{IsApartOutcome};
 ghost use Rattle.std.specs.Prelude.{◌≡◌, IfErr, IfOk};
 
+use crate::args::words::{Job, Outcome, Request, unfit};
 use crate::files::STANDARD;
-use crate::words::{Job, Outcome, Request, unfit};
 use std::alloc::AllocError;
 use std::fs::{self, Files};
 use std::io;

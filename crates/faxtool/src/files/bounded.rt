@@ -5,8 +5,8 @@ ghost use Rattle.raster.specs.Pixels.{IsWidth};
 ghost use Rattle.faxtool.specs.Bounds.{HavePageWidths};
 ghost use Rattle.std.specs.Prelude.{All, IfErr};
 
-use crate::files::{self, Source};
-use crate::notes::{Cause, Notes, Part};
+use crate::context::{Cause, Notes, Part};
+use crate::files::input::{self, Source};
 use faults::{FAILED, ToolFault};
 use page_code::{CodesPages, Coding, PageRead};
 use page_files::PageForm;
@@ -65,7 +65,7 @@ pub(crate) fn read_coded(
     requires { HavePageWidths ways }
     ensures { IfErr result IsOutside }
 {
-    let mut source = files::open(rt, input, Part::Input, notes)?;
+    let mut source = input::open(rt, input, Part::Input, notes)?;
     let mut octets = Vec::new(rt.alloc());
     let read = read_pieces(rt, &mut source, ways, &mut octets);
     source.close(notes);
@@ -82,7 +82,7 @@ pub(crate) fn read_script_file(
 ) -> Result<Vec<u8>, ToolFault>
     ensures { IfErr result IsOutside }
 {
-    let mut source = files::open(rt, script, Part::Script, notes)?;
+    let mut source = input::open(rt, script, Part::Script, notes)?;
     let mut octets = Vec::new(rt.alloc());
     let read = read_script_pieces(&mut source, &mut octets);
     source.close(notes);

@@ -1,25 +1,14 @@
-//! Files by their names, of which `-` is standard input or output.
+//! Files that are read.
 
 ghost use Rattle.faults.specs.Faults.{IsOutside};
-ghost use Rattle.std.specs.Prelude.{◌≡◌, IfErr};
+ghost use Rattle.std.specs.Prelude.{IfErr};
 
-use crate::notes::{Notes, Part};
-use crate::progress::Progress;
+use crate::context::{Notes, Part};
+use crate::files::STANDARD;
+use crate::files::progress::Progress;
 use faults::ToolFault;
-use std::io::{BufWriter, ErrorKind, Read, Write};
+use std::io::{ErrorKind, Read};
 use std::{fs, io};
-
-/// The name of standard input and of standard output; a file of that name is `./-`.
-pub const STANDARD: &str = "-";
-
-/// The name of the file that a command reads, and that of the file that it writes.
-#[derive(Clone, Copy)]
-pub struct InAndOut<'a> {
-    /// The file that is read.
-    pub input: &'a str,
-    /// The file that is written.
-    pub output: &'a str,
-}
 
 /// How many octets of the input are kept while it is read: those by which an image is known.
 const FIRST_OCTETS: usize = 4;
@@ -169,59 +158,4 @@ pub fn read_input(rt: &HostRuntime, input: &str, notes: &mut Notes) -> Result<()
 {
     notes.octets = read_file(rt, input, Part::Input, notes)?;
     Ok(())
-}
-
-/// How many octets of what is printed are written at once.
-const PRINTED_AT_ONCE: usize = 65536;
-
-/// Standard output, with why it failed.
-#[derive(Drop)]
-pub struct Printed<'a> {
-    rt: &'a HostRuntime,
-    failed: Option<ErrorKind>,
-}
-
-impl Printed<'_> {
-    /// Why standard output failed, if it did.
-    pub fn failed(&self) -> Option<ErrorKind>
-        ensures { result ≡ self.now.failed }
-    {
-        self.failed
-    }
-}
-
-impl Write for Printed<'_> {
-    fn write(&mut self, octets: &[u8]) -> io::Result<usize> {
-        let written = io::writer(self.rt).write(octets);
-        self.failed = written.as_ref().err().map(|error| error.kind());
-        written
-    }
-
-    fn flush(&mut self) -> io::Result<()> {
-        Ok(())
-    }
-}
-
-/// Standard output with a buffer before it. Errors: `NoMemory` (9).
-pub fn print(rt: &HostRuntime) -> Result<BufWriter<Printed<'_>>, ToolFault>
-    ensures { IfErr result IsOutside }
-{
-    let printed = Printed { rt, failed: None };
-    Ok(BufWriter::with_capacity(rt.alloc(), PRINTED_AT_ONCE, printed)?)
-}
-
-/// Ends what was printed: writes the rest if all was done, and notes why it failed. Errors: `Io` (8) if it can't be written; `NoMemory`
-/// (9).
-pub fn end_print(
-    mut printed: BufWriter<Printed<'_>>,
-    done: bool,
-    notes: &mut Notes,
-) -> Result<(), ToolFault>
-    ensures { IfErr result IsOutside }
-{
-    let ended = if done { printed.flush() } else { Ok(()) };
-    if let Some(kind) = printed.get_ref().failed {
-        notes.blame(Part::Printed, kind);
-    }
-    Ok(ended?)
 }

@@ -3,8 +3,8 @@
 ghost use Rattle.faults.specs.Faults.{IsOutside};
 ghost use Rattle.std.specs.Prelude.{◌≤◌, IfErr, IfOk};
 
+use crate::context::{Cause, Notes, Part};
 use crate::files::STANDARD;
-use crate::notes::{Cause, Notes, Part};
 use faults::ToolFault;
 use std::fs::{File, OpenOptions, Permissions};
 use std::io::{ErrorKind, IsTerminal, Write};

@@ -3,9 +3,9 @@
 ghost use Rattle.faults.specs.Faults.{IsOutside};
 ghost use Rattle.std.specs.Prelude.{IfErr};
 
-use crate::files::{self, Printed};
-use crate::notes::{Notes, Part};
-use crate::outputs::{self, Growing};
+use crate::context::{Notes, Part};
+use crate::files::output::{self, Growing};
+use crate::files::printed::{self, Printed};
 use calls::{InForm, WithBits};
 use captures::ListForm;
 use faults::{NO_MEMORY, ToolFault};
@@ -108,7 +108,7 @@ fn open_file(
         return Ok(Direction(None));
     };
     let name = format!(in rt.alloc(); "{folder}/{name}")?;
-    let (file, growing) = outputs::grow(rt, name, Part::Bits, notes)?;
+    let (file, growing) = output::grow(rt, name, Part::Bits, notes)?;
     let noting = Noting { file, failed: None };
     match BufWriter::with_capacity(rt.alloc(), WRITTEN_AT_ONCE, noting) {
         Ok(writer) => Ok(Direction(Some(OpenFile { writer, growing }))),
@@ -142,7 +142,7 @@ pub(crate) fn open<'a>(
     if folder.is_some() {
         check_printed(rt, notes)?;
     }
-    let lines = files::print(rt)?;
+    let lines = printed::print(rt)?;
     let to_answerer = open_file(rt, folder, "to-answerer.bits", notes)?;
     let to_caller = match open_file(rt, folder, "to-caller.bits", notes) {
         Ok(to_caller) => to_caller,
@@ -209,7 +209,7 @@ pub(crate) fn close(
         to_answerer,
         to_caller,
     } = output.writer;
-    let printed = files::end_print(lines, done, notes);
+    let printed = printed::end_print(lines, done, notes);
     let one = to_answerer.end(rt, done && printed.is_ok(), notes);
     let other = to_caller.end(rt, done && printed.is_ok() && one.is_ok(), notes);
     printed?;

@@ -3,9 +3,9 @@
 ghost use Rattle.faults.specs.Faults.{IsOutside};
 ghost use Rattle.std.specs.Prelude.{IfErr};
 
-use crate::bits::{self, CallFiles, CallOutput};
-use crate::notes::{Notes, Part};
-use crate::outputs;
+use crate::commands::call::bits::{self, CallFiles, CallOutput};
+use crate::context::{Notes, Part};
+use crate::files::output;
 use call_pictures::{Ladder, WithDiagram, write_picture};
 use faults::ToolFault;
 
@@ -56,5 +56,5 @@ pub(crate) fn draw(
 {
     let mut octets = Vec::new(rt.alloc());
     write_picture(ladder, &mut octets)?;
-    outputs::write(rt, Part::Diagram, name, octets.as_slice(), notes)
+    output::write(rt, Part::Diagram, name, octets.as_slice(), notes)
 }

@@ -1,10 +1,10 @@
 //! Calls over a bad line.
 
-use crate::bits::CallFiles;
-use crate::call::write_pages;
-use crate::diagram;
-use crate::files::{self, read_input};
-use crate::notes::Notes;
+use crate::commands::call::bits::CallFiles;
+use crate::commands::call::{diagram, write_pages};
+use crate::context::Notes;
+use crate::files::input::read_input;
+use crate::files::printed;
 use call_tallies::drive_many;
 use calls::{BadLine, CallOptions, drive_to_end, ended_normally};
 use faults::ToolFault;
@@ -55,7 +55,7 @@ fn drive_times(
     notes: &mut Notes,
 ) -> Result<(), ToolFault> {
     read_input(rt, input, notes)?;
-    let mut writer = files::print(rt)?;
+    let mut writer = printed::print(rt)?;
     let times = u64::from(times);
     let driven = drive_many(
         rt.alloc(),
@@ -65,7 +65,7 @@ fn drive_times(
         line,
         times,
     );
-    let printed = files::end_print(writer, driven.is_ok(), notes);
+    let printed = printed::end_print(writer, driven.is_ok(), notes);
     driven?;
     printed
 }

@@ -3,9 +3,10 @@
 ghost use Rattle.faults.specs.Faults.{IsOutside};
 ghost use Rattle.std.specs.Prelude.{IfErr};
 
+use crate::commands::call::diagram;
+use crate::context::{Notes, Part};
 use crate::explain::notice;
-use crate::notes::{Notes, Part};
-use crate::{diagram, files};
+use crate::files::input;
 use call_pictures::{CapturedFrames, captured_frames, ladder_of};
 use faults::ToolFault;
 use run_tables::Order;
@@ -31,7 +32,7 @@ fn read_capture(
 ) -> Result<CapturedFrames, ToolFault>
     ensures { IfErr result IsOutside }
 {
-    let mut reader = files::open(rt, name, part, notes)?;
+    let mut reader = input::open(rt, name, part, notes)?;
     let frames = captured_frames(rt.alloc(), &mut reader, order);
     reader.close(notes);
     frames

@@ -2,11 +2,11 @@
 
 ghost use Rattle.faxtool.specs.Jobs.{HasWidth};
 
+use crate::args::words::{Job, Outcome};
+use crate::commands::station::no_line::NoLine;
+use crate::commands::station::{self, Halted, Talked};
+use crate::context::Notes;
 use crate::explain::show_fault;
-use crate::no_line::NoLine;
-use crate::notes::Notes;
-use crate::station::{self, Halted, Talked};
-use crate::words::{Job, Outcome};
 use captures::write_ended;
 use faults::{ToolFault, write_line_fault};
 use stations::{CallEnd, End};

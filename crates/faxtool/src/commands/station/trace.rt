@@ -3,7 +3,7 @@
 ghost use Rattle.faults.specs.Faults.{IsOutside};
 ghost use Rattle.std.specs.Prelude.{IfErr};
 
-use crate::notes::{Notes, Part};
+use crate::context::{Notes, Part};
 use captures::{ContentText, write_traced, write_traced_check};
 use conversations::{Follower, Heard, Kind, Said, TimedLine, heard_as};
 use faults::ToolFault;

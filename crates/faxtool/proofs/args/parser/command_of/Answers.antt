@@ -3,7 +3,7 @@ use Rattle.std.proofs.Common.{◌≡◌, ◌∙◌, false, rules, sym}
 use Rattle.clap.specs.declared.builder.command.Command.TheViews.{out-Command as fields_of}
 use Rattle.faxtool.specs.Table.{app_in}
 use Rattle.faxtool.proofs.CommandLemmas.{argument_added, arguments_there}
-use Rattle.faxtool.proofs.commands.command_of.Goals as goal
+use Rattle.faxtool.proofs.args.parser.command_of.Goals as goal
 
 pub loop-argument-preserved : goal.loop-argument-preserved
 loop-argument-preserved c =

@@ -3,7 +3,7 @@ use Rattle.std.proofs.Common.{◌≡◌, false, drop}
 use Rattle.clap.specs.Words.{app_of}
 use Rattle.clap.specs.declared.builder.command.Command.TheViews.{out-Command as fields_of}
 use Rattle.faxtool.specs.Table.{app_in, with_arguments}
-use Rattle.faxtool.proofs.commands.command_of.Given as goal
+use Rattle.faxtool.proofs.args.parser.command_of.Given as goal
 
 abbrev pub invariant-loop-argument : goal.invariant-loop-argument
 invariant-loop-argument l = record {

@@ -1,7 +1,7 @@
 -- What the check asks of `with_entries`.
 use Rattle.std.proofs.Common.{sym, ◌∙◌}
 use Rattle.faxtool.proofs.CommandLemmas.{command_added, commands_there}
-use Rattle.faxtool.proofs.commands.with_entries.Goals as goal
+use Rattle.faxtool.proofs.args.parser.with_entries.Goals as goal
 
 pub loop-entry-preserved : goal.loop-entry-preserved
 loop-entry-preserved c =

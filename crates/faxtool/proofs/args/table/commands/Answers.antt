@@ -1,7 +1,7 @@
 -- What the check asks of `commands`.
 use Rattle.std.proofs.Common.{refl}
 use Rattle.faxtool.specs.Table.{with_arguments, with_commands}
-use Rattle.faxtool.proofs.table.commands.Goals as goal
+use Rattle.faxtool.proofs.args.table.commands.Goals as goal
 
 pub returns : goal.returns
 unfolding with_arguments with_commands

@@ -1,7 +1,7 @@
 -- What the check asks of `later_commands`.
 use Rattle.std.proofs.Common.{refl}
 use Rattle.faxtool.specs.Table.{with_arguments, with_commands}
-use Rattle.faxtool.proofs.table.later_commands.Goals as goal
+use Rattle.faxtool.proofs.args.table.later_commands.Goals as goal
 
 pub returns : goal.returns
 unfolding with_arguments with_commands

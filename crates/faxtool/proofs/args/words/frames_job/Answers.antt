@@ -2,7 +2,7 @@
 use Rattle.std.proofs.Common.{rules}
 use Rattle.clap.specs.Words.{found_of, rows_of}
 use Rattle.faxtool.proofs.JobLemmas.{no_folder}
-use Rattle.faxtool.proofs.words.frames_job.Goals as goal
+use Rattle.faxtool.proofs.args.words.frames_job.Goals as goal
 
 pub returns-then-is_none : goal.returns-then-is_none
 returns-then-is_none c =

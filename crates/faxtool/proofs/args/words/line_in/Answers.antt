@@ -1,9 +1,9 @@
 -- What the check asks of `line_in`.
 use Rattle.std.proofs.Common.{◌≡◌, arith}
 use Rattle.faxtool.proofs.JobLemmas.{none_there, same_number}
-use Rattle.faxtool.proofs.words.line_in.Goals as goal
-use Rattle.faxtool.proofs.words.line_in.Goals.{then-lose-gt-ALL_WORDS-via-then-lose-gt-ALL_WORDS}
-use Rattle.faxtool.proofs.words.line_in.Goals.{then-lose-gt-ALL_WORDS-via-else-lose-gt-ALL_WORDS+then-spoil-lose}
+use Rattle.faxtool.proofs.args.words.line_in.Goals as goal
+use Rattle.faxtool.proofs.args.words.line_in.Goals.{then-lose-gt-ALL_WORDS-via-then-lose-gt-ALL_WORDS}
+use Rattle.faxtool.proofs.args.words.line_in.Goals.{then-lose-gt-ALL_WORDS-via-else-lose-gt-ALL_WORDS+then-spoil-lose}
 
 pub returns-in_default : goal.returns-in_default
 returns-in_default c line is = none_there line.lose (c.in_default.ensures.only line.lose is.lose_is)

@@ -2,7 +2,7 @@
 use Rattle.std.specs.Str.Parse.{ParsesUnsigned, ExplainsUnsignedError, HasUnsignedDigitsIfOk}
 use Rattle.clap.specs.Words.{found_of}
 use Rattle.faxtool.proofs.JobLemmas.{number_reads}
-use Rattle.faxtool.proofs.words.number_in.Goals as goal
+use Rattle.faxtool.proofs.args.words.number_in.Goals as goal
 
 pub returns : goal.returns
 returns c = number_reads c.args.id.now (found_of c.args.matches.now)

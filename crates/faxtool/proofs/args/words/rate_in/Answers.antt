@@ -1,7 +1,7 @@
 -- What the check asks of `rate_in`.
 use Rattle.clap.specs.Words.{found_of, rows_of}
 use Rattle.faxtool.proofs.JobLemmas.{rate_only}
-use Rattle.faxtool.proofs.words.rate_in.Goals as goal
+use Rattle.faxtool.proofs.args.words.rate_in.Goals as goal
 
 pub returns-in-Some-clause-only : goal.returns-in-Some-clause-only
 returns-in-Some-clause-only c =

@@ -5,7 +5,7 @@ use Rattle.clap.specs.Words.{Row, Text, app_of}
 use Rattle.std.specs.Prelude.{codes}
 use Rattle.faxtool.specs.Jobs.{HasNoJob, IsFaxtool, IsJobOf, asks}
 use Rattle.faxtool.proofs.JobLemmas.{is_faxtool_free, is_faxtool_simple, refused_by_kind, refused_for_job}
-use Rattle.faxtool.proofs.words.read_words.Goals as goal
+use Rattle.faxtool.proofs.args.words.read_words.Goals as goal
 
 pub returns-in-Err : goal.returns-in-Err
 returns-in-Err c =

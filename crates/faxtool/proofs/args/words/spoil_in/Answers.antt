@@ -1,7 +1,7 @@
 -- What the check asks of `spoil_in`.
 use Rattle.clap.specs.Words.{found_of, rows_of}
 use Rattle.faxtool.proofs.JobLemmas.{spoil_only}
-use Rattle.faxtool.proofs.words.spoil_in.Goals as goal
+use Rattle.faxtool.proofs.args.words.spoil_in.Goals as goal
 
 pub returns-in-Some-clause-only : goal.returns-in-Some-clause-only
 returns-in-Some-clause-only c =

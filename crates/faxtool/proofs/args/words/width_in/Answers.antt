@@ -4,7 +4,7 @@ use Rattle.std.proofs.Common.{◌≡◌, ◌≤◌, Some, None, subst, rules}
 use Rattle.clap.specs.Words.{found_of, rows_of}
 use Rattle.faxtool.specs.Jobs.{ReadsNumber}
 use Rattle.faxtool.proofs.JobLemmas.{width_made, width_none, width_outside}
-use Rattle.faxtool.proofs.words.width_in.Goals as goal
+use Rattle.faxtool.proofs.args.words.width_in.Goals as goal
 
 pub returns-in-Some : goal.returns-in-Some
 returns-in-Some c =
