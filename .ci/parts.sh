@@ -1,7 +1,14 @@
 # What .ci/run says of its parts. `parts` is how many there are.
 # shellcheck shell=sh disable=SC2154
 
-begun=$(date +%s) number=0
+begun=$(date +%s) number=0 spent=$(mktemp)
+trap 'rm -f "$spent"' EXIT
+
+# used: the processor minutes of all that ran so far.
+used() {
+    times > "$spent"
+    sed -n '2s/[ms]/ /gp' "$spent" | awk '{ printf "%.0f", $1 + $2 / 60 + $3 + $4 / 60 }'
+}
 
 # part WORDS: says which part begins, and when, and runs it.
 part() {
@@ -14,5 +21,5 @@ part() {
 whole() {
     since=$(($(date +%s) - begun))
     [ "$number" = "$parts" ] || { echo "run: there were $number parts, and not $parts" >&2; exit 1; }
-    printf '== all %d parts passed in %d min %02d s\n' "$number" $((since / 60)) $((since % 60))
+    printf '== all %d parts passed in %d min %02d s, with %s processor minutes\n' "$number" $((since / 60)) $((since % 60)) "$(used)"
 }
