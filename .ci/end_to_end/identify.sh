@@ -18,23 +18,19 @@ in_widths() {
     done
 }
 
-# is_far FILE: no page is named of the file; each way in which it begins with a row has a line, and no other one has: the fault and the
-# rows are those of `decode --salvage`.
+# is_far FILE: no page is named of the file; each way in which it begins with a row has a line, and no other one has. The rows are those of
+# the second reading, the faults those of `decode`.
 is_far() {
     gives 1 identify "$1"
     [ "$(cat "$work/error")" = "fault 29" ] || fails "identify ${1##*/} wrote $(cat "$work/error")"
     cp "$work/output" "$work/far"
+    python3 "$data/how_far.py" "$1" > "$work/reading" || fails "the second reading of ${1##*/}"
     : > "$work/wanted"
-    for code in mmr mh; do
-        for order in msb lsb; do
-            for width in 1728 2048 2432 1216 864 1700 1654; do
-                rm -f "$work/rows"
-                gives 1 decode --salvage --code $code --order $order --width $width "$1" "$work/rows"
-                [ -e "$work/rows" ] || continue
-                echo "$code $order $width $(cat "$work/error") $(sed -n '2{s/.* //p;q}' "$work/rows")" >> "$work/wanted"
-            done
-        done
-    done
+    while read -r code order width rows; do
+        rm -f "$work/rows"
+        gives 1 decode --code "$code" --order "$order" --width "$width" "$1" "$work/rows"
+        echo "$code $order $width $(cat "$work/error") $rows" >> "$work/wanted"
+    done < "$work/reading"
     sed 's/^T.6/mmr/; s/^T.4/mh/; s/, most significant bit first/ msb/; s/, least significant bit first/ lsb/; s/, width / /; s/: / /
         s/ after \([0-9]*\) rows$/ \1/' "$work/far" > "$work/output"
     is_same "$work/output" "$work/wanted" "how far ${1##*/} is read"

@@ -1,19 +1,22 @@
 # The man pages and the completions, which docs/man/make.py writes.
 
-# They are those of the program's help; `man`, and `mandoc` where it is there, show each page without a warning; zsh and fish, where they
-# are there, take their completion.
+# They are those of the program's help; `man` and `mandoc`, where they are there, show each page without a warning; zsh and fish, where they
+# are there, take their completion. Only what was tried is counted.
 try_man() {
     "$top/docs/man/make.py" "$program" --check > "$work/output" 2> "$work/error" || fails "man pages and completion"
+    count=$((count + 1))
     for page in "$top"/docs/man/*.1; do
         if command -v man > /dev/null; then
             LC_ALL=C.UTF-8 MANWIDTH=80 man --warnings -l "$page" > "$work/output" 2> "$work/error" || fails "man -l $page"
             [ -s "$work/output" ] && [ ! -s "$work/error" ] || fails "man -l $page has a warning"
+            count=$((count + 1))
         fi
         if command -v mandoc > /dev/null; then
             mandoc -T lint "$page" > "$work/error" 2>&1 || fails "mandoc $page"
+            count=$((count + 1))
         fi
-        count=$((count + 1))
     done
+    command -v man > /dev/null || command -v mandoc > /dev/null || echo "end to end: there is no man and no mandoc, so no man page is shown"
     if command -v zsh > /dev/null; then
         zsh -n "$top/docs/completion/_faxtool" 2> "$work/error" || fails "the completion for zsh"
     fi

@@ -101,9 +101,10 @@ def one_dimensional_row(bits, width):
     return row
 
 
-def one_dimensional(text, width):
-    """No EOL or one, rows with one EOL between two, and an end: none or one with only 0 bits after it, or two and more."""
-    bits, rows = Bits(text), []
+def one_dimensional(text, width, rows):
+    """No EOL or one, rows with one EOL between two, and an end: none or one with only 0 bits after it, or two and more. The rows go into
+    the list, also those before a refusal."""
+    bits = Bits(text)
     eol = EOL.match(text)
     if eol:
         bits.place = eol.end()
@@ -168,8 +169,9 @@ def two_dimensional_row(bits, reference, width):
     return turned(row, width)
 
 
-def two_dimensional(text, width):
-    bits, rows, reference = Bits(text), [], []
+def two_dimensional(text, width, rows):
+    """Rows, each by the one above it, and EOFB. They go into the list, also those before a refusal."""
+    bits, reference = Bits(text), []
     while not text.startswith(EOFB, bits.place):
         if not bits.has_left() or len(rows) == MOST_ROWS:
             raise Refused
@@ -180,12 +182,20 @@ def two_dimensional(text, width):
     return rows
 
 
+def read_rows(text, width, is_t6):
+    """The rows that bits begin with, and whether they are a page."""
+    rows = []
+    try:
+        two_dimensional(text, width, rows) if is_t6 else one_dimensional(text, width, rows)
+    except Refused:
+        return rows, False
+    return rows, True
+
+
 def read_page(text, width, is_t6):
     """The rows that bits begin with, or None."""
-    try:
-        return two_dimensional(text, width) if is_t6 else one_dimensional(text, width)
-    except Refused:
-        return None
+    rows, is_page = read_rows(text, width, is_t6)
+    return rows if is_page else None
 
 
 def digest(rows, width):
