@@ -185,6 +185,21 @@ try_joined() {
     done
 }
 
+# 200 calls of three pages over lines that lose, with a disk that holds answers for up to 12 s, and a fifth of the callers and answerers
+# killed: no page is confirmed and not stored, none is there twice or cut short.
+try_pool() {
+    rm -rf "$work/stored"
+    mkdir "$work/stored"
+    works decode --code mmr --width 1728 "$data/wide.mmr.msb" "$work/second.pbm"
+    works decode --code mmr --width 1728 "$top/docs/examples/a4.mmr" "$work/third.pbm"
+    cat "$top/docs/examples/row.pbm" "$work/second.pbm" "$work/third.pbm" > "$work/three.pbm"
+    timeout 300 python3 -B "$top/docs/examples/pool.py" --calls 200 --command "$program station" "$work/three.pbm" "$work/stored" \
+        > "$work/output" 2> "$work/error" || { cat "$work/error" >&2; fails "pool.py: $(cat "$work/output")"; }
+    grep -q '^200 calls: .* normal; ' "$work/output" || fails "pool.py: $(cat "$work/output")"
+    rm -r "$work/stored" "$work/second.pbm" "$work/third.pbm" "$work/three.pbm"
+    count=$((count + 200))
+}
+
 # The kept conversations, of which there are 26 at least; words that are no station's; and random conversations for a minute.
 try_stations() {
     held=0
@@ -225,6 +240,7 @@ CASES
     try_trace
     try_station_records
     try_joined
+    try_pool
     python3 -B "$top/bench/fuzz/reference_station.py" --dry > "$work/output" || fails "reference_station.py: $(cat "$work/output")"
     FAXTOOL=$program timeout 600 python3 -B "$top/bench/fuzz/fuzz_station.py" --times 300 --seed 36 > "$work/output" ||
         fails "random conversations: $(cat "$work/output")"

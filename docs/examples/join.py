@@ -1,10 +1,12 @@
 #!/usr/bin/env python3
 """Joins a caller and an answerer of `faxtool station` by a simulated line, and prints what goes over it.
 
-    join.py [--lose RATE] [--seed N] [--caller-command COMMAND] [--answerer-command COMMAND] IN.pbm DIR
+    join.py [--lose RATE] [--slow MS] [--seed N] [--caller-command COMMAND] [--answerer-command COMMAND] IN.pbm DIR
 
 RATE is the share of bursts that are lost, as 0.1. One station sends at a time. The clock is simulated: a burst lasts as long as its
-bits take, 75 ms of silence come after it, and a quiet line says so every 20 ms. So a call of a minute takes a second.
+bits take, 75 ms of silence come after it, and a quiet line says so every 20 ms. So a call of a minute takes a second. With --slow the
+answerer takes up to that many milliseconds to store a page. An answer is sent only if the other side hasn't begun to speak since the
+line that it answers.
 
 The exit status is 0 if both stations end normally. If one can't be started, or ends with a fault, a line on standard error says which
 one and why."""
@@ -15,15 +17,6 @@ import random
 import shlex
 import subprocess
 import sys
-
-parser = argparse.ArgumentParser(description=__doc__, formatter_class=argparse.RawDescriptionHelpFormatter)
-parser.add_argument("--lose", type=float, default=0.0)
-parser.add_argument("--seed", type=int, default=1)
-parser.add_argument("--caller-command", default="faxtool station --call", help="IN.pbm is put after it")
-parser.add_argument("--answerer-command", default="faxtool station --answer", help="--out DIR is put after it")
-parser.add_argument("document", metavar="IN.pbm")
-parser.add_argument("folder", metavar="DIR")
-asked = parser.parse_args()
 
 
 class Station:
@@ -49,7 +42,7 @@ class Station:
                 self.runs = False
                 return bursts
             while (answer := self.process.stdout.readline().strip()).startswith("tx "):
-                bursts.append((self, answer[3:]))
+                bursts.append(answer[3:])
             self.runs = answer == "wait"
         return bursts
 
@@ -63,30 +56,84 @@ class Station:
         return errors, self.process.returncode
 
 
-caller = Station("caller", shlex.split(asked.caller_command) + [asked.document])
-answerer = Station("answerer", shlex.split(asked.answerer_command) + ["--out", asked.folder])
-chance, clock, to_send = random.Random(asked.seed), 0, []
-while caller.runs or answerer.runs or to_send:
-    if not to_send:
-        clock += 20
-        to_send += caller.tell(f"quiet {clock}") + answerer.tell(f"quiet {clock}")
-        continue
-    sender, burst = to_send.pop(0)
-    receiver = answerer if sender is caller else caller
-    carrier, kind, bits, _octets = burst.split(" ")
-    is_lost = chance.random() < asked.lose
-    print(f"{clock:7} {sender.name:8} {carrier} {kind} {bits}{' lost' if is_lost else ''}")
-    heard = [] if is_lost else receiver.tell(f"busy {clock}")
-    clock += int(bits) * 1000 // (300 if carrier == "v21" else int(carrier.split("-")[1]))
-    heard += [] if is_lost else receiver.tell(f"rx {clock} {burst}")
-    to_send += heard
-    clock += 75
+class Side:
+    """A station at the line: the lines that wait for it, and the bursts of its last answer. Storing a page in the folder is slow."""
 
-ended = True
-for station in (caller, answerer):
-    errors, status = station.end()
-    print(f"{station.name}: {errors[-1] if errors else 'nothing said'}, status {status}", flush=True)
-    if not errors or not errors[-1].startswith("end "):
-        print(f"join.py: the {station.name} failed: {'; '.join(errors) or 'nothing said'}", file=sys.stderr)
-    ended = ended and status == 0
-sys.exit(0 if ended else 1)
+    def __init__(self, station, folder=None, slow=0):
+        self.station, self.folder, self.slow, self.lines, self.bursts = station, folder, slow, [], []
+        # when it takes the next line; the time of the line that it answers; when it last began to send
+        self.free = self.asked = self.began = 0
+
+    def stored(self):
+        return len(os.listdir(self.folder)) if self.slow and os.path.isdir(self.folder) else 0
+
+    def hear(self, clock, chance):
+        """Takes the lines that wait, once it is done with the one before."""
+        while self.lines and clock >= self.free:
+            before = self.stored()
+            self.asked, line = self.lines.pop(0)
+            self.bursts += self.station.tell(line)
+            self.free = clock + (chance.randrange(self.slow + 1) if self.stored() > before else 0)
+
+
+class Line:
+    """A half-duplex line between two sides, on a clock of its own. Of the bursts, the share `lose` doesn't arrive."""
+
+    def __init__(self, sides, lose=0.0, seed=1, step=20, shows=lambda text: None):
+        self.sides, self.lose, self.step, self.shows = sides, lose, step, shows
+        self.chance, self.clock = random.Random(seed), 0
+
+    def play(self):
+        """Plays a call to the end of both stations."""
+        while any(side.station.runs or side.bursts for side in self.sides):
+            for side, other in (self.sides, self.sides[::-1]):
+                side.hear(self.clock, self.chance)
+                # the other side has begun to speak since: what is answered now would answer another line
+                if other.began > side.asked:
+                    side.bursts.clear()
+            sender = next((side for side in self.sides if side.bursts and self.clock >= side.free), None)
+            if sender:
+                self.carry(sender, self.sides[sender is self.sides[0]])
+                continue
+            self.clock += self.step
+            for side in self.sides:
+                if self.clock >= side.free and not side.lines:
+                    side.lines.append((self.clock, f"quiet {self.clock}"))
+
+    def carry(self, sender, receiver):
+        """Carries a burst to the other side, or loses it."""
+        burst, sender.began = sender.bursts.pop(0), self.clock
+        carrier, kind, bits, _octets = burst.split(" ")
+        is_lost = self.chance.random() < self.lose
+        self.shows(f"{self.clock:7} {sender.station.name:8} {carrier} {kind} {bits}{' lost' if is_lost else ''}")
+        receiver.lines += [] if is_lost else [(self.clock, f"busy {self.clock}")]
+        self.clock += int(bits) * 1000 // (300 if carrier == "v21" else int(carrier.split("-")[1]))
+        receiver.lines += [] if is_lost else [(self.clock, f"rx {self.clock} {burst}")]
+        self.clock += 75
+
+
+def main():
+    parser = argparse.ArgumentParser(description=__doc__, formatter_class=argparse.RawDescriptionHelpFormatter)
+    parser.add_argument("--lose", type=float, default=0.0)
+    parser.add_argument("--slow", type=int, default=0)
+    parser.add_argument("--seed", type=int, default=1)
+    parser.add_argument("--caller-command", default="faxtool station --call", help="IN.pbm is put after it")
+    parser.add_argument("--answerer-command", default="faxtool station --answer", help="--out DIR is put after it")
+    parser.add_argument("document", metavar="IN.pbm")
+    parser.add_argument("folder", metavar="DIR")
+    asked = parser.parse_args()
+    caller = Station("caller", shlex.split(asked.caller_command) + [asked.document])
+    answerer = Station("answerer", shlex.split(asked.answerer_command) + ["--out", asked.folder])
+    Line([Side(caller), Side(answerer, asked.folder, asked.slow)], asked.lose, asked.seed, shows=print).play()
+    ended = True
+    for station in (caller, answerer):
+        errors, status = station.end()
+        print(f"{station.name}: {errors[-1] if errors else 'nothing said'}, status {status}", flush=True)
+        if not errors or not errors[-1].startswith("end "):
+            print(f"join.py: the {station.name} failed: {'; '.join(errors) or 'nothing said'}", file=sys.stderr)
+        ended = ended and status == 0
+    return 0 if ended else 1
+
+
+if __name__ == "__main__":
+    sys.exit(main())

@@ -1,0 +1,118 @@
+#!/usr/bin/env python3
+"""Plays many calls over lines that lose, with a disk that is slow and stations that are killed, and counts what is confirmed and not stored.
+
+    pool.py [--calls N] [--lines N] [--lose RATE] [--slow MS] [--kill SHARE] [--seed N] [--command COMMAND] IN.pbm DIR
+
+Each call has a folder of its own in DIR, `call-1` and on, and the lines run side by side. RATE, MS and the clock are those of join.py;
+SHARE of the calls, as 0.2, lose their caller or answerer by `kill -9` at a line that chance gives. COMMAND is `faxtool station` if it
+isn't said.
+
+Prints how the calls ended and what they left. The exit status is 0 if each page that a caller counts as confirmed is stored whole, once,
+in its place, and no file of a page is anything else."""
+
+import argparse
+import collections
+import os
+import random
+import shlex
+import sys
+from concurrent.futures import ThreadPoolExecutor
+
+from join import Line, Side, Station
+
+
+class Killed(Station):
+    """A station that is killed when it has taken some lines; never, if that is None."""
+
+    def __init__(self, name, command, lines):
+        super().__init__(name, command)
+        self.left = lines
+
+    def tell(self, line):
+        if self.left is not None and self.runs:
+            self.left -= 1
+            if self.left < 0:
+                self.process.kill()
+                self.process.wait()
+                self.runs = False
+        return super().tell(line)
+
+
+def pages_of(octets):
+    """The PBM images of a document, one after another, each alone."""
+    pages = []
+    while octets:
+        _magic, size, _rest = octets.split(b"\n", 2)
+        width, height = map(int, size.split())
+        length = len(b"P4\n" + size + b"\n") + (width + 7) // 8 * height
+        pages.append(octets[:length])
+        octets = octets[length:]
+    return pages
+
+
+class Call:
+    """A call of the pool, and what was left of it."""
+
+    def __init__(self, asked, number, pages):
+        chance = random.Random(f"{asked.seed} {number}")
+        self.folder, self.pages = os.path.join(asked.folder, f"call-{number}"), pages
+        os.mkdir(self.folder)
+        dies = chance.choice(["caller", "answerer"]) if chance.random() < asked.kill else None
+        command = shlex.split(asked.command)
+        words = {"caller": ["--call", asked.document], "answerer": ["--answer", "--out", self.folder]}
+        stations = [Killed(name, command + words[name], chance.randrange(1, 120) if dies == name else None) for name in words]
+        Line([Side(stations[0]), Side(stations[1], self.folder, asked.slow)], asked.lose, chance.random(), 200).play()
+        (self.said, _), _ = [station.end() for station in stations]
+        self.dies = dies
+        # `end NAME confirmed N`, of a caller that wasn't killed
+        found = [line.split(" ") for line in self.said if line.startswith("end ")]
+        self.end, self.confirmed = (found[-1][1], int(found[-1][3])) if found else ("killed" if dies == "caller" else "fault", 0)
+
+    def stored(self):
+        """The pages that are stored, in order."""
+        names = sorted((name for name in os.listdir(self.folder) if name.startswith("page-")), key=lambda name: int(name[5:-4]))
+        found = []
+        for name in names:
+            with open(os.path.join(self.folder, name), "rb") as file:
+                found.append(file.read())
+        return found
+
+    def wrong(self):
+        """What is wrong with what the call left; None if nothing is."""
+        stored = self.stored()
+        if self.end == "fault":
+            return "; ".join(self.said)
+        if stored != self.pages[: len(stored)]:
+            return "a stored page is cut short, is another one, or is there twice"
+        if self.confirmed > len(stored):
+            return f"{self.confirmed} pages are confirmed, and {len(stored)} stored"
+        return None
+
+
+def main():
+    parser = argparse.ArgumentParser(description=__doc__, formatter_class=argparse.RawDescriptionHelpFormatter)
+    parser.add_argument("--calls", type=int, default=100)
+    parser.add_argument("--lines", type=int, default=8)
+    parser.add_argument("--lose", type=float, default=0.05)
+    parser.add_argument("--slow", type=int, default=12000)
+    parser.add_argument("--kill", type=float, default=0.2)
+    parser.add_argument("--seed", type=int, default=1)
+    parser.add_argument("--command", default="faxtool station")
+    parser.add_argument("document", metavar="IN.pbm")
+    parser.add_argument("folder", metavar="DIR")
+    asked = parser.parse_args()
+    with open(asked.document, "rb") as file:
+        pages = pages_of(file.read())
+    with ThreadPoolExecutor(asked.lines) as pool:
+        calls = list(pool.map(lambda number: Call(asked, number, pages), range(1, asked.calls + 1)))
+    ends = collections.Counter(call.end for call in calls)
+    print(f"{len(calls)} calls: {', '.join(f'{ends[name]} {name}' for name in sorted(ends))}; {sum(bool(call.dies) for call in calls)} to be killed")
+    print(f"{sum(call.confirmed for call in calls)} pages confirmed, {sum(len(call.stored()) for call in calls)} stored")
+    wrong = [f"{call.folder}: {call.wrong()}" for call in calls if call.wrong()]
+    for words in wrong:
+        print(f"pool.py: {words}", file=sys.stderr)
+    return 1 if wrong else 0
+
+
+if __name__ == "__main__":
+    sys.exit(main())
