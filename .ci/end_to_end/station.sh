@@ -159,8 +159,13 @@ LINES
     is_same "$work/trace" "$work/wanted" "the trace of a caller"
     status=0
     "$program" station --call --trace "$work/missing/trace" "$kept.pbm" < "$kept.lines" > "$work/output" 2> "$work/error" || status=$?
-    [ "$status $(head -1 "$work/error")" = "1 fault 8" ] || fails "a trace that can't be written: status $status"
-    count=$((count + 2))
+    [ "$status $(head -1 "$work/error")" = "1 fault 8" ] || fails "a trace that can't be opened: status $status"
+    "$program" station --call --trace /dev/full "$kept.pbm" < "$kept.lines" > "$work/output" 2> "$work/error" ||
+        fails "a station with a trace on a full disk ended with status $?"
+    is_same "$work/output" "$kept.expected" "the answers with a trace on a full disk"
+    printf '%s\n' "the trace can't be written any more and ends here; the call goes on" "$(cat "$kept.error")" > "$work/wanted"
+    is_same "$work/error" "$work/wanted" "what is told of a trace on a full disk"
+    count=$((count + 3))
 }
 
 # Records of a trace, of how a call ended and of a fault say what the lines say.

@@ -189,7 +189,7 @@ impl Keeper<LimitedAnswerer> for Folder<'_> {
 struct Answers<'a> {
     rt: &'a HostRuntime,
     writer: BufWriter<Printed<'a>>,
-    trace: Trace,
+    trace: Trace<'a>,
 }
 
 /// Why the lines go no further; `line` is the last one that was read. Why they can't be read is noted.

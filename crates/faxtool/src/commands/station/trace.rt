@@ -1,9 +1,10 @@
 //! What a station heard and said, as text with its time.
 
 ghost use Rattle.faults.specs.Faults.{IsOutside};
-ghost use Rattle.std.specs.Prelude.{IfErr};
+ghost use Rattle.std.specs.Prelude.{◌≡◌, IfErr, None, OnOk};
 
 use crate::context::{Notes, Part};
+use crate::explain::notice;
 use captures::{ContentText, write_traced, write_traced_check};
 use conversations::{Follower, Heard, Kind, Said, TimedLine, heard_as};
 use faults::ToolFault;
@@ -14,9 +15,12 @@ use std::fs::{File, OpenOptions};
 use std::io::{BufWriter, Write};
 use terminals::SentBurst;
 
-/// The trace of a station, if one is asked for.
+/// The trace of a station, if one is asked for. One that can't be written any more says so once and ends, and the call goes on.
 #[derive(Drop)]
-pub(crate) struct Trace(Option<TraceFile>);
+pub(crate) struct Trace<'a> {
+    rt: &'a HostRuntime,
+    file: Option<TraceFile>,
+}
 
 /// The file of a trace, and what was heard and said so far of frames that are not whole.
 #[derive(Drop)]
@@ -28,42 +32,64 @@ struct TraceFile {
     said: Deframer,
 }
 
-impl Follower for Trace {
+impl Follower for Trace<'_> {
     type Failed = ToolFault;
 
     fn heard(&mut self, listens: Listening, line: &TimedLine) -> Result<(), ToolFault> {
-        self.write_heard(listens, line)
+        let written = self.write_heard(listens, line);
+        self.end_after(written);
+        Ok(())
     }
 
     fn said(&mut self, at: u64, burst: &SentBurst) -> Result<(), ToolFault> {
-        self.write_said(at, burst)
+        let written = self.write_said(at, burst);
+        self.end_after(written);
+        Ok(())
     }
 }
 
-impl Trace {
+impl<'a> Trace<'a> {
     /// The trace that goes to a file, after what is there; or none. Errors: `Io` (8) if the file can't be opened, and that is noted;
     /// `NoMemory` (9).
     pub(crate) fn open(
-        rt: &HostRuntime,
+        rt: &'a HostRuntime,
         name: Option<&str>,
         notes: &mut Notes,
-    ) -> Result<Trace, ToolFault>
+    ) -> Result<Trace<'a>, ToolFault>
         ensures { IfErr result IsOutside }
     {
         let Some(name) = name else {
-            return Ok(Trace(None));
+            return Ok(Trace { rt, file: None });
         };
         let opened = OpenOptions::new().append(true).create(true).open(rt, name);
         if let Err(error) = &opened {
             notes.blame(Part::Trace, error.kind());
         }
-        Ok(Trace(Some(TraceFile {
+        let file = TraceFile {
             alloc: rt.alloc(),
             records: notes.records,
             writer: BufWriter::new(rt.alloc(), opened?)?,
             heard: Deframer::new(rt.alloc()),
             said: Deframer::new(rt.alloc()),
-        })))
+        };
+        Ok(Trace {
+            rt,
+            file: Some(file),
+        })
+    }
+
+    /// Ends the trace if what was to be written of it wasn't, and says so.
+    fn end_after(&mut self, written: Result<(), ToolFault>)
+        ensures stays { OnOk written (self.new.file ≡ self.old.file) }
+        ensures ends { IfErr written (λ fault. self.new.file ≡ None) }
+    {
+        if written.is_ok() {
+            return;
+        }
+        let records = self.file.as_ref().is_some_and(|file| file.records);
+        self.file = None;
+        let words = "the trace can't be written any more and ends here; the call goes on";
+        let _told = notice(self.rt, records, words);
     }
 
     /// Writes what a line brings to a station that listens so. Errors: `Io` (8) from the file, `NoMemory` (9).
@@ -78,7 +104,7 @@ impl Trace {
                 octets,
                 ..
             },
-        ) = (&mut self.0, &line.said)
+        ) = (&mut self.file, &line.said)
         else {
             return Ok(());
         };
@@ -99,7 +125,7 @@ impl Trace {
     fn write_said(&mut self, at: u64, burst: &SentBurst) -> Result<(), ToolFault>
         ensures { IfErr result IsOutside }
     {
-        let Some(file) = &mut self.0 else {
+        let Some(file) = &mut self.file else {
             return Ok(());
         };
         match Kind::of(burst.carrier) {
