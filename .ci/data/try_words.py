@@ -1,5 +1,5 @@
 #!/usr/bin/env python3
-"""Tries `faxtool frames --explain` and `--order` on frames with random DIS, DCS, PPS and PPR:
+"""Tries `faxtool frames --explain` and `--order` on frames with random DIS, DCS, PPS and PPR, and on frames of other stations:
 
     try_words.py PROGRAM WORK
 
@@ -20,6 +20,24 @@ ENDS = {
     0x00: "the page goes on", 0x4F: "the page ends, and another one follows",
     0x8F: "the page ends, and another one follows after a new DIS", 0x2F: "the last page ends",
 }
+
+# Frames that are no signals of the stations, as T.30, 5.3.6.1, writes their control fields, the first bit first; X is that of the station.
+NAMES = {
+    "0000 0100": "NSF", "1000 0100": "NSC", "X100 0100": "NSS", "0000 0010": "CSI", "1000 0010": "CIG", "X100 0010": "TSI",
+    "1000 0001": "DTC", "1000 0101": "SEP", "X100 0101": "SID", "1000 0011": "PWD", "X100 0011": "SUB",
+    "X111 0001": "EOM", "X111 0010": "MPS", "X111 0100": "EOP",
+}
+WITH_SIGNS = {"CSI", "CIG", "TSI", "SEP", "SID", "PWD", "SUB"}
+
+# the controls of the stations' signals
+OWN = {0x80, 0x82, 0x83, 0x84, 0x85, 0x44, 0x45, 0x06, 0x86, 0xBE, 0xBF, 0xBC, 0xBD, 0x8C, 0x8D, 0xEC, 0xED, 0x6E, 0x6F, 0xFA, 0xFB}
+
+
+def octet_of(bits, x):
+    return int(bits.replace(" ", "").replace("X", x)[::-1], 2)
+
+
+OTHERS = {octet_of(bits, x): name for bits, name in NAMES.items() for x in "01"}
 
 
 def bit(fields, number):
@@ -81,7 +99,10 @@ def words_of(content):
         return f"page {fields[1]}, block {fields[2]}; frames 0 to {fields[3]}; {ENDS[fields[0]]}"
     if control in (0xBC, 0xBD):
         return ppr_words(fields)
-    return None
+    name = OTHERS.get(control)
+    # the last sign is sent first
+    signs = "".join(chr(octet) if chr(octet) in "0123456789+*# " else "?" for octet in reversed(fields)).lstrip(" ")
+    return f"{name}: {signs}" if name in WITH_SIGNS else name
 
 
 def check(content):
@@ -114,6 +135,8 @@ def random_content(draw):
         lambda: b"\xFF\x13\xBF" + bytes((draw.choice(list(ENDS)), draw.randrange(256), draw.randrange(256), draw.randrange(256))),
         lambda: b"\xFF\x13\xBC" + map_of,
         lambda: b"\xFF\x13\x8C",
+        lambda: b"\xFF\x13" + bytes((draw.choice(list(OTHERS)),)) + "+49 30 12 34*#".rjust(20).encode()[::-1],
+        lambda: b"\xFF\x13" + bytes((draw.choice(list(OTHERS)),)) + draw.randbytes(draw.choice((0, 1, 5, 20))),
     ))()
 
 
@@ -126,6 +149,7 @@ def main(program, work):
     draw = random.Random(30)
     contents = [random_content(draw) for _ in range(300)]
     contents += [b"\xFF\x13\xBC" + bytes(32), b"\xFF\x13\xBC" + b"\xFF" * 32, b"\xFF\x13\xBC" + bytes((8,)) + bytes((0, 14)) + bytes(28) + b"\x80"]
+    contents += [b"\xFF\x13" + bytes((octet,)) + b" 4321  " for octet in range(256) if octet not in OWN]
     bits = "".join(map(frame, contents))
     bits += "0" * (-len(bits) % 8)
     lsb, msb = f"{work}/words.lsb", f"{work}/words.msb"

@@ -3,7 +3,7 @@ use Rattle.std.proofs.Common.{◌≡◌, ◌+◌, ℕ, Bool, List, Option, add-o
 use Rattle.std.specs.Prelude.{◌||◌}
 use Rattle.std.specs.Io.KnownBytes.{Appends}
 use Rattle.std.proofs.KnownBytes.{Appends-trans, Appends-nil}
-use Rattle.captures.specs.SignalWords.{some_below, texts_below}
+use Rattle.captures.specs.Below.{some_below, texts_below}
 
 pub none_below : (holds : ℕ → Bool) → false ≡ some_below holds 0
 unfolding some_below

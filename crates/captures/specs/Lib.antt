@@ -1,5 +1,7 @@
 -- The definitions of `captures`.
 pub mod Texts
+pub mod Below
+pub mod OtherWords
 pub mod SignalWords
 pub mod Records
 pub mod TraceRecords

@@ -1,8 +1,10 @@
--- What DIS, DCS, PPS and PPR say, in words, as the command that lists frames shows them where it explains.
-use Rattle.std.specs.Prelude.{ℕ, suc, zero, ◌+◌, ◌-◌, ◌*◌, ◌++◌, ◌∷◌, ◌&&◌, ◌||◌, [], Bool, true, false, not, List, Result, Ok, Err, codes}
+-- What signals say, in words, as the command that lists frames shows them where it explains.
+use Rattle.std.specs.Prelude.{ℕ, ◌+◌, ◌-◌, ◌*◌, ◌++◌, ◌∷◌, ◌&&◌, ◌||◌, [], Bool, true, false, not, List, Result, Ok, Err, codes}
 use Rattle.std.specs.Prelude.{cond}
 use Rattle.std.specs.Prelude.{drop, length, nat_eq, nat_lt}
 use Rattle.std.specs.Fmt.{decimal}
+use Rattle.captures.specs.Below.{some_below, texts_below}
+use Rattle.captures.specs.OtherWords.{other_words}
 use Rattle.page_code.specs.declared.Coding.{Coding}
 use Rattle.page_code.specs.declared.Coding.TheVariants.{OneDim, T6}
 use Rattle.raster.specs.Packed.{bit_in}
@@ -20,18 +22,6 @@ use Rattle.signals.specs.declared.params.Speed.TheVariants.{V17At12000, V17At144
 use Rattle.signals.specs.declared.signal.PageEnd.{PageEnd}
 use Rattle.signals.specs.declared.signal.PageEnd.TheVariants.{Null, Mps, Eom, Eop}
 use Rattle.signals.specs.declared.fault.SignalFault.{SignalFault}
-
--- ---- lists of numbers
-
--- the texts of the numbers below a count, one after the other
-unfoldable pub texts_below : (ℕ → List ℕ) → ℕ → List ℕ
-texts_below text zero = []
-texts_below text (suc n) = texts_below text n ++ text n
-
--- something holds for a number below a count
-unfoldable pub some_below : (ℕ → Bool) → ℕ → Bool
-some_below holds zero = false
-some_below holds (suc n) = holds n || some_below holds n
 
 -- ---- DIS and DCS
 
@@ -166,7 +156,7 @@ words_of fields mcf = []
 words_of fields rnr = []
 words_of fields rr = []
 words_of fields dcn = []
-words_of fields (other octet) = []
+words_of fields (other octet) = other_words octet fields
 
 -- the line of words of a signal that was read; none of a content that is refused
 abbrev pub words_read : List ℕ → Result PlainSignal SignalFault → List ℕ
@@ -174,7 +164,7 @@ words_read fields (Ok signal) = words_of fields signal
 words_read fields (Err fault) = []
 
 -- The line of words of a content: what a DIS, DCS, PPS or PPR says, by the bit numbers of T.30, table 2. A DIS or DCS also lists the
--- numbers of its other bits that are 1; a PPR has its frames as ranges. Other signals have none. The information field follows the address,
--- the control and the facsimile control field.
+-- numbers of its other bits that are 1; a PPR has its frames as ranges; a frame that is no signal of these stations has its name. Other
+-- signals have none. The information field follows the address, the control and the facsimile control field.
 abbrev pub content_words : List ℕ → List ℕ
 content_words content = words_read (drop 3 content) (read_content content)

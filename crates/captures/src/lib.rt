@@ -9,6 +9,7 @@ mod fronts;
 pub mod laws;
 mod missing;
 mod numbers;
+mod other_words;
 mod records;
 mod signal_words;
 mod texts;

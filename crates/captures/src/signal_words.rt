@@ -4,12 +4,14 @@ ghost use Rattle.faults.specs.Faults.{IsOutside};
 ghost use Rattle.captures.specs.SignalWords.{code_words, coding_words, content_words, correction_words, dcs_words, dis_words, frame_after};
 ghost use Rattle.captures.specs.SignalWords.{frame_text, is_in_map, is_other, is_read_of_dcs, is_read_of_dis, lines_words, modems_words};
 ghost use Rattle.captures.specs.SignalWords.{other_after, others_text, page_end_words, ppr_words, pps_words, receiver_words, speed_words};
-ghost use Rattle.captures.specs.SignalWords.{texts_below, words_of};
+ghost use Rattle.captures.specs.Below.{texts_below};
+ghost use Rattle.captures.specs.SignalWords.{words_of};
 ghost use Rattle.signals.specs.Signals.{plain};
 ghost use Rattle.std.specs.Io.KnownBytes.{Appends};
 ghost use Rattle.std.specs.Fmt.{decimal};
 ghost use Rattle.std.specs.Prelude.{◌≡◌, ◌<◌, ◌+◌, ◌*◌, ◌++◌, ◌∷◌, ◌||◌, [], IfErr, IfOk, OnOk, codes, cond, drop, length};
 
+use crate::other_words::write_named;
 use faults::ToolFault;
 use page_code::Coding;
 use raster::packed::{Order, bit_of};
@@ -318,8 +320,8 @@ fn fields_of(content: &[u8]) -> &[u8]
     content.get(3..).unwrap_or(&[])
 }
 
-/// Writes the line of words of a DIS, DCS, PPS or PPR, and nothing for other signals. A DIS or DCS lists the bits of this information field
-/// that are 1 and not read, by their numbers (T.30, table 2). Errors: `Io` (8) from the writer, `NoMemory` (9).
+/// Writes the line of words of a DIS, DCS, PPS or PPR, or of a frame that is none of the stations' signals and has a name; nothing for
+/// others. A DIS or DCS lists the bits of this information field that are 1 and not read, by their numbers (T.30, table 2). Errors: `Io` (8) from the writer, `NoMemory` (9).
 pub fn write_signal<W: Write>(
     signal: &Signal<'_>,
     fields: &[u8],
@@ -344,11 +346,13 @@ pub fn write_signal<W: Write>(
             last,
         } => write_pps(*ends, *page, *block, *last, writer),
         Signal::Ppr(map) => write_ppr(map, writer),
-        _ => Ok(()),
+        Signal::Other(octet) => write_named(*octet, fields, writer),
+        Signal::Cfr | Signal::Ftt | Signal::Fcd { .. } | Signal::Rcp => Ok(()),
+        Signal::Mcf | Signal::Rnr | Signal::Rr | Signal::Dcn => Ok(()),
     }
 }
 
-/// Writes the line of words of a content that is a DIS, DCS, PPS or PPR, and nothing for others.
+/// Writes the line of words of a content, as `write_signal` does of its signal.
 pub(crate) fn write_words<W: Write>(content: &[u8], writer: &mut W) -> Result<(), ToolFault>
     ensures text { OnOk result (Appends (W.contents writer.old) (W.contents writer.new) (content_words content.now)) }
     ensures fault { IfErr result IsOutside }

@@ -1,7 +1,8 @@
 -- What holds in the loop of `write_map`.
 use Rattle.std.proofs.Common.{◌≡◌}
 use Rattle.std.specs.Io.KnownBytes.{Appends}
-use Rattle.captures.specs.SignalWords.{frame_text, is_in_map, some_below, texts_below}
+use Rattle.captures.specs.Below.{some_below, texts_below}
+use Rattle.captures.specs.SignalWords.{frame_text, is_in_map}
 use Rattle.captures.proofs.signal_words.write_map.Given as goal
 
 abbrev pub invariant-loop-number : goal.invariant-loop-number

@@ -1,0 +1,62 @@
+-- What frames that are no signals of these stations say, in words: their names, and the digits of those that have some.
+use Rattle.std.specs.Prelude.{ℕ, ◌+◌, ◌-◌, ◌++◌, ◌∷◌, ◌&&◌, ◌||◌, [], Bool, not, List, codes, cond, get_or, length, nat_eq, nat_lt}
+use Rattle.captures.specs.Below.{some_below, texts_below}
+use Rattle.faults.specs.Explanations.{words_in}
+
+-- the names by the facsimile control field as an octet, the first bit that is sent the least significant (T.30, 5.3.6.1; the first bit of
+-- NSS, TSI, SID and SUB is that of the station): phase B, and a page's end without error correction
+abbrev pub other_names : List (ℕ × List ℕ)
+other_names = (32, codes "NSF") ∷ (33, codes "NSC") ∷ (34, codes "NSS") ∷ (35, codes "NSS") ∷ (64, codes "CSI") ∷ (65, codes "CIG")
+    ∷ (66, codes "TSI") ∷ (67, codes "TSI") ∷ (129, codes "DTC") ∷ (161, codes "SEP") ∷ (162, codes "SID") ∷ (163, codes "SID")
+    ∷ (193, codes "PWD") ∷ (194, codes "SUB") ∷ (195, codes "SUB") ∷ (142, codes "EOM") ∷ (143, codes "EOM") ∷ (78, codes "MPS")
+    ∷ (79, codes "MPS") ∷ (46, codes "EOP") ∷ (47, codes "EOP") ∷ []
+
+-- the name of a frame; none of one that has no name here
+abbrev pub other_name : ℕ → List ℕ
+other_name octet = words_in other_names [] octet
+
+-- the information field is a number or a name by the signs of a telephone: CSI, CIG, TSI, SEP, SID, PWD and SUB
+abbrev pub has_signs : ℕ → Bool
+has_signs octet = nat_eq octet 64 || (nat_eq octet 65 || (nat_eq octet 66 || (nat_eq octet 67 || (nat_eq octet 161 || (nat_eq octet 162
+    || (nat_eq octet 163 || (nat_eq octet 193 || (nat_eq octet 194 || nat_eq octet 195))))))))
+
+-- a sign of a telephone: space, #, * and + and the digits (T.30, table 3)
+abbrev pub is_sign : ℕ → Bool
+is_sign octet = nat_eq octet 32 || (nat_eq octet 35 || (nat_eq octet 42 || (nat_eq octet 43 || (nat_lt 47 octet && nat_lt octet 58))))
+
+-- a sign as it is, and ? for any other octet
+abbrev pub sign_text : ℕ → List ℕ
+sign_text octet = cond (is_sign octet) (octet ∷ []) (codes "?")
+
+-- the octet of a place, from the left: the last sign is sent first
+abbrev pub sign_at : List ℕ → ℕ → ℕ
+sign_at fields at = get_or fields (length fields - (at + 1)) 32
+
+-- no space is there
+abbrev pub is_shown : List ℕ → ℕ → Bool
+is_shown fields at = not (nat_eq (sign_at fields at) 32)
+
+-- the sign of a place, where it is no space or one has come before
+abbrev pub sign_after : Bool → List ℕ → ℕ → List ℕ
+sign_after begun fields at = cond (is_shown fields at || begun) (sign_text (sign_at fields at)) []
+
+-- the sign of a place, by the places before it
+abbrev pub sign_here : List ℕ → ℕ → List ℕ
+sign_here fields at = sign_after (some_below (is_shown fields) at) fields at
+
+-- the signs from the left, without the spaces before the first one
+abbrev pub signs_text : List ℕ → List ℕ
+signs_text fields = texts_below (sign_here fields) (length fields)
+
+-- what follows the name
+abbrev pub signs_words : ℕ → List ℕ → List ℕ
+signs_words octet fields = cond (has_signs octet) (codes ": " ++ signs_text fields) []
+
+-- the line of a frame with this name, and none without
+abbrev pub name_line : List ℕ → ℕ → List ℕ → List ℕ
+name_line name octet fields =
+    cond (nat_eq (length name) 0) [] (codes "    " ++ (name ++ (signs_words octet fields ++ 10 ∷ [])))
+
+-- the line of words of a frame that is no signal of these stations, by its control field and its information field
+abbrev pub other_words : ℕ → List ℕ → List ℕ
+other_words octet fields = name_line (other_name octet) octet fields
