@@ -65,6 +65,7 @@ int call_heed(call *it)
     it->stop = level;
     if (it->terminal == NULL || terminal_is_over(it->terminal)) return level;
     if (level == STOP_IN_ORDER) g3_terminal_stop(&it->station);
+    if (level == STOP_SOON) terminal_hurry(it->terminal);
     if (level == STOP_AT_ONCE) terminal_lose(it->terminal);
     return level;
 }

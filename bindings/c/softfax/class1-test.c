@@ -3,6 +3,7 @@
  * words. Status 1: a call fails, a page is stored that isn't the document's, a confirmed one is missing, or an end doesn't hang up. --tell:
  * what happens in each call, on standard error. */
 #include "behind.h"
+#include "stopped.h"
 #include <stdio.h>
 #include <string.h>
 
@@ -12,6 +13,7 @@ static const line_kind LINES[] = {
     {.name = "clean"},
     {.name = "DCS is cut", .cut = 1, .lasts = 4000},
     {.name = "the training of the check is cut", .cut = 2, .lasts = 600},
+    {.name = "all of the check is cut", .cut = 2, .lasts = 9000},
     {.name = "the check is cut", .cut = 2, .from = 1500, .lasts = 300},
     {.name = "the training of the page is cut", .cut = 3, .lasts = 150},
     {.name = "the page is cut", .cut = 3, .from = 400, .lasts = 100},
@@ -59,6 +61,12 @@ static int try_line(const line_kind *line, int ways, const paper *papers, const 
     return well == count;
 }
 
+static int begin_behind(party *out, const trial *kind, int calls)
+{
+    static const behind_way WAY = {&soft_of_bits, {0}};
+    return trial_behind(out, kind, calls, &WAY);
+}
+
 /* Modems that fail, and how the caller has to name that. */
 static int try_faults(const paper *papers, const char *tells)
 {
@@ -88,7 +96,7 @@ int main(int argc, char **argv)
         if (!paper_new(&papers[i], WIDTHS[i], ROWS, i + 1)) return fprintf(stderr, "class1-test: no memory\n"), 1;
     }
     for (uint32_t i = 0; i < LINES_COUNT; i++) is_right &= try_line(&LINES[i], i == 0 ? WAYS_COUNT : 1, papers, tells);
-    is_right &= try_faults(papers, tells);
+    is_right &= stopped_try(begin_behind, tells) & try_faults(papers, tells);
     for (uint32_t i = 0; i < MOST_PAGES; i++) paper_free(&papers[i]);
     return !is_right;
 }

@@ -709,6 +709,7 @@ static void class1_begin_carrier(modem *it, uint32_t carrier, int brief, const u
     it->brief = brief;
     it->octets = octets;
     it->count = (bits + 7) / 8;
+    it->at = 0;
     if (carrier == G3_V21) take_contents(it, octets, it->count);
     advance(it);
 }
@@ -717,6 +718,11 @@ static int class1_say(modem *it, int16_t *out)
 {
     (void)out;
     return it->says && it->stage == CLASS1_IS_ON;
+}
+
+static void class1_cut(modem *it)
+{
+    if (it->at < it->count) it->count = it->at; /* frames by V.21 are short, and go on */
 }
 
 static void class1_listen(modem *it, uint32_t carrier, int brief)
@@ -768,8 +774,8 @@ static void class1_forget(modem *it)
     it->page_next = 1;
 }
 
-const modem_kind modem_of_class1 = {class1_free, class1_begin_tone, class1_begin_carrier, class1_say, class1_listen, class1_hear,
-    class1_is_noisy, class1_hush, class1_forget, 1, 1};
+const modem_kind modem_of_class1 = {class1_free, class1_begin_tone, class1_begin_carrier, class1_say, class1_cut, class1_listen,
+    class1_hear, class1_is_noisy, class1_hush, class1_forget, 1, 1};
 
 modem *class1_new(const port *port, const class1_setup *setup)
 {

@@ -16,7 +16,8 @@
 
 enum { PIECE = 4 * SLICE };
 enum { AFTER_LINE = 25 };        /* pieces of silence that are heard after the other side's end, 0.5 s: what it said last may be DCN */
-enum { STALLS_AFTER_STOP = 30 }; /* how often a stream may stall, SOUND_PATIENCE each, in a call that is to end */
+/* how often a stream may stall, SOUND_PATIENCE each, in a call that is to end, by how */
+static const int MOST_STALLS[] = {[STOP_IN_ORDER] = 30, [STOP_SOON] = 5, [STOP_AT_ONCE] = 0};
 
 typedef struct streams {
     sound in, out;
@@ -41,11 +42,18 @@ static int open_streams(call *it, streams *to)
     return given->calls || open_out(it, to);
 }
 
+/* Whether a stream that has stalled so often is given up. */
+static int gives_up(call *it, int stalls)
+{
+    int level = stalls > 0 ? call_heed(it) : STOP_NOT;
+    return level != STOP_NOT && stalls > MOST_STALLS[level];
+}
+
 static int writes(call *it, streams *to, const int16_t *said)
 {
     int is = SOUND_STALLS;
     for (int stalls = 0; is == SOUND_STALLS; stalls++) {
-        if (stalls > 0 && (call_heed(it) == STOP_AT_ONCE || (it->stop != STOP_NOT && stalls > STALLS_AFTER_STOP))) return SOUND_ENDS;
+        if (gives_up(it, stalls)) return SOUND_ENDS;
         is = sound_write(&to->out, said, PIECE);
     }
     return is;
@@ -55,7 +63,7 @@ static int reads(call *it, streams *from, int16_t *heard)
 {
     int is = SOUND_STALLS;
     for (int stalls = 0; is == SOUND_STALLS; stalls++) {
-        if (stalls > 0 && (call_heed(it) == STOP_AT_ONCE || (it->stop != STOP_NOT && stalls > STALLS_AFTER_STOP))) return SOUND_ENDS;
+        if (gives_up(it, stalls)) return SOUND_ENDS;
         is = sound_read(&from->in, heard, PIECE);
     }
     return is;

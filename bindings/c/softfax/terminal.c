@@ -56,6 +56,7 @@ struct terminal {
     const char *why;                /* why the terminal has ended the call; NULL: it hasn't */
     const char *identity;           /* how this station is named in what it sends; NULL: it isn't */
     char peer[IDENTITY_MOST + 1];   /* how the other one has named itself */
+    int hurries;                    /* the call is to end soon, whatever is on the line */
     int trains_anew;                /* the next page carrier comes with the long training, as CTC has it */
 };
 
@@ -454,7 +455,8 @@ static int has_ended(const terminal *it)
  * said: the last turn may be DCN. */
 static void speak(terminal *it)
 {
-    if (it->quiet == NEVER || it->now - it->quiet < BEFORE_CARRIER || it->now < it->not_before || !hand_over(it)) return;
+    int is_silent = it->quiet != NEVER && it->now - it->quiet >= BEFORE_CARRIER && it->now >= it->not_before;
+    if ((!is_silent && !it->hurries) || !hand_over(it)) return;
     if (it->ctr) {
         say_ctr(it);
         return;
@@ -530,6 +532,14 @@ void terminal_step(terminal *it, const int16_t *in, int16_t *out)
         if (is_time) it->phase = IS_OVER;
         break;
     }
+}
+
+void terminal_hurry(terminal *it)
+{
+    it->hurries = 1;
+    it->ctr = 0;
+    is_done(it, g3_terminal_stop(it->station));
+    if (it->phase == IN_CARRIER && it->said != G3_DCN) it->kind->cut(it->modem);
 }
 
 void terminal_lose(terminal *it)

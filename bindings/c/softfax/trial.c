@@ -11,6 +11,7 @@ typedef struct ours {
     g3_terminal station;
     modem *modem; /* that is freed with it; NULL if it is the program's */
     terminal *terminal;
+    int64_t now;
     outcome counted; /* the pages that were kept */
 } ours;
 
@@ -66,6 +67,10 @@ static g3_status new_station(const trial *kind, int calls, g3_terminal *out)
 static void ours_step(void *user, const int16_t *in, int16_t *out)
 {
     ours *it = user;
+    int stops = it->calls ? it->kind->stops : it->kind->answerer_stops;
+    it->now += SLICE_MILLIS;
+    if (stops == 1 && it->now == it->kind->stops_at) (void)g3_terminal_stop(&it->station);
+    if (stops == 2 && it->now == it->kind->stops_at) terminal_hurry(it->terminal);
     terminal_step(it->terminal, in, out);
 }
 
