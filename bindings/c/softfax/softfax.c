@@ -11,6 +11,7 @@
 #include "call.h"
 #include "sound.h"
 #include "stop.h"
+#include "told.h"
 #include "tty.h"
 #include <string.h>
 
@@ -98,10 +99,11 @@ static int run_sound(call *it)
 {
     streams over = {.in = {.stream = -1}, .out = {.stream = -1}};
     modem *modem = modem_new();
-    if (modem == NULL) fprintf(stderr, "softfax: %s\n", g3_status_text(G3_NO_MEMORY));
+    if (modem == NULL) told_fault("a modem", g3_status_text(G3_NO_MEMORY));
     int is_well = modem != NULL && call_begin(it, G3_V17, &modem_of_sound, modem) && open_streams(it, &over) && run(it, &over);
     if (over.wav != NULL) is_well &= wav_close(over.wav, it->given->wav);
     if (it->terminal != NULL && !call_is_over(it)) terminal_lose(it->terminal);
+    is_well &= sound_close(&over.in) & sound_close(&over.out);
     modem_of_sound.free(modem);
     return is_well;
 }

@@ -33,6 +33,6 @@ void terminal_identify(terminal *it, const char *text);
 const char *terminal_peer_name(const terminal *it);
 /* Why the terminal itself has ended the call; NULL if it hasn't. */
 const char *terminal_why(const terminal *it);
-/* Tells on standard error what happens, each line with the time in milliseconds and this name. */
-void terminal_tell(terminal *it, const char *name);
+/* Tells what happens to `line`, each with the time in milliseconds and this name. */
+void terminal_tell(terminal *it, const char *name, void (*line)(const char *text));
 #endif
