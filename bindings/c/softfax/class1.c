@@ -27,10 +27,11 @@ enum {
     NEXT_FRAME = 1200,   /* from a frame to CONNECT of the next one */
     LATEST_PAGE = 3300,  /* until a page's carrier; the caller's T4 is over by then, and it speaks by V.21 */
     LATEST_LONG = 4700,  /* the same with the long training */
+    LONGEST_UNSURE = 8000, /* +FRH of a modem that has had no result for the last command: is it still there? */
     AFTER_ERROR = 100,
     AFTER_CAN = 3000,    /* in this time a NO CARRIER is its result, late, and the call goes on */
     NEXT_RING = 10000,   /* a ring that comes later is another call's */
-    BETWEEN_ASKS = 60000, /* while nobody calls: whether the modem is still there */
+    BETWEEN_ASKS = 30000, /* while nobody calls: whether the modem is still there */
     LET_SPEAK = 200      /* after a signal that is answered the terminal speaks in 75 ms: +FRH isn't begun, or it would be broken off */
 };
 enum { MOST_ERRORS = 5 };     /* of +FRH, one after the other: the modem is on hook */
@@ -615,6 +616,7 @@ static void end_op(modem *it)
     switch (it->op) {
     case FRH:
         if (it->more && it->in_signal && lasts > NEXT_FRAME) end_signal(it, 1); /* +FRH goes on */
+        if (it->unanswered > 0 && lasts > LONGEST_UNSURE) abort_op(it);
         return;
     case FRM:
         if (lasts <= (it->is_brief ? LATEST_PAGE : LATEST_LONG)) return;
