@@ -128,7 +128,7 @@ mkfifo "$work/still" "$work/unread"
 stops() { # stops SECONDS TEXT WORDS: it ends so after SIGTERM, which comes after a second if SECONDS is 1
     signalled=$1 text=$2
     shift 2
-    timeout 20 "$softfax" "$@" > /dev/null 2> "$work/said" < /dev/null &
+    timeout --foreground 20 "$softfax" "$@" > /dev/null 2> "$work/said" < /dev/null &
     if [ "$signalled" = 1 ]; then sleep 1; kill -TERM $!; fi
     status=0
     wait $! || status=$?
@@ -176,14 +176,15 @@ while [ ! -e "$work/tty1" ]; do sleep 0.1; done
 
 # ttys CALLER_STATUS ANSWERER_STATUS PAGE SIGNALS: a call; its caller gets so many SIGINTs once its page goes out
 ttys() {
+    rm -f "$work/caller.at" # of the call before
     timeout 120 "$softfax" --tty "$work/tty1" --answer "$work/got" --trace-at "$work/answerer.at" 2> "$work/answerer" &
     answerer=$! status=0
-    timeout 120 "$softfax" --tty "$work/tty0" --call 5551234 "$3" --trace-at "$work/caller.at" 2> "$work/caller" &
+    timeout --foreground 120 "$softfax" --tty "$work/tty0" --call 5551234 "$3" --trace-at "$work/caller.at" 2> "$work/caller" &
     caller=$!
     for number in $(seq "$4"); do
         until grep -q "AT+FTM=146" "$work/caller.at" 2> /dev/null || ! kill -0 "$caller" 2> /dev/null; do sleep 0.1; done
         sleep 0.5
-        kill -INT "$caller" || fails "the caller had ended before signal $number"
+        kill -INT "$caller" 2> /dev/null || fails "the caller had ended before signal $number"
     done
     wait "$caller" || status=$?
     [ "$status" = "$1" ] || { cat "$work/caller" "$work/caller.at" >&2; fails "the caller on a tty ended with status $status"; }
@@ -202,7 +203,8 @@ cmp "$work/short.pbm" "$work/got/page-5.pbm" || fails "the page over two ttys is
 grep -q "> AT+FCLASS=1" "$work/caller.at" || fails "the trace is $(cat "$work/caller.at")"
 [ ! -e "$lock" ] || fails "$lock is left"
 # two signals amid a block of half a minute: it is cut, and DCN goes out
-ttys 1 1 "$work/2.pbm" 2
+{ printf 'P4\n1728 200\n'; seq 200000 | gzip -n | head -c 43200; } > "$work/dense.pbm"
+ttys 1 1 "$work/dense.pbm" 2
 grep -q "end stopped confirmed 0" "$work/caller" || fails "after two signals the caller said: $(cat "$work/caller")"
 grep -q "end peer-left pages 0" "$work/answerer" || fails "after two signals to the caller the answerer said: $(cat "$work/answerer")"
 kill "$exchange"
