@@ -42,7 +42,7 @@ builds() {
 }
 
 objects=
-compiles behind t31 class1 trial line paper terminal identity bits
+compiles behind t31 class1 class1_words stopped trial line paper terminal identity bits
 shared=$objects
 builds bits-test
 timeout 600 "$work/bits-test" > "$work/output" || fails bits-test

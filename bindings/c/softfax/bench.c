@@ -1,11 +1,12 @@
 /* Calls over Class 1 modems of libspandsp, joined by a line of sound.
  *
- *     bench FOLDER                             the calls of the gate
- *     bench FOLDER --table SEEDS [PAIR [LINE]] [WAYS..]  a table: each pair, or one, on each line, or on one
- *     bench --ptys LINK LINK                   two ptys, in real time, with a link to each: whatever dials on one rings at the other
+ *     bench FOLDER                                        the calls of the gate
+ *     bench FOLDER --table SEEDS [PAIR [LINE]] [WAYS..]   a table: each pair, or one or "all", on each line, or on one
+ *     bench --ptys LINK LINK                              two ptys, in real time, with a link to each: what dials on one rings at the other
  *
- * PAIR is the caller and the answerer, as it:ours, where "it" is libspandsp's own terminal and ours is behind a modem. WAYS are xoff,
- * echoes, silent, fixed, late=MILLIS. FOLDER is for files of libspandsp's terminal. Status 1: a page is stored that isn't the document's, or a
+ * PAIR is the caller and the answerer, as it:ours, where "it" is libspandsp's own terminal and ours is behind a modem. A cell of the table
+ * has twelve kinds of calls with each seed: three modems, two codes, and 1 to 3 pages, of which the second is wider. WAYS are xoff, echoes,
+ * silent, fixed, late=MILLIS. FOLDER is for files of libspandsp's terminal. Status 1: a page is stored that isn't the document's, or a
  * confirmed one is missing; in the calls of the gate, also if any fails. */
 #include "behind.h"
 #include "theirs.h"
@@ -24,20 +25,20 @@ enum { ROWS = 288 };
 
 static const line_kind LINES[] = {
     {.name = "clean"},
-    {.name = "-44", .noise = -44},
-    {.name = "-36", .noise = -36},
-    {.name = "-30", .noise = -30},
-    {.name = "-54-always", .noise = -54, .always = 1},
-    {.name = "cut-DCS", .cut = 1, .lasts = 9000},
-    {.name = "cut-training", .cut = 2, .lasts = 900},
-    {.name = "cut-all-check", .cut = 2, .lasts = 9000},
-    {.name = "cut-check", .cut = 2, .from = 1700, .lasts = 300},
-    {.name = "cut-page-training", .cut = 3, .lasts = 300},
-    {.name = "cut-page", .cut = 3, .from = 700, .lasts = 100},
-    {.name = "cut-all-page", .cut = 3, .lasts = 90000},
-    {.name = "cut-PPS", .cut = 4, .lasts = 9000},
-    {.name = "hits-8s", .noise = -44, .every = 8000},
-    {.name = "hits-4s", .noise = -44, .every = 4000},
+    {.name = "noise of -44 dBm0", .noise = -44},
+    {.name = "noise of -36 dBm0", .noise = -36},
+    {.name = "noise of -30 dBm0", .noise = -30},
+    {.name = "-54 dBm0 all the time", .noise = -54, .always = 1},
+    {.name = "DCS cut", .cut = 1, .lasts = 9000},
+    {.name = "training of the check cut", .cut = 2, .lasts = 900},
+    {.name = "all of the check cut", .cut = 2, .lasts = 9000},
+    {.name = "300 ms of the check cut", .cut = 2, .from = 1700, .lasts = 300},
+    {.name = "training of the page cut", .cut = 3, .lasts = 300},
+    {.name = "100 ms of the page cut", .cut = 3, .from = 700, .lasts = 100},
+    {.name = "all of the page cut", .cut = 3, .lasts = 90000},
+    {.name = "PPS cut", .cut = 4, .lasts = 9000},
+    {.name = "hits each 8 s, -44 dBm0", .noise = -44, .every = 8000},
+    {.name = "hits each 4 s, -44 dBm0", .noise = -44, .every = 4000},
 };
 enum { LINES_COUNT = sizeof LINES / sizeof LINES[0] };
 
@@ -77,7 +78,7 @@ static int try_cell(bench *it, const pair *who, const line_kind *line, uint32_t 
 {
     it->calls = it->well = it->broken = 0;
     for (uint32_t i = 0; i < 12 * seeds; i++) {
-        trial kind = {.line = *line, .modems = 1 + i % 3, .coding = i / 3 % 2 ? G3_MMR : G3_MH, .pages = i / 6 % 2 ? 3 : 1, .limit = 2,
+        trial kind = {.line = *line, .modems = 1 + i % 3, .coding = i / 3 % 2 ? G3_MMR : G3_MH, .pages = 1 + i / 6 % 3, .limit = 2,
             .seed = i, .papers = it->papers, .ctc = 1, .ced_joins_dis = who->answerer_is_ours, .identity = "+49 30 1234"};
         if (!try_call(it, who, &kind)) return 0;
     }
@@ -89,12 +90,21 @@ static int is_wanted(const char *name, const char *wanted)
     return wanted == NULL || strcmp(name, wanted) == 0 || strcmp(wanted, "all") == 0;
 }
 
+static void print_head(const char *who)
+{
+    printf("| line |");
+    for (int i = 0; i < PAIRS_COUNT; i++) {
+        if (is_wanted(PAIRS[i].name, who)) printf(" %s |", PAIRS[i].name);
+    }
+    printf("\n|---|");
+    for (int i = 0; i < PAIRS_COUNT; i++) printf("%s", is_wanted(PAIRS[i].name, who) ? "---|" : "");
+    printf("\n");
+}
+
 static int try_table(bench *it, uint32_t seeds, const char *who, const char *line)
 {
     uint32_t broken = 0;
-    printf("| line |");
-    for (int i = 0; i < PAIRS_COUNT; i++) printf(is_wanted(PAIRS[i].name, who) ? " %s |" : "", PAIRS[i].name);
-    printf("\n");
+    print_head(who);
     for (int i = 0; i < LINES_COUNT; i++) {
         if (!is_wanted(LINES[i].name, line)) continue;
         printf("| %s |", LINES[i].name);
@@ -113,13 +123,14 @@ static int try_table(bench *it, uint32_t seeds, const char *who, const char *lin
 /* The calls of the gate: on a clean line by each pair, and ours on lines that cut something; all have to complete. */
 static int try_gate(bench *it)
 {
-    static const struct { int pair; const char *line; } CELLS[] = {
-        {0, "clean"}, {1, "clean"}, {2, "clean"}, {0, "cut-training"}, {0, "cut-page"}, {0, "cut-PPS"}};
+    static const struct { int pair; const char *line; uint32_t seeds; } CELLS[] = {
+        {0, "clean", 3}, {1, "clean", 2}, {2, "clean", 2}, {0, "training of the check cut", 2}, {0, "100 ms of the page cut", 1},
+        {0, "PPS cut", 2}};
     uint32_t calls = 0, well = 0, broken = 0;
     for (size_t i = 0; i < sizeof CELLS / sizeof CELLS[0]; i++) {
         int line = 0;
         while (strcmp(LINES[line].name, CELLS[i].line) != 0) line++;
-        if (!try_cell(it, &PAIRS[CELLS[i].pair], &LINES[line], 1)) return 0;
+        if (!try_cell(it, &PAIRS[CELLS[i].pair], &LINES[line], CELLS[i].seeds)) return 0;
         calls += it->calls, well += it->well, broken += it->broken;
     }
     it->way.ways = (soft_ways){.silent = 1, .fixed = 1, .late = 20};
@@ -232,17 +243,19 @@ int main(int argc, char **argv)
     static const uint32_t WIDTHS[MOST_PAGES] = {1728, 2432, 1728};
     static bench it = {.way = {.kind = &soft_of_spandsp}};
     const char *words[4] = {NULL};
-    int count = 0, is_right = 0;
+    int count = 0, has_table = 0, is_right = 0;
     if (argc == 4 && strcmp(argv[1], "--ptys") == 0) return !run_ptys(argv + 2);
     for (int i = 1; i < argc; i++) {
-        if (!take_way(&it.way.ways, argv[i]) && strcmp(argv[i], "--table") != 0 && count < 4) words[count++] = argv[i];
+        if (strcmp(argv[i], "--table") == 0) has_table = 1;
+        else if (!take_way(&it.way.ways, argv[i]) && count < 4) words[count++] = argv[i];
     }
-    if (count == 0) return fprintf(stderr, "usage: bench FOLDER [--table SEEDS [PAIR [LINE]] [WAYS..]] | --ptys LINK LINK\n"), 2;
+    int seeds = has_table && count > 1 ? atoi(words[1]) : 0;
+    if (count == 0 || (count > 1) != has_table || (has_table && seeds <= 0)) return fprintf(stderr, "usage: bench FOLDER [--table SEEDS [PAIR [LINE]] [WAYS..]] | --ptys LINK LINK\n"), 2;
     it.folder = words[0];
     for (uint32_t i = 0; i < MOST_PAGES; i++) {
         if (!paper_new(&it.papers[i], WIDTHS[i], ROWS, i + 1)) return fprintf(stderr, "bench: no memory\n"), 1;
     }
-    is_right = count > 1 ? try_table(&it, (uint32_t)atoi(words[1]), words[2], words[3]) : try_gate(&it);
+    is_right = has_table ? try_table(&it, (uint32_t)seeds, words[2], words[3]) : try_gate(&it);
     for (uint32_t i = 0; i < MOST_PAGES; i++) paper_free(&it.papers[i]);
     return !is_right;
 }

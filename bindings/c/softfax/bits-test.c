@@ -1,8 +1,8 @@
 /* bits-test [SEEDS [--tell]]: calls of the terminal with itself over modems of plain bits, so that it is tested where libspandsp isn't
  * installed. Each kind of call is tried on each line: a clean one, lines that cut one carrier of the caller, and lines that noise strikes
  * again and again, with so many seeds, 1 if not said. Status 1: a page is stored that isn't the document's, a confirmed one is missing, an
- * end doesn't hang up, or a call fails on a line that is struck once at most. --tell: what happens in each call, on standard error. */
-#include "trial.h"
+ * end doesn't hang up, a call fails on a line that is struck once at most, or one that is stopped doesn't end in order. --tell: what happens in each call, on standard error. */
+#include "stopped.h"
 #include <stdio.h>
 #include <stdlib.h>
 #include <string.h>
@@ -72,6 +72,7 @@ int main(int argc, char **argv)
         if (!paper_new(&papers[i], WIDTHS[i], ROWS, i + 1)) return fprintf(stderr, "bits-test: no memory\n"), 1;
     }
     for (uint32_t i = 0; i < LINES_COUNT; i++) is_right &= try_line(&LINES[i], seeds, papers, tells);
+    is_right &= stopped_try(trial_ours, tells);
     for (uint32_t i = 0; i < MOST_PAGES; i++) paper_free(&papers[i]);
     return !is_right;
 }

@@ -1,11 +1,12 @@
 #include "call.h"
 #include "record.h"
 #include "stop.h"
-#include <stdio.h>
+#include "told.h"
 
 static int fails(const char *why)
 {
-    fprintf(stderr, "softfax: %s\n", why);
+    told_add("softfax: %s", why);
+    told_end();
     return 0;
 }
 
@@ -41,7 +42,7 @@ int call_begin(call *it, uint32_t modems, const modem_kind *kind, modem *modem)
     it->folder = (pages_folder){given->folder, 0, 0, given->json, given->square, terminal_peer_name(it->terminal)};
     if (!given->refuses_ctc) terminal_answer_ctc(it->terminal);
     if (given->identity != NULL) terminal_identify(it->terminal, given->identity);
-    if (given->tells) terminal_tell(it->terminal, given->calls ? "caller" : "answerer");
+    if (given->tells) terminal_tell(it->terminal, given->calls ? "caller" : "answerer", told);
     return 1;
 }
 
@@ -53,7 +54,7 @@ static void note_confirmed(call *it)
     for (; it->confirmed < state.pages && it->confirmed < (uint64_t)it->given->count; it->confirmed++) {
         const g3_size *size = &it->sizes[it->confirmed];
         record_page record = {"confirmed", it->confirmed + 1, it->given->pages[it->confirmed], size->width, size->rows, size->fine,
-            terminal_peer_name(it->terminal)};
+            0, terminal_peer_name(it->terminal)};
         record_page_json(&record);
     }
 }
@@ -65,6 +66,7 @@ int call_heed(call *it)
     it->stop = level;
     if (it->terminal == NULL || terminal_is_over(it->terminal)) return level;
     if (level == STOP_IN_ORDER) g3_terminal_stop(&it->station);
+    if (level == STOP_SOON) terminal_hurry(it->terminal);
     if (level == STOP_AT_ONCE) terminal_lose(it->terminal);
     return level;
 }
@@ -94,6 +96,7 @@ int call_end(call *it)
         record.end = ENDS[state.end];
         if (given->calls) record.pages = state.pages;
         record.peer = terminal_peer_name(it->terminal);
+        if (terminal_why(it->terminal) != NULL) record.end = "refused";
         if (record.why == NULL) record.why = terminal_why(it->terminal);
     }
     if (state.end == G3_END_NORMAL) record.why = NULL; /* what came after it, as NO CARRIER */

@@ -3,6 +3,7 @@
  * words. Status 1: a call fails, a page is stored that isn't the document's, a confirmed one is missing, or an end doesn't hang up. --tell:
  * what happens in each call, on standard error. */
 #include "behind.h"
+#include "stopped.h"
 #include <stdio.h>
 #include <string.h>
 
@@ -12,6 +13,7 @@ static const line_kind LINES[] = {
     {.name = "clean"},
     {.name = "DCS is cut", .cut = 1, .lasts = 4000},
     {.name = "the training of the check is cut", .cut = 2, .lasts = 600},
+    {.name = "all of the check is cut", .cut = 2, .lasts = 9000},
     {.name = "the check is cut", .cut = 2, .from = 1500, .lasts = 300},
     {.name = "the training of the page is cut", .cut = 3, .lasts = 150},
     {.name = "the page is cut", .cut = 3, .from = 400, .lasts = 100},
@@ -22,8 +24,9 @@ enum { LINES_COUNT = sizeof LINES / sizeof LINES[0] };
 static const soft_ways WAYS[] = {{0}, {.echoes = 1, .fixed = 1}, {.silent = 1, .fixed = 1}};
 enum { WAYS_COUNT = sizeof WAYS / sizeof WAYS[0] };
 
-/* Runs a call; returns whether both ends are as they should be: `why` is how the caller ends. */
-static int try_call(const trial *kind, const behind_way *caller_way, const behind_way *answerer_way, const char *why)
+/* Runs a call; returns whether nothing is broken, both ends hang up, and they end as is said. NULL: in any way. */
+static int try_call(
+    const trial *kind, const behind_way *caller_way, const behind_way *answerer_way, const char *caller_why, const char *answerer_why)
 {
     party caller, answerer;
     outcome came;
@@ -33,8 +36,10 @@ static int try_call(const trial *kind, const behind_way *caller_way, const behin
         return 0;
     }
     trial_run(&caller, &answerer, kind, &came);
-    int is_right = !trial_is_broken(&came) && strcmp(came.caller, why) == 0 && strcmp(came.answerer, "no end") != 0;
-    if (strcmp(why, "normal") == 0) is_right = is_right && trial_went_well(kind, &came);
+    int is_right = !trial_is_broken(&came) && strcmp(came.caller, "no end") != 0 && strcmp(came.answerer, "no end") != 0;
+    if (caller_why != NULL) is_right = is_right && strcmp(came.caller, caller_why) == 0;
+    if (answerer_why != NULL) is_right = is_right && strcmp(came.answerer, answerer_why) == 0;
+    if (caller_why != NULL && strcmp(caller_why, "normal") == 0) is_right = is_right && trial_went_well(kind, &came);
     if (!is_right || kind->tells != NULL) {
         fprintf(stderr, "%s: modems %u coding %u pages %u seed %u: caller %s, answerer %s, confirmed %u, equal %u, wrong %u, %u s\n",
             kind->line.name, kind->modems, kind->coding, kind->pages, (uint32_t)kind->seed, came.caller, came.answerer,
@@ -52,27 +57,35 @@ static int try_line(const line_kind *line, int ways, const paper *papers, const 
             behind_way through = {&soft_of_bits, WAYS[way]};
             trial kind = {.line = *line, .modems = 1 + i % 3, .coding = i / 3 % 2 ? G3_MMR : G3_MH, .pages = i / 6 % 2 ? 3 : 1, .limit = 2,
                 .seed = i, .papers = papers, .identity = "+49 30 1234", .tells = tells};
-            well += try_call(&kind, &through, &through, "normal");
+            well += try_call(&kind, &through, &through, "normal", "normal");
         }
     }
     printf("%s: %d of %d calls by Class 1 complete\n", line->name, well, count);
     return well == count;
 }
 
-/* Modems that fail, and how the caller has to name that. */
+static int begin_behind(party *out, const trial *kind, int calls)
+{
+    static const behind_way WAY = {&soft_of_bits, {0}};
+    return trial_behind(out, kind, calls, &WAY);
+}
+
+/* Modems that fail, and how their end has to name that. */
 static int try_faults(const paper *papers, const char *tells)
 {
-    static const struct { soft_ways ways; const char *why; } FAULTS[] = {
-        {{.mute = 1}, "it doesn't answer to ATZ"},
-        {{.mute = 200000}, "normal"},
-        {{.mute = 9000}, "the modem has fallen silent"},
+    static const struct { soft_ways ways; int answers; const char *why; } FAULTS[] = {
+        {{.mute = 1}, 0, "it doesn't answer to ATZ"},
+        {{.mute = 200000}, 0, "normal"},
+        {{.mute = 9000}, 0, "the modem has fallen silent"},
+        {{.mute = 150}, 1, "the modem has fallen silent"}, /* while it waits for RING */
+        {{.mute = 9000}, 1, "the modem has fallen silent"},
     };
     int well = 0, count = sizeof FAULTS / sizeof FAULTS[0];
     for (int i = 0; i < count; i++) {
         behind_way bad = {&soft_of_bits, FAULTS[i].ways}, good = {&soft_of_bits, {0}};
         trial kind = {.line = {.name = FAULTS[i].why}, .modems = G3_V17, .coding = G3_MMR, .pages = 1, .limit = 2, .papers = papers,
             .tells = tells};
-        well += try_call(&kind, &bad, &good, FAULTS[i].why);
+        well += FAULTS[i].answers ? try_call(&kind, &good, &bad, NULL, FAULTS[i].why) : try_call(&kind, &bad, &good, FAULTS[i].why, NULL);
     }
     printf("%d of %d modems that fail are named\n", well, count);
     return well == count;
@@ -88,7 +101,7 @@ int main(int argc, char **argv)
         if (!paper_new(&papers[i], WIDTHS[i], ROWS, i + 1)) return fprintf(stderr, "class1-test: no memory\n"), 1;
     }
     for (uint32_t i = 0; i < LINES_COUNT; i++) is_right &= try_line(&LINES[i], i == 0 ? WAYS_COUNT : 1, papers, tells);
-    is_right &= try_faults(papers, tells);
+    is_right &= stopped_try(begin_behind, tells) & try_faults(papers, tells);
     for (uint32_t i = 0; i < MOST_PAGES; i++) paper_free(&papers[i]);
     return !is_right;
 }

@@ -1,5 +1,7 @@
 #include "class1.h"
 #include "carriers.h"
+#include "class1_words.h"
+#include "waiting.h"
 #include <stdlib.h>
 #include <string.h>
 
@@ -8,7 +10,7 @@ enum { ETX = 3, DLE = 16, XON = 17, XOFF = 19, CAN = 24, SUB = 26, LAST_FRAME = 
 /* What the modem is doing. Each op but FREE, FRH and the data that come is bounded by LONGEST; FRH is ended by what the terminal says. */
 enum op {
     FREE,                                                /* it takes a command */
-    SETS_UP, DIALS, ANSWERS, AWAITS_SILENCE, ABORTS, GOES_ON_HOOK, /* a command with one result */
+    SETS_UP, ASKS, DIALS, ANSWERS, AWAITS_SILENCE, ABORTS, GOES_ON_HOOK, /* a command with one result */
     FRH, FRH_DATA, FRH_END,                              /* +FRH: until CONNECT, a frame, and the result after it */
     FRM, FRM_DATA, FRM_END,
     FTH, FTH_HELD, FTH_END,                              /* held: CONNECT has come, and there is no frame yet */
@@ -18,37 +20,37 @@ enum op {
 
 /* Durations in milliseconds. */
 static const int LONGEST[OPS] = {
-    [SETS_UP] = 3000, [DIALS] = 120000, [ANSWERS] = 30000, [AWAITS_SILENCE] = 2500 /* after that it is hiss */, [ABORTS] = 600,
+    [SETS_UP] = 3000, [ASKS] = 3000, [DIALS] = 90000, [ANSWERS] = 30000, [AWAITS_SILENCE] = 2500 /* after that it is hiss */, [ABORTS] = 600,
     [GOES_ON_HOOK] = 3000, [FTH] = 6000, [FTH_HELD] = 6000, [FTM] = 6000, [FTM_DATA] = 15000, [FTH_END] = 15000, [FTM_END] = 15000};
 enum {
     LONGEST_GAP = 3000,  /* without an octet in a frame or a page that comes */
     NEXT_FRAME = 1200,   /* from a frame to CONNECT of the next one */
     LATEST_PAGE = 3300,  /* until a page's carrier; the caller's T4 is over by then, and it speaks by V.21 */
+    LATEST_LONG = 4700,  /* the same with the long training */
+    LONGEST_UNSURE = 8000, /* +FRH of a modem that has had no result for the last command: is it still there? */
     AFTER_ERROR = 100,
+    AFTER_CAN = 3000,    /* in this time a NO CARRIER is its result, late, and the call goes on */
+    NEXT_RING = 10000,   /* a ring that comes later is another call's */
+    BETWEEN_ASKS = 30000, /* while nobody calls: whether the modem is still there */
     LET_SPEAK = 200      /* after a signal that is answered the terminal speaks in 75 ms: +FRH isn't begun, or it would be broken off */
 };
 enum { MOST_ERRORS = 5 };     /* of +FRH, one after the other: the modem is on hook */
 enum { MOST_UNANSWERED = 4 }; /* ops with no result, one after the other: the modem has fallen silent */
-enum { MOST_CONTENTS = 8, MOST_FRAME = MOST_CONTENT + 2 };
-
-/* Frames that wait. */
-typedef struct frames {
-    uint8_t octets[MOST_CONTENTS][MOST_FRAME];
-    int length[MOST_CONTENTS], first, count;
-} frames;
-
 struct modem {
     port port;
     class1_setup setup;
     int64_t now, since, moved;  /* since: when the op began; moved: the last octet of data that came or went */
+    int64_t aborted, rang, asked;
     int stage, op, step;        /* step: of the set-up */
     int tries;                  /* how often the command of this step was given again */
+    int init;                   /* how many of the program's commands were given */
+    int lists;                  /* it has listed what it sends or receives by */
     int rings, hangs_up, is_gone, is_lost;
     char why[160];
     char command[80], line[80]; /* the last command; a result as it comes */
     int filled, echoes;         /* echoes: the command came back, and no result yet */
     int unanswered;
-    uint32_t speeds;            /* a bit for each of NUMBERS that it has listed */
+    uint32_t speeds;            /* the set of its list */
     ring out;
     /* what is said */
     int says, in_turn, wants_silence;
@@ -70,22 +72,6 @@ struct modem {
     int in_signal, more;        /* more: frames of this signal are still to come */
     int begins, trains, ends, errors;
 };
-
-/* The numbers that T.31 has for the carriers, and the modems that want each. */
-static const struct { int number; uint32_t modems; } NUMBERS[] = {
-    {24, G3_V27TER}, {48, G3_V27TER}, {72, G3_V29}, {96, G3_V29}, {73, G3_V17}, {74, G3_V17}, {97, G3_V17}, {98, G3_V17}, {121, G3_V17},
-    {122, G3_V17}, {145, G3_V17}, {146, G3_V17}};
-enum { NUMBERS_COUNT = sizeof NUMBERS / sizeof NUMBERS[0] };
-
-/* The number of a carrier; V.17 has one for each training. */
-static int number_of(uint32_t carrier, int brief)
-{
-    static const int OF_CARRIERS[][2] = {
-        [0] = {3, 3}, [G3_V21] = {3, 3}, [G3_V27TER_2400] = {24, 24}, [G3_V27TER_4800] = {48, 48}, [G3_V29_7200] = {72, 72},
-        [G3_V29_9600] = {96, 96}, [G3_V17_7200] = {73, 74}, [G3_V17_9600] = {97, 98}, [G3_V17_12000] = {121, 122},
-        [G3_V17_14400] = {145, 146}};
-    return OF_CARRIERS[carrier][brief != 0];
-}
 
 /* Octets and commands */
 
@@ -168,6 +154,7 @@ static void abort_op(modem *it)
     flush(it);
     trace(it, '>', "CAN", 0);
     it->filled = 0;
+    it->aborted = it->now;
     begin(it, ABORTS);
 }
 
@@ -188,24 +175,6 @@ static void end_signal(modem *it, int is_answered)
     if (!it->in_signal) return;
     it->in_signal = it->is_listening = 0;
     it->ends = 1;
-}
-
-static void put_frame(frames *to, const uint8_t *octets, int length)
-{
-    if (to->count == MOST_CONTENTS || length > MOST_FRAME) return; /* lost, as on a line; eight frames never wait */
-    int at = (to->first + to->count++) % MOST_CONTENTS;
-    memcpy(to->octets[at], octets, (size_t)length);
-    to->length[at] = length;
-}
-
-static int take_frame(frames *from, uint8_t *octets)
-{
-    if (from->count == 0) return 0;
-    int at = from->first, length = from->length[at];
-    memcpy(octets, from->octets[at], (size_t)length);
-    from->first = (at + 1) % MOST_CONTENTS;
-    from->count--;
-    return length;
 }
 
 /* A frame has come: its content, without the check sequence that the modem hands over too. The last one of a signal says so (T.30, 5.3.5);
@@ -284,17 +253,19 @@ static void say_page(modem *it)
 /* Set-up */
 
 static const char *const STEPS[] = {
-    "ATZ", "ATE0V1Q0", NULL /* the program's */, "AT+FCLASS=1", "AT+FAR=1", NULL /* what it sends or receives by */};
-enum { FIRST, ANSWERS_IN_WORDS, INIT, CLASS, ADAPTS, SPEEDS, STEPS_COUNT };
+    "ATZ", "ATE0V1Q0", "ATX4S7=60" /* BUSY is told, and a carrier awaited for 60 s */, NULL /* the program's */, "AT+FCLASS=1",
+    "AT+FAR=1", NULL /* what it sends or receives by */};
+enum { FIRST, ANSWERS_IN_WORDS, DIALS_WELL, INIT, CLASS, ADAPTS, SPEEDS, STEPS_COUNT };
 
 static void set_up(modem *it)
 {
-    if (it->step == INIT && it->setup.init == NULL) it->step++;
-    if (it->step == INIT) command(it, SETS_UP, it->setup.init);
+    if (it->step == INIT && it->init == it->setup.init_count) it->step++;
+    if (it->step == INIT) command(it, SETS_UP, it->setup.inits[it->init]);
     else if (it->step == SPEEDS) command(it, SETS_UP, it->setup.number != NULL ? "AT+FTM=?" : "AT+FRM=?");
     else if (it->step < STEPS_COUNT) command(it, SETS_UP, STEPS[it->step]);
     else {
         it->stage = CLASS1_WAITS;
+        it->asked = it->now;
         if (it->setup.number == NULL) return;
         char text[80];
         snprintf(text, sizeof text, "ATDT%s", it->setup.number);
@@ -302,7 +273,8 @@ static void set_up(modem *it)
     }
 }
 
-/* A step of the set-up has its result. What a modem needn't have may be an error: adaptive reception, and the list of its speeds. */
+/* A step of the set-up has its result. What a modem needn't have may be an error: how it dials, adaptive reception, and the list of its
+ * speeds. One that has a list, and not the slowest modem of all on it, can't make a call. */
 static void end_step(modem *it, int is_well)
 {
     if (!is_well && it->step == CLASS && it->tries == 0) {
@@ -314,8 +286,13 @@ static void end_step(modem *it, int is_well)
         fail(it, it->step == CLASS ? "it has no Class 1: it says ERROR to " : "it says ERROR to ", it->command);
         return;
     }
+    if (it->step == SPEEDS && it->lists && class1_modems(it->speeds) == 0) {
+        fail(it, "it has no V.27 ter by ", it->command);
+        return;
+    }
     it->op = FREE;
     it->tries = 0;
+    if (it->step == INIT && ++it->init < it->setup.init_count) return;
     it->step++;
 }
 
@@ -329,32 +306,6 @@ static void miss_step(modem *it)
     else fail(it, "it doesn't answer to ", it->command);
 }
 
-/* Notes the speeds of a list, as "24,48,72-74" or "+FTM: (24,48)". */
-static void note_speeds(modem *it, const char *line)
-{
-    int from = -1, number = -1;
-    for (;; line++) {
-        if (*line >= '0' && *line <= '9' && number < 1000) number = (number < 0 ? 0 : number * 10) + (*line - '0');
-        else if (*line == '-' && number >= 0) from = number, number = -1;
-        else {
-            for (int i = 0; number >= 0 && i < NUMBERS_COUNT; i++) {
-                int is = NUMBERS[i].number == number || (from >= 0 && NUMBERS[i].number >= from && NUMBERS[i].number <= number);
-                if (is) it->speeds |= 1u << i;
-            }
-            from = number = -1;
-        }
-        if (*line == 0) return;
-    }
-}
-
-uint32_t class1_speeds(const modem *it)
-{
-    uint32_t missing[G3_V17 + 1] = {0}, is = 0;
-    for (int i = 0; i < NUMBERS_COUNT; i++) missing[NUMBERS[i].modems] += (it->speeds >> i & 1) == 0;
-    while (is < G3_V17 && missing[is + 1] == 0) is++;
-    return is;
-}
-
 /* Commands */
 
 /* Says the burst: at the beginning of a turn once the line is silent. */
@@ -366,7 +317,7 @@ static void say(modem *it)
         command(it, AWAITS_SILENCE, "AT+FRS=7");
         return;
     }
-    snprintf(text, sizeof text, it->carrier == G3_V21 ? "AT+FTH=%d" : "AT+FTM=%d", number_of(it->carrier, it->brief));
+    snprintf(text, sizeof text, it->carrier == G3_V21 ? "AT+FTH=%d" : "AT+FTM=%d", class1_number(it->carrier, it->brief));
     command(it, it->carrier == G3_V21 ? FTH : FTM, text);
 }
 
@@ -378,7 +329,7 @@ static void listen(modem *it)
         command(it, FRH, "AT+FRH=3");
         return;
     }
-    snprintf(text, sizeof text, "AT+FRM=%d", number_of(it->listens, it->is_brief));
+    snprintf(text, sizeof text, "AT+FRM=%d", class1_number(it->listens, it->is_brief));
     command(it, FRM, text);
 }
 
@@ -390,13 +341,23 @@ static int is_receiving(int op)
 /* Leaves the op that stands against what is to be done. */
 static void make_way(modem *it)
 {
-    int is_left = is_receiving(it->op) || it->op == DIALS || it->op == ANSWERS || it->op == AWAITS_SILENCE || it->op == SETS_UP;
+    int is_left = is_receiving(it->op) || (it->op >= SETS_UP && it->op <= AWAITS_SILENCE);
     if (it->hangs_up && is_left) abort_op(it);
     else if (it->hangs_up && it->op >= FTH) {
         mind_xoff(it, 0);
         put_end(it);
         begin(it, ABORTS);
     } else if (it->says && is_receiving(it->op)) abort_op(it);
+}
+
+/* Waits for a call: answers it once it has rung so often. */
+static void await_ring(modem *it)
+{
+    if (it->setup.number != NULL) return;
+    if (it->rings <= 0) {
+        it->stage = CLASS1_IS_ON;
+        command(it, ANSWERS, "ATA");
+    } else if (it->now - it->asked >= BETWEEN_ASKS) command(it, ASKS, "AT");
 }
 
 /* Gives the next command, if one is due. */
@@ -409,26 +370,13 @@ static void advance(modem *it)
         it->stage = CLASS1_HANGS_UP;
         command(it, GOES_ON_HOOK, "ATH0");
     } else if (it->stage == CLASS1_SETS_UP) set_up(it);
+    else if (it->stage == CLASS1_WAITS) await_ring(it);
     else if (it->stage != CLASS1_IS_ON) return;
     else if (it->says) say(it);
     else if (it->more || (it->is_listening && it->now >= it->not_before)) listen(it);
 }
 
 /* Results */
-
-enum result { OK, ERROR, CONNECT, NO_CARRIER, OTHER_CARRIER, RING, NO_CALL, ADAPTS_TO_V21, NONE };
-
-static enum result result_of(const char *line)
-{
-    static const struct { const char *text; enum result is; } RESULTS[] = {
-        {"OK", OK}, {"ERROR", ERROR}, {"CONNECT", CONNECT}, {"NO CARRIER", NO_CARRIER}, {"+FCERROR", OTHER_CARRIER},
-        {"+FC ERROR", OTHER_CARRIER}, {"RING", RING}, {"BUSY", NO_CALL}, {"NO DIALTONE", NO_CALL}, {"NO DIAL TONE", NO_CALL},
-        {"NO ANSWER", NO_CALL}, {"BLACKLISTED", NO_CALL}, {"DELAYED", NO_CALL}, {"+FRH:3", ADAPTS_TO_V21}, {"+FRH: 3", ADAPTS_TO_V21}};
-    for (size_t i = 0; i < sizeof RESULTS / sizeof RESULTS[0]; i++) {
-        if (strcmp(line, RESULTS[i].text) == 0) return RESULTS[i].is;
-    }
-    return NONE;
-}
 
 /* A frame begins. */
 static void connect_frame(modem *it)
@@ -438,12 +386,27 @@ static void connect_frame(modem *it)
     begin_signal(it);
 }
 
+static void take_ring(modem *it)
+{
+    if (it->now - it->rang > NEXT_RING) it->rings = it->setup.rings;
+    it->rang = it->asked = it->now;
+    it->rings--;
+}
+
 /* A result of what makes or ends the call. */
-static void take_call_result(modem *it, enum result is, const char *line)
+static void take_call_result(modem *it, int is, const char *line)
 {
     switch (it->op) {
     case SETS_UP:
         if (is != RING) end_step(it, is == OK);
+        return;
+    case ASKS:
+        if (is == RING) {
+            take_ring(it);
+            return;
+        }
+        it->op = FREE;
+        it->asked = it->now;
         return;
     case DIALS:
         if (is == CONNECT) {
@@ -460,16 +423,13 @@ static void take_call_result(modem *it, enum result is, const char *line)
         it->stage = CLASS1_IS_OVER;
         return;
     default: /* FREE */
-        if (is == RING && it->stage == CLASS1_WAITS && it->setup.number == NULL && --it->rings <= 0) {
-            it->stage = CLASS1_IS_ON;
-            command(it, ANSWERS, "ATA");
-        }
-        if (is == NO_CARRIER && it->stage == CLASS1_IS_ON) fail(it, "the modem says ", line);
+        if (is == RING && it->stage == CLASS1_WAITS) take_ring(it);
+        if (is == NO_CARRIER && it->stage == CLASS1_IS_ON && it->now - it->aborted > AFTER_CAN) fail(it, "the modem says ", line);
     }
 }
 
 /* A result of +FRH. */
-static void take_frh_result(modem *it, enum result is)
+static void take_frh_result(modem *it, int is)
 {
     if (is == CONNECT) connect_frame(it);
     if (is == CONNECT || is == ADAPTS_TO_V21) return;
@@ -480,7 +440,7 @@ static void take_frh_result(modem *it, enum result is)
 }
 
 /* A result of +FRM. */
-static void take_frm_result(modem *it, enum result is)
+static void take_frm_result(modem *it, int is)
 {
     if (is == CONNECT) {
         begin(it, FRM_DATA);
@@ -493,7 +453,7 @@ static void take_frm_result(modem *it, enum result is)
 }
 
 /* A result of +FTH or +FTM. OK can't be one before CONNECT: it is that of a CAN, late. */
-static void take_said_result(modem *it, enum result is)
+static void take_said_result(modem *it, int is)
 {
     int is_late = (it->op == FTH || it->op == FTM) && is == OK;
     if (is_late) return;
@@ -510,10 +470,10 @@ static void take_said_result(modem *it, enum result is)
 
 static void take_result(modem *it, const char *line)
 {
-    enum result is = result_of(line);
-    if (is == NONE) {
+    int is = class1_result(line);
+    if (is == NO_RESULT) {
         if (strcmp(line, it->command) == 0) it->echoes = 1;
-        else if (it->op == SETS_UP && it->step == SPEEDS) note_speeds(it, line);
+        else if (it->op == SETS_UP && it->step == SPEEDS) it->lists |= class1_add_list(&it->speeds, line);
         return;
     }
     it->unanswered = it->echoes = 0;
@@ -585,15 +545,17 @@ static void take_octet(modem *it, uint8_t octet)
     if (octet == ETX) end_data(it);
 }
 
-/* Reads as much as there is room for: what isn't read waits in the tty. */
+/* Reads as much as there is room for, but for no longer than a while: what isn't read waits in the tty. */
 static void read_port(modem *it)
 {
+    enum { MOST_READS = 16 };
     uint8_t octets[256];
-    while (!it->is_gone && it->page.count <= RING_ROOM - 2 * (int)sizeof octets && it->heard.count <= MOST_CONTENTS / 2) {
+    for (int i = 0; i < MOST_READS && !it->is_gone; i++) {
+        if (it->page.count > RING_ROOM - 2 * (int)sizeof octets || it->heard.count > MOST_CONTENTS / 2) return;
         int got = it->port.read(it->port.user, octets, sizeof octets);
         if (got < 0) it->is_gone = 1;
         if (got <= 0) return;
-        for (int i = 0; i < got; i++) take_octet(it, octets[i]);
+        for (int k = 0; k < got; k++) take_octet(it, octets[k]);
     }
 }
 
@@ -617,6 +579,9 @@ static void end_late_op(modem *it)
         begin(it, DIALS); /* it is still to be aborted */
         return;
     case ANSWERS: fail(it, "the modem doesn't answer the call", ""); return;
+    case ASKS:
+        if (!is_mute(it)) it->op = FREE; /* and it is asked again */
+        return;
     case AWAITS_SILENCE:
         if (!is_mute(it)) abort_op(it);
         return;
@@ -651,9 +616,10 @@ static void end_op(modem *it)
     switch (it->op) {
     case FRH:
         if (it->more && it->in_signal && lasts > NEXT_FRAME) end_signal(it, 1); /* +FRH goes on */
+        if (it->unanswered > 0 && lasts > LONGEST_UNSURE) abort_op(it);
         return;
     case FRM:
-        if (!it->is_brief || lasts <= LATEST_PAGE) return;
+        if (lasts <= (it->is_brief ? LATEST_PAGE : LATEST_LONG)) return;
         it->page_next = 0;
         abort_op(it);
         return;
@@ -709,6 +675,7 @@ static void class1_begin_carrier(modem *it, uint32_t carrier, int brief, const u
     it->brief = brief;
     it->octets = octets;
     it->count = (bits + 7) / 8;
+    it->at = 0;
     if (carrier == G3_V21) take_contents(it, octets, it->count);
     advance(it);
 }
@@ -717,6 +684,11 @@ static int class1_say(modem *it, int16_t *out)
 {
     (void)out;
     return it->says && it->stage == CLASS1_IS_ON;
+}
+
+static void class1_cut(modem *it)
+{
+    if (it->at < it->count) it->count = it->at; /* frames by V.21 are short, and go on */
 }
 
 static void class1_listen(modem *it, uint32_t carrier, int brief)
@@ -768,8 +740,8 @@ static void class1_forget(modem *it)
     it->page_next = 1;
 }
 
-const modem_kind modem_of_class1 = {class1_free, class1_begin_tone, class1_begin_carrier, class1_say, class1_listen, class1_hear,
-    class1_is_noisy, class1_hush, class1_forget, 1, 1};
+const modem_kind modem_of_class1 = {class1_free, class1_begin_tone, class1_begin_carrier, class1_say, class1_cut, class1_listen,
+    class1_hear, class1_is_noisy, class1_hush, class1_forget, 1, 1};
 
 modem *class1_new(const port *port, const class1_setup *setup)
 {
@@ -780,6 +752,7 @@ modem *class1_new(const port *port, const class1_setup *setup)
     it->port = *port;
     it->setup = *setup;
     it->rings = setup->rings;
+    it->aborted = -AFTER_CAN - 1;
     return it;
 }
 
@@ -792,6 +765,11 @@ void class1_hang_up(modem *it)
 const char *class1_why(const modem *it)
 {
     return it->why[0] != 0 ? it->why : NULL;
+}
+
+uint32_t class1_speeds(const modem *it)
+{
+    return class1_modems(it->speeds);
 }
 
 int class1_is_lost(const modem *it)

@@ -7,7 +7,8 @@
 #include <stdio.h>
 
 typedef struct class1_setup {
-    const char *init;   /* a command that the modem is set up with, as "AT&K3"; NULL: none */
+    const char *const *inits; /* commands that the modem is set up with, as "AT&K3" */
+    int init_count;
     const char *number; /* what is dialled; NULL: it answers */
     int rings;          /* how often it rings before it is answered */
     FILE *trace;        /* a line is written here for each command, result and run of data; NULL: none is */

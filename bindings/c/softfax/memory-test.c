@@ -1,5 +1,6 @@
-/* memory-test [STEP]: a call of the terminal with itself over modems of plain bits, and one behind Class 1 modems of t31.c, with every growth
- * of memory refused in turn; in the second one every STEP-th, if that is said, since most of its growths are those of t31.c. Status 1: a page
+/* memory-test [STEP [FIRST_STEP]]: a call of the terminal with itself over modems of plain bits, and one behind Class 1 modems of t31.c, with
+ * every growth of memory refused in turn; in the second one every STEP-th, if that is said, since most of its growths are those of t31.c,
+ * and in the first one every FIRST_STEP-th. Status 1: a page
  * is stored that isn't the document's, a confirmed one is missing, an end doesn't hang up, or a block is left. Linked with --wrap=malloc,
  * --wrap=realloc and --wrap=free. */
 #include "behind.h"
@@ -58,14 +59,15 @@ static unsigned long refuse_each(const trial *kind, const behind_way *way, unsig
 
 int main(int argc, char **argv)
 {
-    unsigned long step = argc > 1 && atoi(argv[1]) > 0 ? (unsigned long)atoi(argv[1]) : 1;
+    unsigned long steps[2];
+    for (int i = 0; i < 2; i++) steps[i] = argc > i + 1 && atoi(argv[i + 1]) > 0 ? (unsigned long)atoi(argv[i + 1]) : 1;
     paper papers[PAGES];
     for (uint32_t i = 0; i < PAGES; i++) {
         if (!paper_new(&papers[i], 1728, ROWS, i + 1)) return 1;
     }
     trial kind = {.line = {.name = "clean"}, .modems = G3_V17, .coding = G3_MMR, .pages = PAGES, .limit = 2, .papers = papers,
         .identity = "+49 30 1234"};
-    unsigned long wrong = refuse_each(&kind, NULL, 1, "plain bits") + refuse_each(&kind, &BEHIND, step, "Class 1");
+    unsigned long wrong = refuse_each(&kind, NULL, steps[1], "plain bits") + refuse_each(&kind, &BEHIND, steps[0], "Class 1");
     for (uint32_t i = 0; i < PAGES; i++) paper_free(&papers[i]);
     return wrong > 0;
 }

@@ -192,6 +192,11 @@ static int modem_say(modem *it, int16_t *out)
     return count == SLICE;
 }
 
+static void modem_cut(modem *it)
+{
+    it->bits = it->at;
+}
+
 static void start_receiver(modem *it)
 {
     int rate = CARRIERS[it->listens].rate;
@@ -273,4 +278,5 @@ static void modem_forget(modem *it)
 }
 
 const modem_kind modem_of_sound = {
-    modem_free, modem_begin_tone, modem_begin_carrier, modem_say, modem_listen, modem_hear, modem_is_noisy, modem_hush, modem_forget, 0, 0};
+    modem_free, modem_begin_tone, modem_begin_carrier, modem_say, modem_cut, modem_listen, modem_hear, modem_is_noisy, modem_hush, modem_forget,
+    0, 0};

@@ -38,6 +38,8 @@ typedef struct modem_kind {
     void (*begin_carrier)(modem *it, uint32_t carrier, int brief, const uint8_t *octets, uint64_t bits);
     /* The next slice of the tone or the carrier, with zeros after its end; returns whether it goes on. */
     int (*say)(modem *it, int16_t *out);
+    /* Ends the carrier that goes out: what it hasn't said of its octets yet is left out. It still goes on until `say` returns 0. */
+    void (*cut)(modem *it);
     /* Sets what the page receiver listens for, from the next signal on; carrier 0: nothing. It forgets what is on the line. */
     void (*listen)(modem *it, uint32_t carrier, int brief);
     void (*hear)(modem *it, const int16_t *in, modem_heard *heard);

@@ -1,44 +1,140 @@
 #!/usr/bin/env python3
-"""Modems on a pty that fail, each in its own way: softfax has to name that in words, and to end.
+"""Modems on ptys that fail, each in its own way, and calls that are stopped: softfax has to say in words what it was, to leave the modem on
+hook, and to end in time. All are tried at once, since each waits by the machine's clock.
 
     modems.py SOFTFAX PAGE.pbm FOLDER"""
 
 import os
 import pty
 import select
+import signal
 import subprocess
 import sys
+import threading
+import time
+import tty
 
 OK, ERROR = b"\r\nOK\r\n", b"\r\nERROR\r\n"
+CAN = b"\x18"
+DIS = bytes.fromhex("ff1380006efa44") + bytes(2)  # and two octets in place of its check sequence
+FRAME = b"\r\nCONNECT\r\n" + DIS.replace(b"\x10", b"\x10\x10") + b"\x10\x03" + OK
+FAULTS = []
 
 
-def ends(name, wanted, reply, stop_at=None):
-    """Runs softfax with a modem that has this reply to what it is told; closes the pty when it is told `stop_at`."""
-    master, slave = pty.openpty()
-    words = [sys.argv[1], "--tty", os.ttyname(slave), "--call", "5551234", sys.argv[2]]
-    with subprocess.Popen(words, stderr=subprocess.PIPE, text=True) as program:
-        while program.poll() is None and master is not None:
-            if not select.select([master], [], [], 0.1)[0]:
+class Call:
+    """A call by softfax over a modem that has a reply to each command."""
+
+    def __init__(self, name, wanted, reply, **more):
+        self.name, self.wanted, self.reply = name, wanted, reply
+        self.words = more.get("words", ["--call", "5551234", sys.argv[2]])
+        self.within = more.get("within", 15)     # seconds
+        self.goes_at = more.get("goes_at")       # the tty goes when this is told
+        self.kills_at = more.get("kills_at")     # SIGTERM comes half a second after this is told
+        self.must_say = more.get("must_say", b"")
+        self.floods = more.get("floods", False)  # it says octets without end
+        self.told = b""
+
+    def serve(self, master, slave, program):
+        """Replies until the program ends, or is too late."""
+        ends, kill = time.monotonic() + self.within, None
+        while program.poll() is None and time.monotonic() < ends:
+            if kill is not None and time.monotonic() > kill:
+                program.send_signal(signal.SIGTERM)
+                self.kills_at = kill = None
+            if self.floods and select.select([], [master], [], 0)[1]:
+                os.write(master, b"~" * 1000)
+            if not select.select([master], [], [], 0 if self.floods else 0.05)[0]:
                 continue
-            told = os.read(master, 500)
-            if stop_at is not None and told.startswith(stop_at):
-                os.close(slave)
-                os.close(master)
-                master = None
-            else:
-                os.write(master, reply(told))
-        said = program.stderr.read()
-        status = program.wait(30)
-    if status != 1 or wanted not in said:
-        sys.exit(f"{name}: softfax ended with status {status}, and said: {said}")
-    if master is not None:
+            for piece in os.read(master, 500).replace(CAN, CAN + b"\r").split(b"\r"):
+                if not piece:
+                    continue
+                self.told += piece + b"\r"
+                if self.kills_at and self.kills_at in piece:
+                    kill = time.monotonic() + 0.5
+                if self.goes_at and self.goes_at in piece:
+                    os.close(slave)
+                    os.close(master)
+                    program.wait(self.within)
+                    return
+                os.write(master, self.reply(piece))
         os.close(slave)
         os.close(master)
 
+    def run(self):
+        master, slave = pty.openpty()
+        tty.setraw(slave)
+        words = [sys.argv[1], "--tty", os.ttyname(slave), *self.words]
+        began = time.monotonic()
+        with subprocess.Popen(words, stderr=subprocess.PIPE, text=True) as program:
+            try:
+                self.serve(master, slave, program)
+            finally:
+                is_late = program.poll() is None
+                if is_late:
+                    program.kill()
+            said = program.stderr.read()
+        if is_late or program.returncode != 1 or self.wanted not in said or self.must_say not in self.told:
+            late = "too late" if is_late else f"with status {program.returncode}"
+            FAULTS.append(f"{self.name}: softfax ended {late} after {time.monotonic() - began:.1f} s, was heard to say {self.told!r}, "
+                          f"and told: {said}")
 
-ends("a modem that is silent", "it doesn't answer to ATZ", lambda told: b"")
-ends("a line that echoes", "it echoes, but has no result for ATZ", lambda told: told + b"\n")
-ends("a modem without Class 1", "it has no Class 1: it says ERROR to AT+FCLASS=1", lambda told: ERROR if b"FCLASS" in told else OK)
-ends("a busy line", "the modem says BUSY", lambda told: b"\r\nBUSY\r\n" if told.startswith(b"ATD") else OK)
-ends("no dial tone", "the modem says NO DIALTONE", lambda told: b"\r\nNO DIALTONE\r\n" if told.startswith(b"ATD") else OK)
-ends("a tty that goes", "the tty is gone", lambda told: OK, b"ATD")
+
+def until(text, first, then):
+    """A reply that is `first` until a command has this text, which `then` replies to; after it there is none."""
+    state = {"is": True}
+
+    def reply(told):
+        if not state["is"]:
+            return b""
+        state["is"] = text not in told
+        return first if state["is"] else then
+
+    return reply
+
+
+def replies(**other):
+    """OK to anything but to what begins so."""
+    return lambda told: next((other[begin] for begin in other if told.startswith(b"AT" + begin.encode())), OK)
+
+
+def lists(told):
+    return b"\r\n3\r\n\r\nOK\r\n" if told.endswith(b"=?") else OK
+
+
+def dials(told):
+    return b"" if told.startswith(b"ATD") else OK
+
+
+ANSWER = ["--answer", sys.argv[3]]
+CALL = ["--call", "5551234", sys.argv[2]]
+BUSY = replies(D=b"\r\nBUSY\r\n")
+CALLS = [
+    Call("a modem that is silent", "it doesn't answer to ATZ", lambda told: b""),
+    Call("a line that echoes", "it echoes, but has no result for ATZ", lambda told: told + b"\r\n"),
+    Call("a modem that floods", "it doesn't answer to ATZ", lambda told: b"", floods=True),
+    Call("a modem without Class 1", "it has no Class 1: it says ERROR to AT+FCLASS=1",
+         lambda told: ERROR if b"FCLASS" in told else OK),
+    Call("a modem without V.27 ter", "it has no V.27 ter by AT+FTM=?", lists),
+    Call("a command of the set-up", "it says ERROR to AT&K9", lambda told: ERROR if b"&K9" in told else OK,
+         words=["--init", "AT&K9", *CALL]),
+    Call("a modem by name", "the modem says BUSY", BUSY, words=["--init", "conexant", "--init", "ATM0", *CALL],
+         must_say=b"AT&FE0&K3\rATM0\rAT+FCLASS=1\r"),
+    Call("a modem by name with XON", "the modem says BUSY", BUSY, words=["--init", "usr", "--xon", *CALL], must_say=b"AT&F2E0\r"),
+    Call("a busy line", "the modem says BUSY", BUSY),
+    Call("no dial tone", "the modem says NO DIALTONE", replies(D=b"\r\nNO DIALTONE\r\n")),
+    Call("a tty that goes", "the tty is gone", lambda told: OK, goes_at=b"ATD"),
+    Call("a modem that falls silent amid a call", "the modem has fallen silent", until(b"ATD", OK, FRAME), within=45),
+    Call("a modem that is asked for nothing, and falls silent", "the modem has fallen silent", until(b"=?", OK, OK), words=ANSWER, within=60),
+    Call("SIGTERM while it dials", "end no-call confirmed 0", dials, kills_at=b"ATD", must_say=b"ATH0\r"),
+    Call("SIGTERM while it waits for a ring", "end no-call pages 0", lambda told: OK, words=ANSWER, kills_at=b"=?", must_say=b"ATH0\r"),
+    Call("no ring in time", "end no-call pages 0", lambda told: OK, words=[*ANSWER, "--most-seconds", "2"], must_say=b"ATH0\r"),
+]
+
+THREADS = [threading.Thread(target=call.run) for call in CALLS]
+for thread in THREADS:
+    thread.start()
+for thread in THREADS:
+    thread.join()
+if FAULTS:
+    sys.exit("\n".join(FAULTS))
+print(f"softfax: {len(CALLS)} modems that fail and calls that are stopped are told in time")

@@ -11,7 +11,7 @@ void options_usage(void)
 {
     fprintf(stderr,
         "usage: softfax --call PAGE.pbm.. | --answer DIR   --rx IN --tx OUT [--wav FILE]\n"
-        "       softfax --tty DEVICE --call NUMBER PAGE.pbm.. | --answer DIR [--rings N]   [--init COMMAND] [--xon] [--trace-at FILE]\n"
+        "       softfax --tty DEVICE --call NUMBER PAGE.pbm.. | --answer DIR [--rings N]   [--init COMMAND|NAME].. [--xon] [--trace-at FILE]\n"
         "       [--modems v17|v29|v27ter] [--code mmr|mh] [--fine] [--square] [--no-ctc] [--id NAME] [--most-seconds N] [--json]\n"
         "       [--tell]\n");
 }
@@ -48,11 +48,19 @@ static int read_text(options *out, const char *name, const char *value)
 {
     const struct { const char *name; const char **to; } TEXTS[] = {
         {"--rx", &out->rx}, {"--tx", &out->tx}, {"--wav", &out->wav}, {"--answer", &out->folder}, {"--tty", &out->tty},
-        {"--init", &out->init}, {"--trace-at", &out->trace}, {"--id", &out->identity}};
+        {"--trace-at", &out->trace}, {"--id", &out->identity}};
     for (size_t i = 0; i < sizeof TEXTS / sizeof TEXTS[0]; i++) {
         if (strcmp(name, TEXTS[i].name) == 0) return *TEXTS[i].to = value, 1;
     }
     return 0;
+}
+
+/* Adds a command of the set-up, or a name. */
+static int add_init(options *out, const char *text)
+{
+    if (out->init_count == MOST_INITS || !is_command(text)) return 0;
+    out->inits[out->init_count++] = text;
+    return 1;
 }
 
 /* Reads an option that has a value; returns whether it is one. */
@@ -64,6 +72,7 @@ static int read_value(options *out, const char *name, const char *value)
     if (strcmp(name, "--code") == 0) return (out->coding = place_of(value, CODES)) != 0;
     if (strcmp(name, "--rings") == 0) return (out->rings = number_of(value, 100)) != 0;
     if (strcmp(name, "--most-seconds") == 0) return (out->most_seconds = number_of(value, 1000000)) != 0;
+    if (strcmp(name, "--init") == 0) return add_init(out, value);
     return read_text(out, name, value);
 }
 
@@ -92,12 +101,12 @@ static void take_number(options *out)
 static int is_command_line(const options *it)
 {
     int has_streams = it->rx != NULL && it->tx != NULL, has_stream = it->rx != NULL || it->tx != NULL || it->wav != NULL;
-    int is_of_tty = it->init != NULL || it->trace != NULL || it->xon;
+    int is_of_tty = it->init_count > 0 || it->trace != NULL || it->xon;
     if (it->calls == it->answers || it->calls != (it->count > 0)) return 0;
     if (it->identity != NULL && !identity_is(it->identity)) return 0;
     if (it->tty == NULL) return has_streams && !is_of_tty;
     if (it->calls && (it->number == NULL || !is_command(it->number))) return 0;
-    return !has_stream && (it->init == NULL || is_command(it->init));
+    return !has_stream;
 }
 
 int options_read(options *out, int argc, char **argv)

@@ -1,6 +1,7 @@
 #include "pages.h"
 #include "files.h"
 #include "record.h"
+#include "told.h"
 #include <errno.h>
 #include <fcntl.h>
 #include <string.h>
@@ -9,7 +10,7 @@
 
 static int fails(const char *name, const char *why)
 {
-    fprintf(stderr, "softfax: %s: %s\n", name, why);
+    told_fault(name, why);
     return 0;
 }
 
@@ -163,11 +164,13 @@ int pages_keep(void *user, g3_page *page)
     g3_status status = g3_page_size(page, &size);
     if (status == G3_OK && folder->square) status = make_square(page, &size, &square);
     if (status == G3_OK) status = write_image(square.at != NULL ? &square : page, &octets, &length);
+    int is_doubled = square.at != NULL;
     int is_kept = status == G3_OK ? write_new(folder, octets, length, name, sizeof name) : fails(folder->name, g3_status_text(status));
     folder->kept += (unsigned)is_kept;
     free(octets);
     g3_page_free(&square);
-    record_page record = {"stored", folder->kept, name, size.width, size.rows, size.fine, folder->peer != NULL ? folder->peer : ""};
+    record_page record = {"stored", folder->kept, name, size.width, size.rows, size.fine, is_doubled,
+        folder->peer != NULL ? folder->peer : ""};
     if (is_kept && folder->json) record_page_json(&record);
     return is_kept;
 }

@@ -9,12 +9,13 @@ typedef struct record_page {
     uint64_t number;    /* from 1 */
     const char *file;
     uint32_t width, rows, fine;
+    int square;         /* the file has each row twice */
     const char *peer;   /* how the other station has named itself; "": not */
 } record_page;
 void record_page_json(const record_page *it);
 
 typedef struct record_end {
-    const char *end;    /* "normal", or why not, in a word */
+    const char *end;    /* "normal", or why not, in a word: those of STATION.md, "refused" by the terminal itself, "no-call" */
     const char *what;   /* "confirmed" or "pages" */
     uint64_t pages;
     const char *peer, *why; /* why: in words; NULL: nothing more is known */

@@ -1,7 +1,8 @@
 #!/bin/sh
 # Builds softfax and its tests, and runs them: calls of the terminal with itself over plain bits, also with each growth of memory refused in
 # turn; calls over libspandsp's modems and over its Class 1 modem, with its own terminal each way and with itself; two processes that are
-# joined by two pipes, or by two ttys; and what softfax says of wrong files, signals, streams that stall and modems that fail.
+# joined by two pipes, or by two ttys, under the sanitizers, also with growths of memory refused, and under valgrind; and what softfax says of
+# wrong files, signals, streams that stall and modems that fail.
 #
 #     bindings/c/softfax/run.sh [--audio | --table SEEDS]
 #
@@ -13,8 +14,8 @@ here=$(cd "$(dirname "$0")" && pwd)
 LIB=${LIB:-$here/../../build}
 OUT=${OUT:-$here/build}
 work=$(mktemp -d)
-exchange=
-trap '[ -z "$exchange" ] || kill "$exchange"; rm -rf "$work"' EXIT
+exchange='' modems=''
+trap 'for one in $exchange $modems; do kill "$one" 2> /dev/null || true; done; rm -rf "$work"' EXIT
 
 fails() {
     echo "softfax: FAILED: $*" >&2
@@ -29,7 +30,7 @@ joins() {
     rm -f "$work/to" "$work/from"
     mkfifo "$work/to" "$work/from"
     timeout 60 "$answerer" --answer "$work/got" --rx "$work/to" --tx "$work/from" 2> "$work/answerer" &
-    timeout 60 "$OUT/softfax" --call "$@" --rx "$work/from" --tx "$work/to" 2> "$work/caller" || status=$?
+    timeout 60 "$softfax" --call "$@" --rx "$work/from" --tx "$work/to" 2> "$work/caller" || status=$?
     [ "$status" = "$caller_status" ] || { cat "$work/caller" "$work/answerer" >&2; fails "the caller ended with status $status"; }
     status=0
     wait $! || status=$?
@@ -40,32 +41,43 @@ joins() {
 refuses() {
     wanted=$1 text=$2 status=0
     shift 2
-    timeout 60 "$OUT/softfax" "$@" > /dev/null 2> "$work/said" < /dev/null || status=$?
+    timeout 60 "$softfax" "$@" > /dev/null 2> "$work/said" < /dev/null || status=$?
     [ "$status" = "$wanted" ] || fails "softfax $* ended with status $status"
     grep -q "$text" "$work/said" || fails "softfax $* said: $(cat "$work/said")"
 }
 
 make -s -C "$here" LIB="$LIB" OUT="$OUT" softfax softfax-test bench
+softfax=$OUT/softfax
+# the program runs under the sanitizers, where the compiler has them: status 99 is a report
+if make -s -C "$here" LIB="$LIB" OUT="$OUT" softfax-checked > "$work/said" 2>&1; then
+    softfax=$OUT/softfax-checked
+    export ASAN_OPTIONS=exitcode=99 UBSAN_OPTIONS=exitcode=99:print_stacktrace=1
+fi
 if [ "$1" != --audio ]; then
     make -s -C "$here" LIB="$LIB" OUT="$OUT" bits-test class1-test memory-test
     "$OUT/bits-test"
     "$OUT/class1-test"
     "$OUT/memory-test"
 fi
+
+# modems that fail, by the machine's clock: they are tried beside the rest
+{ printf 'P4\n1728 40\n'; seq 10000 99999 | head -c 8640; } > "$work/short.pbm"
+mkdir "$work/got" "$work/unused"
+timeout 200 python3 "$here/modems.py" "$softfax" "$work/short.pbm" "$work/unused" > "$work/modems" 2>&1 &
+modems=$!
 "$OUT/softfax-test" "$work"
 "$OUT/bench" "$work"
 
 # pages whose pixels are text
 for page in 1 2; do { printf 'P4\n1728 200\n'; seq "$page"0000 99999 | head -c 43200; } > "$work/$page.pbm"; done
-mkdir "$work/got"
-joins 0 0 "$OUT/softfax" -- "$work/1.pbm" "$work/2.pbm" --wav "$work/call.wav" --id "+49 30 1234"
+joins 0 0 "$softfax" -- "$work/1.pbm" "$work/2.pbm" --wav "$work/call.wav" --id "+49 30 1234"
 for page in 1 2; do cmp "$work/$page.pbm" "$work/got/page-$page.pbm" || fails "page $page is another"; done
 ends=$(cat "$work/caller" "$work/answerer" | tr '\n' ' ')
 [ "$ends" = "end normal confirmed 2 end normal pages 2 " ] || fails "the ends are $ends"
 [ "$(head -c 4 "$work/call.wav")" = RIFF ] || fails "call.wav"
 
 # a page that can't be written: files may have 512 octets here, which is as if the disk were full
-printf '#!/bin/sh\ntrap "" XFSZ\nulimit -f 1\nexec "%s" "$@"\n' "$OUT/softfax" > "$work/narrow"
+printf '#!/bin/sh\nulimit -f 1\nexec "%s" "$@"\n' "$softfax" > "$work/narrow"
 chmod +x "$work/narrow"
 joins 1 1 "$work/narrow" -- "$work/1.pbm"
 grep -q "part: File too large" "$work/answerer" || fails "the answerer said: $(cat "$work/answerer")"
@@ -74,12 +86,12 @@ grep -q "confirmed 0" "$work/caller" || fails "a page that isn't kept was confir
 [ "$(stat -c %a "$work/got/page-1.pbm")" = 600 ] || fails "page-1.pbm has mode $(stat -c %a "$work/got/page-1.pbm")"
 
 # records; and a page of 3.85 lines as square pixels, after a name that is taken
-printf '#!/bin/sh\nexec "%s" "$@" --json --square --id "0 1"\n' "$OUT/softfax" > "$work/records"
+printf '#!/bin/sh\nexec "%s" "$@" --json --square --id "0 1"\n' "$softfax" > "$work/records"
 chmod +x "$work/records"
 echo taken > "$work/got/page-3.pbm"
 joins 0 0 "$work/records" -- "$work/1.pbm" --json --id "+49 30 1234"
 has() { grep -qF "$2" "$work/$1" || fails "the $1 recorded: $(cat "$work/$1")"; }
-has answerer '{"stored":1,"file":"'"$work"'/got/page-4.pbm","width":1728,"rows":200,"fine":false,"peer":"+49 30 1234"}'
+has answerer '{"stored":1,"file":"'"$work"'/got/page-4.pbm","width":1728,"rows":200,"fine":false,"square":true,"peer":"+49 30 1234"}'
 has answerer '{"end":"normal","pages":1,"peer":"+49 30 1234"}'
 has caller '{"confirmed":1,"file":"'"$work"'/1.pbm","width":1728,"rows":200,"fine":false,"peer":"0 1"}'
 has caller '{"end":"normal","confirmed":1,"peer":"0 1"}'
@@ -108,7 +120,7 @@ refuses 1 "end line-lost pages 0" --answer "$work" --rx /dev/null --tx /dev/null
 refuses 1 "end no-answer confirmed 0" --call "$work/1.pbm" --rx /dev/zero --tx /dev/null
 refuses 1 "end no-answer pages 0" --answer "$work" --rx /dev/zero --tx "$work/said.raw"
 # who listens goes away: the call goes on as on a line that carries nothing that way
-(timeout 60 "$OUT/softfax" --answer "$work" --rx /dev/zero --tx - 2> "$work/said" || true) | head -c 1000 > /dev/null
+(timeout 60 "$softfax" --answer "$work" --rx /dev/zero --tx - 2> "$work/said" || true) | head -c 1000 > /dev/null
 grep -q "end no-answer pages 0" "$work/said" || fails "softfax said of a closed pipe: $(cat "$work/said")"
 
 # a stream that stalls ends no signal's work, nor does a pipe that nobody opens; and --most-seconds ends both
@@ -116,7 +128,7 @@ mkfifo "$work/still" "$work/unread"
 stops() { # stops SECONDS TEXT WORDS: it ends so after SIGTERM, which comes after a second if SECONDS is 1
     signalled=$1 text=$2
     shift 2
-    timeout 20 "$OUT/softfax" "$@" > /dev/null 2> "$work/said" < /dev/null &
+    timeout --foreground 20 "$softfax" "$@" > /dev/null 2> "$work/said" < /dev/null &
     if [ "$signalled" = 1 ]; then sleep 1; kill -TERM $!; fi
     status=0
     wait $! || status=$?
@@ -130,31 +142,90 @@ stops 0 "end stopped pages 0" --answer "$work" --rx "$work/still" --tx /dev/null
 kill "$holder"
 stops 1 "end stopped confirmed 0" --call "$work/1.pbm" --rx /dev/zero --tx "$work/unread"
 stops 0 "end stopped confirmed 0" --call "$work/1.pbm" --rx /dev/zero --tx /dev/null --most-seconds 5
+# nor does standard error, which nobody reads, and which is full
+mkfifo "$work/err"
+sleep 60 < "$work/err" &
+holder=$!
+head -c 65536 /dev/zero > "$work/err"
+status=0
+timeout 20 "$softfax" --answer "$work" --rx /dev/null --tx /dev/null 2> "$work/err" || status=$?
+[ "$status" = 1 ] || fails "softfax with nobody to tell it to ended with status $status"
+kill "$holder"
 echo "softfax: two processes carry pages over two pipes; wrong files are told, and signals heeded"
+
+
+if [ "$softfax" = "$OUT/softfax-checked" ]; then
+    { printf 'P4\n1728 8\n'; seq 10000 99999 | head -c 1728; } > "$work/few.pbm"
+    mkdir "$work/refusals"
+    timeout 300 python3 "$here/refusals.py" "$softfax" "$work/few.pbm" "$work/refusals"
+fi
 
 # modems that fail
 refuses 2 usage --tty /dev/null --call 1
 refuses 2 usage --tty /dev/null --call 1 "$work/1.pbm" --rx /dev/zero
 refuses 2 usage --tty /dev/null --call 1 "$work/1.pbm" --id "a name"
+refuses 2 usage --tty /dev/null --answer "$work" --init AT1 --init AT2 --init AT3 --init AT4 --init AT5
+refuses 1 "inits.txt: it doesn't have that modem" --tty /dev/null --call 1 "$work/1.pbm" --init another
 refuses 1 "none: No such file" --tty "$work/none" --call 1 "$work/1.pbm"
 refuses 1 "/dev/null: Inappropriate ioctl" --tty /dev/null --call 1 "$work/1.pbm"
-timeout 120 python3 "$here/modems.py" "$OUT/softfax" "$work/1.pbm" "$work"
 
 # two processes over two ttys, in real time
-{ printf 'P4\n1728 40\n'; seq 10000 99999 | head -c 8640; } > "$work/short.pbm"
 "$OUT/bench" --ptys "$work/tty0" "$work/tty1" &
 exchange=$!
 while [ ! -e "$work/tty1" ]; do sleep 0.1; done
-timeout 120 "$OUT/softfax" --tty "$work/tty1" --answer "$work/got" --trace-at "$work/trace" 2> "$work/answerer" &
-answerer=$!
-status=0
-timeout 120 "$OUT/softfax" --tty "$work/tty0" --call 5551234 "$work/short.pbm" 2> "$work/caller" || status=$?
-[ "$status" = 0 ] || { cat "$work/caller" "$work/answerer" "$work/trace" >&2; fails "the caller on a tty ended with status $status"; }
-wait $answerer || fails "the answerer on a tty ended with status $?"
+
+# ttys CALLER_STATUS ANSWERER_STATUS PAGE SIGNALS: a call; its caller gets so many SIGINTs once its page goes out
+ttys() {
+    rm -f "$work/caller.at" # of the call before
+    timeout 120 "$softfax" --tty "$work/tty1" --answer "$work/got" --trace-at "$work/answerer.at" 2> "$work/answerer" &
+    answerer=$! status=0
+    timeout --foreground 120 "$softfax" --tty "$work/tty0" --call 5551234 "$3" --trace-at "$work/caller.at" 2> "$work/caller" &
+    caller=$!
+    for number in $(seq "$4"); do
+        until grep -q "AT+FTM=146" "$work/caller.at" 2> /dev/null || ! kill -0 "$caller" 2> /dev/null; do sleep 0.1; done
+        sleep 0.5
+        kill -INT "$caller" 2> /dev/null || fails "the caller had ended before signal $number"
+    done
+    wait "$caller" || status=$?
+    [ "$status" = "$1" ] || { cat "$work/caller" "$work/caller.at" >&2; fails "the caller on a tty ended with status $status"; }
+    status=0
+    wait "$answerer" || status=$?
+    [ "$status" = "$2" ] || { cat "$work/answerer" "$work/answerer.at" >&2; fails "the answerer on a tty ended with status $status"; }
+}
+
+lock=/var/lock/LCK..$(basename "$(readlink "$work/tty0")")
+if (echo $$ > "$lock") 2> /dev/null; then
+    refuses 1 "process $$ has it" --tty "$work/tty0" --call 1 "$work/short.pbm"
+    echo 99999999 > "$lock" # a process that is gone
+fi
+ttys 0 0 "$work/short.pbm" 0
 cmp "$work/short.pbm" "$work/got/page-5.pbm" || fails "the page over two ttys is another"
-grep -q "> AT+FCLASS=1" "$work/trace" || fails "the trace is $(cat "$work/trace")"
+grep -q "> AT+FCLASS=1" "$work/caller.at" || fails "the trace is $(cat "$work/caller.at")"
+[ ! -e "$lock" ] || fails "$lock is left"
+# two signals amid a block of half a minute: it is cut, and DCN goes out
+{ printf 'P4\n1728 200\n'; seq 200000 | gzip -n | head -c 43200; } > "$work/dense.pbm"
+ttys 1 1 "$work/dense.pbm" 2
+grep -q "end stopped confirmed 0" "$work/caller" || fails "after two signals the caller said: $(cat "$work/caller")"
+grep -q "end peer-left pages 0" "$work/answerer" || fails "after two signals to the caller the answerer said: $(cat "$work/answerer")"
 kill "$exchange"
 exchange=
-echo "softfax: two processes carry a page over two ttys; modems that fail are named"
+echo "softfax: two processes carry a page over two ttys, and two signals end a call by DCN"
+
+if command -v valgrind > /dev/null; then
+    make -s -C "$here" LIB="$LIB" OUT="$OUT" memory-test
+    valgrind -q --error-exitcode=99 --leak-check=full "$OUT/memory-test" 100 30 > "$work/said" 2>&1 || { cat "$work/said" >&2; fails valgrind; }
+    printf '#!/bin/sh\nexec valgrind -q --error-exitcode=99 --leak-check=full --track-fds=yes "%s" "$@"\n' "$OUT/softfax" > "$work/valgrind"
+    chmod +x "$work/valgrind"
+    softfax=$work/valgrind
+    joins 0 0 "$softfax" -- "$work/short.pbm" "$work/short.pbm" --wav "$work/valgrind.wav"
+    ! grep "Open file descriptor.*: $work" "$work/caller" "$work/answerer" || fails "a descriptor is left open"
+    echo "softfax: valgrind finds nothing in a call over libspandsp's modems, nor where growths are refused"
+else
+    echo "softfax: valgrind isn't installed"
+fi
+
+wait "$modems" || { cat "$work/modems" >&2; fails "modems.py"; }
+modems=
+cat "$work/modems"
 
 if [ "$1" = --table ]; then "$OUT/softfax-test" "$work" --table "${2:-1}"; fi

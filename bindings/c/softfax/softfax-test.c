@@ -148,7 +148,7 @@ static int try_without_correction(const paper *papers, const char *folder)
     trial kind = {.line = LINES[0], .modems = G3_V17, .coding = G3_MMR, .pages = 1, .limit = 2, .papers = papers, .has_no_correction = 1};
     if (!begin(0, &kind, 1, folder, &caller) || !begin(1, &kind, 0, folder, &answerer)) return 0;
     trial_run(&caller, &answerer, &kind, &came);
-    int is_right = strcmp(came.answerer, "stopped") == 0 && came.equal + came.wrong == 0 && came.seconds <= SOON;
+    int is_right = strcmp(came.answerer, "refused") == 0 && came.equal + came.wrong == 0 && came.seconds <= SOON;
     printf("softfax: a caller without error correction: %s after %u s\n", came.answerer, came.seconds);
     return is_right;
 }

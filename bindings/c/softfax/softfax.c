@@ -11,12 +11,14 @@
 #include "call.h"
 #include "sound.h"
 #include "stop.h"
+#include "told.h"
 #include "tty.h"
 #include <string.h>
 
 enum { PIECE = 4 * SLICE };
 enum { AFTER_LINE = 25 };        /* pieces of silence that are heard after the other side's end, 0.5 s: what it said last may be DCN */
-enum { STALLS_AFTER_STOP = 30 }; /* how often a stream may stall, SOUND_PATIENCE each, in a call that is to end */
+/* how often a stream may stall, SOUND_PATIENCE each, in a call that is to end, by how */
+static const int MOST_STALLS[] = {[STOP_IN_ORDER] = 30, [STOP_SOON] = 5, [STOP_AT_ONCE] = 0};
 
 typedef struct streams {
     sound in, out;
@@ -41,11 +43,18 @@ static int open_streams(call *it, streams *to)
     return given->calls || open_out(it, to);
 }
 
+/* Whether a stream that has stalled so often is given up. */
+static int gives_up(call *it, int stalls)
+{
+    int level = stalls > 0 ? call_heed(it) : STOP_NOT;
+    return level != STOP_NOT && stalls > MOST_STALLS[level];
+}
+
 static int writes(call *it, streams *to, const int16_t *said)
 {
     int is = SOUND_STALLS;
     for (int stalls = 0; is == SOUND_STALLS; stalls++) {
-        if (stalls > 0 && (call_heed(it) == STOP_AT_ONCE || (it->stop != STOP_NOT && stalls > STALLS_AFTER_STOP))) return SOUND_ENDS;
+        if (gives_up(it, stalls)) return SOUND_ENDS;
         is = sound_write(&to->out, said, PIECE);
     }
     return is;
@@ -55,7 +64,7 @@ static int reads(call *it, streams *from, int16_t *heard)
 {
     int is = SOUND_STALLS;
     for (int stalls = 0; is == SOUND_STALLS; stalls++) {
-        if (stalls > 0 && (call_heed(it) == STOP_AT_ONCE || (it->stop != STOP_NOT && stalls > STALLS_AFTER_STOP))) return SOUND_ENDS;
+        if (gives_up(it, stalls)) return SOUND_ENDS;
         is = sound_read(&from->in, heard, PIECE);
     }
     return is;
@@ -90,10 +99,11 @@ static int run_sound(call *it)
 {
     streams over = {.in = {.stream = -1}, .out = {.stream = -1}};
     modem *modem = modem_new();
-    if (modem == NULL) fprintf(stderr, "softfax: %s\n", g3_status_text(G3_NO_MEMORY));
+    if (modem == NULL) told_fault("a modem", g3_status_text(G3_NO_MEMORY));
     int is_well = modem != NULL && call_begin(it, G3_V17, &modem_of_sound, modem) && open_streams(it, &over) && run(it, &over);
     if (over.wav != NULL) is_well &= wav_close(over.wav, it->given->wav);
     if (it->terminal != NULL && !call_is_over(it)) terminal_lose(it->terminal);
+    is_well &= sound_close(&over.in) & sound_close(&over.out);
     modem_of_sound.free(modem);
     return is_well;
 }

@@ -1,4 +1,5 @@
 #include "sound.h"
+#include "told.h"
 #include <errno.h>
 #include <fcntl.h>
 #include <poll.h>
@@ -9,7 +10,7 @@
 /* Tells why the last call of the system failed. */
 static int fails(const char *name)
 {
-    fprintf(stderr, "softfax: %s: %s\n", name, strerror(errno));
+    told_fault(name, strerror(errno));
     return SOUND_FAILS;
 }
 
@@ -33,6 +34,13 @@ int sound_open_out(sound *it, const char *name)
     if (errno != ENXIO && errno != EINTR) return fails(name);
     poll(NULL, 0, SOUND_PATIENCE);
     return SOUND_STALLS;
+}
+
+int sound_close(sound *it)
+{
+    int stream = it->stream;
+    it->stream = -1;
+    return stream < 0 || close(stream) == 0 || errno == EINTR || fails(it->name) == SOUND_IS_THERE;
 }
 
 /* Waits until something can be read or written; returns whether it can. */
@@ -62,7 +70,7 @@ int sound_read(sound *it, int16_t *samples, int count)
     size_t done = it->done;
     it->done = 0;
     if (done % sizeof *samples != 0) {
-        fprintf(stderr, "softfax: %s: it ends in the middle of a sample\n", it->name);
+        told_fault(it->name, "it ends in the middle of a sample");
         return SOUND_FAILS;
     }
     return done == length ? SOUND_IS_THERE : SOUND_ENDS;
@@ -129,6 +137,6 @@ int wav_close(FILE *file, const char *name)
     put_header(file, end < WAV_HEADER ? 0 : (uint32_t)end - WAV_HEADER);
     int is_whole = !ferror(file) && end >= WAV_HEADER;
     if (fclose(file) != 0) is_whole = 0;
-    if (!is_whole) fprintf(stderr, "softfax: %s: it can't be written whole\n", name);
+    if (!is_whole) told_fault(name, "it can't be written whole");
     return is_whole;
 }

@@ -19,6 +19,9 @@ enum { SOUND_PATIENCE = 100 }; /* milliseconds that a function here waits at mos
 int sound_open_in(sound *it, const char *name);
 int sound_open_out(sound *it, const char *name);
 
+/* Closes a stream that is open; returns whether nothing failed. */
+int sound_close(sound *it);
+
 /* Reads or writes a piece of so many samples. SOUND_STALLS: it isn't through; go on with the same samples. If a stream ends earlier, the
  * rest is zeros. If nobody reads a pipe any more, the stream has ended. */
 int sound_read(sound *it, int16_t *samples, int count);

@@ -3,10 +3,10 @@
 #include <stddef.h>
 #include <time.h>
 
-enum { LAST_MINUTE = 60000 };
+enum { IN_ORDER_MILLIS = 60000, SOON_MILLIS = 10000 };
 
 static volatile sig_atomic_t signals;
-static int64_t began, stopped, most; /* milliseconds; stopped: 0 until the call is */
+static int64_t began, most, stopped, hurried; /* milliseconds; stopped and hurried: 0 until the call is */
 
 static void on_signal(int number)
 {
@@ -23,13 +23,17 @@ int64_t stop_clock(void)
 
 void stop_watch(int most_seconds)
 {
-    struct sigaction action = {.sa_handler = on_signal}, ignored = {.sa_handler = SIG_IGN};
+    static const int HEEDED[] = {SIGINT, SIGTERM, SIGHUP};
+    struct sigaction action = {.sa_handler = on_signal}, ignored = {.sa_handler = SIG_IGN}, was;
     began = stop_clock();
     most = (int64_t)most_seconds * 1000;
-    sigemptyset(&action.sa_mask);
-    sigaction(SIGINT, &action, NULL);
-    sigaction(SIGTERM, &action, NULL);
+    sigfillset(&action.sa_mask); /* one at a time, or one of two isn't counted */
+    for (size_t i = 0; i < sizeof HEEDED / sizeof HEEDED[0]; i++) {
+        int is_left = HEEDED[i] == SIGHUP && sigaction(SIGHUP, NULL, &was) == 0 && was.sa_handler == SIG_IGN; /* as nohup has it */
+        if (!is_left) sigaction(HEEDED[i], &action, NULL);
+    }
     sigaction(SIGPIPE, &ignored, NULL);
+    sigaction(SIGXFSZ, &ignored, NULL);
 }
 
 int stop_level(int64_t line_millis)
@@ -39,5 +43,7 @@ int stop_level(int64_t line_millis)
     int level = signals;
     if (level == STOP_NOT && is_late) level = STOP_IN_ORDER;
     if (level != STOP_NOT && stopped == 0) stopped = now;
-    return level != STOP_NOT && now - stopped >= LAST_MINUTE ? STOP_AT_ONCE : level;
+    if (level == STOP_IN_ORDER && now - stopped >= IN_ORDER_MILLIS) level = STOP_SOON;
+    if (level == STOP_SOON && hurried == 0) hurried = now;
+    return level == STOP_SOON && now - hurried >= SOON_MILLIS ? STOP_AT_ONCE : level;
 }

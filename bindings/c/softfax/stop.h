@@ -3,12 +3,14 @@
 #define STOP_H
 #include <stdint.h>
 
-enum { STOP_NOT, STOP_IN_ORDER, STOP_AT_ONCE };
+/* In order: by DCN, after the burst that goes out. Soon: by DCN, and the burst is cut. At once: the line is left as it is. */
+enum { STOP_NOT, STOP_IN_ORDER, STOP_SOON, STOP_AT_ONCE };
 
-/* Heeds the signals from now on. They end waits: no call of the system is begun anew. `most_seconds`: 0 for no limit. */
+/* Heeds SIGINT, SIGTERM and SIGHUP from now on, the last unless it is ignored already. They end waits: no call of the system is begun anew.
+ * A pipe that nobody reads, or a file that is too long, is an error then, and no signal. `most_seconds`: 0 for no limit. */
 void stop_watch(int most_seconds);
 /* How the call is to be stopped: in order after the first signal, or once the machine's clock or the line's, `line_millis`, is past the
- * limit; at once after the second signal, or if a minute more has passed on the machine's clock. */
+ * limit; soon after the second signal, or a minute more of the machine's clock; at once after the third, or 10 s more. */
 int stop_level(int64_t line_millis);
 /* Milliseconds of a clock that is never set back. */
 int64_t stop_clock(void);

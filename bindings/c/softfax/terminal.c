@@ -13,6 +13,7 @@ enum {
     BEFORE_CARRIER = 75,      /* silence (T.30, 5.3) */
     AFTER_CALL = 200,         /* silence after the last carrier, so that the line carries all of it */
     LONGEST_UNREAD = 6000,    /* a signal with no frame where no page is awaited: after that it is the line's hiss */
+    LONGEST_READ = 60000,     /* a signal with frames on and on, beside the longest block: nobody who means it says more at once */
     LONGEST_CRACKLE = 300000, /* a line that is never silent for long, with no frame: T1 is over, whatever else is heard */
     LONGER_T2 = 7000,         /* T.30 has 6 s and a sixth to either side: by 7 s a caller's T4, 3 s, has run out twice for certain */
     LATEST_CHECK = 3600,      /* after a DCS: 75 ms, 1.4 s of V.17's training, 1.5 s, and how late the other side may be */
@@ -31,6 +32,7 @@ struct terminal {
     const modem_kind *kind;
     modem *modem;
     const char *name;               /* for what is told; NULL: nothing is */
+    void (*line)(const char *text); /* takes what is told */
     int calls, phase;
     int64_t now, until;             /* until: when a silence or a tone is over */
     int64_t quiet;                  /* since when the line is silent; NEVER while there is a signal */
@@ -56,16 +58,18 @@ struct terminal {
     const char *why;                /* why the terminal has ended the call; NULL: it hasn't */
     const char *identity;           /* how this station is named in what it sends; NULL: it isn't */
     char peer[IDENTITY_MOST + 1];   /* how the other one has named itself */
+    int hurries;                    /* the call is to end soon, whatever is on the line */
     int trains_anew;                /* the next page carrier comes with the long training, as CTC has it */
 };
 
 static void tell(const terminal *it, const char *what, const char *name, uint64_t number)
 {
+    char text[200], of[24] = "";
     if (it->name == NULL) return;
-    fprintf(stderr, "%llu %s %s", (unsigned long long)it->now, it->name, what);
-    if (name != NULL) fprintf(stderr, " %s", name);
-    if (number > 0) fprintf(stderr, " %llu", (unsigned long long)number);
-    fprintf(stderr, "\n");
+    if (number > 0) snprintf(of, sizeof of, " %llu", (unsigned long long)number);
+    snprintf(text, sizeof text, "%llu %s %s%s%s%s", (unsigned long long)it->now, it->name, what, name != NULL ? " " : "",
+        name != NULL ? name : "", of);
+    it->line(text);
 }
 
 /* Tells of a status that isn't 0; whether it is 0. */
@@ -147,9 +151,10 @@ const char *terminal_why(const terminal *it)
     return it->why;
 }
 
-void terminal_tell(terminal *it, const char *name)
+void terminal_tell(terminal *it, const char *name, void (*line)(const char *text))
 {
     it->name = name;
+    it->line = line;
 }
 
 /* Returns whether a page's carrier can come before V.21, for a modem that hears one of the two. The library listens for both at once: it
@@ -313,9 +318,9 @@ static int64_t longest_block(const terminal *it)
 /* Takes what goes on and on for the hiss of the line. Where pages are awaited it may be a block that no receiver is trained by. */
 static void hush(terminal *it)
 {
-    int64_t longest = LONGEST_UNREAD;
-    if (it->listens == G3_HEARS_PAGES) longest += longest_block(it);
-    if (it->quiet == NEVER && it->now - it->began > longest && it->now - it->heard > longest) it->kind->hush(it->modem);
+    int64_t block = it->listens == G3_HEARS_PAGES ? longest_block(it) : 0, lasts = it->now - it->began;
+    int is_unread = lasts > LONGEST_UNREAD + block && it->now - it->heard > LONGEST_UNREAD + block;
+    if (it->quiet == NEVER && (is_unread || lasts > LONGEST_READ + block)) it->kind->hush(it->modem);
 }
 
 /* Whether a wait that runs since a time is over. */
@@ -454,7 +459,8 @@ static int has_ended(const terminal *it)
  * said: the last turn may be DCN. */
 static void speak(terminal *it)
 {
-    if (it->quiet == NEVER || it->now - it->quiet < BEFORE_CARRIER || it->now < it->not_before || !hand_over(it)) return;
+    int is_silent = it->quiet != NEVER && it->now - it->quiet >= BEFORE_CARRIER && it->now >= it->not_before;
+    if ((!is_silent && !it->hurries) || !hand_over(it)) return;
     if (it->ctr) {
         say_ctr(it);
         return;
@@ -530,6 +536,14 @@ void terminal_step(terminal *it, const int16_t *in, int16_t *out)
         if (is_time) it->phase = IS_OVER;
         break;
     }
+}
+
+void terminal_hurry(terminal *it)
+{
+    it->hurries = 1;
+    it->ctr = 0;
+    is_done(it, g3_terminal_stop(it->station));
+    if (it->phase == IN_CARRIER && it->said != G3_DCN) it->kind->cut(it->modem);
 }
 
 void terminal_lose(terminal *it)

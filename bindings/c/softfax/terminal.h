@@ -20,6 +20,8 @@ void terminal_free(terminal *it);
 void terminal_step(terminal *it, const int16_t *in, int16_t *out);
 /* Whether it has hung up. */
 int terminal_is_over(const terminal *it);
+/* Ends the call by DCN, as g3_terminal_stop does, but soon: what goes out is cut, and what comes in isn't waited for. */
+void terminal_hurry(terminal *it);
 /* The line is gone: hangs up. */
 void terminal_lose(terminal *it);
 /* An answerer answers CTC by CTR from now on. CTC is outside what the library proves: other machines send it after the fourth PPR of a
@@ -31,6 +33,6 @@ void terminal_identify(terminal *it, const char *text);
 const char *terminal_peer_name(const terminal *it);
 /* Why the terminal itself has ended the call; NULL if it hasn't. */
 const char *terminal_why(const terminal *it);
-/* Tells on standard error what happens, each line with the time in milliseconds and this name. */
-void terminal_tell(terminal *it, const char *name);
+/* Tells what happens to `line`, each with the time in milliseconds and this name. */
+void terminal_tell(terminal *it, const char *name, void (*line)(const char *text));
 #endif

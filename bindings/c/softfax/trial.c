@@ -1,5 +1,6 @@
 #include "trial.h"
 #include "terminal.h"
+#include <stdio.h>
 #include <stdlib.h>
 #include <string.h>
 
@@ -11,6 +12,7 @@ typedef struct ours {
     g3_terminal station;
     modem *modem; /* that is freed with it; NULL if it is the program's */
     terminal *terminal;
+    int64_t now;
     outcome counted; /* the pages that were kept */
 } ours;
 
@@ -66,6 +68,10 @@ static g3_status new_station(const trial *kind, int calls, g3_terminal *out)
 static void ours_step(void *user, const int16_t *in, int16_t *out)
 {
     ours *it = user;
+    int stops = it->calls ? it->kind->stops : it->kind->answerer_stops;
+    it->now += SLICE_MILLIS;
+    if (stops == 1 && it->now == it->kind->stops_at) (void)g3_terminal_stop(&it->station);
+    if (stops == 2 && it->now == it->kind->stops_at) terminal_hurry(it->terminal);
     terminal_step(it->terminal, in, out);
 }
 
@@ -83,6 +89,7 @@ static const char *ours_ending(void *user)
     ours *it = user;
     g3_state state;
     if (g3_terminal_state(&it->station, &state) != G3_OK) return "no state";
+    if (terminal_why(it->terminal) != NULL) return "refused";
     return state.end < sizeof ENDS / sizeof ENDS[0] ? ENDS[state.end] : "another end";
 }
 
@@ -97,6 +104,11 @@ static void ours_leave(void *user, outcome *out)
     modem_of_sound.free(it->modem);
     g3_terminal_free(&it->station);
     free(it);
+}
+
+static void tell_line(const char *text)
+{
+    fprintf(stderr, "%s\n", text);
 }
 
 int trial_ours_by(party *out, const trial *kind, int calls, const modem_kind *with, modem *modem)
@@ -115,7 +127,7 @@ int trial_ours_by(party *out, const trial *kind, int calls, const modem_kind *wi
         party mine = {it, ours_step, ours_is_over, ours_ending, ours_leave};
         if (kind->ctc) terminal_answer_ctc(it->terminal);
         if (kind->identity != NULL) terminal_identify(it->terminal, kind->identity);
-        if (kind->tells != NULL) terminal_tell(it->terminal, calls ? "caller" : "answerer");
+        if (kind->tells != NULL) terminal_tell(it->terminal, calls ? "caller" : "answerer", tell_line);
         *out = mine;
         return 1;
     }

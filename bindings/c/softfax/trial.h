@@ -20,6 +20,9 @@ typedef struct trial {
     int ced_joins_dis;         /* the answerer's DIS follows its CED with no silence between them, as Class 1 modems have it */
     int has_no_correction;     /* libspandsp's terminal has no error correction */
     const char *identity;      /* how our end is named; NULL: it isn't */
+    int stops;                 /* 1: our caller is stopped, at stops_at; 2: and is to hurry */
+    int answerer_stops;        /* the same of our answerer */
+    int64_t stops_at;          /* milliseconds since it began */
     const char *tells;         /* what happens is told on standard error; NULL: nothing */
 } trial;
 

@@ -1,6 +1,8 @@
 #include "tty.h"
 #include "class1.h"
+#include "inits.h"
 #include "stop.h"
+#include "told.h"
 #include <errno.h>
 #include <fcntl.h>
 #include <poll.h>
@@ -8,6 +10,7 @@
 #include <stdio.h>
 #include <stdlib.h>
 #include <string.h>
+#include <strings.h>
 #include <sys/ioctl.h>
 #include <termios.h>
 #include <unistd.h>
@@ -26,7 +29,7 @@ typedef struct tty {
 
 static int fails(const char *name, const char *why)
 {
-    fprintf(stderr, "softfax: %s: %s\n", name, why);
+    told_fault(name, why);
     return 0;
 }
 
@@ -38,32 +41,48 @@ static int is_stale(const char *lock, long *process)
     FILE *file = fopen(lock, "r");
     *process = 0;
     if (file == NULL) return 0;
-    int is_read = fscanf(file, "%ld", process) == 1;
+    int is_read = fscanf(file, "%ld", process) == 1 && *process > 0;
     fclose(file);
-    return !is_read || *process <= 0 || (kill((pid_t)*process, 0) != 0 && errno == ESRCH);
+    if (!is_read) *process = 0;
+    return is_read && kill((pid_t)*process, 0) != 0 && errno == ESRCH;
+}
+
+/* Writes this process's number into a new file, whole before it has the lock's name; returns whether it could. */
+static int write_number(const char *name)
+{
+    unlink(name); /* of a process of this number that is gone */
+    int file = open(name, O_WRONLY | O_CREAT | O_EXCL, S_IRUSR | S_IWUSR | S_IRGRP | S_IROTH);
+    if (file < 0) return 0;
+    int is_written = dprintf(file, "%10ld\n", (long)getpid()) > 0;
+    is_written &= close(file) == 0;
+    if (!is_written) unlink(name);
+    return is_written;
+}
+
+/* Sets the name of the tty's lock file: of the device itself, whatever link names it. 0 if it is too long. */
+static int name_lock(tty *it)
+{
+    char *device = realpath(it->name, NULL);
+    const char *name = device != NULL ? device : it->name, *slash = strrchr(name, '/');
+    int length = snprintf(it->lock, sizeof it->lock, "/var/lock/LCK..%s", slash != NULL ? slash + 1 : name);
+    free(device);
+    return length > 0 && (size_t)length < sizeof it->lock;
 }
 
 /* Makes the lock file that programs with modems use, if this one may write there; returns whether no other program has the tty. */
 static int lock(tty *it)
 {
-    const char *slash = strrchr(it->name, '/');
+    char own[40], why[60];
     long process = 0;
-    char why[60];
-    int length = snprintf(it->lock, sizeof it->lock, "/var/lock/LCK..%s", slash != NULL ? slash + 1 : it->name);
-    if (length < 0 || (size_t)length >= sizeof it->lock) it->lock[0] = 0;
-    for (int tries = 0; tries < 2 && it->lock[0] != 0; tries++) {
-        int file = open(it->lock, O_WRONLY | O_CREAT | O_EXCL, S_IRUSR | S_IWUSR | S_IRGRP | S_IROTH);
-        if (file >= 0) {
-            it->is_locked = 1;
-            dprintf(file, "%10ld\n", (long)getpid());
-            close(file);
-            return 1;
-        }
-        if (errno != EEXIST) return 1;
-        if (!is_stale(it->lock, &process)) break;
+    snprintf(own, sizeof own, "/var/lock/LTMP.%ld", (long)getpid());
+    if (!name_lock(it) || !write_number(own)) return 1; /* TIOCEXCL has to do */
+    for (int tries = 0; tries < 2 && !it->is_locked; tries++) {
+        it->is_locked = link(own, it->lock) == 0;
+        if (it->is_locked || errno != EEXIST || !is_stale(it->lock, &process)) break;
         unlink(it->lock);
     }
-    if (process == 0) return 1; /* it can't be read: TIOCEXCL has to do */
+    unlink(own);
+    if (it->is_locked || process == 0) return 1; /* 0: it can't be read, and TIOCEXCL has to do */
     snprintf(why, sizeof why, "process %ld has it", process);
     return fails(it->name, why);
 }
@@ -143,7 +162,7 @@ typedef struct run {
     call *call;
     modem *modem;
     int64_t now, next, skipped;
-    int stage, stopped;
+    int stage, stopped, has_failed; /* has_failed: the terminal couldn't be made */
 } run;
 
 /* The time of the call: the machine's, less its pauses. */
@@ -166,17 +185,20 @@ static void heed(run *it)
     if (it->call->terminal == NULL || level == STOP_AT_ONCE) class1_hang_up(it->modem);
 }
 
-/* A slice of the call, if there is one; returns whether it can go on. */
-static int slice(run *it)
+/* A slice of the call, if there is one. A modem that lists nothing is taken to have all. */
+static void slice(run *it)
 {
     int16_t unused[SLICE] = {0};
     uint32_t speeds = class1_speeds(it->modem);
-    if (it->stage != CLASS1_IS_ON) return 1;
-    if (it->call->terminal == NULL && !call_begin(it->call, speeds != 0 ? speeds : G3_V17, &modem_of_class1, it->modem)) return 0;
+    if (it->stage != CLASS1_IS_ON || it->has_failed) return;
+    if (it->call->terminal == NULL) {
+        it->has_failed = !call_begin(it->call, speeds != 0 ? speeds : G3_V17, &modem_of_class1, it->modem);
+        if (it->has_failed) class1_hang_up(it->modem);
+        if (it->has_failed) return;
+    }
     if (class1_is_lost(it->modem) && !call_is_over(it->call)) terminal_lose(it->call->terminal);
     if (call_is_over(it->call)) class1_hang_up(it->modem);
     else call_step(it->call, unused, unused);
-    return 1;
 }
 
 static int go_on(run *it, const tty *on)
@@ -187,18 +209,16 @@ static int go_on(run *it, const tty *on)
     read_clock(it);
     heed(it);
     it->stage = class1_step(it->modem, it->now);
-    for (; it->next <= it->now; it->next += SLICE_MILLIS) {
-        if (!slice(it)) return 0;
-    }
+    for (; it->next <= it->now; it->next += SLICE_MILLIS) slice(it);
     return it->stage != CLASS1_IS_OVER;
 }
 
 /* Runs the call over an open tty. */
-static int run_on(tty *on, call *call, FILE *trace)
+static int run_on(tty *on, call *call, const char *const *inits, FILE *trace)
 {
     static char why[200];
     const options *given = call->given;
-    class1_setup setup = {given->init, given->number, given->rings, trace};
+    class1_setup setup = {inits, given->init_count, given->number, given->rings, trace};
     port port = {on, port_read, port_write, port_waiting, port_mind_xoff};
     run it = {.call = call, .now = stop_clock(), .modem = class1_new(&port, &setup)};
     if (it.modem == NULL) return fails(on->name, "no memory");
@@ -209,16 +229,41 @@ static int run_on(tty *on, call *call, FILE *trace)
         snprintf(why, sizeof why, "%.30s: %s", on->name, class1_why(it.modem));
         call->why = why;
     }
+    modem_of_class1.free(it.modem);
+    return !it.has_failed;
+}
+
+/* Finds the commands of the set-up that are given by name. */
+static int find_inits(const options *given, const char **inits)
+{
+    static char found[MOST_INITS][INITS_ROOM];
+    for (int i = 0; i < given->init_count; i++) {
+        int is_command = strncasecmp(given->inits[i], "AT", 2) == 0;
+        if (!is_command && !inits_find(given->inits[i], given->xon, found[i])) return 0;
+        inits[i] = is_command ? given->inits[i] : found[i];
+    }
     return 1;
+}
+
+/* Opens the file of the trace. A pipe that nobody reads is none, and one that stalls loses lines: the call doesn't wait for it. */
+static FILE *open_trace(const char *name)
+{
+    int file = open(name, O_WRONLY | O_CREAT | O_TRUNC | O_NONBLOCK, S_IRUSR | S_IWUSR);
+    FILE *trace = file < 0 ? NULL : fdopen(file, "w");
+    if (trace == NULL && file >= 0) close(file);
+    if (trace == NULL) fails(name, strerror(errno));
+    return trace;
 }
 
 int tty_run(call *it)
 {
     const options *given = it->given;
     tty on = {.name = given->tty, .fd = -1};
+    const char *inits[MOST_INITS];
     FILE *trace = NULL;
-    if (given->trace != NULL && (trace = fopen(given->trace, "w")) == NULL) return fails(given->trace, strerror(errno));
-    int is_well = lock(&on) && open_tty(&on, !given->xon) && run_on(&on, it, trace);
+    if (!find_inits(given, inits)) return 0;
+    if (given->trace != NULL && (trace = open_trace(given->trace)) == NULL) return 0;
+    int is_well = lock(&on) && open_tty(&on, !given->xon) && run_on(&on, it, inits, trace);
     close_tty(&on);
     if (trace != NULL && fclose(trace) != 0) is_well = fails(given->trace, "it can't be written whole");
     return is_well;
