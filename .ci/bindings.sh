@@ -49,7 +49,7 @@ is_same() {
 "$top/.ci/library.sh"
 "$top/bindings/build.sh" "$work"
 for name in encode decode raster frames signals call answer own misuse; do builds "c/$name.c"; done
-for name in memory random; do builds "tests/$name.c" --wrap=malloc --wrap=realloc --wrap=free; done
+for name in memory random readers; do builds "tests/$name.c" --wrap=malloc --wrap=realloc --wrap=free; done
 for name in pages rows terminals signals; do builds "tests/statuses_$name.c"; done
 builds tests/abi.c
 
@@ -146,7 +146,7 @@ done
 
 gives 0 own
 [ "$(cat "$work/output")" = "5 octets, 1 page" ] || fails "own printed: $(cat "$work/output")"
-for name in abi misuse statuses_pages statuses_rows statuses_terminals statuses_signals; do
+for name in abi misuse readers statuses_pages statuses_rows statuses_terminals statuses_signals; do
     gives 0 "$name"
     [ ! -s "$work/output" ] || fails "$name printed: $(cat "$work/output")"
 done

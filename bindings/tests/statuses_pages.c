@@ -5,7 +5,7 @@ static void pages(void)
 {
     g3_page a = G3_EMPTY;
     g3_octets code = G3_EMPTY;
-    g3_size size = {0, 0, 0};
+    g3_size size = G3_INIT(g3_size);
     uint64_t n = 0;
     g3_page_free(&a); g3_page_free(&a); g3_page_free(NULL);
     IS(G3_EMPTY_HANDLE, g3_page_size(&a, &size));
