@@ -26,6 +26,8 @@ static void signals(void)
     IS(G3_BAD_LENGTH, g3_signal_read(NULL, 3, &s));
     IS(G3_BAD_LENGTH, g3_signal_read(mcf, 3, NULL));
     IS(1, s.number == 5 && s.kind == 0); /* it is as it was */
+    SIZES(s, g3_signal_read(mcf, 6, &s));
+    SIZES(s, g3_signal_write(&s, G3_CALLER, 0, octets, sizeof octets, &n));
     IS(G3_OK, g3_signal_read(mcf, 6, &s)); /* what comes after its fields is ignored */
     IS(1, s.kind == G3_MCF && s.number == 0 && s.length == 0);
     IS(G3_OK, g3_signal_read(wrong_pps, 7, &s));
@@ -69,6 +71,7 @@ static void agreement(void)
     g3_wish wish = {G3_V17, G3_MMR, 256}, old = {G3_V27TER, G3_MMR, 64}, odd = {4, G3_MMR, 256};
     g3_params p = G3_INIT(g3_params);
     uint32_t why = 9;
+    SIZES(p, g3_agree(&all, &wish, 1728, 1, &p, &why));
     IS(G3_OK, g3_agree(&all, &wish, 1728, 1, &p, &why));
     IS(1, p.dcs.carrier == G3_V17_14400 && p.dcs.fine == 1 && p.dcs.width == 1728 && p.dcs.coding == G3_MMR && p.dcs.frame == 256 && why == 9);
     IS(G3_OK, g3_agree(&all, &old, 2432, 0, &p, &why));

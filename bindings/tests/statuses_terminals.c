@@ -58,12 +58,14 @@ static void terminals(void)
     IS(35000, g3_wait_millis(G3_T1));
     IS(G3_NOTHING, g3_terminal_take_page(&t, &p));
     IS(G3_BAD_LENGTH, g3_terminal_next_burst(&t, &o, NULL));
+    SIZES(burst, g3_terminal_next_burst(&t, &o, &burst)); /* nothing is sent */
     IS(G3_OK, g3_terminal_next_burst(&t, &o, &burst));
     IS(1, burst.carrier == G3_V21 && burst.check == 0 && burst.last == 1);
     IS(G3_FULL_HANDLE, g3_terminal_next_burst(&t, &o, &burst));
     g3_octets_free(&o);
     IS(G3_NOTHING, g3_terminal_next_burst(&t, &o, &burst));
     IS(G3_BAD_LENGTH, g3_terminal_state(&t, NULL));
+    SIZES(state, g3_terminal_state(&t, &state));
     IS(G3_OK, g3_terminal_lost(&t));
     IS(G3_OK, g3_terminal_stop(&t)); /* it has ended, and stays as it ended */
     IS(G3_OK, g3_terminal_state(&t, &state));
@@ -81,7 +83,8 @@ static void agreed(void)
     g3_state state = G3_INIT(g3_state);
     g3_progress far = G3_INIT(g3_progress);
     g3_params params = {sizeof params, {7, 7, 7, 7, 7}};
-    g3_signal dcs = G3_INIT(g3_signal), peer = G3_INIT(g3_signal);
+    g3_params none = G3_INIT(g3_params);
+    g3_signal dcs = G3_INIT(g3_signal), peer = G3_INIT(g3_signal), unknown = G3_INIT(g3_signal);
     uint64_t n = 0;
     dcs.kind = G3_DCS, dcs.dcs.carrier = G3_V29_9600, dcs.dcs.width = 1728, dcs.dcs.coding = G3_MMR, dcs.dcs.frame = 64;
     peer.kind = 77;
@@ -92,13 +95,16 @@ static void agreed(void)
     IS(G3_BAD_LENGTH, g3_terminal_hear_frame(&t, NULL, 3));
     IS(G3_EMPTY_HANDLE, g3_terminal_progress(&empty, &far));
     IS(G3_BAD_LENGTH, g3_terminal_progress(&t, NULL));
+    SIZES(far, g3_terminal_progress(&t, &far));
     IS(G3_OK, g3_terminal_progress(&t, &far));
     IS(0, far.pages + far.accepted + far.octets + far.frames);
     IS(G3_EMPTY_HANDLE, g3_terminal_params(&empty, &params));
     IS(G3_BAD_LENGTH, g3_terminal_params(&t, NULL));
+    SIZES(none, g3_terminal_params(&t, &none));
     IS(G3_NOTHING, g3_terminal_params(&t, &params)); /* no DCS has come */
     IS(G3_EMPTY_HANDLE, g3_terminal_peer(NULL, &peer));
     IS(G3_BAD_LENGTH, g3_terminal_peer(&t, NULL));
+    SIZES(unknown, g3_terminal_peer(&t, &unknown));
     IS(G3_NOTHING, g3_terminal_peer(&t, &peer));
     IS(1, params.dcs.carrier == 7 && peer.kind == 77); /* they are as they were */
     IS(G3_OK, g3_signal_write(&dcs, G3_CALLER, 1, octets, sizeof octets, &n));
