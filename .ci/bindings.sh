@@ -46,6 +46,7 @@ is_same() {
     difference=$(cmp "$1" "$2" 2>&1) || fails "$3: other octets: $difference"
 }
 
+"$top/docs/man/make_library.py" --check || fails "man pages"
 "$top/.ci/library.sh"
 "$top/bindings/build.sh" "$work"
 for name in encode decode raster frames signals call answer own misuse; do builds "c/$name.c"; done
