@@ -146,7 +146,7 @@ done
 (cd "$top" && .ci/by_lines.py "$work/answer" "$work/stored.pbm" $talks) || fails "answer by lines"
 
 gives 0 own
-[ "$(cat "$work/output")" = "5 octets, 1 page" ] || fails "own printed: $(cat "$work/output")"
+[ "$(cat "$work/output")" = "5 octets, the first is 36, 1 page" ] || fails "own printed: $(cat "$work/output")"
 for name in abi misuse readers statuses_pages statuses_rows statuses_terminals statuses_signals; do
     gives 0 "$name"
     [ ! -s "$work/output" ] || fails "$name printed: $(cat "$work/output")"

@@ -42,7 +42,7 @@ typedef struct g3_row_reader { void *at; } g3_row_reader;
 /* Each struct that the library writes begins with its own size in octets, which the program sets: g3_state state = G3_INIT(g3_state). So it
  * can grow: a later library writes no more than that. A size that the library doesn't know is G3_BAD_SIZE, and nothing is written. */
 #ifdef __cplusplus
-#define G3_INIT(type) {sizeof(type)}
+#define G3_INIT(type) ([] { type it = type(); it.size = sizeof it; return it; }())
 #else
 #define G3_INIT(type) {.size = sizeof(type)}
 #endif

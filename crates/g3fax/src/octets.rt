@@ -37,15 +37,15 @@ pub extern "C" fn g3_core_octets_len(alloc: Global, octets: &mut G3Handle, count
 pub extern "C" fn g3_core_octets_data(
     alloc: Global,
     octets: &mut G3Handle,
-    data: &mut *const u8,
+    address: &mut *const u8,
     count: &mut u64,
 ) -> u32
-    ensures answers { OfOctetsAt (λ at octets. (result ≡ 0) × (data.new ≡ at) × (count.new ≡ length octets)) octets.old.value result }
+    ensures answers { OfOctetsAt (λ at octets. (result ≡ 0) × (address.new ≡ at) × (count.new ≡ length octets)) octets.old.value result }
     ensures kept { octets.new.value ≡ octets.old.value }
-    ensures untold { result ≢ 0 → (data.new ≡ data.old) × (count.new ≡ count.old) }
+    ensures untold { result ≢ 0 → (address.new ≡ address.old) × (count.new ≡ count.old) }
 {
     opened!(alloc, octets, Octets, octets => {
-            *data = octets.as_ptr();
+            *address = octets.as_ptr();
             *count = octets.len() as u64;
             OK
         })
