@@ -46,10 +46,11 @@ is_same() {
     difference=$(cmp "$1" "$2" 2>&1) || fails "$3: other octets: $difference"
 }
 
+"$top/docs/man/make_library.py" --check || fails "man pages"
 "$top/.ci/library.sh"
 "$top/bindings/build.sh" "$work"
 for name in encode decode raster frames signals call answer own misuse; do builds "c/$name.c"; done
-for name in memory random; do builds "tests/$name.c" --wrap=malloc --wrap=realloc --wrap=free; done
+for name in memory random readers; do builds "tests/$name.c" --wrap=malloc --wrap=realloc --wrap=free; done
 for name in pages rows terminals signals; do builds "tests/statuses_$name.c"; done
 builds tests/abi.c
 
@@ -145,8 +146,8 @@ done
 (cd "$top" && .ci/by_lines.py "$work/answer" "$work/stored.pbm" $talks) || fails "answer by lines"
 
 gives 0 own
-[ "$(cat "$work/output")" = "5 octets, 1 page" ] || fails "own printed: $(cat "$work/output")"
-for name in abi misuse statuses_pages statuses_rows statuses_terminals statuses_signals; do
+[ "$(cat "$work/output")" = "5 octets, the first is 36, 1 page" ] || fails "own printed: $(cat "$work/output")"
+for name in abi misuse readers statuses_pages statuses_rows statuses_terminals statuses_signals; do
     gives 0 "$name"
     [ ! -s "$work/output" ] || fails "$name printed: $(cat "$work/output")"
 done

@@ -103,7 +103,7 @@ sys.exit("\n".join(lost) or 0)
 LINKS
 }
 
-# try_library: an installed example in C, with the flags of the installed g3fax.pc.
+# try_library: an installed example in C, with the flags of the installed g3fax.pc, and softfax over plain bits.
 try_library() {
     for word in cc pkg-config; do
         command -v $word > /dev/null || { echo "packages: no $word, so no example in C was built"; return; }
@@ -111,10 +111,16 @@ try_library() {
     docs="$to/usr/share/doc" lib="$to/usr/lib"
     flags=$(PKG_CONFIG_LIBDIR=$lib/pkgconfig PKG_CONFIG_ALLOW_SYSTEM_CFLAGS=1 PKG_CONFIG_ALLOW_SYSTEM_LIBS=1 pkg-config --cflags --libs g3fax)
     [ "${flags% }" = "-I/usr/include -L/usr/lib -lg3fax" ] || fails "pkg-config gives $flags"
-    cc -std=c11 -Wall -Wextra -Werror -O1 -o "$work/encode" "$docs/g3fax/examples/encode.c" -I"$to/usr/include" -L"$lib" -lg3fax \
+    cc -std=c11 -Wall -Wextra -Werror -O1 -o "$work/encode" "$docs/g3fax/c/encode.c" -I"$to/usr/include" -L"$lib" -lg3fax \
         || fails "the installed example isn't built"
     LD_LIBRARY_PATH=$lib "$work/encode" "$docs/faxtool/examples/page.pbm" "$work/code" mmr msb || fails "the installed example"
     is_same "$work/code" .ci/data/page.mmr.msb "the installed example"
+    # softfax over bits, which wants no modems, as it is installed
+    soft=$docs/g3fax/c/softfax
+    cc -std=c11 -D_DEFAULT_SOURCE -Wall -Wextra -Werror -O1 -o "$work/bits-test" "$soft/bits-test.c" "$soft/terminal.c" "$soft/identity.c" \
+        "$soft/trial.c" "$soft/line.c" "$soft/paper.c" "$soft/bits.c" -I"$docs/g3fax/c" -I"$to/usr/include" -L"$lib" -lg3fax \
+        || fails "the installed softfax isn't built"
+    LD_LIBRARY_PATH=$lib "$work/bits-test" > "$work/said" || { cat "$work/said" >&2; fails "the installed softfax"; }
 }
 
 # try_packed: the tarballs and the packages are the same twice; the packages are tried.

@@ -69,11 +69,11 @@ if python3 -m pip --version > /dev/null 2>&1 && python3 -m venv "$to/env" > "$to
     how="installed by pip"
 fi
 if command -v mypy > /dev/null; then
-    mypy --strict --cache-dir="$to/mypy" "$top/bindings/python/g3fax.py" > "$to/said" 2>&1 || fails "mypy of g3fax.py"
+    mypy --strict --cache-dir="$to/mypy" "$top/bindings/python/g3fax" > "$to/said" 2>&1 || fails "mypy of the package"
     printf '%s\n' 'import g3fax' 'with g3fax.Page.read_pbm(b"") as page:' '    reveal_type(page[0])' '    reveal_type(page[1:])' \
         > "$to/typed.py"
     (cd "$to" && MYPYPATH=$to/unpacked mypy --strict --cache-dir="$to/mypy" typed.py) > "$to/said" 2>&1 || fails "mypy of a program"
-    for type in memoryview '"g3fax.Page"'; do grep -q "$type" "$to/said" || fails "the package has no type $type"; done
+    for type in memoryview 'Page"'; do grep -q "$type" "$to/said" || fails "the package has no type $type"; done
     how="$how, and strict for mypy"
 fi
 rm -rf "$to"

@@ -1,13 +1,14 @@
-/* The functions of g3fax.h: each tests its addresses for NULL, and calls the proved function of the same name, g3_core_.. A NULL handle is
- * an empty one; if another address is NULL, the status is G3_BAD_LENGTH. Beside them there are only names of numbers, and the version. */
+/* The functions of g3fax.h: each tests its addresses for NULL and the sizes of structs, and calls the proved function of the same name,
+ * g3_core_.. A NULL handle is an empty one; if another address is NULL, the status is G3_BAD_LENGTH. Beside them there are only names of
+ * numbers, and the version. */
 #include "g3fax.h"
 
 /* a handle of any kind: the proved functions tell the kinds apart */
-typedef struct handle handle;
+typedef struct handle { void *at; } handle;
 void g3_core_free(handle *);
 g3_status g3_core_page_new(handle *, uint32_t, uint32_t);
 g3_status g3_core_page_push_row(handle *, const uint8_t *, size_t);
-g3_status g3_core_page_size(handle *, g3_size *);
+g3_status g3_core_page_size(handle *, void *);
 g3_status g3_core_page_row(handle *, uint32_t, uint8_t *, size_t, uint64_t *);
 g3_status g3_core_page_read_raster(const uint8_t *, size_t, const g3_raster *, handle *);
 g3_status g3_core_page_write_raster(handle *, uint64_t, uint8_t *, size_t, uint64_t *);
@@ -18,11 +19,12 @@ g3_status g3_core_page_repair(const uint8_t *, size_t, const g3_code *, handle *
 g3_status g3_core_page_read_pbm(const uint8_t *, size_t, uint32_t, handle *, uint64_t *);
 g3_status g3_core_page_write_pbm(handle *, handle *);
 g3_status g3_core_octets_len(handle *, uint64_t *);
+g3_status g3_core_octets_data(handle *, const uint8_t **, uint64_t *);
 g3_status g3_core_octets_copy(handle *, uint8_t *, size_t, uint64_t *);
 g3_status g3_core_deframer_new(handle *);
 g3_status g3_core_deframer_feed(handle *, const uint8_t *, size_t);
 g3_status g3_core_deframer_next(handle *, uint8_t *, size_t, uint64_t *);
-g3_status g3_core_deframer_counts(handle *, g3_counts *);
+g3_status g3_core_deframer_counts(handle *, void *);
 g3_status g3_core_frame_write(const uint8_t *, size_t, handle *, uint64_t *);
 g3_status g3_core_document_new(handle *);
 g3_status g3_core_document_push(handle *, handle *);
@@ -38,16 +40,16 @@ g3_status g3_core_terminal_set_busy(handle *, uint32_t);
 g3_status g3_core_terminal_stop(handle *);
 g3_status g3_core_terminal_hang_up(handle *);
 g3_status g3_core_terminal_lost(handle *);
-g3_status g3_core_terminal_next_burst(handle *, handle *, g3_burst *);
-g3_status g3_core_terminal_state(handle *, g3_state *);
-g3_status g3_core_terminal_progress(handle *, g3_progress *);
-g3_status g3_core_terminal_params(handle *, g3_params *);
+g3_status g3_core_terminal_next_burst(handle *, handle *, void *);
+g3_status g3_core_terminal_state(handle *, void *);
+g3_status g3_core_terminal_progress(handle *, void *);
+g3_status g3_core_terminal_params(handle *, g3_dcs *);
 g3_status g3_core_terminal_take_page(handle *, handle *);
-/* of a signal these reach what is before its octets, which are passed beside it */
-g3_status g3_core_terminal_peer(handle *, g3_signal *);
-g3_status g3_core_signal_read(const uint8_t *, size_t, g3_signal *, uint8_t *, size_t);
-g3_status g3_core_signal_write(const g3_signal *, const uint8_t *, size_t, uint32_t, uint32_t, uint8_t *, size_t, uint64_t *);
-g3_status g3_core_agree(const g3_dis *, const g3_wish *, uint32_t, uint32_t, g3_params *, uint32_t *);
+/* of a signal these reach what is between its size and its octets, which are passed beside it */
+g3_status g3_core_terminal_peer(handle *, void *);
+g3_status g3_core_signal_read(const uint8_t *, size_t, void *, uint8_t *, size_t);
+g3_status g3_core_signal_write(const void *, const uint8_t *, size_t, uint32_t, uint32_t, uint8_t *, size_t, uint64_t *);
+g3_status g3_core_agree(const g3_dis *, const g3_wish *, uint32_t, uint32_t, g3_dcs *, uint32_t *);
 g3_status g3_core_row_coder_new(const g3_code *, handle *);
 g3_status g3_core_row_coder_push_row(handle *, const uint8_t *, size_t);
 g3_status g3_core_row_coder_take(handle *, handle *);
@@ -61,6 +63,21 @@ g3_status g3_core_row_reader_next(handle *, uint8_t *, size_t, uint64_t *, uint6
 /* octets at NULL are none: an address stands for them */
 #define OCTETS(it, length) do { if ((it) == NULL) { PLACE((length) == 0 ? none : NULL); (it) = none; } } while (0)
 static uint8_t none[1];
+/* What a const handle has, as a handle of its own while a function reads it. The proved function leaves the same value in that, and nothing
+ * writes to the other one: so many threads may read it. */
+#define READ(it) (&(handle){(it)->at})
+/* A struct that is written begins with its size, by which the header is known that the program was built with. The proved functions
+ * have what comes after it. */
+#define SIZED(it) do { PLACE(it); if ((it)->size != sizeof *(it)) return G3_BAD_SIZE; } while (0)
+#define REST(it) ((void *)((char *)(it) + sizeof (it)->size))
+#define CREST(it) ((const void *)((const char *)(it) + sizeof (it)->size))
+#define LIES(type, member, core) _Static_assert(__builtin_offsetof(type, member) == 8 && sizeof(type) == 8 + (core), #type " lies otherwise")
+LIES(g3_size, width, 16);
+LIES(g3_counts, good, 48);
+LIES(g3_burst, bits, 24);
+LIES(g3_state, pages, 40);
+LIES(g3_progress, pages, 64);
+LIES(g3_signal, length, 80 + 296);
 
 void g3_page_free(g3_page *page) { if (page != NULL) g3_core_free((handle *)page); }
 void g3_octets_free(g3_octets *octets) { if (octets != NULL) g3_core_free((handle *)octets); }
@@ -80,30 +97,30 @@ g3_status g3_page_push_row(g3_page *page, const uint8_t *octets, size_t length)
     HANDLE(page); OCTETS(octets, length);
     return g3_core_page_push_row((handle *)page, octets, length);
 }
-g3_status g3_page_size(g3_page *page, g3_size *size)
+g3_status g3_page_size(const g3_page *page, g3_size *size)
 {
-    HANDLE(page); PLACE(size);
-    return g3_core_page_size((handle *)page, size);
+    HANDLE(page); SIZED(size);
+    return g3_core_page_size(READ(page), REST(size));
 }
-g3_status g3_page_row(g3_page *page, uint32_t number, uint8_t *buffer, size_t room, uint64_t *count)
+g3_status g3_page_row(const g3_page *page, uint32_t number, uint8_t *buffer, size_t room, uint64_t *count)
 {
     HANDLE(page); OCTETS(buffer, room); PLACE(count);
-    return g3_core_page_row((handle *)page, number, buffer, room, count);
+    return g3_core_page_row(READ(page), number, buffer, room, count);
 }
 g3_status g3_page_read_raster(const uint8_t *octets, size_t length, const g3_raster *raster, g3_page *out)
 {
     OCTETS(octets, length); PLACE(raster); HANDLE(out);
     return g3_core_page_read_raster(octets, length, raster, (handle *)out);
 }
-g3_status g3_page_write_raster(g3_page *page, uint64_t stride, uint8_t *buffer, size_t room, uint64_t *count)
+g3_status g3_page_write_raster(const g3_page *page, uint64_t stride, uint8_t *buffer, size_t room, uint64_t *count)
 {
     HANDLE(page); OCTETS(buffer, room); PLACE(count);
-    return g3_core_page_write_raster((handle *)page, stride, buffer, room, count);
+    return g3_core_page_write_raster(READ(page), stride, buffer, room, count);
 }
-g3_status g3_page_encode(g3_page *page, uint32_t coding, uint32_t order, g3_octets *out)
+g3_status g3_page_encode(const g3_page *page, uint32_t coding, uint32_t order, g3_octets *out)
 {
     HANDLE(page); HANDLE(out);
-    return g3_core_page_encode((handle *)page, coding, order, (handle *)out);
+    return g3_core_page_encode(READ(page), coding, order, (handle *)out);
 }
 g3_status g3_page_decode(const uint8_t *octets, size_t length, const g3_code *code, g3_page *out, uint64_t *place)
 {
@@ -125,10 +142,10 @@ g3_status g3_page_read_pbm(const uint8_t *octets, size_t length, uint32_t fine, 
     OCTETS(octets, length); HANDLE(out); PLACE(count);
     return g3_core_page_read_pbm(octets, length, fine, (handle *)out, count);
 }
-g3_status g3_page_write_pbm(g3_page *page, g3_octets *out)
+g3_status g3_page_write_pbm(const g3_page *page, g3_octets *out)
 {
     HANDLE(page); HANDLE(out);
-    return g3_core_page_write_pbm((handle *)page, (handle *)out);
+    return g3_core_page_write_pbm(READ(page), (handle *)out);
 }
 g3_status g3_row_coder_new(g3_row_coder *out, const g3_code *code)
 {
@@ -165,15 +182,20 @@ g3_status g3_row_reader_next(g3_row_reader *reader, uint8_t *buffer, size_t room
     HANDLE(reader); OCTETS(buffer, room); PLACE(count); PLACE(place);
     return g3_core_row_reader_next((handle *)reader, buffer, room, count, place);
 }
-g3_status g3_octets_len(g3_octets *octets, uint64_t *count)
+g3_status g3_octets_len(const g3_octets *octets, uint64_t *count)
 {
     HANDLE(octets); PLACE(count);
-    return g3_core_octets_len((handle *)octets, count);
+    return g3_core_octets_len(READ(octets), count);
 }
-g3_status g3_octets_copy(g3_octets *octets, uint8_t *buffer, size_t room, uint64_t *count)
+g3_status g3_octets_data(const g3_octets *octets, const uint8_t **data, uint64_t *count)
+{
+    HANDLE(octets); PLACE(data); PLACE(count);
+    return g3_core_octets_data(READ(octets), data, count);
+}
+g3_status g3_octets_copy(const g3_octets *octets, uint8_t *buffer, size_t room, uint64_t *count)
 {
     HANDLE(octets); OCTETS(buffer, room); PLACE(count);
-    return g3_core_octets_copy((handle *)octets, buffer, room, count);
+    return g3_core_octets_copy(READ(octets), buffer, room, count);
 }
 g3_status g3_deframer_new(g3_deframer *out)
 {
@@ -190,10 +212,10 @@ g3_status g3_deframer_next(g3_deframer *deframer, uint8_t *buffer, size_t room, 
     HANDLE(deframer); OCTETS(buffer, room); PLACE(count);
     return g3_core_deframer_next((handle *)deframer, buffer, room, count);
 }
-g3_status g3_deframer_counts(g3_deframer *deframer, g3_counts *counts)
+g3_status g3_deframer_counts(const g3_deframer *deframer, g3_counts *counts)
 {
-    HANDLE(deframer); PLACE(counts);
-    return g3_core_deframer_counts((handle *)deframer, counts);
+    HANDLE(deframer); SIZED(counts);
+    return g3_core_deframer_counts(READ(deframer), REST(counts));
 }
 g3_status g3_frame_write(const uint8_t *content, size_t length, g3_octets *out, uint64_t *bits)
 {
@@ -211,10 +233,10 @@ g3_status g3_document_push(g3_document *document, g3_page *page)
     HANDLE(document); HANDLE(page);
     return g3_core_document_push((handle *)document, (handle *)page);
 }
-g3_status g3_document_pages(g3_document *document, uint64_t *count)
+g3_status g3_document_pages(const g3_document *document, uint64_t *count)
 {
     HANDLE(document); PLACE(count);
-    return g3_core_document_pages((handle *)document, count);
+    return g3_core_document_pages(READ(document), count);
 }
 g3_status g3_answerer_new(g3_terminal *out, const g3_caps *caps)
 {
@@ -269,28 +291,28 @@ g3_status g3_terminal_lost(g3_terminal *terminal)
 }
 g3_status g3_terminal_next_burst(g3_terminal *terminal, g3_octets *out, g3_burst *burst)
 {
-    HANDLE(terminal); HANDLE(out); PLACE(burst);
-    return g3_core_terminal_next_burst((handle *)terminal, (handle *)out, burst);
+    HANDLE(terminal); HANDLE(out); SIZED(burst);
+    return g3_core_terminal_next_burst((handle *)terminal, (handle *)out, REST(burst));
 }
-g3_status g3_terminal_state(g3_terminal *terminal, g3_state *state)
+g3_status g3_terminal_state(const g3_terminal *terminal, g3_state *state)
 {
-    HANDLE(terminal); PLACE(state);
-    return g3_core_terminal_state((handle *)terminal, state);
+    HANDLE(terminal); SIZED(state);
+    return g3_core_terminal_state(READ(terminal), REST(state));
 }
-g3_status g3_terminal_progress(g3_terminal *terminal, g3_progress *progress)
+g3_status g3_terminal_progress(const g3_terminal *terminal, g3_progress *progress)
 {
-    HANDLE(terminal); PLACE(progress);
-    return g3_core_terminal_progress((handle *)terminal, progress);
+    HANDLE(terminal); SIZED(progress);
+    return g3_core_terminal_progress(READ(terminal), REST(progress));
 }
-g3_status g3_terminal_params(g3_terminal *terminal, g3_params *params)
+g3_status g3_terminal_params(const g3_terminal *terminal, g3_params *params)
 {
-    HANDLE(terminal); PLACE(params);
-    return g3_core_terminal_params((handle *)terminal, params);
+    HANDLE(terminal); SIZED(params);
+    return g3_core_terminal_params(READ(terminal), &params->dcs);
 }
-g3_status g3_terminal_peer(g3_terminal *terminal, g3_signal *signal)
+g3_status g3_terminal_peer(const g3_terminal *terminal, g3_signal *signal)
 {
-    HANDLE(terminal); PLACE(signal);
-    return g3_core_terminal_peer((handle *)terminal, signal);
+    HANDLE(terminal); SIZED(signal);
+    return g3_core_terminal_peer(READ(terminal), REST(signal));
 }
 g3_status g3_terminal_take_page(g3_terminal *terminal, g3_page *out)
 {
@@ -299,18 +321,18 @@ g3_status g3_terminal_take_page(g3_terminal *terminal, g3_page *out)
 }
 g3_status g3_signal_read(const uint8_t *content, size_t length, g3_signal *signal)
 {
-    OCTETS(content, length); PLACE(signal);
-    return g3_core_signal_read(content, length, signal, signal->octets, sizeof signal->octets);
+    OCTETS(content, length); SIZED(signal);
+    return g3_core_signal_read(content, length, REST(signal), signal->octets, sizeof signal->octets);
 }
 g3_status g3_signal_write(const g3_signal *signal, uint32_t side, uint32_t last, uint8_t *buffer, size_t room, uint64_t *count)
 {
-    PLACE(signal); OCTETS(buffer, room); PLACE(count);
-    return g3_core_signal_write(signal, signal->octets, sizeof signal->octets, side, last, buffer, room, count);
+    SIZED(signal); OCTETS(buffer, room); PLACE(count);
+    return g3_core_signal_write(CREST(signal), signal->octets, sizeof signal->octets, side, last, buffer, room, count);
 }
 g3_status g3_agree(const g3_dis *dis, const g3_wish *wish, uint32_t width, uint32_t fine, g3_params *params, uint32_t *reason)
 {
-    PLACE(dis); PLACE(wish); PLACE(params); PLACE(reason);
-    return g3_core_agree(dis, wish, width, fine, params, reason);
+    PLACE(dis); PLACE(wish); SIZED(params); PLACE(reason);
+    return g3_core_agree(dis, wish, width, fine, &params->dcs, reason);
 }
 
 _Static_assert(G3_VERSION_NUMBER == G3_BUILT, "g3fax.h has the number of another version");
@@ -396,6 +418,7 @@ const char *g3_status_text(g3_status status)
     case G3_BAD_CHOICE: return "a number that stands for no choice";
     case G3_BAD_LENGTH: return "a length that isn't allowed, or no address";
     case G3_NOTHING: return "nothing is there";
+    case G3_BAD_SIZE: return "the size that a struct begins with isn't its own: begin it by G3_INIT";
     case G3_FRAME_LOST: return "no memory: a frame that was heard is lost";
     default: return "no such status";
     }

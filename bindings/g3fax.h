@@ -21,8 +21,9 @@ extern "C" {
 #endif
 #endif
 
-/* A handle is empty, G3_EMPTY, or has one value, which it owns: free it by the function of its kind. Don't copy one that has a value,
- * and use each from one thread at a time; two handles share nothing. */
+/* A handle is empty, G3_EMPTY, or has one value, which it owns: free it by the function of its kind. Don't copy one that has a value. Two
+ * handles share nothing. Functions that take a const handle only read: many threads may call them at once, and each other function has its
+ * handle for itself. */
 typedef struct g3_page { void *at; } g3_page;
 typedef struct g3_octets { void *at; } g3_octets;
 typedef struct g3_deframer { void *at; } g3_deframer;
@@ -36,6 +37,14 @@ typedef struct g3_row_reader { void *at; } g3_row_reader;
 #define G3_EMPTY_OF(type) (type G3_EMPTY)
 #else
 #define G3_EMPTY_OF(type) ((type)G3_EMPTY)
+#endif
+
+/* Each struct that the library writes begins with its own size in octets, which the program sets: g3_state state = G3_INIT(g3_state). So it
+ * can grow: a later library writes no more than that. A size that the library doesn't know is G3_BAD_SIZE, and nothing is written. */
+#ifdef __cplusplus
+#define G3_INIT(type) ([] { type it = type(); it.size = sizeof it; return it; }())
+#else
+#define G3_INIT(type) {.size = sizeof(type)}
 #endif
 
 /* What each function answers. By any status above 0, G3_FRAME_LOST aside, each handle is as it was. */
@@ -55,7 +64,7 @@ enum {
     G3_NOT_COMPATIBLE = 28,
     /* wrong use */
     G3_EMPTY_HANDLE = 100, G3_OTHER_HANDLE = 101, G3_FULL_HANDLE = 102, G3_NO_ROOM = 103, G3_BAD_CHOICE = 104, G3_BAD_LENGTH = 105,
-    G3_NOTHING = 106,
+    G3_NOTHING = 106, G3_BAD_SIZE = 107,
     /* octets of the line were taken, and memory was refused: a frame in them is lost, as on a line */
     G3_FRAME_LOST = 108
 };
@@ -64,6 +73,7 @@ enum { G3_MH = 1, G3_MMR = 2 };              /* T.4 in one dimension, T.6 */
 enum { G3_MSB_FIRST = 0, G3_LSB_FIRST = 1 }; /* which bit of an octet is first */
 
 typedef struct g3_size {
+    uint64_t size;  /* of this struct */
     uint32_t width; /* pixels */
     uint32_t rows;
     uint32_t fine; /* 1: 7.7 lines a millimeter, 0: 3.85 */
@@ -86,7 +96,10 @@ typedef struct g3_raster {
 
 /* gaps between flags: good frames, those with six 1 bits in a row, no whole number of octets, fewer than 5 octets, more than 302, and
  * those with a wrong check sequence */
-typedef struct g3_counts { uint64_t good, aborted, ragged, too_short, too_long, damaged; } g3_counts;
+typedef struct g3_counts {
+    uint64_t size; /* of this struct */
+    uint64_t good, aborted, ragged, too_short, too_long, damaged;
+} g3_counts;
 
 /* Frees what a handle has; it is empty then. An empty one stays empty. */
 void g3_page_free(g3_page *page);
@@ -108,19 +121,19 @@ uint32_t g3_version_number(void);
 G3_CHECK g3_status g3_page_new(g3_page *out, uint32_t width, uint32_t fine);
 /* Appends a row of the first bits of octets; later bits are ignored. G3_BAD_LENGTH: too few octets. */
 G3_CHECK g3_status g3_page_push_row(g3_page *page, const uint8_t *octets, size_t length);
-G3_CHECK g3_status g3_page_size(g3_page *page, g3_size *size);
+G3_CHECK g3_status g3_page_size(const g3_page *page, g3_size *size);
 /* Copies row `number`, from 0 at the top. *count: the octets of a row, also where G3_NO_ROOM is answered. G3_NOTHING: no such row. */
-G3_CHECK g3_status g3_page_row(g3_page *page, uint32_t number, uint8_t *buffer, size_t room, uint64_t *count);
+G3_CHECK g3_status g3_page_row(const g3_page *page, uint32_t number, uint8_t *buffer, size_t room, uint64_t *count);
 
 /* Makes a page of the rows of octets. What is between the rows, and after the last one, is ignored; the last row wants its own octets
  * alone. G3_BAD_LENGTH: the stride is less than a row's octets, or there are too few octets. */
 G3_CHECK g3_status g3_page_read_raster(const uint8_t *octets, size_t length, const g3_raster *raster, g3_page *out);
 /* Copies all rows, so many octets apart; the octets between the rows stay. *count: the octets from the first row's beginning to the last
  * one's end, also where G3_NO_ROOM is answered. G3_BAD_LENGTH: the stride is less than a row's octets. */
-G3_CHECK g3_status g3_page_write_raster(g3_page *page, uint64_t stride, uint8_t *buffer, size_t room, uint64_t *count);
+G3_CHECK g3_status g3_page_write_raster(const g3_page *page, uint64_t stride, uint8_t *buffer, size_t room, uint64_t *count);
 
 /* Codes a page; the last octet is filled with 0 bits. */
-G3_CHECK g3_status g3_page_encode(g3_page *page, uint32_t coding, uint32_t order, g3_octets *out);
+G3_CHECK g3_status g3_page_encode(const g3_page *page, uint32_t coding, uint32_t order, g3_octets *out);
 /* Reads the page that octets begin with; what follows is ignored. *place: the bits used, or, of G3_NO_ROWS and 10 to 18, the bit from 0
  * where no page can go on. */
 G3_CHECK g3_status g3_page_decode(const uint8_t *octets, size_t length, const g3_code *code, g3_page *out, uint64_t *place);
@@ -132,7 +145,7 @@ G3_CHECK g3_status g3_page_repair(const uint8_t *octets, size_t length, const g3
 
 /* The first image of a raw PBM file in memory, and how many images it has; and a page as such an image. */
 G3_CHECK g3_status g3_page_read_pbm(const uint8_t *octets, size_t length, uint32_t fine, g3_page *out, uint64_t *count);
-G3_CHECK g3_status g3_page_write_pbm(g3_page *page, g3_octets *out);
+G3_CHECK g3_status g3_page_write_pbm(const g3_page *page, g3_octets *out);
 
 /* A page is coded row by row: the memory doesn't grow with its rows where the octets are taken as they come. `fine` of the code is
  * ignored. */
@@ -155,8 +168,10 @@ G3_CHECK g3_status g3_row_reader_feed(g3_row_reader *reader, const uint8_t *octe
 G3_CHECK g3_status g3_row_reader_next(g3_row_reader *reader, uint8_t *buffer, size_t room, uint64_t *count, uint64_t *place);
 
 /* Octets that a call has made. *count: how many there are, also where G3_NO_ROOM is answered. */
-G3_CHECK g3_status g3_octets_len(g3_octets *octets, uint64_t *count);
-G3_CHECK g3_status g3_octets_copy(g3_octets *octets, uint8_t *buffer, size_t room, uint64_t *count);
+G3_CHECK g3_status g3_octets_len(const g3_octets *octets, uint64_t *count);
+/* Where they are: *data is the address of *count octets, to be read until the handle changes or is freed. Of no octets it is no address. */
+G3_CHECK g3_status g3_octets_data(const g3_octets *octets, const uint8_t **data, uint64_t *count);
+G3_CHECK g3_status g3_octets_copy(const g3_octets *octets, uint8_t *buffer, size_t room, uint64_t *count);
 
 /* Frames (HDLC): found in bits that come in pieces of any octets, the least significant bit of each first. */
 G3_CHECK g3_status g3_deframer_new(g3_deframer *out);
@@ -165,7 +180,7 @@ G3_CHECK g3_status g3_deframer_feed(g3_deframer *deframer, const uint8_t *octets
 /* Copies the content of the oldest good frame that wasn't handed out: 3 to 300 octets, without the check sequence. G3_NOTHING: none
  * waits. G3_NO_ROOM: room for fewer than 300 octets; nothing is handed out. */
 G3_CHECK g3_status g3_deframer_next(g3_deframer *deframer, uint8_t *buffer, size_t room, uint64_t *count);
-G3_CHECK g3_status g3_deframer_counts(g3_deframer *deframer, g3_counts *counts);
+G3_CHECK g3_status g3_deframer_counts(const g3_deframer *deframer, g3_counts *counts);
 /* Writes the frame of a content of 3 to 300 octets: a flag, the content and its check sequence with 0 bits stuffed, and a flag. *bits:
  * how many bits it has; fewer than eight 0 bits fill the last octet. */
 G3_CHECK g3_status g3_frame_write(const uint8_t *content, size_t length, g3_octets *out, uint64_t *bits);
@@ -175,7 +190,7 @@ G3_CHECK g3_status g3_document_new(g3_document *out);
 /* Moves a page to the end: its handle is empty then. The page is copied for that, so that nothing is lost where memory is refused.
  * G3_NO_ROWS: it has no row. */
 G3_CHECK g3_status g3_document_push(g3_document *document, g3_page *page);
-G3_CHECK g3_status g3_document_pages(g3_document *document, uint64_t *count);
+G3_CHECK g3_status g3_document_pages(const g3_document *document, uint64_t *count);
 
 /* Terminals: the two stations of a call with error correction (T.30, Annex A), a caller and an answerer. A terminal hears octets of the
  * line and gives the bursts that are to be sent. It has no clock and no modem: the program measures the waits, and listens by the carrier
@@ -239,6 +254,7 @@ const char *g3_carrier_name(uint32_t carrier);
 uint32_t g3_carrier_rate(uint32_t carrier);
 
 typedef struct g3_burst {
+    uint64_t size; /* of this struct */
     uint64_t bits;
     uint32_t carrier;
     uint32_t check; /* 1: a training check, 0 bits alone; 0: flags and frames */
@@ -272,6 +288,7 @@ enum {
 const char *g3_end_text(uint32_t end);
 
 typedef struct g3_state {
+    uint64_t size;    /* of this struct */
     uint64_t pages;   /* of a caller, confirmed; of an answerer, stored and not taken by g3_terminal_take_page */
     uint64_t frames;  /* how many good frames were heard */
     uint32_t listens; /* G3_HEARS_.. */
@@ -280,10 +297,11 @@ typedef struct g3_state {
     uint32_t longer;  /* the longer one beside it; 0 for none */
     uint32_t end;     /* 0: the call goes on; else G3_END_.. */
 } g3_state;
-G3_CHECK g3_status g3_terminal_state(g3_terminal *terminal, g3_state *state);
+G3_CHECK g3_status g3_terminal_state(const g3_terminal *terminal, g3_state *state);
 
 /* how far a call is; what belongs to the other station is 0 */
 typedef struct g3_progress {
+    uint64_t size;           /* of this struct */
     uint64_t pages;          /* of a caller's document; or those that an answerer has stored and that weren't taken */
     uint64_t confirmed;      /* pages of a caller that are confirmed: the one under way is the next */
     uint64_t block;          /* the block of its page that a caller sends, from 1; 0 in phase B and after the end */
@@ -296,7 +314,7 @@ typedef struct g3_progress {
     uint32_t accepted_page;  /* the number of its page modulo 256 */
     uint32_t accepted_block; /* its number in that page modulo 256 */
 } g3_progress;
-G3_CHECK g3_status g3_terminal_progress(g3_terminal *terminal, g3_progress *progress);
+G3_CHECK g3_status g3_terminal_progress(const g3_terminal *terminal, g3_progress *progress);
 
 /* The oldest page that an answerer has stored and that wasn't taken. G3_NOTHING: there is none. Where none waits in the handle, all stored
  * pages leave the station, which isn't busy for them then: there are never more than 2 * limit - 1 in memory. */
@@ -328,13 +346,13 @@ typedef struct g3_dis {
 } g3_dis;
 
 /* how pages are sent, as a DCS says it */
-typedef struct g3_params {
+typedef struct g3_dcs {
     uint32_t carrier; /* G3_V27TER_2400 to G3_V17_14400 */
     uint32_t fine;    /* 1: 7.7 lines a millimeter, 0: 3.85 */
     uint32_t width;   /* pixels: 1728, 2048 or 2432 */
     uint32_t coding;  /* G3_MH or G3_MMR */
     uint32_t frame;   /* the octets of data in a frame: 256 or 64 */
-} g3_params;
+} g3_dcs;
 
 /* what a PPS says of a block */
 typedef struct g3_block {
@@ -345,10 +363,11 @@ typedef struct g3_block {
 } g3_block;
 
 typedef struct g3_signal {
+    uint64_t size;       /* of this struct, with those in it */
     uint64_t length;     /* how many octets: 1 to 256 of an FCD's data, 32 of a PPR's bits */
     uint32_t kind;       /* G3_DIS to G3_OTHER; what belongs to other kinds is 0 where a signal was read */
     g3_dis dis;          /* of a DIS */
-    g3_params dcs;       /* of a DCS */
+    g3_dcs dcs;          /* of a DCS */
     g3_block pps;        /* of a PPS */
     uint32_t number;     /* of an FCD, the number of its frame in the block */
     uint32_t control;    /* of G3_OTHER, the octet of the facsimile control field */
@@ -366,15 +385,20 @@ G3_CHECK g3_status g3_signal_write(const g3_signal *signal, uint32_t side, uint3
 /* why two stations don't agree; of several reasons the first one: it doesn't receive, it has no error correction, the page is too wide for
  * it, it takes no fine lines, no speed is common */
 enum { G3_NO_RECEIVER = 1, G3_NO_ECM = 2, G3_TOO_WIDE = 3, G3_NO_FINE = 4, G3_NO_COMMON_SPEED = 5 };
+
+typedef struct g3_params {
+    uint64_t size; /* of this struct */
+    g3_dcs dcs;
+} g3_params;
 /* What a caller of this wish agrees on with a station of this DIS, for pages of a width in pixels, `fine` or not: what its DCS says.
  * G3_NOT_COMPATIBLE: *reason is why not. G3_NOT_CALLABLE: the width isn't 1728, 2048 or 2432. */
 G3_CHECK g3_status g3_agree(const g3_dis *dis, const g3_wish *wish, uint32_t width, uint32_t fine, g3_params *params, uint32_t *reason);
 
 /* How the pages of the group that is under way are sent. G3_NOTHING: none is; a caller waits for a DIS, or an answerer for a DCS. */
-G3_CHECK g3_status g3_terminal_params(g3_terminal *terminal, g3_params *params);
+G3_CHECK g3_status g3_terminal_params(const g3_terminal *terminal, g3_params *params);
 /* What is known of the other station, as a signal without octets: of a caller's terminal the last DIS that was agreed on, of an answerer's
  * the last DCS that it took; in both it stays known after the end where a page, or a block of one, went over. G3_NOTHING: nothing is known. */
-G3_CHECK g3_status g3_terminal_peer(g3_terminal *terminal, g3_signal *signal);
+G3_CHECK g3_status g3_terminal_peer(const g3_terminal *terminal, g3_signal *signal);
 
 #ifdef __cplusplus
 }

@@ -97,18 +97,19 @@ PREFIX=/usr LIBDIR=$libdir DESTDIR=$work/stage "$top/packaging/install.sh" > /de
 share=/usr/share
 rm "$work/stage$share/doc/faxtool/INSTALLED"
 cp "$work/stage$share/doc/faxtool/COMMIT" "$work/COMMIT"
-gzip -9n "$work/stage$share/man/man1"/*.1
+gzip -9n "$work/stage$share/man/man1"/*.1 "$work/stage$share/man/man3"/*.3
 mkdir -p "$work/stage$share/zsh/vendor-completions"
 mv "$work/stage$share/zsh/site-functions/_faxtool" "$work/stage$share/zsh/vendor-completions/"
 mv "$work/stage$share/doc/g3fax" "$work/stage$share/doc/libg3fax-dev"
 module=/usr/lib/python3/dist-packages/g3fax
-mkdir -p "$work/stage$module"
-mv "$work/stage$share/doc/libg3fax-dev/examples/g3fax.py" "$work/stage$module/__init__.py"
-install -m 644 "$top/bindings/python/py.typed" "$work/stage$module/"
+mkdir -p "${work}/stage${module%/*}"
+mv "$work/stage$share/doc/libg3fax-dev/python/g3fax" "$work/stage$module"
+rmdir "$work/stage$share/doc/libg3fax-dev/python"
 takes faxtool /usr/bin/faxtool $share/man/man1 $share/bash-completion/completions/faxtool $share/zsh/vendor-completions/_faxtool \
     $share/fish/vendor_completions.d/faxtool.fish $share/doc/faxtool
 takes libg3fax0 $libdir/libg3fax.so.0
-takes libg3fax-dev /usr/include/g3fax.h $libdir/libg3fax.a $libdir/libg3fax.so $libdir/pkgconfig/g3fax.pc $share/doc/libg3fax-dev
+takes libg3fax-dev /usr/include/g3fax.h $libdir/libg3fax.a $libdir/libg3fax.so $libdir/pkgconfig/g3fax.pc $share/man/man3 \
+    $share/doc/libg3fax-dev
 takes python3-g3fax $module
 [ -z "$(find "$work/stage" ! -type d)" ] || ends "in no package: $(cd "$work/stage" && find . ! -type d | tr '\n' ' ')"
 strip --strip-all "$work/faxtool/usr/bin/faxtool"

@@ -73,7 +73,11 @@ gather_library() {
     docs=$prefix/share/doc/g3fax
     sed 's,](\.\./,](../faxtool/,' bindings/README.md > "$work/README.md"
     puts 644 "$work/README.md" "$docs"
-    puts 644 bindings/c/*.[ch] bindings/python/g3fax.py "$docs/examples"
+    puts 644 bindings/c/*.[ch] "$docs/c"
+    puts 644 bindings/c/softfax/*.[ch] bindings/c/softfax/Makefile "$docs/c/softfax"
+    puts 644 bindings/tests/heap.h "$docs/tests"
+    puts 644 bindings/python/g3fax/*.py bindings/python/g3fax/py.typed "$docs/python/g3fax"
+    puts 644 docs/man/*.3 "$prefix/share/man/man3"
 }
 
 # gather_documents: the documents in folders as they are here, so that each leads to the others.

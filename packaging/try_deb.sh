@@ -48,7 +48,7 @@ is_same() {
 builds() {
     name=$1
     shift
-    cc -std=c11 -Wall -Wextra -Werror -O1 -o "$work/$name" "$root/usr/share/doc/libg3fax-dev/examples/encode.c" "$@" \
+    cc -std=c11 -Wall -Wextra -Werror -O1 -o "$work/$name" "$root/usr/share/doc/libg3fax-dev/c/encode.c" "$@" \
         || ends "the example isn't built: $*"
     LD_LIBRARY_PATH=$root$libdir "$work/$name" "$root/usr/share/doc/faxtool/examples/page.pbm" "$work/code" mmr msb \
         || ends "the example, $name: status $?"
@@ -105,8 +105,8 @@ commands=$("$work/try/.ci/sessions.py" "$root/usr/bin/faxtool" "$root/usr/share/
 grep -qxF "$("$root/usr/bin/faxtool" version --proof)" "$root/usr/share/doc/faxtool/docs/PROOF.md" || ends "faxtool version --proof"
 
 if command -v man > /dev/null; then
-    for page in "$root"/usr/share/man/man1/*.1.gz; do
-        name=$(basename "$page" .1.gz)
+    for page in "$root"/usr/share/man/man1/*.1.gz "$root"/usr/share/man/man3/*.3.gz; do
+        name=$(basename "${page%.[13].gz}")
         MANPATH=$root/usr/share/man man "$name" 2> "$work/error" > "$work/page" || ends "man $name"
         grep -q "^NAME" "$work/page" || ends "man $name shows no page"
         [ ! -s "$work/error" ] || ends "man $name has a warning"

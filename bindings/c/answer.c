@@ -67,7 +67,7 @@ static g3_status keep(FILE *out)
 static g3_status say(g3_state *state)
 {
     g3_octets bits = G3_EMPTY;
-    g3_burst burst = {0, 0, 0, 0};
+    g3_burst burst = G3_INIT(g3_burst);
     uint64_t count = 0;
     g3_status status = begun ? g3_terminal_next_burst(&terminal, &bits, &burst) : G3_NOTHING;
     if (status == G3_NOTHING) return g3_terminal_state(&terminal, state);
@@ -83,7 +83,7 @@ static g3_status say(g3_state *state)
 int main(int argc, char **argv)
 {
     g3_caps caps = {G3_V17, 1, 1, 2432, 2};
-    g3_state state = {0, 0, 0, 0, 0, 0, 0};
+    g3_state state = G3_INIT(g3_state);
     FILE *out = argc == 2 ? fopen(argv[1], "wb") : NULL;
     if (out == NULL) return fprintf(stderr, "usage: answer OUT.pbm\n"), 2;
     g3_status status = g3_answerer_new(&terminal, &caps);

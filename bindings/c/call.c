@@ -13,7 +13,7 @@ static int fails(const char *what, g3_status status)
 /* One station hears a burst of the other one. */
 static g3_status hear(g3_terminal *to, const g3_burst *burst, const uint8_t *octets, uint64_t length)
 {
-    g3_state state;
+    g3_state state = G3_INIT(g3_state);
     g3_status status = g3_terminal_state(to, &state);
     if (status != G3_OK) return status;
     if (burst->check && state.listens == G3_HEARS_CHECK && state.carrier == burst->carrier)
@@ -27,7 +27,7 @@ static g3_status hear(g3_terminal *to, const g3_burst *burst, const uint8_t *oct
 static g3_status say(const char *name, g3_terminal *from, g3_terminal *to, unsigned *said)
 {
     g3_status status;
-    g3_burst burst;
+    g3_burst burst = G3_INIT(g3_burst);
     for (;;) {
         g3_octets line = G3_EMPTY;
         uint8_t *octets = NULL;
@@ -49,7 +49,7 @@ static g3_status say(const char *name, g3_terminal *from, g3_terminal *to, unsig
 /* The call, to its end. Where nothing is on the line, the shorter of the two waits is over; after the caller's end the answerer's. */
 static g3_status talk(g3_terminal *caller, g3_terminal *answerer)
 {
-    g3_state calls = {0}, answers = {0};
+    g3_state calls = G3_INIT(g3_state), answers = G3_INIT(g3_state);
     g3_status status = G3_OK;
     while (status == G3_OK && (calls.end == 0 || answers.end == 0)) {
         unsigned said = 0;

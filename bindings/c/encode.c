@@ -7,11 +7,12 @@
 /* Writes the octets of a handle to a file, and frees them. */
 static g3_status give_octets(g3_octets *octets, FILE *to)
 {
-    static uint8_t buffer[1 << 16]; /* what a row and the end of a page want, and more */
+    const uint8_t *data = NULL;
     uint64_t count = 0;
-    g3_status status = g3_octets_copy(octets, buffer, sizeof buffer, &count);
+    g3_status status = g3_octets_data(octets, &data, &count);
+    if (status == G3_OK && fwrite(data, 1, count, to) != count) status = G3_NO_ROOM;
     g3_octets_free(octets);
-    return status != G3_OK || fwrite(buffer, 1, count, to) == count ? status : G3_NO_ROOM;
+    return status;
 }
 
 /* Codes the rows of an image, and the end of the page. */

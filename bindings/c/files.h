@@ -47,15 +47,15 @@ static inline g3_status take_octets(g3_octets *from, uint8_t **octets, uint64_t 
 }
 
 /* Writes a page as a raw PBM file. If the file can't be written, the reason is printed, and the status is G3_NOTHING. */
-static inline g3_status save_page(g3_page *page, const char *name)
+static inline g3_status save_page(const g3_page *page, const char *name)
 {
     g3_octets text = G3_EMPTY;
-    uint8_t *octets = NULL;
+    const uint8_t *octets = NULL;
     uint64_t length = 0;
     g3_status status = g3_page_write_pbm(page, &text);
-    if (status == G3_OK) status = take_octets(&text, &octets, &length);
+    if (status == G3_OK) status = g3_octets_data(&text, &octets, &length);
     if (status == G3_OK && !write_file(name, octets, length)) perror(name), status = G3_NOTHING;
-    free(octets);
+    g3_octets_free(&text);
     return status;
 }
 #endif

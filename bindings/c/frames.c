@@ -24,7 +24,7 @@ int main(int argc, char **argv)
 {
     static uint8_t content[300];
     g3_deframer deframer = G3_EMPTY;
-    g3_counts counts = {0, 0, 0, 0, 0, 0};
+    g3_counts counts = G3_INIT(g3_counts);
     size_t length = 0, at, piece;
     uint64_t count = 0;
     unsigned number = 0;

@@ -20,7 +20,7 @@ static void handles(void)
 {
     g3_page page = G3_EMPTY;
     g3_octets code = G3_EMPTY;
-    g3_size size;
+    g3_size size = G3_INIT(g3_size), unsized = {0};
     uint64_t n;
     IS(G3_EMPTY_HANDLE, g3_page_size(&page, &size));
     IS(G3_BAD_WIDTH, g3_page_new(&page, 2433, 1));
@@ -35,6 +35,7 @@ static void handles(void)
     IS(G3_NO_ROOM, g3_page_row(&page, 0, octets, 215, &n));
     IS(216, (g3_status)n); /* so many octets are wanted */
     IS(G3_BAD_CHOICE, g3_page_encode(&page, G3_MMR, 2, &code));
+    IS(G3_BAD_SIZE, g3_page_size(&page, &unsized)); /* it doesn't begin with its own size */
     g3_page_free(&page); g3_page_free(&page); g3_page_free(NULL);
     IS(G3_EMPTY_HANDLE, g3_page_size(&page, &size));
 }
@@ -73,10 +74,10 @@ static void pages(void)
 static void signals(void)
 {
     static const uint8_t address[] = {0xFE, 0x13, 0x80}, control[] = {0xFF, 0x12, 0x80};
-    g3_signal signal;
+    g3_signal signal = G3_INIT(g3_signal);
     g3_dis dis = {0, G3_V17, 1, 2432, 1, 1}; /* it doesn't receive */
     g3_wish wish = {G3_V17, G3_MMR, 256};
-    g3_params params;
+    g3_params params = G3_INIT(g3_params);
     uint32_t reason;
     IS(G3_BAD_ADDRESS, g3_signal_read(address, 3, &signal));
     IS(G3_BAD_CONTROL, g3_signal_read(control, 3, &signal));

@@ -6,7 +6,7 @@
 /* The rows of a page in memory that was filled with FILL, as a page again; a status. */
 static g3_status moved(g3_page *page, int fill, g3_page *back)
 {
-    g3_size size;
+    g3_size size = G3_INIT(g3_size);
     uint64_t count = 0, at, between = 0;
     g3_status status = g3_page_size(page, &size);
     if (status != G3_OK) return status;

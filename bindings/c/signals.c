@@ -22,7 +22,7 @@ static int comes_back(const g3_signal *signal)
 {
     static uint8_t content[300];
     for (uint32_t side = G3_CALLER; side <= G3_ANSWERER; side++) {
-        g3_signal again = {0};
+        g3_signal again = G3_INIT(g3_signal);
         uint64_t count = 0;
         if (g3_signal_write(signal, side, 1, content, sizeof content, &count) != G3_OK) return 0;
         if (g3_signal_read(content, count, &again) != G3_OK || memcmp(signal, &again, sizeof again) != 0) return 0;
@@ -32,7 +32,7 @@ static int comes_back(const g3_signal *signal)
 
 static void print(const uint8_t *content, size_t length)
 {
-    g3_signal signal = {0};
+    g3_signal signal = G3_INIT(g3_signal);
     g3_status status = g3_signal_read(content, length, &signal);
     if (status != G3_OK) {
         printf(" fault %u\n", status);

@@ -3,8 +3,8 @@
 
     bindings/python/make_wheel.py FOLDER
 
-The wheel, g3fax-VERSION-py3-none-manylinux_2_N_x86_64.whl, is left in the folder, and its name printed. It has g3fax.py as the package
-g3fax, libg3fax.so.0 beside it, py.typed and the licences. The library is that in the folder that G3FAX names, else in bindings/build; N is
+The wheel, g3fax-VERSION-py3-none-manylinux_2_N_x86_64.whl, is left in the folder, and its name printed. It has the package
+g3fax, libg3fax.so.0 in it, and the licences. The library is that in the folder that G3FAX names, else in bindings/build; N is
 the least glibc that has its symbols. Files have the time of SOURCE_DATE_EPOCH, or of the commit, else of 1980: the same sources and library
 give the same octets. It needs Python's standard library alone, and x86-64."""
 
@@ -69,7 +69,7 @@ def moment():
 def metadata(version):
     """What an installer shows of the package."""
     about = words()
-    said = re.match('"""(.*?)"""', (HERE / "g3fax.py").read_text(), re.S)
+    said = re.match('"""(.*?)"""', (HERE / "g3fax" / "__init__.py").read_text(), re.S)
     lines = ["Metadata-Version: 2.1", f"Name: {about['name']}", f"Version: {version}", f"Summary: {about['description']}",
              f"License: {about['license']}", f"Requires-Python: {about['requires-python']}", "Description-Content-Type: text/plain", ""]
     return "\n".join([*lines, said[1], ""])
@@ -83,8 +83,7 @@ def build_wheel(wheel_directory, config_settings=None, metadata_directory=None):
     library, version = (folder / LIBRARY).read_bytes(), (TOP / "VERSION").read_text().strip()
     tag, info = f"py3-none-{platform(library)}", f"g3fax-{version}.dist-info"
     files = {
-        "g3fax/__init__.py": (HERE / "g3fax.py").read_bytes(),
-        "g3fax/py.typed": (HERE / "py.typed").read_bytes(),
+        **{f"g3fax/{file.name}": file.read_bytes() for file in [*sorted(HERE.glob("g3fax/*.py")), HERE / "g3fax/py.typed"]},
         f"g3fax/{LIBRARY}": library,
         f"{info}/METADATA": metadata(version).encode(),
         f"{info}/WHEEL": f"Wheel-Version: 1.0\nGenerator: make_wheel.py\nRoot-Is-Purelib: false\nTag: {tag}\n".encode(),

@@ -1,4 +1,4 @@
-"""Tests g3fax.py on files that other programs wrote:
+"""Tests the package g3fax on files that other programs wrote:
 
     G3FAX_LIBRARY=FOLDER/libg3fax.so.0 python3 bindings/python/test_g3fax.py"""
 
@@ -304,13 +304,13 @@ class Pages(unittest.TestCase):
         program = """if True:
             import sys
             try:
-                exec(compile(sys.stdin.read(), "g3fax.py", "exec"), dict(__file__="g3fax.py", __name__="g3fax"))
+                exec(compile(sys.stdin.read(), "_native.py", "exec"), dict(__file__="_native.py", __name__="g3fax._native"))
             except ImportError as error:
                 print(error)"""
 
         def said(library, version=g3fax.__version__):
             """What the import of the module says of a library, were it for a version."""
-            source = (HERE / "g3fax.py").read_text().replace(f'__version__ = "{g3fax.__version__}"', f'__version__ = "{version}"')
+            source = (HERE / "g3fax" / "_native.py").read_text().replace(f'__version__ = "{g3fax.__version__}"', f'__version__ = "{version}"')
             done = subprocess.run([sys.executable, "-c", program], input=source, text=True, capture_output=True,
                                   env={**os.environ, "G3FAX_LIBRARY": library})
             self.assertEqual(done.stderr, "")

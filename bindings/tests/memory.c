@@ -107,17 +107,17 @@ static void signals(size_t length)
 {
     g3_dis dis = {1, G3_V17, 1, 2432, 1, 1};
     g3_wish wish = {G3_V17, G3_MMR, 256};
-    g3_params params;
-    g3_signal signal;
+    g3_params params = G3_INIT(g3_params);
+    g3_signal signal = G3_INIT(g3_signal);
     uint64_t count = 0;
     uint32_t why = 0;
     unsigned long before = grown;
     g3_status read = g3_signal_read(line, length, &signal);
     if (read != G3_BAD_ADDRESS) printf("growth %lu refused: flags were read: %u\n", refused, read), bad = 1;
     if (g3_agree(&dis, &wish, 1728, 1, &params, &why) != G3_OK) printf("growth %lu refused: nothing is agreed\n", refused), bad = 1;
-    signal.kind = G3_DCS, signal.dcs = params;
+    signal.kind = G3_DCS, signal.dcs = params.dcs;
     if (g3_signal_write(&signal, G3_CALLER, 1, again, sizeof again, &count) != G3_OK || g3_signal_read(again, count, &signal) != G3_OK
-        || memcmp(&signal.dcs, &params, sizeof params) != 0)
+        || memcmp(&signal.dcs, &params.dcs, sizeof params.dcs) != 0)
         printf("growth %lu refused: another DCS\n", refused), bad = 1;
     if (grown != before) printf("signals take memory\n"), bad = 1;
 }
@@ -141,9 +141,9 @@ static void hear_frames(g3_terminal *to, size_t size)
 /* What a terminal tells of the call takes no memory. */
 static void tells(g3_terminal *of)
 {
-    g3_progress far;
-    g3_params params;
-    g3_signal peer;
+    g3_progress far = G3_INIT(g3_progress);
+    g3_params params = G3_INIT(g3_params);
+    g3_signal peer = G3_INIT(g3_signal);
     unsigned long before = grown;
     g3_status known = G3_OK;
     DOES(g3_terminal_progress(of, &far));
@@ -158,8 +158,8 @@ static unsigned say(g3_terminal *from, g3_terminal *to, int by_frames)
     unsigned said = 0;
     for (;; said++) {
         g3_octets octets = G3_EMPTY;
-        g3_burst burst;
-        g3_state state;
+        g3_burst burst = G3_INIT(g3_burst);
+        g3_state state = G3_INIT(g3_state);
         uint64_t size = 0;
         g3_status status = g3_terminal_next_burst(from, &octets, &burst);
         if (status == G3_NO_MEMORY) status = g3_terminal_next_burst(from, &octets, &burst);
@@ -189,7 +189,7 @@ static void calls(int by_frames)
     g3_terminal caller = G3_EMPTY, answerer = G3_EMPTY;
     g3_caps caps = {G3_V17, 1, 1, 2432, 2};
     g3_wish wish = {G3_V17, G3_MH, 64};
-    g3_state here = {0, 0, 0, 0, 0, 0, 0}, there = here;
+    g3_state here = G3_INIT(g3_state), there = here;
     uint64_t count = 0;
     DOES(g3_page_new(&page, 1728, 1));
     for (unsigned row = 0; row < 6; row++) DOES(g3_page_push_row(&page, image + row, 216));

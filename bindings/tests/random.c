@@ -23,7 +23,7 @@ static g3_status hears(void *from, void *to)
 {
     static uint8_t line[1 << 17];
     g3_octets octets = G3_EMPTY;
-    g3_burst burst;
+    g3_burst burst = G3_INIT(g3_burst);
     uint64_t count = 0;
     g3_status status = g3_terminal_next_burst(from, &octets, &burst);
     if (status == G3_OK) status = g3_octets_copy(&octets, line, sizeof line, &count);
@@ -35,6 +35,7 @@ static g3_status hears(void *from, void *to)
 static g3_status call(uint32_t which, void *a, void *b)
 {
     static uint64_t told, place;
+    static const uint8_t *address;
     static g3_size size;
     static g3_counts counts;
     static g3_burst burst;
@@ -43,7 +44,12 @@ static g3_status call(uint32_t which, void *a, void *b)
     static g3_params params;
     static g3_progress far;
     static uint32_t why;
+    uint32_t sizes = below(50); /* of structs: right ones, but for some calls */
     static const uint8_t heads[] = {0x80, 0x83, 0x84, 0x44, 0x06, 0x86, 0xBF, 0xBC, 0x8C, 0xEC, 0x6F, 0xFB};
+    size.size = sizes ? sizeof size : below(500), counts.size = sizes ? sizeof counts : below(500);
+    burst.size = sizes ? sizeof burst : below(500), shown.size = sizes ? sizeof shown : below(500);
+    signal.size = sizes ? sizeof signal : below(500), params.size = sizes ? sizeof params : below(500);
+    far.size = sizes ? sizeof far : below(500);
     g3_dis dis = {below(9) != 0, 0, below(2), below(9) ? 2432 : below(3000), below(2), below(9) != 0};
     g3_caps caps = {below(5), below(2), below(2), below(8) ? 1728 : below(3000), below(4)};
     g3_wish wish = {below(5), below(4), below(3) ? 64 : below(300)};
@@ -114,6 +120,11 @@ static g3_status call(uint32_t which, void *a, void *b)
     case 51: return g3_terminal_progress(a, below(50) ? &far : NULL);
     case 52: return g3_terminal_params(a, below(50) ? &params : NULL);
     case 53: return g3_terminal_peer(a, below(50) ? &signal : NULL);
+    case 54:
+        address = NULL;
+        if (g3_octets_data(a, below(50) ? &address : NULL, number) == G3_OK)
+            for (uint64_t at = 0; at < told; at++) buffer[at % sizeof buffer] ^= address[at];
+        return G3_OK;
     default: g3_page_free(a); return G3_OK;
     }
 }
@@ -125,10 +136,10 @@ int main(int argc, char **argv)
     for (int calls = argc == 2 ? atoi(argv[1]) : 0; calls > 0; calls--) {
         uint32_t first = below(8), second = (first + 1 + below(7)) % 8;
         if (below(20) == 0) refused = grown + 1 + below(4);
-        g3_status status = call(below(57), below(50) ? &handles[first] : NULL, below(50) ? &handles[second] : NULL);
+        g3_status status = call(below(58), below(50) ? &handles[first] : NULL, below(50) ? &handles[second] : NULL);
         int is_known = status <= G3_TOO_MANY_CODED_ROWS || (status >= G3_BAD_ADDRESS && status <= G3_SHORT_FIELD)
             || status == G3_NOT_CALLABLE || status == G3_NOT_COMPATIBLE || status == G3_FRAME_LOST
-            || (status >= G3_EMPTY_HANDLE && status <= G3_NOTHING);
+            || (status >= G3_EMPTY_HANDLE && status <= G3_BAD_SIZE);
         if (!is_known) printf("status %u\n", status), bad = 1;
     }
     for (int at = 0; at < 8; at++) g3_page_free(&handles[at]);

@@ -5,6 +5,20 @@
 
 #define IS(want, call) is((want), (call), __LINE__)
 
+/* a struct that doesn't begin with its size, or with that of another one, is refused as it was */
+#define SIZES(it, call) \
+    do { \
+        for (uint64_t others = 0; others <= sizeof(it) + 8; others += 8) { \
+            if (others == sizeof(it)) continue; \
+            memset(&(it), 0x5A, sizeof(it)); \
+            memcpy(&(it), &others, sizeof others); \
+            IS(G3_BAD_SIZE, (call)); \
+            for (size_t at = sizeof others; at < sizeof(it); at++) IS(0x5A, ((const uint8_t *)&(it))[at]); \
+        } \
+        memset(&(it), 0, sizeof(it)); \
+        (it).size = sizeof(it); \
+    } while (0)
+
 static uint8_t octets[400];
 static int bad;
 

@@ -1,14 +1,26 @@
 /* What wrong use of pages, of rows in memory and of frames answers. Prints nothing and ends with 0 where each status is the right one. */
 #include "statuses.h"
 
+/* The octets at an address are those of the handle. */
+static void copies(const g3_octets *from, const uint8_t *data, uint64_t length)
+{
+    static uint8_t copied[1 << 16];
+    uint64_t count = 0;
+    IS(G3_OK, g3_octets_copy(from, copied, sizeof copied, &count));
+    IS(1, count == length && memcmp(copied, data, count) == 0);
+}
+
 static void pages(void)
 {
     g3_page a = G3_EMPTY;
     g3_octets code = G3_EMPTY;
-    g3_size size = {0, 0, 0};
-    uint64_t n = 0;
+    g3_size size = G3_INIT(g3_size);
+    const uint8_t *data = octets;
+    uint64_t n = 0, length = 0;
     g3_page_free(&a); g3_page_free(&a); g3_page_free(NULL);
     IS(G3_EMPTY_HANDLE, g3_page_size(&a, &size));
+    IS(G3_EMPTY_HANDLE, g3_octets_data(&code, &data, &n));
+    IS(G3_EMPTY_HANDLE, g3_octets_data(NULL, &data, &n));
     IS(G3_EMPTY_HANDLE, g3_page_push_row(NULL, octets, 216));
     IS(G3_BAD_WIDTH, g3_page_new(&a, 0, 1));
     IS(G3_BAD_WIDTH, g3_page_new(&a, 2433, 1));
@@ -27,6 +39,7 @@ static void pages(void)
     IS(G3_NOTHING, g3_page_row(&a, 1, octets, 400, &n));
     IS(G3_BAD_LENGTH, g3_page_row(&a, 0, octets, 400, NULL));
     IS(G3_BAD_LENGTH, g3_page_size(&a, NULL));
+    SIZES(size, g3_page_size(&a, &size));
     IS(G3_OK, g3_page_size(&a, &size));
     IS(1, size.width == 1728 && size.rows == 1 && size.fine == 1);
     for (uint32_t row = 1; row < 20000; row++) IS(G3_OK, g3_page_push_row(&a, octets, 216));
@@ -36,6 +49,13 @@ static void pages(void)
     IS(G3_FULL_HANDLE, g3_page_encode(&a, G3_MMR, G3_MSB_FIRST, &code));
     IS(G3_OTHER_HANDLE, g3_page_size((g3_page *)&code, &size));
     IS(G3_NO_ROOM, g3_octets_copy(&code, NULL, 0, &n));
+    IS(G3_BAD_LENGTH, g3_octets_data(&code, NULL, &n));
+    IS(G3_BAD_LENGTH, g3_octets_data(&code, &data, NULL));
+    IS(G3_OTHER_HANDLE, g3_octets_data((g3_octets *)&a, &data, &n));
+    IS(1, data == octets); /* it is as it was */
+    IS(G3_OK, g3_octets_data(&code, &data, &length));
+    IS(1, length == n && g3_octets_copy(&code, octets, sizeof octets, &n) == G3_NO_ROOM);
+    for (uint32_t row = 0; row < 2; row++) copies(&code, data, length);
     g3_octets_free(&code); g3_page_free(&a); g3_page_free(&a);
     IS(G3_EMPTY_HANDLE, g3_page_size(&a, &size));
 }
@@ -100,12 +120,16 @@ static void frames(void)
 {
     g3_deframer d = G3_EMPTY;
     g3_octets frame = G3_EMPTY;
+    g3_counts counts = G3_INIT(g3_counts);
     uint64_t n = 0;
     IS(G3_EMPTY_HANDLE, g3_deframer_feed(&d, octets, 1));
     IS(G3_OK, g3_deframer_new(&d));
     IS(G3_NO_ROOM, g3_deframer_next(&d, octets, 299, &n));
     IS(G3_NOTHING, g3_deframer_next(&d, octets, 300, &n));
     IS(G3_BAD_LENGTH, g3_deframer_counts(&d, NULL));
+    SIZES(counts, g3_deframer_counts(&d, &counts));
+    IS(G3_OK, g3_deframer_counts(&d, &counts));
+    IS(0, (g3_status)counts.good);
     IS(G3_BAD_LENGTH, g3_frame_write(octets, 2, &frame, &n));
     IS(G3_BAD_LENGTH, g3_frame_write(octets, 301, &frame, &n));
     IS(G3_OK, g3_frame_write(octets, 300, &frame, &n));

@@ -15,7 +15,7 @@ static void signals(void)
     static const uint8_t address[] = {0xFE, 0x13, 0x80}, control[] = {0xFF, 0x12, 0x80}, few[] = {0xFF, 0x13, 0x80, 0, 0};
     static const uint8_t mcf[] = {0xFF, 0x13, 0x8C, 1, 2, 3}, cut[] = {0xFF, 0x13}, wrong_pps[] = {0xFF, 0x13, 0xBF, 1, 0, 0, 0};
     static const uint8_t fcd[] = {0xFF, 0x03, 0x06, 200, 1, 2, 3};
-    g3_signal s = {0}, fresh = {0};
+    g3_signal s = G3_INIT(g3_signal), fresh = G3_INIT(g3_signal);
     uint64_t n = 0;
     s.number = 5;
     IS(G3_BAD_ADDRESS, g3_signal_read(address, 3, &s));
@@ -26,6 +26,8 @@ static void signals(void)
     IS(G3_BAD_LENGTH, g3_signal_read(NULL, 3, &s));
     IS(G3_BAD_LENGTH, g3_signal_read(mcf, 3, NULL));
     IS(1, s.number == 5 && s.kind == 0); /* it is as it was */
+    SIZES(s, g3_signal_read(mcf, 6, &s));
+    SIZES(s, g3_signal_write(&s, G3_CALLER, 0, octets, sizeof octets, &n));
     IS(G3_OK, g3_signal_read(mcf, 6, &s)); /* what comes after its fields is ignored */
     IS(1, s.kind == G3_MCF && s.number == 0 && s.length == 0);
     IS(G3_OK, g3_signal_read(wrong_pps, 7, &s));
@@ -67,15 +69,16 @@ static void agreement(void)
 {
     g3_dis all = {1, G3_V17, 1, 2432, 1, 1}, d = all;
     g3_wish wish = {G3_V17, G3_MMR, 256}, old = {G3_V27TER, G3_MMR, 64}, odd = {4, G3_MMR, 256};
-    g3_params p = {0, 0, 0, 0, 0};
+    g3_params p = G3_INIT(g3_params);
     uint32_t why = 9;
+    SIZES(p, g3_agree(&all, &wish, 1728, 1, &p, &why));
     IS(G3_OK, g3_agree(&all, &wish, 1728, 1, &p, &why));
-    IS(1, p.carrier == G3_V17_14400 && p.fine == 1 && p.width == 1728 && p.coding == G3_MMR && p.frame == 256 && why == 9);
+    IS(1, p.dcs.carrier == G3_V17_14400 && p.dcs.fine == 1 && p.dcs.width == 1728 && p.dcs.coding == G3_MMR && p.dcs.frame == 256 && why == 9);
     IS(G3_OK, g3_agree(&all, &old, 2432, 0, &p, &why));
-    IS(1, p.carrier == G3_V27TER_4800 && p.fine == 0 && p.width == 2432 && p.coding == G3_MMR && p.frame == 64);
+    IS(1, p.dcs.carrier == G3_V27TER_4800 && p.dcs.fine == 0 && p.dcs.width == 2432 && p.dcs.coding == G3_MMR && p.dcs.frame == 64);
     d.t6 = 0, d.modems = G3_V27TER_2400_ALONE;
     IS(G3_OK, g3_agree(&d, &wish, 1728, 0, &p, &why));
-    IS(1, p.carrier == G3_V27TER_2400 && p.coding == G3_MH && why == 9);
+    IS(1, p.dcs.carrier == G3_V27TER_2400 && p.dcs.coding == G3_MH && why == 9);
     d = all, d.receiver = d.ecm = d.fine = 0, d.widest = 1728, d.modems = G3_V29_ALONE;
     IS(G3_NOT_COMPATIBLE, g3_agree(&d, &old, 2432, 1, &p, &why));
     IS(G3_NO_RECEIVER, why);
@@ -91,7 +94,7 @@ static void agreement(void)
     d.fine = 1;
     IS(G3_NOT_COMPATIBLE, g3_agree(&d, &old, 2432, 1, &p, &why));
     IS(G3_NO_COMMON_SPEED, why);
-    IS(1, p.carrier == G3_V27TER_2400); /* it is as it was */
+    IS(1, p.dcs.carrier == G3_V27TER_2400); /* it is as it was */
     IS(G3_NOT_CALLABLE, g3_agree(&all, &wish, 1727, 1, &p, &why));
     IS(G3_BAD_CHOICE, g3_agree(&all, &odd, 1728, 1, &p, &why));
     d.modems = 6;

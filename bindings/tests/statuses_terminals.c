@@ -40,8 +40,8 @@ static void terminals(void)
     g3_terminal t = G3_EMPTY;
     g3_octets o = G3_EMPTY;
     g3_page p = G3_EMPTY;
-    g3_burst burst;
-    g3_state state;
+    g3_burst burst = G3_INIT(g3_burst);
+    g3_state state = G3_INIT(g3_state);
     g3_caps caps = {G3_V17, 1, 1, 2432, 1}, odd = {0, 1, 1, 2432, 1}, wide = {G3_V17, 1, 1, 2433, 1}, none = {G3_V17, 1, 1, 2432, 0};
     IS(G3_BAD_CHOICE, g3_answerer_new(&t, &odd));
     IS(G3_BAD_CHOICE, g3_answerer_new(&t, &wide));
@@ -58,12 +58,14 @@ static void terminals(void)
     IS(35000, g3_wait_millis(G3_T1));
     IS(G3_NOTHING, g3_terminal_take_page(&t, &p));
     IS(G3_BAD_LENGTH, g3_terminal_next_burst(&t, &o, NULL));
+    SIZES(burst, g3_terminal_next_burst(&t, &o, &burst)); /* nothing is sent */
     IS(G3_OK, g3_terminal_next_burst(&t, &o, &burst));
     IS(1, burst.carrier == G3_V21 && burst.check == 0 && burst.last == 1);
     IS(G3_FULL_HANDLE, g3_terminal_next_burst(&t, &o, &burst));
     g3_octets_free(&o);
     IS(G3_NOTHING, g3_terminal_next_burst(&t, &o, &burst));
     IS(G3_BAD_LENGTH, g3_terminal_state(&t, NULL));
+    SIZES(state, g3_terminal_state(&t, &state));
     IS(G3_OK, g3_terminal_lost(&t));
     IS(G3_OK, g3_terminal_stop(&t)); /* it has ended, and stays as it ended */
     IS(G3_OK, g3_terminal_state(&t, &state));
@@ -78,10 +80,11 @@ static void agreed(void)
 {
     g3_terminal t = G3_EMPTY, empty = G3_EMPTY;
     g3_caps caps = {G3_V17, 1, 1, 2432, 1};
-    g3_state state;
-    g3_progress far;
-    g3_params params = {7, 7, 7, 7, 7};
-    g3_signal dcs = {0}, peer = {0};
+    g3_state state = G3_INIT(g3_state);
+    g3_progress far = G3_INIT(g3_progress);
+    g3_params params = {sizeof params, {7, 7, 7, 7, 7}};
+    g3_params none = G3_INIT(g3_params);
+    g3_signal dcs = G3_INIT(g3_signal), peer = G3_INIT(g3_signal), unknown = G3_INIT(g3_signal);
     uint64_t n = 0;
     dcs.kind = G3_DCS, dcs.dcs.carrier = G3_V29_9600, dcs.dcs.width = 1728, dcs.dcs.coding = G3_MMR, dcs.dcs.frame = 64;
     peer.kind = 77;
@@ -92,21 +95,24 @@ static void agreed(void)
     IS(G3_BAD_LENGTH, g3_terminal_hear_frame(&t, NULL, 3));
     IS(G3_EMPTY_HANDLE, g3_terminal_progress(&empty, &far));
     IS(G3_BAD_LENGTH, g3_terminal_progress(&t, NULL));
+    SIZES(far, g3_terminal_progress(&t, &far));
     IS(G3_OK, g3_terminal_progress(&t, &far));
     IS(0, far.pages + far.accepted + far.octets + far.frames);
     IS(G3_EMPTY_HANDLE, g3_terminal_params(&empty, &params));
     IS(G3_BAD_LENGTH, g3_terminal_params(&t, NULL));
+    SIZES(none, g3_terminal_params(&t, &none));
     IS(G3_NOTHING, g3_terminal_params(&t, &params)); /* no DCS has come */
     IS(G3_EMPTY_HANDLE, g3_terminal_peer(NULL, &peer));
     IS(G3_BAD_LENGTH, g3_terminal_peer(&t, NULL));
+    SIZES(unknown, g3_terminal_peer(&t, &unknown));
     IS(G3_NOTHING, g3_terminal_peer(&t, &peer));
-    IS(1, params.carrier == 7 && peer.kind == 77); /* they are as they were */
+    IS(1, params.dcs.carrier == 7 && peer.kind == 77); /* they are as they were */
     IS(G3_OK, g3_signal_write(&dcs, G3_CALLER, 1, octets, sizeof octets, &n));
     IS(G3_OK, g3_terminal_hear_frame(&t, octets, n));
     IS(G3_OK, g3_terminal_params(&t, &params));
-    IS(0, (g3_status)memcmp(&params, &dcs.dcs, sizeof params));
+    IS(0, (g3_status)memcmp(&params.dcs, &dcs.dcs, sizeof params.dcs));
     IS(G3_OK, g3_terminal_peer(&t, &peer));
-    IS(1, peer.kind == G3_DCS && memcmp(&params, &peer.dcs, sizeof params) == 0);
+    IS(1, peer.kind == G3_DCS && memcmp(&params.dcs, &peer.dcs, sizeof params.dcs) == 0);
     IS(G3_OK, g3_terminal_state(&t, &state));
     IS(1, state.frames == 1 && state.listens == G3_HEARS_CHECK && state.carrier == G3_V29_9600);
     g3_terminal_free(&t);

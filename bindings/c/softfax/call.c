@@ -49,7 +49,7 @@ int call_begin(call *it, uint32_t modems, const modem_kind *kind, modem *modem)
 /* Writes a record of each page that was confirmed since the last one. */
 static void note_confirmed(call *it)
 {
-    g3_state state;
+    g3_state state = G3_INIT(g3_state);
     if (!it->given->calls || !it->given->json || g3_terminal_state(&it->station, &state) != G3_OK) return;
     for (; it->confirmed < state.pages && it->confirmed < (uint64_t)it->given->count; it->confirmed++) {
         const g3_size *size = &it->sizes[it->confirmed];
@@ -90,7 +90,7 @@ int call_end(call *it)
         "no-end", "normal", "no-answer", "not-compatible", "training", "no-reply", "unreadable", "still-busy", "peer-left", "bad-page",
         "page-too-long", "stopped", "line-lost"};
     const options *given = it->given;
-    g3_state state = {0};
+    g3_state state = G3_INIT(g3_state);
     record_end record = {"no-call", given->calls ? "confirmed" : "pages", it->folder.kept, "", it->why};
     if (it->terminal != NULL && g3_terminal_state(&it->station, &state) == G3_OK && state.end < sizeof ENDS / sizeof ENDS[0]) {
         record.end = ENDS[state.end];

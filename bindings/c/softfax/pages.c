@@ -18,6 +18,7 @@ static g3_status add(g3_document *document, const uint8_t *octets, size_t length
 {
     g3_page page = G3_EMPTY;
     g3_status status = g3_page_read_pbm(octets, length, (uint32_t)fine, &page, images);
+    size->size = sizeof *size;
     if (status == G3_OK) status = g3_page_size(&page, size);
     if (status == G3_OK) status = g3_document_push(document, &page);
     g3_page_free(&page);
@@ -157,7 +158,7 @@ int pages_keep(void *user, g3_page *page)
 {
     pages_folder *folder = user;
     g3_page square = G3_EMPTY;
-    g3_size size = {0, 0, 0};
+    g3_size size = G3_INIT(g3_size);
     uint8_t *octets = NULL;
     uint64_t length = 0;
     char name[4096];

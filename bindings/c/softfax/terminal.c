@@ -178,7 +178,7 @@ static uint32_t carrier_of(const terminal *it, const g3_state *state)
 /* Sets the page receiver to what the library listens for. A check comes with the long training of V.17, and pages with the short one. */
 static void listen(terminal *it)
 {
-    g3_state state;
+    g3_state state = G3_INIT(g3_state);
     it->trained = 0;
     it->checked = 0;
     if (!is_done(it, g3_terminal_state(it->station, &state))) return;
@@ -221,7 +221,7 @@ static void note_correction(terminal *it, const uint8_t *content, uint64_t lengt
 /* Hears the content of a good frame. */
 static void hear_content(terminal *it, int receiver, const uint8_t *content, uint64_t length)
 {
-    g3_signal signal;
+    g3_signal signal = G3_INIT(g3_signal);
     tell(it, "hears", frame_name(content[2]), 0);
     it->heard = it->now;
     it->reads = 1;
@@ -343,7 +343,7 @@ static int wait_is_past(const terminal *it, uint32_t wait)
  * station said that it isn't ready, and T1 from what was heard last. */
 static void end_waits(terminal *it)
 {
-    g3_state state;
+    g3_state state = G3_INIT(g3_state);
     uint32_t over = 0;
     if (it->quiet == NEVER || !is_done(it, g3_terminal_state(it->station, &state))) return;
     if (state.longer != G3_T5) it->asked = it->now;
@@ -378,7 +378,7 @@ static uint32_t look_at_burst(const terminal *it, int tells)
     uint8_t content[MOST_CONTENT];
     uint64_t count = 0;
     uint32_t last = 0;
-    g3_signal signal;
+    g3_signal signal = G3_INIT(g3_signal);
     if (it->burst.check || (it->burst.carrier != G3_V21 && !(tells && it->name != NULL))) return 0;
     if (g3_deframer_new(&frames) == G3_OK && g3_deframer_feed(&frames, it->octets, (it->burst.bits + 7) / 8) == G3_OK) {
         while (g3_deframer_next(&frames, content, sizeof content, &count) == G3_OK) {
@@ -420,6 +420,7 @@ static g3_status begin_carrier(terminal *it)
 {
     g3_octets handle = G3_EMPTY;
     uint64_t length = 0;
+    it->burst.size = sizeof it->burst;
     g3_status status = g3_terminal_next_burst(it->station, &handle, &it->burst);
     if (status == G3_NOTHING || !is_done(it, status)) return status;
     free(it->octets);
@@ -445,13 +446,13 @@ static void say_ctr(terminal *it)
     is_done(it, g3_octets_copy(&handle, it->octets + FLAGS_BEFORE, ROOM - FLAGS_BEFORE - FLAGS_AFTER, &length));
     g3_octets_free(&handle);
     length += FLAGS_BEFORE + FLAGS_AFTER;
-    it->burst = (g3_burst){length * 8, G3_V21, 0, 1};
+    it->burst = (g3_burst){sizeof(g3_burst), length * 8, G3_V21, 0, 1};
     say_burst(it);
 }
 
 static int has_ended(const terminal *it)
 {
-    g3_state state;
+    g3_state state = G3_INIT(g3_state);
     return is_done(it, g3_terminal_state(it->station, &state)) && state.end != 0;
 }
 

@@ -28,7 +28,7 @@ void trial_judge(const trial *kind, outcome *out, uint32_t width, uint32_t rows,
 static int keep(void *user, g3_page *page)
 {
     ours *it = user;
-    g3_size size = {0, 0, 0};
+    g3_size size = G3_INIT(g3_size);
     uint64_t count = 0;
     if (g3_page_size(page, &size) != G3_OK) return 0;
     uint64_t stride = (size.width + 7) / 8, room = stride * size.rows;
@@ -87,7 +87,7 @@ static const char *ours_ending(void *user)
         "no end", "normal", "no answer", "not compatible", "training", "no reply", "unreadable", "still busy", "peer left", "bad page",
         "page too long", "stopped", "line lost"};
     ours *it = user;
-    g3_state state;
+    g3_state state = G3_INIT(g3_state);
     if (g3_terminal_state(&it->station, &state) != G3_OK) return "no state";
     if (terminal_why(it->terminal) != NULL) return "refused";
     return state.end < sizeof ENDS / sizeof ENDS[0] ? ENDS[state.end] : "another end";
@@ -96,7 +96,7 @@ static const char *ours_ending(void *user)
 static void ours_leave(void *user, outcome *out)
 {
     ours *it = user;
-    g3_state state;
+    g3_state state = G3_INIT(g3_state);
     if (it->calls && g3_terminal_state(&it->station, &state) == G3_OK) out->confirmed = state.pages;
     out->equal += it->counted.equal;
     out->wrong += it->counted.wrong;

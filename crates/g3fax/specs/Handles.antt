@@ -1,7 +1,9 @@
 -- What a handle has, and what a call answers of it.
 use Rattle.std.specs.Prelude.{ℕ, ◌≡◌, ◌≢◌, ◌<◌, ◌≤◌, ◌++◌, List, length, drop}
+use Rattle.std.specs.Vec.{vec_ptr}
 use Rattle.std.specs.declared.option.Option.{Option}
 use Rattle.std.specs.declared.option.Option.TheVariants.{None, Some}
+use denote.RawPtr.{Ptr}
 use Rattle.raster.specs.Pages.{PagePixels}
 use Rattle.hdlc.specs.DeframerState.{DeframerState}
 use Rattle.stations.specs.Limiting.{LimitedFields}
@@ -121,6 +123,18 @@ OfOctets Answers (Some (Caller terminal)) status = status ≡ other_handle
 OfOctets Answers (Some (Answerer answering)) status = status ≡ other_handle
 OfOctets Answers (Some (RowCoder coder)) status = status ≡ other_handle
 OfOctets Answers (Some (RowReader reader)) status = status ≡ other_handle
+
+-- the same of the address of the octets and of these
+abbrev pub OfOctetsAt : (Ptr → List ℕ → Type 0) → Option Kept → ℕ → Type 0
+OfOctetsAt Answers None status = status ≡ empty_handle
+OfOctetsAt Answers (Some (Octets octets)) status = Answers (vec_ptr octets) octets.items
+OfOctetsAt Answers (Some (Page page)) status = status ≡ other_handle
+OfOctetsAt Answers (Some (Deframer state)) status = status ≡ other_handle
+OfOctetsAt Answers (Some (Document pages)) status = status ≡ other_handle
+OfOctetsAt Answers (Some (Caller terminal)) status = status ≡ other_handle
+OfOctetsAt Answers (Some (Answerer answering)) status = status ≡ other_handle
+OfOctetsAt Answers (Some (RowCoder coder)) status = status ≡ other_handle
+OfOctetsAt Answers (Some (RowReader reader)) status = status ≡ other_handle
 
 -- the status for a handle that should have a page: `Answers` if it has, 100 if it is empty, 101 if it has something else
 abbrev pub OfPage : (PagePixels → Type 0) → Option Kept → ℕ → Type 0

@@ -1,6 +1,6 @@
 //! Octets that calls have made, for C.
 
-ghost use Rattle.g3fax.specs.Handles.{Copies, OfOctets};
+ghost use Rattle.g3fax.specs.Handles.{Copies, OfOctets, OfOctetsAt};
 ghost use Rattle.std.specs.Prelude.{◌≡◌, ◌≢◌, length};
 
 use crate::handle::{G3Handle, opened};
@@ -27,6 +27,25 @@ pub extern "C" fn g3_core_octets_len(alloc: Global, octets: &mut G3Handle, count
     ensures untold { result ≢ 0 → count.new ≡ count.old }
 {
     opened!(alloc, octets, Octets, octets => {
+            *count = octets.len() as u64;
+            OK
+        })
+}
+
+/// Tells the address of the octets of a handle, and how many they are. The address is right until the handle changes: nothing is copied.
+#[unsafe(no_mangle)]
+pub extern "C" fn g3_core_octets_data(
+    alloc: Global,
+    octets: &mut G3Handle,
+    address: &mut *const u8,
+    count: &mut u64,
+) -> u32
+    ensures answers { OfOctetsAt (λ at octets. (result ≡ 0) × (address.new ≡ at) × (count.new ≡ length octets)) octets.old.value result }
+    ensures kept { octets.new.value ≡ octets.old.value }
+    ensures untold { result ≢ 0 → (address.new ≡ address.old) × (count.new ≡ count.old) }
+{
+    opened!(alloc, octets, Octets, octets => {
+            *address = octets.as_ptr();
             *count = octets.len() as u64;
             OK
         })

@@ -1,0 +1,205 @@
+"""Documents, and the two stations of a call."""
+
+from __future__ import annotations
+
+import ctypes
+import sys
+from typing import Any, Iterable, Iterator, List, NamedTuple, Optional, Union
+
+from ._frames import _dis, _params, _wish, frames
+from ._native import _NOTHING, _Burst, _Caps, _Handle, _library, _Params, _Progress, _Signal, _State, _u64
+from ._names import Carrier, Coding, Dis, End, Kind, Listens, Modems, Params, Progress, State, Wait
+from ._owning import _done, _number, _octets, _Owner, _taken
+from ._pages import Page
+
+if sys.version_info >= (3, 12):
+    from collections.abc import Buffer
+else:
+    Buffer = Any
+
+
+class Burst(NamedTuple):
+    """What is to be sent: the bits, the least significant of each octet first; what it goes out on; whether it is a training check, and
+    whether it is the last before the other station has its turn."""
+
+    octets: memoryview
+    bits: int
+    carrier: Carrier
+    check: bool
+    last: bool
+
+    def frames(self) -> List[bytes]:
+        """The contents of its frames, in order, for a modem that wants frames and not bits. A training check has none."""
+        return [] if self.check else frames(self.octets)[0]
+
+
+class Document(_Owner):
+    """The pages of a call, in order."""
+
+    def __init__(self, pages: Iterable[Page] = ()) -> None:
+        super().__init__("g3_document_free")
+        _done(_library.g3_document_new(self._at))
+        for page in pages:
+            self.append(page)
+
+    def append(self, page: Page) -> None:
+        """Moves a page to the end: later calls of the page raise Closed."""
+        with self._lock, page._lock:
+            _done(_library.g3_document_push(self._at, page._at))
+
+    def __len__(self) -> int:
+        """The number of pages."""
+        count = _u64()
+        with self._lock:
+            _done(_library.g3_document_pages(self._at, ctypes.byref(count)))
+        return count.value
+
+    def _says(self) -> str:
+        return f"{len(self)} pages"
+
+
+class Terminal(_Owner):
+    """A station of a call with error correction, from octets of the line to octets of the line: a Caller or an Answerer. It has no clock
+    and no modem: bindings/README.md, "A call", says what a program does with it."""
+
+    def __init__(self) -> None:
+        super().__init__("g3_terminal_free")
+
+    def _says(self) -> str:
+        end = self.state.end
+        return "the call goes on" if end is None else f"ended, {end}"
+
+    def hear(self, octets: Buffer) -> None:
+        """Hears octets that came by V.21 or by the carrier of a page, in pieces of any size. NoMemory: nothing was taken. FrameLost: don't
+        give them again."""
+        address, length = _octets(octets)
+        with self._lock:
+            _done(_library.g3_terminal_hear(self._at, address, length))
+
+    def hear_frame(self, content: Buffer) -> None:
+        """Hears a good frame by its content of 3 to 300 octets, for a modem that finds the frames itself."""
+        address, length = _octets(content)
+        with self._lock:
+            _done(_library.g3_terminal_hear_frame(self._at, address, length))
+
+    def hear_training(self, octets: Buffer) -> None:
+        """Hears the octets of a training check."""
+        address, length = _octets(octets)
+        with self._lock:
+            _done(_library.g3_terminal_hear_training(self._at, address, length))
+
+    def wait_over(self, wait: Wait) -> None:
+        """A wait is over; one that doesn't run changes nothing."""
+        with self._lock:
+            _done(_library.g3_terminal_wait_over(self._at, _number(wait, "wait")))
+
+    def set_busy(self, is_busy: bool) -> None:
+        """Whether an answerer can't take pages for now."""
+        with self._lock:
+            _done(_library.g3_terminal_set_busy(self._at, bool(is_busy)))
+
+    def stop(self) -> None:
+        """Ends the call in order: DCN is to be sent in place of what was."""
+        with self._lock:
+            _done(_library.g3_terminal_stop(self._at))
+
+    def hang_up(self) -> None:
+        """The same also where the call has ended, so that a page that couldn't be kept isn't confirmed."""
+        with self._lock:
+            _done(_library.g3_terminal_hang_up(self._at))
+
+    def lost(self) -> None:
+        """The line is gone: nothing is left to be sent."""
+        with self._lock:
+            _done(_library.g3_terminal_lost(self._at))
+
+    def next_burst(self) -> Optional[Burst]:
+        """The next burst that is to be sent, or None."""
+        out, told = _Handle(), _Burst()
+        with self._lock:
+            status = _library.g3_terminal_next_burst(self._at, ctypes.byref(out), ctypes.byref(told))
+        if status == _NOTHING:
+            return None
+        _done(status)
+        return Burst(_taken(out), told.bits, Carrier(told.carrier), bool(told.check), bool(told.last))
+
+    def bursts(self) -> Iterator[Burst]:
+        """The bursts of the turn that are left."""
+        return iter(self.next_burst, None)
+
+    @property
+    def state(self) -> State:
+        """What it listens for, its waits, its pages, and why its call ended."""
+        told = _State()
+        with self._lock:
+            _done(_library.g3_terminal_state(self._at, ctypes.byref(told)))
+        return State(told.pages, told.frames, Listens(told.listens), Carrier(told.carrier) if told.carrier else None,
+                     Wait(told.wait) if told.wait else None, Wait(told.longer) if told.longer else None,
+                     End(told.end) if told.end else None)
+
+    @property
+    def progress(self) -> "Progress":
+        """How far the call is."""
+        told = _Progress()
+        with self._lock:
+            _done(_library.g3_terminal_progress(self._at, ctypes.byref(told)))
+        numbers = {name: getattr(told, name) for name in Progress._fields}
+        numbers["accepted"] = (told.accepted_page, told.accepted_block) if told.accepted else None
+        return Progress(**numbers)
+
+    @property
+    def params(self) -> "Optional[Params]":
+        """How the pages of the group that is under way are sent, or None."""
+        told = _Params()
+        with self._lock:
+            status = _library.g3_terminal_params(self._at, ctypes.byref(told))
+        if status == _NOTHING:
+            return None
+        _done(status)
+        return _params(told.dcs)
+
+    @property
+    def peer(self) -> "Union[Dis, Params, None]":
+        """What is known of the other station: the Dis of a caller's answerer, the Params of an answerer's caller, or None."""
+        told = _Signal()
+        with self._lock:
+            status = _library.g3_terminal_peer(self._at, ctypes.byref(told))
+        if status == _NOTHING:
+            return None
+        _done(status)
+        return _dis(told.dis) if told.kind == Kind.DIS else _params(told.dcs)
+
+    def take_page(self) -> Optional[Page]:
+        """The oldest page that an answerer has stored and that wasn't taken, or None."""
+        page = Page._empty()
+        with self._lock:
+            status = _library.g3_terminal_take_page(self._at, page._at)
+        if status == _NOTHING:
+            return None
+        _done(status)
+        return page
+
+    def pages(self) -> Iterator[Page]:
+        """The pages that an answerer has stored and that weren't taken; each is taken out."""
+        return iter(self.take_page, None)
+
+
+class Caller(Terminal):
+    """The station that calls and sends a document."""
+
+    def __init__(self, document: Document, modems: Modems = Modems.V17, coding: Coding = Coding.MMR, frame: int = 256) -> None:
+        """Waits for a DIS. The document moves in. `frame` is the octets of data in a frame, 256 or 64."""
+        super().__init__()
+        wish = _wish(modems, coding, frame)
+        with document._lock:
+            _done(_library.g3_caller_new(self._at, document._at, ctypes.byref(wish)))
+
+
+class Answerer(Terminal):
+    """The station that is called and stores pages."""
+
+    def __init__(self, modems: Modems = Modems.V17, t6: bool = True, fine: bool = True, widest: int = 2432, limit: int = 1) -> None:
+        """Its first burst is DIS. `limit`: how many pages it stores before it is busy."""
+        super().__init__()
+        caps = _Caps(_number(modems, "modems"), bool(t6), bool(fine), _number(widest, "widest"), _number(limit, "limit"))
+        _done(_library.g3_answerer_new(self._at, ctypes.byref(caps)))
