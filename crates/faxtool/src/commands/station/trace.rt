@@ -3,7 +3,7 @@
 ghost use Rattle.faults.specs.Faults.{IsOutside};
 ghost use Rattle.std.specs.Prelude.{IfErr};
 
-use crate::context::{Notes, Part};
+use crate::context::{Context, Part};
 use captures::{ContentText, write_traced, write_traced_check};
 use conversations::{Follower, Heard, Kind, Said, TimedLine, heard_as};
 use faults::ToolFault;
@@ -43,26 +43,24 @@ impl Follower for Trace {
 impl Trace {
     /// The trace that goes to a file, after what is there; or none. Errors: `Io` (8) if the file can't be opened, and that is noted;
     /// `NoMemory` (9).
-    pub(crate) fn open(
-        rt: &HostRuntime,
-        name: Option<&str>,
-        notes: &mut Notes,
-    ) -> Result<Trace, ToolFault>
+    pub(crate) fn open(context: &mut Context<'_>, name: Option<&str>) -> Result<Trace, ToolFault>
         ensures { IfErr result IsOutside }
     {
         let Some(name) = name else {
             return Ok(Trace(None));
         };
-        let opened = OpenOptions::new().append(true).create(true).open(rt, name);
-        if let Err(error) = &opened {
-            notes.blame(Part::Trace, error.kind());
-        }
+        let opened = OpenOptions::new()
+            .append(true)
+            .create(true)
+            .open(context.rt(), name);
+        let file = context.checked(opened, Part::Trace)?;
+        let alloc = context.alloc();
         Ok(Trace(Some(TraceFile {
-            alloc: rt.alloc(),
-            records: notes.records,
-            writer: BufWriter::new(rt.alloc(), opened?)?,
-            heard: Deframer::new(rt.alloc()),
-            said: Deframer::new(rt.alloc()),
+            alloc,
+            records: context.is_json(),
+            writer: BufWriter::new(alloc, file)?,
+            heard: Deframer::new(alloc),
+            said: Deframer::new(alloc),
         })))
     }
 
