@@ -1,4 +1,4 @@
--- What the refusal of a job whose files aren't apart becomes.
+-- What the refusal of a command whose files aren't apart becomes.
 use Rattle.std.proofs.Common.{◌≡◌, ◌∙◌, ap}
 use Rattle.clap.specs.Words.{kind_of}
 use Rattle.clap.specs.declared.error.Error.{Error}

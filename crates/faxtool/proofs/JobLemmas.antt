@@ -12,10 +12,10 @@ use Rattle.clap.proofs.WalkLemmas.{one_text-rows}
 use Rattle.calls.specs.Losses.{IsRate}
 use Rattle.calls.specs.declared.losses.BadLine.{BadLine}
 use Rattle.std.specs.Prelude.{Bool, false, is_some, not, option_map, string_bytes, ◌&&◌}
-use Rattle.faxtool.specs.declared.args.words.Job.TheVariants.{Answer, Call, Captures, Code, Decode, Dial, Drive, Frames, Identify, Show, Version}
+use Rattle.faxtool.specs.declared.commands.Command.TheVariants.{Answer, Call, Captures, Code, Decode, Dial, Drive, Frames, Identify, Show, Version}
 use Rattle.faxtool.specs.declared.args.words.Outcome.{Outcome}
 use Rattle.faxtool.specs.declared.args.words.Outcome.TheVariants.{Done, Fault, Incomplete, Words}
-use Rattle.faxtool.specs.Jobs.{AreOptionsIn, HasNoJob, HasNoOptions, IsFaxtool, IsOutcomeOf, IsRefusalOf, IsWidthIn, ReadsNumber}
+use Rattle.faxtool.specs.Jobs.{AreOptionsIn, HasNoCommand, HasNoOptions, IsFaxtool, IsOutcomeOf, IsRefusalOf, IsWidthIn, ReadsNumber}
 use Rattle.faxtool.specs.Jobs.{has_captures, is_named}
 use Rattle.faxtool.specs.Jobs.{IsBusyIn, IsLineIn, IsTimesIn, IsRateIn, IsSpoilIn, call_and_page_app, with_later}
 
@@ -99,15 +99,15 @@ refused_by_kind words a error (Words given) is (inl memory) made = absurd (made.
 refused_by_kind words a error (Words given) is (inr among) made =
     (a, is, inl (subst (λ (e : Error). IsAmong (kind_of e) (fault_of a words)) (sym made.1) among))
 
--- the refusal of words that have no job
+-- the refusal of words that have no command
 pub refused_for_job : (words : List Text) (a : App) (error : Error) (outcome : Outcome) → IsFaxtool a
-    → HasNoJob (subcommand_of a words) → IsOutcomeOf error outcome → IsRefusalOf words outcome
+    → HasNoCommand (subcommand_of a words) → IsOutcomeOf error outcome → IsRefusalOf words outcome
 refused_for_job words a error Done is none made = made
 refused_for_job words a error Incomplete is none made = elim made [ ]
 refused_for_job words a error (Fault fault) is none made = made.1
 refused_for_job words a error (Words given) is none made = (a, is, inr none)
 
--- ---- the jobs
+-- ---- the commands
 
 some_name : (a b : Text) (xs ys : List Row) → ◌≡◌ {A = Option (Text × List Row)} (Some (a, xs)) (Some (b, ys)) → a ≡ b
 some_name a b xs ys e = ap (λ (o : Option (Text × List Row)). (unwrap_or o (a, xs)).0) e
@@ -205,80 +205,80 @@ call_is_identify e =
     let bad : 99 ≡ 105 = ap (λ (t : Text). slice_index t 0) e in
     absurd (omega (arith, bad))
 
--- without a width there is no job for `show`
-pub no_width : (rows : List Row) → ((n : ℕ) → IsWidthIn rows n → ⊥) → HasNoJob (Some (codes "show", rows))
-no_width rows none (Code coding order input output) (others, e, is) = show_is_code (some_name (codes "show") (codes "code") rows others e)
-no_width rows none (Show coding order width input) (others, e, is) =
-    none width (subst (λ (xs : List Row). IsWidthIn xs width) (sym (some_rows (codes "show") (codes "show") rows others e)) is.width_is)
-no_width rows none (Decode form options page input output) (others, e, is) =
+-- without a width there is no command for `show`
+pub no_width : (rows : List Row) → ((n : ℕ) → IsWidthIn rows n → ⊥) → HasNoCommand (Some (codes "show", rows))
+no_width rows none (Code command) (others, e, is) = show_is_code (some_name (codes "show") (codes "code") rows others e)
+no_width rows none (Show command) (others, e, is) =
+    none command.width (subst (λ (xs : List Row). IsWidthIn xs command.width) (sym (some_rows (codes "show") (codes "show") rows others e)) is.width_is)
+no_width rows none (Decode command) (others, e, is) =
     show_is_decode (some_name (codes "show") (codes "decode") rows others e)
-no_width rows none (Frames most order words pages salvage input) (others, e, is) =
+no_width rows none (Frames command) (others, e, is) =
     show_is_frames (some_name (codes "show") (codes "frames") rows others e)
-no_width rows none (Captures order records diagram caller answerer) (others, e, is) =
+no_width rows none (Captures command) (others, e, is) =
     show_is_frames (some_name (codes "show") (codes "frames") rows others e)
-no_width rows none (Identify input) (others, e, is) =
+no_width rows none (Identify command) (others, e, is) =
     show_is_identify (some_name (codes "show") (codes "identify") rows others e)
-no_width rows none (Call script options out bits normal diagram input) (others, e, is) =
+no_width rows none (Call command) (others, e, is) =
     show_is_call (some_name (codes "show") (codes "call") rows others e)
-no_width rows none (Drive line times options out bits normal diagram input) (others, e, is) =
+no_width rows none (Drive command) (others, e, is) =
     show_is_call (some_name (codes "show") (codes "call") rows others e)
-no_width rows none (Answer caps limit waits out trace) (others, e, is) =
+no_width rows none (Answer command) (others, e, is) =
     show_is_station (some_name (codes "show") (codes "station") rows others e)
-no_width rows none (Dial options waits trace input) (others, e, is) =
+no_width rows none (Dial command) (others, e, is) =
     show_is_station (some_name (codes "show") (codes "station") rows others e)
-no_width rows none (Version proof) (others, e, is) = show_is_version (some_name (codes "show") (codes "version") rows others e)
+no_width rows none (Version command) (others, e, is) = show_is_version (some_name (codes "show") (codes "version") rows others e)
 
 -- nor is there one for `decode`
-pub no_width_to_decode : (rows : List Row) → ((n : ℕ) → IsWidthIn rows n → ⊥) → HasNoJob (Some (codes "decode", rows))
-no_width_to_decode rows none (Code coding order input output) (others, e, is) =
+pub no_width_to_decode : (rows : List Row) → ((n : ℕ) → IsWidthIn rows n → ⊥) → HasNoCommand (Some (codes "decode", rows))
+no_width_to_decode rows none (Code command) (others, e, is) =
     decode_is_code (some_name (codes "decode") (codes "code") rows others e)
-no_width_to_decode rows none (Show coding order width input) (others, e, is) =
+no_width_to_decode rows none (Show command) (others, e, is) =
     show_is_decode (sym (some_name (codes "decode") (codes "show") rows others e))
-no_width_to_decode rows none (Decode form options page input output) (others, e, is) =
-    none form.width (subst (λ (xs : List Row). IsWidthIn xs form.width) (sym (some_rows (codes "decode") (codes "decode") rows others e))
+no_width_to_decode rows none (Decode command) (others, e, is) =
+    none command.form.width (subst (λ (xs : List Row). IsWidthIn xs command.form.width) (sym (some_rows (codes "decode") (codes "decode") rows others e))
     is.shown.width_is)
-no_width_to_decode rows none (Frames most order words pages salvage input) (others, e, is) =
+no_width_to_decode rows none (Frames command) (others, e, is) =
     decode_is_frames (some_name (codes "decode") (codes "frames") rows others e)
-no_width_to_decode rows none (Captures order records diagram caller answerer) (others, e, is) =
+no_width_to_decode rows none (Captures command) (others, e, is) =
     decode_is_frames (some_name (codes "decode") (codes "frames") rows others e)
-no_width_to_decode rows none (Identify input) (others, e, is) =
+no_width_to_decode rows none (Identify command) (others, e, is) =
     decode_is_identify (some_name (codes "decode") (codes "identify") rows others e)
-no_width_to_decode rows none (Call script options out bits normal diagram input) (others, e, is) =
+no_width_to_decode rows none (Call command) (others, e, is) =
     decode_is_call (some_name (codes "decode") (codes "call") rows others e)
-no_width_to_decode rows none (Drive line times options out bits normal diagram input) (others, e, is) =
+no_width_to_decode rows none (Drive command) (others, e, is) =
     decode_is_call (some_name (codes "decode") (codes "call") rows others e)
-no_width_to_decode rows none (Answer caps limit waits out trace) (others, e, is) =
+no_width_to_decode rows none (Answer command) (others, e, is) =
     decode_is_station (some_name (codes "decode") (codes "station") rows others e)
-no_width_to_decode rows none (Dial options waits trace input) (others, e, is) =
+no_width_to_decode rows none (Dial command) (others, e, is) =
     decode_is_station (some_name (codes "decode") (codes "station") rows others e)
-no_width_to_decode rows none (Version proof) (others, e, is) =
+no_width_to_decode rows none (Version command) (others, e, is) =
     decode_is_version (some_name (codes "decode") (codes "version") rows others e)
 
--- without options there is no job for `call`
-pub no_options : (rows : List Row) → HasNoOptions rows → HasNoJob (Some (codes "call", rows))
-no_options rows none (Code coding order input output) (others, e, is) =
+-- without options there is no command for `call`
+pub no_options : (rows : List Row) → HasNoOptions rows → HasNoCommand (Some (codes "call", rows))
+no_options rows none (Code command) (others, e, is) =
     call_is_code (some_name (codes "call") (codes "code") rows others e)
-no_options rows none (Show coding order width input) (others, e, is) =
+no_options rows none (Show command) (others, e, is) =
     show_is_call (sym (some_name (codes "call") (codes "show") rows others e))
-no_options rows none (Decode form options page input output) (others, e, is) =
+no_options rows none (Decode command) (others, e, is) =
     decode_is_call (sym (some_name (codes "call") (codes "decode") rows others e))
-no_options rows none (Frames most order words pages salvage input) (others, e, is) =
+no_options rows none (Frames command) (others, e, is) =
     call_is_frames (some_name (codes "call") (codes "frames") rows others e)
-no_options rows none (Captures order records diagram caller answerer) (others, e, is) =
+no_options rows none (Captures command) (others, e, is) =
     call_is_frames (some_name (codes "call") (codes "frames") rows others e)
-no_options rows none (Identify input) (others, e, is) =
+no_options rows none (Identify command) (others, e, is) =
     call_is_identify (some_name (codes "call") (codes "identify") rows others e)
-no_options rows none (Call script options out bits normal diagram input) (others, e, is) =
-    none options (subst (λ (xs : List Row). AreOptionsIn xs options) (sym (some_rows (codes "call") (codes "call") rows others e))
+no_options rows none (Call command) (others, e, is) =
+    none command.options (subst (λ (xs : List Row). AreOptionsIn xs command.options) (sym (some_rows (codes "call") (codes "call") rows others e))
     is.options_are)
-no_options rows none (Drive line times options out bits normal diagram input) (others, e, is) =
-    none options (subst (λ (xs : List Row). AreOptionsIn xs options) (sym (some_rows (codes "call") (codes "call") rows others e))
+no_options rows none (Drive command) (others, e, is) =
+    none command.options (subst (λ (xs : List Row). AreOptionsIn xs command.options) (sym (some_rows (codes "call") (codes "call") rows others e))
     is.options_are)
-no_options rows none (Answer caps limit waits out trace) (others, e, is) =
+no_options rows none (Answer command) (others, e, is) =
     call_is_station (some_name (codes "call") (codes "station") rows others e)
-no_options rows none (Dial options waits trace input) (others, e, is) =
+no_options rows none (Dial command) (others, e, is) =
     call_is_station (some_name (codes "call") (codes "station") rows others e)
-no_options rows none (Version proof) (others, e, is) = call_is_version (some_name (codes "call") (codes "version") rows others e)
+no_options rows none (Version command) (others, e, is) = call_is_version (some_name (codes "call") (codes "version") rows others e)
 
 -- ---- a bad line
 
@@ -307,61 +307,61 @@ none_there share e = cc
 pub same_number : (a b : ℕ) → ◌≡◌ {A = Option ℕ} (Some a) (Some b) → a ≡ b
 same_number a b e = ap (λ (o : Option ℕ). unwrap_or o a) e
 
--- without a script and a bad line there is no job for `call`
+-- without a script and a bad line there is no command for `call`
 pub no_line : (rows : List Row) → None ≡ first_of (codes "script") rows → ((line : BadLine) → IsLineIn rows line → ⊥)
-    → HasNoJob (Some (codes "call", rows))
-no_line rows open_end none (Code coding order input output) (others, e, is) =
+    → HasNoCommand (Some (codes "call", rows))
+no_line rows open_end none (Code command) (others, e, is) =
     call_is_code (some_name (codes "call") (codes "code") rows others e)
-no_line rows open_end none (Show coding order width input) (others, e, is) =
+no_line rows open_end none (Show command) (others, e, is) =
     show_is_call (sym (some_name (codes "call") (codes "show") rows others e))
-no_line rows open_end none (Decode form options page input output) (others, e, is) =
+no_line rows open_end none (Decode command) (others, e, is) =
     decode_is_call (sym (some_name (codes "call") (codes "decode") rows others e))
-no_line rows open_end none (Frames most order words pages salvage input) (others, e, is) =
+no_line rows open_end none (Frames command) (others, e, is) =
     call_is_frames (some_name (codes "call") (codes "frames") rows others e)
-no_line rows open_end none (Captures order records diagram caller answerer) (others, e, is) =
+no_line rows open_end none (Captures command) (others, e, is) =
     call_is_frames (some_name (codes "call") (codes "frames") rows others e)
-no_line rows open_end none (Identify input) (others, e, is) =
+no_line rows open_end none (Identify command) (others, e, is) =
     call_is_identify (some_name (codes "call") (codes "identify") rows others e)
-no_line rows open_end none (Call script options out bits normal diagram input) (others, e, is) =
+no_line rows open_end none (Call command) (others, e, is) =
     let same : rows ≡ others = some_rows (codes "call") (codes "call") rows others e in
-    let no : ◌≡◌ {A = Option Text} None (Some (string_bytes script)) =
+    let no : ◌≡◌ {A = Option Text} None (Some (string_bytes command.script)) =
     open_end ∙ (ap (λ (xs : List Row). first_of (codes "script") xs) same ∙ is.script_is) in
     cc
-no_line rows open_end none (Drive line times options out bits normal diagram input) (others, e, is) =
-    none line (subst (λ (xs : List Row). IsLineIn xs line) (sym (some_rows (codes "call") (codes "call") rows others e)) is.line_is)
-no_line rows open_end none (Answer caps limit waits out trace) (others, e, is) =
+no_line rows open_end none (Drive command) (others, e, is) =
+    none command.line (subst (λ (xs : List Row). IsLineIn xs command.line) (sym (some_rows (codes "call") (codes "call") rows others e)) is.line_is)
+no_line rows open_end none (Answer command) (others, e, is) =
     call_is_station (some_name (codes "call") (codes "station") rows others e)
-no_line rows open_end none (Dial options waits trace input) (others, e, is) =
+no_line rows open_end none (Dial command) (others, e, is) =
     call_is_station (some_name (codes "call") (codes "station") rows others e)
-no_line rows open_end none (Version proof) (others, e, is) = call_is_version (some_name (codes "call") (codes "version") rows others e)
+no_line rows open_end none (Version command) (others, e, is) = call_is_version (some_name (codes "call") (codes "version") rows others e)
 
--- without a script, and where no number of calls fits, there is no job for `call`
+-- without a script, and where no number of calls fits, there is no command for `call`
 pub no_times : (rows : List Row) → None ≡ first_of (codes "script") rows → ((times : Option ℕ) → IsTimesIn rows times → ⊥)
-    → HasNoJob (Some (codes "call", rows))
-no_times rows open_end none (Code coding order input output) (others, e, is) =
+    → HasNoCommand (Some (codes "call", rows))
+no_times rows open_end none (Code command) (others, e, is) =
     call_is_code (some_name (codes "call") (codes "code") rows others e)
-no_times rows open_end none (Show coding order width input) (others, e, is) =
+no_times rows open_end none (Show command) (others, e, is) =
     show_is_call (sym (some_name (codes "call") (codes "show") rows others e))
-no_times rows open_end none (Decode form options page input output) (others, e, is) =
+no_times rows open_end none (Decode command) (others, e, is) =
     decode_is_call (sym (some_name (codes "call") (codes "decode") rows others e))
-no_times rows open_end none (Frames most order words pages salvage input) (others, e, is) =
+no_times rows open_end none (Frames command) (others, e, is) =
     call_is_frames (some_name (codes "call") (codes "frames") rows others e)
-no_times rows open_end none (Captures order records diagram caller answerer) (others, e, is) =
+no_times rows open_end none (Captures command) (others, e, is) =
     call_is_frames (some_name (codes "call") (codes "frames") rows others e)
-no_times rows open_end none (Identify input) (others, e, is) =
+no_times rows open_end none (Identify command) (others, e, is) =
     call_is_identify (some_name (codes "call") (codes "identify") rows others e)
-no_times rows open_end none (Call script options out bits normal diagram input) (others, e, is) =
+no_times rows open_end none (Call command) (others, e, is) =
     let same : rows ≡ others = some_rows (codes "call") (codes "call") rows others e in
-    let no : ◌≡◌ {A = Option Text} None (Some (string_bytes script)) =
+    let no : ◌≡◌ {A = Option Text} None (Some (string_bytes command.script)) =
     open_end ∙ (ap (λ (xs : List Row). first_of (codes "script") xs) same ∙ is.script_is) in
     cc
-no_times rows open_end none (Drive line times options out bits normal diagram input) (others, e, is) =
-    none times (subst (λ (xs : List Row). IsTimesIn xs times) (sym (some_rows (codes "call") (codes "call") rows others e)) is.times_is)
-no_times rows open_end none (Answer caps limit waits out trace) (others, e, is) =
+no_times rows open_end none (Drive command) (others, e, is) =
+    none command.times (subst (λ (xs : List Row). IsTimesIn xs command.times) (sym (some_rows (codes "call") (codes "call") rows others e)) is.times_is)
+no_times rows open_end none (Answer command) (others, e, is) =
     call_is_station (some_name (codes "call") (codes "station") rows others e)
-no_times rows open_end none (Dial options waits trace input) (others, e, is) =
+no_times rows open_end none (Dial command) (others, e, is) =
     call_is_station (some_name (codes "call") (codes "station") rows others e)
-no_times rows open_end none (Version proof) (others, e, is) = call_is_version (some_name (codes "call") (codes "version") rows others e)
+no_times rows open_end none (Version command) (others, e, is) = call_is_version (some_name (codes "call") (codes "version") rows others e)
 
 -- ---- a folder
 
@@ -385,39 +385,39 @@ frames_is_version e =
     let bad : 102 ≡ 118 = ap (λ (t : Text). slice_index t 0) e in
     absurd (omega (arith, bad))
 
--- where the rows before gaps are wanted and no folder is given, there is no job for `frames`
+-- where the rows before gaps are wanted and no folder is given, there is no command for `frames`
 pub no_folder : (rows : List Row) → has_captures rows ≡ false → is_named (codes "true") (first_of (codes "salvage") rows) ≡ true
-    → is_some (first_of (codes "pages") rows) ≡ false → HasNoJob (Some (codes "frames", rows))
-no_folder rows alone wanted none (Code coding order input output) (others, e, is) =
+    → is_some (first_of (codes "pages") rows) ≡ false → HasNoCommand (Some (codes "frames", rows))
+no_folder rows alone wanted none (Code command) (others, e, is) =
     code_is_frames (sym (some_name (codes "frames") (codes "code") rows others e))
-no_folder rows alone wanted none (Show coding order width input) (others, e, is) =
+no_folder rows alone wanted none (Show command) (others, e, is) =
     show_is_frames (sym (some_name (codes "frames") (codes "show") rows others e))
-no_folder rows alone wanted none (Decode form options page input output) (others, e, is) =
+no_folder rows alone wanted none (Decode command) (others, e, is) =
     decode_is_frames (sym (some_name (codes "frames") (codes "decode") rows others e))
-no_folder rows alone wanted none (Frames most order words pages salvage input) (others, e, is) =
+no_folder rows alone wanted none (Frames command) (others, e, is) =
     let same : rows ≡ others = some_rows (codes "frames") (codes "frames") rows others e in
-    let asked : salvage ≡ true = is.pages_are.salvage_is
+    let asked : command.salvage ≡ true = is.pages_are.salvage_is
     ∙ (ap (λ (xs : List Row). is_named (codes "true") (first_of (codes "salvage") xs)) (sym same) ∙ wanted) in
-    let nowhere : is_some (option_map string_bytes pages) ≡ false = ap is_some (sym is.pages_are.pages_are)
+    let nowhere : is_some (option_map string_bytes command.pages) ≡ false = ap is_some (sym is.pages_are.pages_are)
     ∙ (ap (λ (xs : List Row). is_some (first_of (codes "pages") xs)) (sym same) ∙ none) in
-    let both : (salvage && not (is_some (option_map string_bytes pages))) ≡ true =
-    ap (λ b. b && not (is_some (option_map string_bytes pages))) asked ∙ ap not nowhere in
+    let both : (command.salvage && not (is_some (option_map string_bytes command.pages))) ≡ true =
+    ap (λ b. b && not (is_some (option_map string_bytes command.pages))) asked ∙ ap not nowhere in
     let no : ◌≡◌ {A = Bool} true false = sym both ∙ is.pages_are.in_folder in
     cc
-no_folder rows alone wanted none (Captures order records diagram caller answerer) (others, e, is) =
+no_folder rows alone wanted none (Captures command) (others, e, is) =
     let same : rows ≡ others = some_rows (codes "frames") (codes "frames") rows others e in
     let there : has_captures others ≡ true = rw is.diagram_is refl in
     let no : ◌≡◌ {A = Bool} true false = sym there ∙ (ap has_captures (sym same) ∙ alone) in
     cc
-no_folder rows alone wanted none (Identify input) (others, e, is) =
+no_folder rows alone wanted none (Identify command) (others, e, is) =
     frames_is_identify (some_name (codes "frames") (codes "identify") rows others e)
-no_folder rows alone wanted none (Call script options out bits normal diagram input) (others, e, is) =
+no_folder rows alone wanted none (Call command) (others, e, is) =
     call_is_frames (sym (some_name (codes "frames") (codes "call") rows others e))
-no_folder rows alone wanted none (Drive line times options out bits normal diagram input) (others, e, is) =
+no_folder rows alone wanted none (Drive command) (others, e, is) =
     call_is_frames (sym (some_name (codes "frames") (codes "call") rows others e))
-no_folder rows alone wanted none (Answer caps limit waits out trace) (others, e, is) =
+no_folder rows alone wanted none (Answer command) (others, e, is) =
     frames_is_station (some_name (codes "frames") (codes "station") rows others e)
-no_folder rows alone wanted none (Dial options waits trace input) (others, e, is) =
+no_folder rows alone wanted none (Dial command) (others, e, is) =
     frames_is_station (some_name (codes "frames") (codes "station") rows others e)
-no_folder rows alone wanted none (Version proof) (others, e, is) =
+no_folder rows alone wanted none (Version command) (others, e, is) =
     frames_is_version (some_name (codes "frames") (codes "version") rows others e)

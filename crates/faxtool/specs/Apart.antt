@@ -1,4 +1,4 @@
--- What is said of a job whose files aren't apart.
+-- What is said of a command whose files aren't apart.
 use Rattle.std.specs.Prelude.{◌≡◌}
 use Rattle.clap.specs.Words.{kind_of}
 use Rattle.clap.specs.declared.error.kind.ErrorKind.TheVariants.{ArgumentConflict}
@@ -6,7 +6,7 @@ use Rattle.faults.specs.declared.fault.ToolFault.TheVariants.{No}
 use Rattle.faxtool.specs.declared.args.words.Outcome.{Outcome}
 use Rattle.faxtool.specs.declared.args.words.Outcome.TheVariants.{Done, Incomplete, Fault, Words}
 
--- why a job is refused before anything runs: memory was refused, or two of its files aren't apart
+-- why a command is refused before anything runs: memory was refused, or two of its files aren't apart
 abbrev pub IsApartOutcome : Outcome → Type 0
 IsApartOutcome Done = ⊥
 IsApartOutcome Incomplete = ⊥

@@ -1,4 +1,4 @@
--- The commands of the program, what each job is of the values that clap reads, and why words are refused.
+-- The commands of the program, what each command is of the values that clap reads, and why words are refused.
 use Rattle.std.specs.Prelude.{◌≡◌, ◌≢◌, ◌≤◌, ◌<◌, ◌^◌, ◌⊎◌, ℕ, Bool, true, false, List, [], ◌∷◌, Option, Some, None}
 use Rattle.std.specs.Prelude.{codes, map, pos, if◌then◌else◌, is_some, option_map, string_bytes, not, ◌&&◌, ◌||◌, ◌+◌}
 use Rattle.std.specs.Str.{bytes_eq}
@@ -29,8 +29,8 @@ use Rattle.calls.specs.declared.options.CallOptions.{CallOptions}
 use Rattle.page_files.specs.declared.options.DecodeOptions.{DecodeOptions}
 use Rattle.page_files.specs.declared.options.PageForm.{PageForm}
 use Rattle.faxtool.specs.declared.args.station_words.GivenWaits.{GivenWaits}
-use Rattle.faxtool.specs.declared.args.words.Job.{Job}
-use Rattle.faxtool.specs.declared.args.words.Job.TheVariants.{Answer, Call, Captures, Code, Decode, Dial, Drive, Frames, Identify, Show, Version}
+use Rattle.faxtool.specs.declared.commands.Command.{Command}
+use Rattle.faxtool.specs.declared.commands.Command.TheVariants.{Answer, Call, Captures, Code, Decode, Dial, Drive, Frames, Identify, Show, Version}
 use Rattle.faxtool.specs.declared.args.words.Request.{Request}
 use Rattle.faxtool.specs.declared.args.words.Outcome.{Outcome}
 use Rattle.faxtool.specs.declared.args.words.Outcome.TheVariants.{Done, Fault, Incomplete, Words}
@@ -313,7 +313,7 @@ ReadsNumber id rows None = (text : Text) → one_of id rows ≡ Some text
     → IsNumeral 10 (without_leading_plus text)
     → digits_value 10 (without_leading_plus text) < 2 ^ 32 → ⊥
 
--- the values of the command `code` are those of the job
+-- the values of the command `code` are those that are asked for
 pub record IsCodeOf (rows : List Row) (coding : Coding) (order : Order) (input output : Text)
     : Type 0 where
   pub coding_is : coding_named (first_of (codes "code") rows) ≡ Some coding
@@ -321,7 +321,7 @@ pub record IsCodeOf (rows : List Row) (coding : Coding) (order : Order) (input o
   pub input_is : first_of (codes "in") rows ≡ Some input
   pub output_is : first_of (codes "out") rows ≡ Some output
 
--- the values of the command `show` are those of the job
+-- the values of the command `show` are those that are asked for
 pub record IsShowOf (rows : List Row) (coding : Coding) (order : Order) (width : ℕ) (input : Text)
     : Type 0 where
   pub coding_is : coding_named (first_of (codes "code") rows) ≡ Some coding
@@ -342,7 +342,7 @@ abbrev pub page_of : Option ℕ → ℕ
 page_of None = 1
 page_of (Some page) = page
 
--- the values of the command `decode` are those of the job
+-- the values of the command `decode` are those that are asked for
 pub record IsDecodeOf (rows : List Row) (form : PageForm) (options : DecodeOptions) (page : ℕ) (input output : Text) : Type 0 where
   pub shown : IsShowOf rows form.coding form.order form.width input
   pub fine_is : form.fine ≡ is_named (codes "true") (first_of (codes "fine") rows)
@@ -558,70 +558,70 @@ pub record IsDialOf (rows : List Row) (options : CallOptions) (waits : GivenWait
   pub input_is : first_of (codes "in") rows ≡ Some input
   pub apart : bytes_eq input (codes "-") ≡ false
 
--- the job that a command's name and its values give
-abbrev pub IsJobOf : Option (Text × List Row) → Job → Type 0
-IsJobOf met (Code coding order input output) = (rows : List Row)
+-- the command that a name of one and its values give
+abbrev pub IsCommandOf : Option (Text × List Row) → Command → Type 0
+IsCommandOf met (Code command) = (rows : List Row)
     × (met ≡ Some (codes "code", rows))
-    × IsCodeOf rows coding order (string_bytes input) (string_bytes output)
-IsJobOf met (Show coding order width input) = (rows : List Row)
+    × IsCodeOf rows command.coding command.order (string_bytes command.input) (string_bytes command.output)
+IsCommandOf met (Show command) = (rows : List Row)
     × (met ≡ Some (codes "show", rows))
-    × IsShowOf rows coding order width (string_bytes input)
-IsJobOf met (Decode form options page input output) = (rows : List Row)
+    × IsShowOf rows command.coding command.order command.width (string_bytes command.input)
+IsCommandOf met (Decode command) = (rows : List Row)
     × (met ≡ Some (codes "decode", rows))
-    × IsDecodeOf rows form options page (string_bytes input) (string_bytes output)
-IsJobOf met (Frames most order form pages salvage input) = (rows : List Row)
+    × IsDecodeOf rows command.form command.options command.page (string_bytes command.input) (string_bytes command.output)
+IsCommandOf met (Frames command) = (rows : List Row)
     × (met ≡ Some (codes "frames", rows))
-    × IsFramesOf rows most order form (option_map string_bytes pages) salvage (string_bytes input)
-IsJobOf met (Captures order records diagram caller answerer) = (rows : List Row)
+    × IsFramesOf rows command.most command.order command.form (option_map string_bytes command.pages) command.salvage (string_bytes command.input)
+IsCommandOf met (Captures command) = (rows : List Row)
     × (met ≡ Some (codes "frames", rows))
-    × AreCapturesOf rows order records (string_bytes diagram) (string_bytes caller) (string_bytes answerer)
-IsJobOf met (Identify input) = (rows : List Row)
+    × AreCapturesOf rows command.order command.records (string_bytes command.diagram) (string_bytes command.caller) (string_bytes command.answerer)
+IsCommandOf met (Identify command) = (rows : List Row)
     × (met ≡ Some (codes "identify", rows))
-    × (first_of (codes "file") rows ≡ Some (string_bytes input))
-IsJobOf met (Call script options out bits normal diagram input) = (rows : List Row)
+    × (first_of (codes "file") rows ≡ Some (string_bytes command.input))
+IsCommandOf met (Call command) = (rows : List Row)
     × (met ≡ Some (codes "call", rows))
-    × IsCallOf rows (string_bytes script) options (option_map string_bytes out) (option_map string_bytes bits) normal
-    (option_map string_bytes diagram) (string_bytes input)
-IsJobOf met (Drive line times options out bits normal diagram input) = (rows : List Row)
+    × IsCallOf rows (string_bytes command.script) command.options (option_map string_bytes command.out) (option_map string_bytes command.bits) command.normal
+    (option_map string_bytes command.diagram) (string_bytes command.input)
+IsCommandOf met (Drive command) = (rows : List Row)
     × (met ≡ Some (codes "call", rows))
-    × IsDriveOf rows line times options (option_map string_bytes out) (option_map string_bytes bits) normal
-    (option_map string_bytes diagram) (string_bytes input)
-IsJobOf met (Answer caps limit waits out trace) = (rows : List Row)
+    × IsDriveOf rows command.line command.times command.options (option_map string_bytes command.out) (option_map string_bytes command.bits) command.normal
+    (option_map string_bytes command.diagram) (string_bytes command.input)
+IsCommandOf met (Answer command) = (rows : List Row)
     × (met ≡ Some (codes "station", rows))
-    × IsAnswerOf rows caps limit waits (string_bytes out) (option_map string_bytes trace)
-IsJobOf met (Dial options waits trace input) = (rows : List Row)
+    × IsAnswerOf rows command.caps command.limit command.waits (string_bytes command.out) (option_map string_bytes command.trace)
+IsCommandOf met (Dial command) = (rows : List Row)
     × (met ≡ Some (codes "station", rows))
-    × IsDialOf rows options waits (option_map string_bytes trace) (string_bytes input)
-IsJobOf met (Version proof) = (rows : List Row)
+    × IsDialOf rows command.options command.waits (option_map string_bytes command.trace) (string_bytes command.input)
+IsCommandOf met (Version command) = (rows : List Row)
     × (met ≡ Some (codes "version", rows))
-    × (proof ≡ is_named (codes "true") (first_of (codes "proof") rows))
+    × (command.proof ≡ is_named (codes "true") (first_of (codes "proof") rows))
 
--- no job is of the command's name and values
-abbrev pub HasNoJob : Option (Text × List Row) → Type 0
-HasNoJob met = (job : Job) → IsJobOf met job → ⊥
+-- no command is of this name and these values
+abbrev pub HasNoCommand : Option (Text × List Row) → Type 0
+HasNoCommand met = (command : Command) → IsCommandOf met command → ⊥
 
 -- an option without a value, as `--explain` and `--json`, is among the values of a command
 abbrev pub asks : Text → Option (Text × List Row) → Bool
 asks id None = false
 asks id (Some met) = is_named (codes "true") (first_of id met.1)
 
--- `clap` takes the words, and the job is that of the command and the values that it gives. A fault is explained in words if `--explain` is
+-- `clap` takes the words, and the command is that of the name and the values that it gives. A fault is explained in words if `--explain` is
 -- among them, and messages are records if `--json` is.
 abbrev pub ReadsAs : List Text → Request → Type 0
-ReadsAs words request = (a : App) × IsFaxtool a × (fault_of a words ≡ []) × IsJobOf (subcommand_of a words) request.job
+ReadsAs words request = (a : App) × IsFaxtool a × (fault_of a words ≡ []) × IsCommandOf (subcommand_of a words) request.command
     × (request.explain ≡ asks (codes "explain") (subcommand_of a words))
     × (request.json ≡ asks (codes "json") (subcommand_of a words))
 
 -- ---- refusals
 
--- why there is no job: memory was refused, `clap` refuses the words with an error of this kind, or no job has these values
+-- why there is no command: memory was refused, `clap` refuses the words with an error of this kind, or no command has these values
 abbrev pub IsRefusalOf : List Text → Outcome → Type 0
 IsRefusalOf words Done = ⊥
 IsRefusalOf words Incomplete = ⊥
 IsRefusalOf words (Fault fault) = fault ≡ No 9
 IsRefusalOf words (Words error) = (a : App) × IsFaxtool a
     × (IsAmong (kind_of error) (fault_of a words)
-    ⊎ HasNoJob (subcommand_of a words))
+    ⊎ HasNoCommand (subcommand_of a words))
 
 -- what an error of `clap` becomes: `NoMemory` (9) if memory was refused, otherwise an error of the command line
 abbrev pub IsOutcomeOf : Error → Outcome → Type 0
@@ -632,23 +632,23 @@ IsOutcomeOf error (Words given) = (kind_of error ≢ OutOfMemory) × (given ≡ 
 
 -- ---- the exit status
 
--- the exit status: 0 if the job is done, 1 for a fault or if something is missing, 2 for a wrong command line
+-- the exit status: 0 if the command is done, 1 for a fault or if something is missing, 2 for a wrong command line
 abbrev pub status_of : Outcome → ℕ
 status_of Done = 0
 status_of Incomplete = 1
 status_of (Fault fault) = 1
 status_of (Words error) = 2
 
--- the width of a job that shows or decodes a page is 1 to 2,432
-abbrev pub HasWidth : Job → Type 0
-HasWidth (Code coding order input output) = Unit {0}
-HasWidth (Show coding order width input) = IsWidth width
-HasWidth (Decode form options page input output) = IsWidth form.width
-HasWidth (Frames most order form pages salvage input) = Unit {0}
-HasWidth (Captures order records diagram caller answerer) = Unit {0}
-HasWidth (Identify input) = Unit {0}
-HasWidth (Call script options out bits normal diagram input) = Unit {0}
-HasWidth (Drive line times options out bits normal diagram input) = Unit {0}
-HasWidth (Answer caps limit waits out trace) = Unit {0}
-HasWidth (Dial options waits trace input) = Unit {0}
-HasWidth (Version proof) = Unit {0}
+-- the width of a command that shows or decodes a page is 1 to 2,432
+abbrev pub HasWidth : Command → Type 0
+HasWidth (Code command) = Unit {0}
+HasWidth (Show command) = IsWidth command.width
+HasWidth (Decode command) = IsWidth command.form.width
+HasWidth (Frames command) = Unit {0}
+HasWidth (Captures command) = Unit {0}
+HasWidth (Identify command) = Unit {0}
+HasWidth (Call command) = Unit {0}
+HasWidth (Drive command) = Unit {0}
+HasWidth (Answer command) = Unit {0}
+HasWidth (Dial command) = Unit {0}
+HasWidth (Version command) = Unit {0}

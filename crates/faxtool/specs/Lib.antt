@@ -5,3 +5,4 @@ pub mod Jobs
 pub mod Table
 pub mod Folders
 pub mod Told
+pub mod Runs

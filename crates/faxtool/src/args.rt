@@ -2,7 +2,6 @@
 
 pub(crate) mod captures_words;
 pub(crate) mod fault_table;
-pub(crate) mod names;
 pub(crate) mod parser;
 pub(crate) mod station_words;
 pub(crate) mod table;

@@ -1,15 +1,17 @@
-//! What is noted of a job while it is done, for the words that explain its fault.
+//! What a command runs in: the system, how its messages are shown, and what is noted for the words that explain its fault.
 
 ghost use Rattle.faults.specs.Faults.{IsOutside};
 ghost use Rattle.faults.specs.declared.fault.ToolFault.TheVariants.{No};
-ghost use Rattle.std.specs.Prelude.{◌≡◌, ◌≢◌, [], None, Some};
+ghost use Rattle.std.specs.Prelude.{◌≡◌, ◌≢◌, ◌⊎◌, [], IfErr, IfOk, None, Some};
 
+use crate::explain::is_explained;
 use faults::{NO_MEMORY, ToolFault};
 use page_code::RefusedCode;
 use std::alloc::Global;
+use std::io;
 use std::io::ErrorKind;
 
-/// A file of a job.
+/// A file of a command.
 #[derive(Clone, Copy, Debug, PartialEq, Eq)]
 pub enum Part {
     /// What is coded, shown, decoded, listed or sent, or a capture of what a caller sent.
@@ -48,71 +50,197 @@ pub enum Cause {
     RowsOf(u32),
 }
 
-/// What a job notes for the words of its fault.
+/// What is noted of a command while it runs.
 #[derive(Drop)]
-pub struct Notes {
+struct Noted {
     /// The file that could not be read or written, and why.
-    pub failed: Option<(Part, ErrorKind)>,
+    failed: Option<(Part, ErrorKind)>,
     /// The file whose reading was given up before its end.
-    pub unread: Option<Part>,
-    /// Whether the input is an image.
-    pub image: bool,
-    /// Whether progress is shown while reading takes long.
-    pub long: bool,
-    /// Whether messages are written as JSON.
-    pub records: bool,
-    /// Whether the signals of a call are explained in words.
-    pub explained: bool,
+    unread: Option<Part>,
     /// All octets of the input, if they are read before anything is done with them; otherwise the first ones.
-    pub octets: Vec<u8>,
+    octets: Vec<u8>,
     /// All octets of the script.
-    pub script: Vec<u8>,
+    script: Vec<u8>,
     /// How far a refused page was read, if that is known.
-    pub refused: Option<RefusedCode>,
+    refused: Option<RefusedCode>,
     /// What else is known of the fault, if anything is.
-    pub cause: Option<Cause>,
+    cause: Option<Cause>,
 }
 
-impl Notes {
-    /// Returns the notes of a job that has read nothing.
-    pub fn new(alloc: Global, long: bool, image: bool, records: bool, explained: bool) -> Notes
-        ensures failed { result.failed ≡ None }
-        ensures unread { result.unread ≡ None }
-        ensures image { result.image ≡ image }
-        ensures long { result.long ≡ long }
-        ensures records { result.records ≡ records }
-        ensures explained { result.explained ≡ explained }
-        ensures octets { result.octets.items ≡ [] }
-        ensures script { result.script.items ≡ [] }
+/// How messages are shown.
+#[derive(Clone, Copy, Debug, PartialEq, Eq)]
+pub struct Messages {
+    /// Whether they are records for programs (`--json`).
+    pub json: bool,
+    /// Whether faults are explained in words too, and the signals of a call (`--explain`).
+    pub explain: bool,
+}
+
+/// What a command runs in.
+#[derive(Drop)]
+pub struct Context<'a> {
+    rt: &'a HostRuntime,
+    messages: Messages,
+    noted: Noted,
+}
+
+impl<'a> Context<'a> {
+    /// Returns the context of a command that has read nothing.
+    pub fn new(rt: &'a HostRuntime, messages: Messages) -> Context<'a>
+        ensures messages { result.messages ≡ messages }
+        ensures failed { result.noted.failed ≡ None }
+        ensures unread { result.noted.unread ≡ None }
+        ensures octets { result.noted.octets.items ≡ [] }
+        ensures script { result.noted.script.items ≡ [] }
+        ensures refused { result.noted.refused ≡ None }
+        ensures cause { result.noted.cause ≡ None }
     {
-        Notes {
-            failed: None,
-            unread: None,
-            image,
-            long,
-            records,
-            explained,
-            octets: Vec::new(alloc),
-            script: Vec::new(alloc),
-            refused: None,
-            cause: None,
+        Context {
+            rt,
+            messages,
+            noted: Noted {
+                failed: None,
+                unread: None,
+                octets: Vec::new(rt.alloc()),
+                script: Vec::new(rt.alloc()),
+                refused: None,
+                cause: None,
+            },
         }
+    }
+
+    /// The system.
+    pub fn rt(&self) -> &'a HostRuntime {
+        self.rt
+    }
+
+    /// The allocator.
+    pub fn alloc(&self) -> Global {
+        self.rt.alloc()
+    }
+
+    /// Whether messages are records for programs.
+    pub fn is_json(&self) -> bool
+        ensures { result ≡ self.now.messages.json }
+    {
+        self.messages.json
+    }
+
+    /// Whether signals are explained in words, as is asked for.
+    pub fn is_explained(&self) -> bool
+        ensures { result ≡ self.now.messages.explain }
+    {
+        self.messages.explain
+    }
+
+    /// Whether faults are explained in words: if asked for, on a terminal, and if the environment says so.
+    pub fn explains(&self) -> bool {
+        self.messages.explain || is_explained(self.rt)
     }
 
     /// Notes why a file could not be read or written.
     pub fn blame(&mut self, part: Part, kind: ErrorKind)
-        ensures { self.new ≡ record self.old { failed = Some (part, kind) } }
+        ensures { self.new ≡ record self.old { noted = record self.old.noted { failed = Some (part, kind) } } }
     {
-        self.failed = Some((part, kind));
+        self.noted.failed = Some((part, kind));
     }
 
-    /// Returns the fault of a job that writes into memory: `NoMemory` (9) if no file failed.
-    pub fn in_memory(&self, fault: ToolFault) -> ToolFault
-        ensures outside { IsOutside fault → IsOutside result }
-        ensures other { fault ≢ No 8 → result ≡ fault }
-        ensures refused { self.now.failed ≡ None → result ≢ No 8 }
+    /// Notes why a file could not be read or written, if it couldn't. Errors: `Io` (8), or `NoMemory` (9) if memory was refused.
+    pub fn checked<T: Drop>(&mut self, done: io::Result<T>, part: Part) -> Result<T, ToolFault>
+        ensures fault { IfErr result IsOutside }
     {
-        match (fault, self.failed) {
+        if let Err(error) = &done {
+            self.blame(part, error.kind());
+        }
+        Ok(done?)
+    }
+
+    /// Notes what is known of a fault beside its number.
+    pub fn note_cause(&mut self, cause: Cause)
+        ensures { self.new ≡ record self.old { noted = record self.old.noted { cause = Some cause } } }
+    {
+        self.noted.cause = Some(cause);
+    }
+
+    /// Notes that a file's reading was given up before its end.
+    pub fn note_unread(&mut self, part: Part)
+        ensures { self.new ≡ record self.old { noted = record self.old.noted { unread = Some part } } }
+    {
+        self.noted.unread = Some(part);
+    }
+
+    /// Keeps octets of the input: all, or the first ones.
+    pub fn keep_octets(&mut self, read: Vec<u8>)
+        ensures { self.new ≡ record self.old { noted = record self.old.noted { octets = read } } }
+    {
+        self.noted.octets = read;
+    }
+
+    /// Keeps the octets of the script.
+    pub fn keep_script(&mut self, read: Vec<u8>)
+        ensures { self.new ≡ record self.old { noted = record self.old.noted { script = read } } }
+    {
+        self.noted.script = read;
+    }
+
+    /// Keeps all octets of the input, and how far a refused page in them was read, if that is known.
+    pub fn keep_read(&mut self, read: Vec<u8>, known: Option<RefusedCode>)
+        ensures { self.new ≡ record self.old { noted = record self.old.noted { octets = read; refused = known } } }
+    {
+        self.noted.octets = read;
+        self.noted.refused = known;
+    }
+
+    /// The octets of the input that are kept.
+    pub fn octets(&self) -> &[u8]
+        ensures { result.now ≡ self.now.noted.octets.items }
+    {
+        self.noted.octets.as_slice()
+    }
+
+    /// The octets of the script.
+    pub fn script(&self) -> &[u8]
+        ensures { result.now ≡ self.now.noted.script.items }
+    {
+        self.noted.script.as_slice()
+    }
+
+    /// How far a refused page was read, if that is known.
+    pub fn refused(&self) -> Option<RefusedCode>
+        ensures { result ≡ self.now.noted.refused }
+    {
+        self.noted.refused
+    }
+
+    /// What is known of the fault beside its number, if anything is.
+    pub fn cause(&self) -> Option<Cause>
+        ensures { result ≡ self.now.noted.cause }
+    {
+        self.noted.cause
+    }
+
+    /// Why a file could not be read or written, if that is known.
+    pub fn reason(&self) -> Option<ErrorKind> {
+        self.noted.failed.map(|failed| failed.1)
+    }
+
+    /// Which file a fault is about.
+    pub fn part_of(&self, fault: ToolFault) -> Part {
+        match (fault, self.noted.failed) {
+            (ToolFault::AtLine(_), _) => Part::Script,
+            (ToolFault::No(8), Some((part, _kind))) => part,
+            (ToolFault::No(9), _) => self.noted.unread.unwrap_or(Part::Input),
+            _ => Part::Input,
+        }
+    }
+
+    /// Returns the fault of a command that writes into memory: `NoMemory` (9) in place of `Io` (8) if no file failed.
+    pub fn in_memory(&self, fault: ToolFault) -> ToolFault
+        ensures same { (result ≡ fault) ⊎ IsOutside result }
+        ensures other { fault ≢ No 8 → result ≡ fault }
+        ensures refused { self.now.noted.failed ≡ None → result ≢ No 8 }
+    {
+        match (fault, self.noted.failed) {
             (ToolFault::No(8), None) => NO_MEMORY,
             _ => fault,
         }

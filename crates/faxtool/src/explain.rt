@@ -1,17 +1,17 @@
 //! How a fault is shown: a line, and one of words where they are asked for.
 
-ghost use Rattle.faxtool.specs.Jobs.{HasWidth};
+ghost use Rattle.faxtool.specs.declared.args.words.Outcome.TheVariants.{Fault};
 ghost use Rattle.raster.specs.Pixels.{IsWidth};
 ghost use Rattle.faults.specs.Faults.{IsOutside};
-ghost use Rattle.std.specs.Prelude.{IfErr, IfSome};
+ghost use Rattle.std.specs.Prelude.{◌≡◌, IfErr, IfSome};
 
 mod row_widths;
 mod told;
 
-use crate::args::names::file_of;
 use crate::args::parser::entry_named;
-use crate::args::words::{Job, Outcome};
-use crate::context::{Cause, Notes, Part};
+use crate::args::words::Outcome;
+use crate::commands::Runs;
+use crate::context::{Cause, Context};
 use crate::explain::row_widths::same_width;
 use crate::explain::told::Told;
 use calls::line_fault_at;
@@ -29,9 +29,21 @@ use std::env::{self, Env, FillError};
 use std::io;
 use std::io::IsTerminal;
 
+/// Shows why words aren't run, and returns that: what is wrong with them, the help that they ask for, or refused memory.
+pub fn show_refusal(rt: &HostRuntime, words: &[&str], refusal: Outcome) -> Outcome
+    ensures { result ≡ refusal }
+{
+    match &refusal {
+        Outcome::Fault(fault) => show_no_file(rt, *fault, "the command's words", None),
+        Outcome::Words(error) => show_words(rt, words, error),
+        Outcome::Done | Outcome::Incomplete => {}
+    }
+    refusal
+}
+
 /// Shows what is wrong with a wrong command line, or the help that was asked for. A command line with a control character in it isn't
 /// shown, as it could move the cursor.
-pub fn refuse_words(rt: &HostRuntime, texts: &[&str], error: &Error) {
+fn show_words(rt: &HostRuntime, texts: &[&str], error: &Error) {
     if !texts.iter().all(|text| is_shown(text)) {
         let _shown = eprintln!(rt;
             "error: the words are not a command, and one of them has a control character\n\nFor more information, try 'faxtool --help'."
@@ -62,28 +74,36 @@ fn with_help_named(alloc: Global, texts: &[&str], error: &Error) -> Result<Strin
     }
 }
 
-/// A fault before any file was named: its line, and on a terminal its words.
+/// Shows a fault before any file was named, and returns it as what the program ends with.
 pub fn refused(
     rt: &HostRuntime,
     fault: ToolFault,
     file: &str,
     reason: Option<io::ErrorKind>,
-) -> Outcome {
-    let _shown = eprintln!(rt; "{fault}");
-    if is_explained(rt) || is_asked(rt) {
-        let known = Known {
-            file,
-            reason,
-            begins: &[],
-            row: None,
-            expected: None,
-            read_as: None,
-            line: None,
-        };
-        let words = Explained { fault, known };
-        let _explained = eprintln!(rt; "{words}");
-    }
+) -> Outcome
+    ensures { result ≡ Fault fault }
+{
+    show_no_file(rt, fault, file, reason);
     Outcome::Fault(fault)
+}
+
+/// Shows a fault before any file was named: its line, and on a terminal its words.
+fn show_no_file(rt: &HostRuntime, fault: ToolFault, file: &str, reason: Option<io::ErrorKind>) {
+    let _shown = eprintln!(rt; "{fault}");
+    if !is_explained(rt) && !is_asked(rt) {
+        return;
+    }
+    let known = Known {
+        file,
+        reason,
+        begins: &[],
+        row: None,
+        expected: None,
+        read_as: None,
+        line: None,
+    };
+    let words = Explained { fault, known };
+    let _explained = eprintln!(rt; "{words}");
 }
 
 /// The fault of a word that isn't UTF-8: its line, and on a terminal which word that is, and what to do if it names a file.
@@ -144,25 +164,33 @@ pub fn is_explained(rt: &HostRuntime) -> bool {
     }
 }
 
-/// Shows the fault of a job: a line, and if asked for one of words; or its record.
-pub fn show_fault(rt: &HostRuntime, job: &Job, fault: ToolFault, notes: &Notes, explains: bool)
-    requires { HasWidth job.now }
+/// Shows the fault of a command: a line, and if asked for one of words; or its record.
+pub fn show_fault<C: Runs>(command: &C, fault: ToolFault, context: &Context<'_>)
+    requires { IfSome (C.width command.now) IsWidth }
 {
-    let words = explained(rt, job, fault, notes);
-    if notes.records && show_record(rt, &words).is_ok() {
+    let rt = context.rt();
+    let words = explained(command, fault, context);
+    if context.is_json() && show_record(rt, &words).is_ok() {
         return;
     }
     let _shown = eprintln!(rt; "{fault}");
-    if explains {
+    if context.explains() {
         let _explained = eprintln!(rt; "{words}");
     }
 }
 
 /// Writes another message on standard error, as a line or a record. Errors: `Io` (8) if it can't be written, `NoMemory` (9).
-pub fn notice(rt: &HostRuntime, records: bool, words: &str) -> Result<(), ToolFault>
+pub fn notice(context: &Context<'_>, words: &str) -> Result<(), ToolFault>
     ensures { IfErr result IsOutside }
 {
-    if records {
+    notice_as(context.rt(), context.is_json(), words)
+}
+
+/// Writes another message on standard error, as a record if asked for. Errors: those of `notice`.
+pub fn notice_as(rt: &HostRuntime, json: bool, words: &str) -> Result<(), ToolFault>
+    ensures { IfErr result IsOutside }
+{
+    if json {
         return write_notice(rt.alloc(), words, &mut rt.stderr());
     }
     eprintln!(rt; "{words}")?;
@@ -180,25 +208,26 @@ fn show_record(rt: &HostRuntime, told: &Told<'_>) -> Result<(), ToolFault> {
     )
 }
 
-/// A fault of a job in words.
-fn explained<'a>(rt: &HostRuntime, job: &'a Job, fault: ToolFault, notes: &'a Notes) -> Told<'a>
-    requires { HasWidth job.now }
+/// A fault of a command in words.
+fn explained<'a, C: Runs>(command: &'a C, fault: ToolFault, context: &'a Context<'_>) -> Told<'a>
+    requires { IfSome (C.width command.now) IsWidth }
 {
-    let (row, expected) = refused_place(rt, job, fault, notes);
-    let cause = notes.cause.or(cause_of(rt, job, fault, notes));
+    let form = command.page();
+    let (row, expected) = refused_place(form, fault, context);
+    let cause = context.cause().or(cause_of(form, fault, context));
     // with another width neither the order nor the code is in doubt
     let read_as = match cause {
         Some(Cause::RowsOf(_)) => None,
-        _ => page_of(job).map(|page| (page.0, page.1)),
+        _ => form.map(|form| (form.coding, form.order)),
     };
     let known = Known {
-        file: file_of(job, part_of(fault, notes)),
-        reason: notes.failed.map(|failed| failed.1),
-        begins: notes.octets.as_slice(),
+        file: command.names().shown(context.part_of(fault)),
+        reason: context.reason(),
+        begins: context.octets(),
         row,
         expected,
         read_as,
-        line: refused_line(fault, notes),
+        line: refused_line(fault, context.script()),
     };
     Told {
         words: Explained { fault, known },
@@ -207,15 +236,13 @@ fn explained<'a>(rt: &HostRuntime, job: &'a Job, fault: ToolFault, notes: &'a No
 }
 
 /// What the input's octets say of a fault beside its number.
-fn cause_of(rt: &HostRuntime, job: &Job, fault: ToolFault, notes: &Notes) -> Option<Cause>
-    requires { HasWidth job.now }
-{
+fn cause_of(form: Option<PageForm>, fault: ToolFault, context: &Context<'_>) -> Option<Cause> {
     match fault {
-        ToolFault::No(26) => width_not_callable(rt, notes.octets.as_slice()),
+        ToolFault::No(26) => width_not_callable(context.rt(), context.octets()),
         ToolFault::AtBit { .. } => {
-            let (coding, order, width) = page_of(job)?;
-            match coding {
-                Coding::OneDim => other_width(notes.octets.as_slice(), order, width),
+            let form = form?;
+            match form.coding {
+                Coding::OneDim => other_width(context.octets(), form.order, form.width),
                 Coding::T6 => None,
             }
         }
@@ -246,66 +273,38 @@ fn other_width(octets: &[u8], order: Order, given: u32) -> Option<Cause> {
 }
 
 /// What is wrong with the line of a script that is refused.
-fn refused_line(fault: ToolFault, notes: &Notes) -> Option<LineFault> {
+fn refused_line(fault: ToolFault, script: &[u8]) -> Option<LineFault> {
     match fault {
-        ToolFault::AtLine(line) => line_fault_at(notes.script.as_slice(), line),
+        ToolFault::AtLine(line) => line_fault_at(script, line),
         ToolFault::No(_) | ToolFault::AtBit { .. } => None,
     }
 }
 
-/// Returns the row, counted from 1, in which the page of a job is refused, and what is expected there, as far as they are known.
-pub fn refused_place(
-    rt: &HostRuntime,
-    job: &Job,
+/// Returns the row, counted from 1, in which a page of a form is refused, and what is expected there, as far as they are known.
+fn refused_place(
+    form: Option<PageForm>,
     fault: ToolFault,
-    notes: &Notes,
+    context: &Context<'_>,
 ) -> (Option<usize>, Option<Expected>)
-    requires { HasWidth job.now }
+    requires { IfSome form (λ form. IsWidth form.width) }
 {
     let ToolFault::AtBit { no: _, place } = fault else {
         return (None, None);
     };
-    let Some((coding, order, width)) = page_of(job) else {
+    let Some(form) = form else {
         return (None, None);
     };
-    let octets = notes.octets.as_slice();
-    if let Some(refused) = notes.refused {
-        let form = PageForm {
-            coding,
-            order,
-            width,
-            fine: false,
-        };
-        let (row, expected) = refused_in(rt.alloc(), octets, form, refused);
+    let octets = context.octets();
+    if let Some(refused) = context.refused() {
+        let (row, expected) = refused_in(context.alloc(), octets, form, refused);
         return (Some(row), expected);
     }
     // `--repair` doesn't keep how far it read: the page is read again, and only if the words are shown
-    refused_at(rt.alloc(), octets, coding, order, width, place)
-}
-
-/// The code, the order of bits and the width of the page that a job reads.
-pub fn page_of(job: &Job) -> Option<(Coding, Order, u32)>
-    requires { HasWidth job.now }
-    ensures { IfSome result (λ page. IsWidth page.2) }
-{
-    match job {
-        Job::Show {
-            coding,
-            order,
-            width,
-            ..
-        } => Some((*coding, *order, *width)),
-        Job::Decode { form, .. } => Some((form.coding, form.order, form.width)),
-        _ => None,
-    }
-}
-
-/// Which file of a job a fault is about.
-fn part_of(fault: ToolFault, notes: &Notes) -> Part {
-    match (fault, notes.failed) {
-        (ToolFault::AtLine(_), _) => Part::Script,
-        (ToolFault::No(8), Some((part, _kind))) => part,
-        (ToolFault::No(9), _) => notes.unread.unwrap_or(Part::Input),
-        _ => Part::Input,
-    }
+    let PageForm {
+        coding,
+        order,
+        width,
+        fine: _,
+    } = form;
+    refused_at(context.alloc(), octets, coding, order, width, place)
 }

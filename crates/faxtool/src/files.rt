@@ -2,6 +2,7 @@
 
 pub(crate) mod apart;
 pub(crate) mod bounded;
+pub(crate) mod images;
 pub(crate) mod input;
 pub(crate) mod output;
 pub(crate) mod printed;

@@ -1,5 +1,5 @@
 //! A tool on fax pages and frames: it codes images, shows and decodes coded pages, lists the frames in bits and
-//! runs calls. Here the words are read, their job is run, and the program ends with its status.
+//! runs calls. Here the words are read, their command is run, and the program ends with its status.
 #![tactic(auto)]
 
 mod args;
@@ -10,9 +10,8 @@ mod files;
 
 use args::words::{Outcome, read_words, status};
 use commands::dispatch::run_request;
-use explain::{refuse_no_text, refuse_words, refused};
+use explain::{refuse_no_text, refused, show_refusal};
 use faults::{NO_MEMORY, ToolFault};
-use files::apart::with_files_apart;
 use std::process::ExitCode;
 use std::{env, io};
 
@@ -54,20 +53,9 @@ fn run_words(rt: &HostRuntime) -> Outcome {
 
 /// Runs what these words ask for, and shows what is wrong with them.
 fn run_asked(rt: &HostRuntime, asked: &[&str]) -> Outcome {
-    // two files that are one are found before anything is read or written
-    let read = match read_words(rt.alloc(), asked) {
-        Ok(request) => with_files_apart(rt, asked, request),
-        Err(outcome) => Err(outcome),
-    };
-    match read {
-        Ok(request) => run_request(rt, &request),
-        Err(Outcome::Fault(fault)) => refused(rt, fault, "the command's words", None),
-        Err(outcome) => {
-            if let Outcome::Words(error) = &outcome {
-                refuse_words(rt, asked, error);
-            }
-            outcome
-        }
+    match read_words(rt.alloc(), asked) {
+        Ok(request) => run_request(rt, asked, &request),
+        Err(refusal) => show_refusal(rt, asked, refusal),
     }
 }
 

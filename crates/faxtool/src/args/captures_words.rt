@@ -1,10 +1,12 @@
 //! The words of the command `frames` where it draws two captures.
 ghost use Rattle.std.specs.Prelude.{◌≡◌, IfOk, MatchResult, Some, codes, true};
 ghost use Rattle.clap.specs.Words.{found_of, rows_of};
-ghost use Rattle.faxtool.specs.Jobs.{HasNoJob, IsJobOf, has_captures, has_listing};
+ghost use Rattle.faxtool.specs.Jobs.{HasNoCommand, IsCommandOf, has_captures, has_listing};
 
 use crate::args::unfit::Unfit;
-use crate::args::words::{Job, are_both_standard, is_named, line_order_in, text_in};
+use crate::args::words::{are_both_standard, is_named, line_order_in, text_in};
+use crate::commands::Command;
+use crate::commands::frames::two_captures::CapturesCommand;
 use clap::ArgMatches;
 use std::alloc::{AllocError, Global};
 
@@ -27,14 +29,14 @@ fn has_listing(matches: &ArgMatches<'_>) -> bool
         || is_named(text_in(matches, "salvage"), "true")
 }
 
-/// Returns the job that draws two captures, if all its values are given and its options go together.
-pub(crate) fn captures_job(
+/// Returns the command that draws two captures, if all its values are given and its options go together.
+pub(crate) fn captures_command(
     alloc: Global,
     matches: &ArgMatches<'_>,
-) -> Result<Result<Job, Unfit>, AllocError>
+) -> Result<Result<Command, Unfit>, AllocError>
     requires { has_captures (rows_of (found_of matches.now)) ≡ true }
     ensures { let met = Some (codes "frames", rows_of (found_of matches.now)) in
-        IfOk result (λ job. MatchResult job (IsJobOf met) (λ unfit. HasNoJob met)) }
+        IfOk result (λ command. MatchResult command (IsCommandOf met) (λ unfit. HasNoCommand met)) }
 {
     if has_listing(matches) {
         return Ok(Err(Unfit::PictureAndListing));
@@ -51,11 +53,11 @@ pub(crate) fn captures_job(
     if are_both_standard(caller, answerer) {
         return Ok(Err(Unfit::CapturesBothStandard));
     }
-    Ok(Ok(Job::Captures {
+    Ok(Ok(Command::Captures(CapturesCommand {
         order: line_order_in(matches),
         records: is_named(text_in(matches, "json"), "true"),
         diagram: String::from_str(alloc, diagram)?,
         caller: String::from_str(alloc, caller)?,
         answerer: String::from_str(alloc, answerer)?,
-    }))
+    })))
 }

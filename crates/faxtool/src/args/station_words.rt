@@ -2,13 +2,15 @@
 ghost use Rattle.std.specs.Prelude.{◌≡◌, IfOk, MatchResult, Some, codes, false, option_map, true};
 ghost use Rattle.std.specs.Str.{bytes_eq};
 ghost use Rattle.clap.specs.Words.{first_of, found_of, rows_of};
-ghost use Rattle.faxtool.specs.Jobs.{AreWaitsIn, HasNoJob, IsJobOf, caps_in, has_answerer, has_caller, limit_of, is_named, takes_t6};
+ghost use Rattle.faxtool.specs.Jobs.{AreWaitsIn, HasNoCommand, IsCommandOf, caps_in, has_answerer, has_caller, limit_of, is_named, takes_t6};
 ghost use Rattle.faxtool.specs.Jobs.{widest_named};
 
 use crate::args::unfit::Unfit;
 use crate::args::words::{
-    Job, coding_in, copy_of, is_named, modems_named, number_in, options_in, text_in,
+    coding_in, copy_of, is_named, modems_named, number_in, options_in, text_in,
 };
+use crate::commands::Command;
+use crate::commands::station::{AnswerCommand, DialCommand};
 use clap::ArgMatches;
 use page_code::Coding;
 use signals::{Caps, PageWidth};
@@ -27,21 +29,21 @@ pub struct GivenWaits {
     pub t5: Option<u32>,
 }
 
-/// Returns the job of one station, if all its values are given and its options go together.
-pub(crate) fn station_job(
+/// Returns the command of one station, if all its values are given and its options go together.
+pub(crate) fn station_command(
     alloc: Global,
     matches: &ArgMatches<'_>,
-) -> Result<Result<Job, Unfit>, AllocError>
+) -> Result<Result<Command, Unfit>, AllocError>
     ensures { let met = Some (codes "station", rows_of (found_of matches.now)) in
-        IfOk result (λ job. MatchResult job (IsJobOf met) (λ unfit. HasNoJob met)) }
+        IfOk result (λ command. MatchResult command (IsCommandOf met) (λ unfit. HasNoCommand met)) }
 {
     let answers = is_named(text_in(matches, "answer"), "true");
     let calls = is_named(text_in(matches, "call"), "true");
     if answers && !calls {
-        return answer_job(alloc, matches);
+        return answer_command(alloc, matches);
     }
     if calls && !answers {
-        return dial_job(alloc, matches);
+        return dial_command(alloc, matches);
     }
     Ok(Err(if answers {
         Unfit::BothStations
@@ -50,12 +52,15 @@ pub(crate) fn station_job(
     }))
 }
 
-// The job of an answerer.
-fn answer_job(alloc: Global, matches: &ArgMatches<'_>) -> Result<Result<Job, Unfit>, AllocError>
+// The command of an answerer.
+fn answer_command(
+    alloc: Global,
+    matches: &ArgMatches<'_>,
+) -> Result<Result<Command, Unfit>, AllocError>
     requires answers { is_named (codes "true") (first_of (codes "answer") (rows_of (found_of matches.now))) ≡ true }
     requires calls { is_named (codes "true") (first_of (codes "call") (rows_of (found_of matches.now))) ≡ false }
     ensures { let met = Some (codes "station", rows_of (found_of matches.now)) in
-        IfOk result (λ job. MatchResult job (IsJobOf met) (λ unfit. HasNoJob met)) }
+        IfOk result (λ command. MatchResult command (IsCommandOf met) (λ unfit. HasNoCommand met)) }
 {
     if has_caller(matches) {
         return Ok(Err(Unfit::AnswererAsCaller));
@@ -66,21 +71,24 @@ fn answer_job(alloc: Global, matches: &ArgMatches<'_>) -> Result<Result<Job, Unf
     let Some(out) = text_in(matches, "out") else {
         return Ok(Err(Unfit::NoFolder));
     };
-    Ok(Ok(Job::Answer {
+    Ok(Ok(Command::Answer(AnswerCommand {
         caps: caps_in(matches, coding),
         limit: limit_of(number_in(matches, "limit")),
         waits: waits_in(matches),
         out: String::from_str(alloc, out)?,
         trace: copy_of(alloc, text_in(matches, "trace"))?,
-    }))
+    })))
 }
 
-// The job of a caller.
-fn dial_job(alloc: Global, matches: &ArgMatches<'_>) -> Result<Result<Job, Unfit>, AllocError>
+// The command of a caller.
+fn dial_command(
+    alloc: Global,
+    matches: &ArgMatches<'_>,
+) -> Result<Result<Command, Unfit>, AllocError>
     requires calls { is_named (codes "true") (first_of (codes "call") (rows_of (found_of matches.now))) ≡ true }
     requires answers { is_named (codes "true") (first_of (codes "answer") (rows_of (found_of matches.now))) ≡ false }
     ensures { let met = Some (codes "station", rows_of (found_of matches.now)) in
-        IfOk result (λ job. MatchResult job (IsJobOf met) (λ unfit. HasNoJob met)) }
+        IfOk result (λ command. MatchResult command (IsCommandOf met) (λ unfit. HasNoCommand met)) }
 {
     if has_answerer(matches) {
         return Ok(Err(Unfit::CallerAsAnswerer));
@@ -94,12 +102,12 @@ fn dial_job(alloc: Global, matches: &ArgMatches<'_>) -> Result<Result<Job, Unfit
     if is_standard(input) {
         return Ok(Err(Unfit::DocumentStandard));
     }
-    Ok(Ok(Job::Dial {
+    Ok(Ok(Command::Dial(DialCommand {
         options,
         waits: waits_in(matches),
         trace: copy_of(alloc, text_in(matches, "trace"))?,
         input: String::from_str(alloc, input)?,
-    }))
+    })))
 }
 
 // Whether a file is standard input.

@@ -1,6 +1,6 @@
-//! Why the values of a command give no job.
+//! Why the values of a command give no command.
 
-/// Why the values of a command give no job, though each option takes its own. `clap`'s exact contracts hold for commands without
+/// Why the values of a command give no command, though each option takes its own. `clap`'s exact contracts hold for commands without
 /// conflicting arguments, so the program refuses these itself.
 #[derive(Clone, Copy, Debug, PartialEq, Eq)]
 pub enum Unfit {

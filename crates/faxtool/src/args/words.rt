@@ -3,174 +3,45 @@ ghost use Rattle.std.specs.Prelude.{◌≡◌, ◌≢◌, IfOk, IfSome, MatchOpt
 ghost use Rattle.std.specs.Prelude.{ℕ, Option, map, option_map, string_bytes};
 ghost use Rattle.clap.specs.Words.{first_of, found_of, kind_of, rows_of, subcommand_rows_of};
 ghost use Rattle.clap.specs.declared.error.kind.ErrorKind.TheVariants.{OutOfMemory};
-ghost use Rattle.faxtool.specs.Jobs.{AreDecodeOptionsIn, AreOptionsIn, HasNoJob, HasNoOptions, IsJobOf, IsOutcomeOf, IsRefusalOf};
+ghost use Rattle.faxtool.specs.Jobs.{AreDecodeOptionsIn, AreOptionsIn, HasNoCommand, HasNoOptions, IsCommandOf, IsOutcomeOf, IsRefusalOf};
 ghost use Rattle.faxtool.specs.Jobs.{IsWidthIn, ReadsAs};
 ghost use Rattle.faxtool.specs.Jobs.{ReadsNumber, are_both_standard, asks, coding_named, is_named, modems_named, page_of};
 ghost use Rattle.faxtool.specs.Jobs.{IsLineIn, IsRateIn, IsSpoilIn, IsBusyIn, IsTimesIn, calls_of, has_line, is_normal_wanted};
 ghost use Rattle.faxtool.specs.Jobs.{line_order_named, list_form, order_named, status_of};
 ghost use Rattle.calls.specs.declared.losses.BadLine.{BadLine as LineValue};
 
-use crate::args::captures_words::{captures_job, has_captures};
+use crate::args::captures_words::{captures_command, has_captures};
 use crate::args::parser::{command_alone, entry_named, faxtool_command};
-use crate::args::station_words::{GivenWaits, station_job};
+use crate::args::station_words::station_command;
 use crate::args::unfit::Unfit;
+use crate::commands::Command;
+use crate::commands::call::ScriptCommand;
+use crate::commands::call::drives::DriveCommand;
+use crate::commands::code::CodeCommand;
+use crate::commands::decode::DecodeCommand;
+use crate::commands::frames::FramesCommand;
+use crate::commands::identify::IdentifyCommand;
+use crate::commands::show::ShowCommand;
+use crate::commands::version::VersionCommand;
 use calls::{BadLine, CallOptions, read_rate};
 use captures::ListForm;
 use clap::error::ErrorKind;
-use clap::{ArgMatches, Command, Error};
+use clap::{ArgMatches, Error};
 use faults::{NO_MEMORY, ToolFault};
 use page_code::Coding;
 use page_files::{DecodeOptions, PageForm};
 use run_tables::Order;
-use signals::{Caps, Modems};
+use signals::Modems;
 use std::alloc::{AllocError, Global};
 
 /// How many words the generator of a bad line has.
 const ALL_WORDS: u64 = 4_294_967_296;
 
-/// What the program is asked to do.
-#[derive(Debug, PartialEq, Eq, Drop)]
-pub enum Job {
-    /// Writes the code of an image into a file.
-    Code {
-        /// The code.
-        coding: Coding,
-        /// Which bit of an octet of the output is first.
-        order: Order,
-        /// The name of the image's file.
-        input: String,
-        /// The name of the file that the code goes to.
-        output: String,
-    },
-    /// Prints the first page in a file as text.
-    Show {
-        /// The code of the page.
-        coding: Coding,
-        /// Which bit of an octet of the file is first.
-        order: Order,
-        /// The page's width in pixels, 1 to 2,432.
-        width: u32,
-        /// The name of the page's file.
-        input: String,
-    },
-    /// Writes a page in a file as an image.
-    Decode {
-        /// How the page is read; its width is 1 to 2,432 pixels.
-        form: PageForm,
-        /// What is asked for of the page.
-        options: DecodeOptions,
-        /// The page's number in the file, counted from 1.
-        page: u32,
-        /// The name of the page's file.
-        input: String,
-        /// The name of the file that the image goes to.
-        output: String,
-    },
-    /// Lists the frames in a file of bits.
-    Frames {
-        /// How many octets of a content are shown at most; None for all.
-        most: Option<u32>,
-        /// Which bit of an octet of the file is first.
-        order: Order,
-        /// What is written of each frame.
-        form: ListForm,
-        /// The name of the folder that the pages in the frames go to, if one is given.
-        pages: Option<String>,
-        /// Whether the rows before the gap of a page that isn't whole go there too.
-        salvage: bool,
-        /// The name of the file.
-        input: String,
-    },
-    /// Draws the frames in two files of bits, one of each station of a call.
-    Captures {
-        /// Which bit of an octet of the files is first.
-        order: Order,
-        /// Whether messages are written as JSON.
-        records: bool,
-        /// The name of the file that the frames are drawn in.
-        diagram: String,
-        /// The name of the file of what the caller sent.
-        caller: String,
-        /// The name of the file of what the answerer sent.
-        answerer: String,
-    },
-    /// Prints as which format a file begins, and in which ways it reads as a page.
-    Identify {
-        /// The name of the file.
-        input: String,
-    },
-    /// Runs a call by a script, and prints its transcript.
-    Call {
-        /// The name of the script's file.
-        script: String,
-        /// What the call is run with.
-        options: CallOptions,
-        /// The name of the file that the stored pages go to, if one is given.
-        out: Option<String>,
-        /// The name of the folder that the octets on the line go to, if one is given.
-        bits: Option<String>,
-        /// Whether the call is to end normally for both stations.
-        normal: bool,
-        /// The name of the file that the call is drawn in, if one is given.
-        diagram: Option<String>,
-        /// The name of the document's file.
-        input: String,
-    },
-    /// Runs a call over a bad line and prints its transcript; or many, and prints a line for each and a table.
-    Drive {
-        /// How bad the line is.
-        line: BadLine,
-        /// How many calls are run, if given.
-        times: Option<u32>,
-        /// What the call is run with.
-        options: CallOptions,
-        /// The name of the file that the stored pages go to, if one is given.
-        out: Option<String>,
-        /// The name of the folder that the octets on the line go to, if one is given.
-        bits: Option<String>,
-        /// Whether the call is to end normally for both stations.
-        normal: bool,
-        /// The name of the file that the call is drawn in, if one is given.
-        diagram: Option<String>,
-        /// The name of the document's file.
-        input: String,
-    },
-    /// Runs an answerer by lines of text.
-    Answer {
-        /// What it can do.
-        caps: Caps,
-        /// How many pages wait in memory at most, 1 to 1,000.
-        limit: u32,
-        /// How long its waits run.
-        waits: GivenWaits,
-        /// The name of the folder that the stored pages go to.
-        out: String,
-        /// The name of the file that the trace goes to, if one is given.
-        trace: Option<String>,
-    },
-    /// Runs a caller by lines of text.
-    Dial {
-        /// What it is run with.
-        options: CallOptions,
-        /// How long its waits run.
-        waits: GivenWaits,
-        /// The name of the file that the trace goes to, if one is given.
-        trace: Option<String>,
-        /// The name of the document's file.
-        input: String,
-    },
-    /// Prints the program's version, or the kit that it is proved with.
-    Version {
-        /// Whether the kit is asked for.
-        proof: bool,
-    },
-}
-
 /// What the program is asked to do, and how it is to show a fault.
 #[derive(Debug, PartialEq, Eq, Drop)]
 pub struct Request {
-    /// The job.
-    pub job: Job,
+    /// The command.
+    pub command: Command,
     /// Whether a fault is explained in words too.
     pub explain: bool,
     /// Whether messages are records for programs.
@@ -180,17 +51,17 @@ pub struct Request {
 /// How the program ends.
 #[derive(Debug, Drop)]
 pub enum Outcome {
-    /// The job is done.
+    /// The command is done.
     Done,
-    /// The job is done as far as possible and what is missing was named; or a call was run and didn't end as expected.
+    /// The command is done as far as possible and what is missing was named; or a call was run and didn't end as expected.
     Incomplete,
-    /// The job failed.
+    /// The command failed.
     Fault(ToolFault),
     /// The words are not a command, or ask for help: the error has the text.
     Words(Error),
 }
 
-/// Returns the program's exit status: 0 if the job is done, 1 for a fault or if something is missing, 2 if the command line is wrong, and
+/// Returns the program's exit status: 0 if the command is done, 1 for a fault or if something is missing, 2 if the command line is wrong, and
 /// for `--help`.
 pub fn status(outcome: &Outcome) -> u8
     ensures { result ≡ status_of outcome.now }
@@ -238,11 +109,15 @@ pub fn read_words(alloc: Global, words: &[&str]) -> Result<Request, Outcome>
         Ok(matches) => matches,
         Err(error) => return Err(Outcome::from(error)),
     };
-    match job_in(alloc, &matches)? {
-        Ok(job) => {
+    match command_in(alloc, &matches)? {
+        Ok(command) => {
             let explain = asks(&matches, "explain");
             let json = asks(&matches, "json");
-            Ok(Request { job, explain, json })
+            Ok(Request {
+                command,
+                explain,
+                json,
+            })
         }
         Err(why) => {
             let name = matches.subcommand_name();
@@ -261,49 +136,52 @@ fn asks(matches: &ArgMatches<'_>, id: &str) -> bool
     }
 }
 
-// The job, if all its values are given and its options go together.
-fn job_in(alloc: Global, matches: &ArgMatches<'_>) -> Result<Result<Job, Unfit>, AllocError>
+// The command, if all its values are given and its options go together.
+fn command_in(alloc: Global, matches: &ArgMatches<'_>) -> Result<Result<Command, Unfit>, AllocError>
     ensures { let met = subcommand_rows_of matches.now in
-        IfOk result (λ job. MatchResult job (IsJobOf met) (λ unfit. HasNoJob met)) }
+        IfOk result (λ command. MatchResult command (IsCommandOf met) (λ unfit. HasNoCommand met)) }
 {
     if let Some(inner) = matches.subcommand_matches("code") {
-        return code_job(alloc, inner);
+        return code_command(alloc, inner);
     }
     if let Some(inner) = matches.subcommand_matches("show") {
-        return show_job(alloc, inner);
+        return show_command(alloc, inner);
     }
     if let Some(inner) = matches.subcommand_matches("decode") {
-        return decode_job(alloc, inner);
+        return decode_command(alloc, inner);
     }
     if let Some(inner) = matches.subcommand_matches("frames") {
-        return frames_job(alloc, inner);
+        return frames_command(alloc, inner);
     }
     if let Some(inner) = matches.subcommand_matches("call") {
-        return call_job(alloc, inner);
+        return call_command(alloc, inner);
     }
     if let Some(inner) = matches.subcommand_matches("identify") {
-        return identify_job(alloc, inner);
+        return identify_command(alloc, inner);
     }
     if let Some(inner) = matches.subcommand_matches("station") {
-        return station_job(alloc, inner);
+        return station_command(alloc, inner);
     }
     if let Some(inner) = matches.subcommand_matches("version") {
-        return Ok(Ok(version_job(inner)));
+        return Ok(Ok(version_command(inner)));
     }
     Ok(Err(Unfit::Missing))
 }
 
-fn version_job(matches: &ArgMatches<'_>) -> Job
-    ensures { IsJobOf (Some (codes "version", rows_of (found_of matches.now))) result }
+fn version_command(matches: &ArgMatches<'_>) -> Command
+    ensures { IsCommandOf (Some (codes "version", rows_of (found_of matches.now))) result }
 {
-    Job::Version {
+    Command::Version(VersionCommand {
         proof: is_named(text_in(matches, "proof"), "true"),
-    }
+    })
 }
 
-fn code_job(alloc: Global, matches: &ArgMatches<'_>) -> Result<Result<Job, Unfit>, AllocError>
+fn code_command(
+    alloc: Global,
+    matches: &ArgMatches<'_>,
+) -> Result<Result<Command, Unfit>, AllocError>
     ensures { let met = Some (codes "code", rows_of (found_of matches.now)) in
-        IfOk result (λ job. MatchResult job (IsJobOf met) (λ unfit. HasNoJob met)) }
+        IfOk result (λ command. MatchResult command (IsCommandOf met) (λ unfit. HasNoCommand met)) }
 {
     let Some(coding) = coding_in(matches) else {
         return Ok(Err(Unfit::Missing));
@@ -314,17 +192,20 @@ fn code_job(alloc: Global, matches: &ArgMatches<'_>) -> Result<Result<Job, Unfit
     let Some(output) = text_in(matches, "out") else {
         return Ok(Err(Unfit::Missing));
     };
-    Ok(Ok(Job::Code {
+    Ok(Ok(Command::Code(CodeCommand {
         coding,
         order: order_in(matches),
         input: String::from_str(alloc, input)?,
         output: String::from_str(alloc, output)?,
-    }))
+    })))
 }
 
-fn show_job(alloc: Global, matches: &ArgMatches<'_>) -> Result<Result<Job, Unfit>, AllocError>
+fn show_command(
+    alloc: Global,
+    matches: &ArgMatches<'_>,
+) -> Result<Result<Command, Unfit>, AllocError>
     ensures { let met = Some (codes "show", rows_of (found_of matches.now)) in
-        IfOk result (λ job. MatchResult job (IsJobOf met) (λ unfit. HasNoJob met)) }
+        IfOk result (λ command. MatchResult command (IsCommandOf met) (λ unfit. HasNoCommand met)) }
 {
     let Some(coding) = coding_in(matches) else {
         return Ok(Err(Unfit::Missing));
@@ -335,17 +216,20 @@ fn show_job(alloc: Global, matches: &ArgMatches<'_>) -> Result<Result<Job, Unfit
     let Some(input) = text_in(matches, "file") else {
         return Ok(Err(Unfit::Missing));
     };
-    Ok(Ok(Job::Show {
+    Ok(Ok(Command::Show(ShowCommand {
         coding,
         order: order_in(matches),
         width,
         input: String::from_str(alloc, input)?,
-    }))
+    })))
 }
 
-fn decode_job(alloc: Global, matches: &ArgMatches<'_>) -> Result<Result<Job, Unfit>, AllocError>
+fn decode_command(
+    alloc: Global,
+    matches: &ArgMatches<'_>,
+) -> Result<Result<Command, Unfit>, AllocError>
     ensures { let met = Some (codes "decode", rows_of (found_of matches.now)) in
-        IfOk result (λ job. MatchResult job (IsJobOf met) (λ unfit. HasNoJob met)) }
+        IfOk result (λ command. MatchResult command (IsCommandOf met) (λ unfit. HasNoCommand met)) }
 {
     let Some(coding) = coding_in(matches) else {
         return Ok(Err(Unfit::Missing));
@@ -369,13 +253,13 @@ fn decode_job(alloc: Global, matches: &ArgMatches<'_>) -> Result<Result<Job, Unf
         width,
         fine: is_named(text_in(matches, "fine"), "true"),
     };
-    Ok(Ok(Job::Decode {
+    Ok(Ok(Command::Decode(DecodeCommand {
         form,
         options,
         page: page_of(number_in(matches, "page")),
         input: String::from_str(alloc, input)?,
         output: String::from_str(alloc, output)?,
-    }))
+    })))
 }
 
 // The number of the page that is decoded.
@@ -411,12 +295,15 @@ fn list_form(records: bool, words: bool) -> ListForm
     }
 }
 
-fn frames_job(alloc: Global, matches: &ArgMatches<'_>) -> Result<Result<Job, Unfit>, AllocError>
+fn frames_command(
+    alloc: Global,
+    matches: &ArgMatches<'_>,
+) -> Result<Result<Command, Unfit>, AllocError>
     ensures { let met = Some (codes "frames", rows_of (found_of matches.now)) in
-        IfOk result (λ job. MatchResult job (IsJobOf met) (λ unfit. HasNoJob met)) }
+        IfOk result (λ command. MatchResult command (IsCommandOf met) (λ unfit. HasNoCommand met)) }
 {
     if has_captures(matches) {
-        return captures_job(alloc, matches);
+        return captures_command(alloc, matches);
     }
     let Some(input) = text_in(matches, "file") else {
         return Ok(Err(Unfit::NoCapture));
@@ -425,7 +312,7 @@ fn frames_job(alloc: Global, matches: &ArgMatches<'_>) -> Result<Result<Job, Unf
     if salvage && text_in(matches, "pages").is_none() {
         return Ok(Err(Unfit::NoPages));
     }
-    Ok(Ok(Job::Frames {
+    Ok(Ok(Command::Frames(FramesCommand {
         most: number_in(matches, "data"),
         order: line_order_in(matches),
         form: list_form(
@@ -435,24 +322,30 @@ fn frames_job(alloc: Global, matches: &ArgMatches<'_>) -> Result<Result<Job, Unf
         pages: copy_of(alloc, text_in(matches, "pages"))?,
         salvage,
         input: String::from_str(alloc, input)?,
-    }))
+    })))
 }
 
-fn identify_job(alloc: Global, matches: &ArgMatches<'_>) -> Result<Result<Job, Unfit>, AllocError>
+fn identify_command(
+    alloc: Global,
+    matches: &ArgMatches<'_>,
+) -> Result<Result<Command, Unfit>, AllocError>
     ensures { let met = Some (codes "identify", rows_of (found_of matches.now)) in
-        IfOk result (λ job. MatchResult job (IsJobOf met) (λ unfit. HasNoJob met)) }
+        IfOk result (λ command. MatchResult command (IsCommandOf met) (λ unfit. HasNoCommand met)) }
 {
     let Some(input) = text_in(matches, "file") else {
         return Ok(Err(Unfit::Missing));
     };
-    Ok(Ok(Job::Identify {
+    Ok(Ok(Command::Identify(IdentifyCommand {
         input: String::from_str(alloc, input)?,
-    }))
+    })))
 }
 
-fn call_job(alloc: Global, matches: &ArgMatches<'_>) -> Result<Result<Job, Unfit>, AllocError>
+fn call_command(
+    alloc: Global,
+    matches: &ArgMatches<'_>,
+) -> Result<Result<Command, Unfit>, AllocError>
     ensures { let met = Some (codes "call", rows_of (found_of matches.now)) in
-        IfOk result (λ job. MatchResult job (IsJobOf met) (λ unfit. HasNoJob met)) }
+        IfOk result (λ command. MatchResult command (IsCommandOf met) (λ unfit. HasNoCommand met)) }
 {
     let Some(options) = options_in(matches) else {
         return Ok(Err(Unfit::Missing));
@@ -469,7 +362,7 @@ fn call_job(alloc: Global, matches: &ArgMatches<'_>) -> Result<Result<Job, Unfit
             Ok(times) => times,
             Err(why) => return Ok(Err(why)),
         };
-        return Ok(Ok(Job::Drive {
+        return Ok(Ok(Command::Drive(DriveCommand {
             line,
             times,
             options,
@@ -478,7 +371,7 @@ fn call_job(alloc: Global, matches: &ArgMatches<'_>) -> Result<Result<Job, Unfit
             normal: is_normal_wanted(matches),
             diagram: copy_of(alloc, text_in(matches, "diagram"))?,
             input: String::from_str(alloc, input)?,
-        }));
+        })));
     };
     if has_line(matches) {
         return Ok(Err(script_and_line(matches)));
@@ -486,7 +379,7 @@ fn call_job(alloc: Global, matches: &ArgMatches<'_>) -> Result<Result<Job, Unfit
     if are_both_standard(script, input) {
         return Ok(Err(Unfit::ScriptAndInStandard));
     }
-    Ok(Ok(Job::Call {
+    Ok(Ok(Command::Call(ScriptCommand {
         script: String::from_str(alloc, script)?,
         options,
         out: copy_of(alloc, text_in(matches, "out"))?,
@@ -494,7 +387,7 @@ fn call_job(alloc: Global, matches: &ArgMatches<'_>) -> Result<Result<Job, Unfit
         normal: is_normal_wanted(matches),
         diagram: copy_of(alloc, text_in(matches, "diagram"))?,
         input: String::from_str(alloc, input)?,
-    }))
+    })))
 }
 
 // Whether a call is to end normally for both stations.
@@ -770,7 +663,7 @@ pub(crate) fn unfit(alloc: Global, name: Option<&str>, text: &str) -> Result<Err
 }
 
 // The command of this name; the program if it has none.
-fn named_command(alloc: Global, name: Option<&str>) -> Result<Command<'static>, AllocError> {
+fn named_command(alloc: Global, name: Option<&str>) -> Result<clap::Command<'static>, AllocError> {
     let entry = match name {
         Some(name) => entry_named(name),
         None => None,

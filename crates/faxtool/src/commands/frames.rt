@@ -1,71 +1,214 @@
 //! The command `frames`.
 
+pub(crate) mod two_captures;
+
 ghost use Rattle.faults.specs.Faults.{IsOutside};
 ghost use Rattle.captures.specs.PageNumbers.{after, page_missing};
 ghost use Rattle.std.specs.Prelude.{◌≡◌, IfErr, OnOk, false, max};
 
-pub(crate) mod two_captures;
-
-use crate::context::{Notes, Part};
+use crate::commands::{Completeness, NO_NAMES, Names, Runs};
+use crate::context::{Context, Part};
 use crate::explain::notice;
-use crate::files::{input, output, printed};
+use crate::files::apart::CommandFiles;
+use crate::files::images::store_page;
+use crate::files::input::{self, Source};
+use crate::files::progress::Watch;
+use crate::files::{output, printed};
 use captures::{
     Captured, FoundStore, FrontStore, ListForm, ListOptions, Missing, PageNumbers, Stored,
     StoredFront, list_engine, pages_engine, salvage_pages_engine, write_missing, write_stored,
     write_stored_front,
 };
-use faults::{NO_MEMORY, ToolFault};
-use raster::{Page, write_pbm};
+use faults::ToolFault;
+use page_files::PageForm;
+use raster::Page;
 use run_tables::Order;
+use std::alloc::AllocError;
 use std::io;
 use std::io::Write;
 
-/// Says on standard error what to try if no frame was found.
-fn say_other_order(rt: &HostRuntime, how: ListOptions, worth: bool) -> Result<(), ToolFault>
-    ensures { IfErr result IsOutside }
-{
-    if worth {
-        let words = match how.order {
-            Order::LsbFirst => "no good frame: try --order msb",
-            Order::MsbFirst => "no good frame: try --order lsb",
-        };
-        notice(rt, how.form == ListForm::Records, words)?;
-    }
-    Ok(())
+/// Lists the frames in a file of bits. If a folder is given, writes their pages into its files page-1.pbm and so on, each as soon as it is
+/// complete, if asked for also the rows before the gaps of others, and names what is missing on standard error.
+#[derive(Debug, PartialEq, Eq, Drop)]
+pub struct FramesCommand {
+    /// How many octets of a content are shown at most; None for all.
+    pub most: Option<u32>,
+    /// Which bit of an octet of the file is first.
+    pub order: Order,
+    /// What is written of each frame.
+    pub form: ListForm,
+    /// The name of the folder that the pages in the frames go to, if one is given.
+    pub pages: Option<String>,
+    /// Whether the rows before the gap of a page that isn't whole go there too.
+    pub salvage: bool,
+    /// The name of the file.
+    pub input: String,
 }
 
-/// Lists the frames in a file.
-fn list_file(
-    rt: &HostRuntime,
-    how: ListOptions,
-    input: &str,
-    notes: &mut Notes,
-) -> Result<(), ToolFault>
+impl Runs for FramesCommand {
+    ghost use Rattle.std.specs.Prelude.{None};
+    ghost use Rattle.faxtool.specs.Runs.{FramesGives};
+
+    ghost width = { λ command. None };
+
+    ghost gives = { λ command result. FramesGives command result };
+
+    fn names(&self) -> Names<'_> {
+        Names {
+            input: self.input.as_str(),
+            output: self.pages.as_deref(),
+            ..NO_NAMES
+        }
+    }
+
+    fn add_files(&self, files: &mut CommandFiles<'_>) -> Result<(), AllocError> {
+        files.reads("FILE", self.input.as_str())?;
+        files.prints()
+    }
+
+    fn page(&self) -> Option<PageForm> {
+        None
+    }
+
+    fn run(&self, context: &mut Context<'_>) -> Result<Completeness, ToolFault> {
+        match self.pages.as_deref() {
+            Some(folder) => self.store_pages(context, folder),
+            None => {
+                self.list(context)?;
+                Ok(Completeness::Whole)
+            }
+        }
+    }
+}
+
+impl FramesCommand {
+    /// How the frames are listed.
+    fn how(&self) -> ListOptions {
+        ListOptions {
+            most: self.most.map(|most| most as usize),
+            order: self.order,
+            form: self.form,
+        }
+    }
+
+    /// Says on standard error what to try if no frame was found.
+    fn say_other_order(&self, context: &Context<'_>, worth: bool) -> Result<(), ToolFault>
+        ensures { IfErr result IsOutside }
+    {
+        if worth {
+            let words = match self.order {
+                Order::LsbFirst => "no good frame: try --order msb",
+                Order::MsbFirst => "no good frame: try --order lsb",
+            };
+            notice(context, words)?;
+        }
+        Ok(())
+    }
+
+    /// Lists the frames.
+    fn list(&self, context: &mut Context<'_>) -> Result<(), ToolFault>
+        ensures { IfErr result IsOutside }
+    {
+        let mut reader = self.open(context)?;
+        let mut writer = printed::print(context)?;
+        let listed = list_engine(context.alloc(), &mut reader, &mut writer, self.how());
+        reader.close(context);
+        let printed = printed::end_print(context, writer, listed.is_ok());
+        let worth = listed?;
+        printed?;
+        self.say_other_order(context, worth)
+    }
+
+    /// Opens the file.
+    fn open<'a>(&self, context: &mut Context<'a>) -> Result<Source<'a>, ToolFault>
+        ensures { IfErr result IsOutside }
+    {
+        input::open(context, self.input.as_str(), Part::Input, Watch::Silent)
+    }
+
+    /// Lists the frames, and writes their pages into a folder; names what is missing of others on standard error. It is complete if nothing
+    /// is missing.
+    fn store_pages(
+        &self,
+        context: &mut Context<'_>,
+        folder: &str,
+    ) -> Result<Completeness, ToolFault>
+        ensures { IfErr result IsOutside }
+    {
+        // before a line is printed, or FILE is read
+        output::check_folder(context, folder, Part::Output)?;
+        let mut reader = self.open(context)?;
+        let mut counted = Counted {
+            writer: printed::print(context)?,
+            lines: 0,
+        };
+        let mut store = Folder {
+            name: folder,
+            form: self.form,
+            context,
+            numbers: PageNumbers::new(),
+            is_empty: true,
+            is_whole: true,
+        };
+        let listed = self.find_pages(&mut reader, &mut counted, &mut store);
+        let is_empty = store.is_empty;
+        let is_whole = store.is_whole;
+        reader.close(context);
+        let Counted { writer, lines } = counted;
+        let printed = printed::end_print(context, writer, listed.is_ok());
+        let worth = listed?;
+        printed?;
+        self.say_other_order(context, worth)?;
+        if is_empty {
+            say_no_pages(context, lines)?;
+        }
+        Ok(Completeness::of(is_whole && !is_empty))
+    }
+
+    /// Lists the frames and gives their pages to the folder, if asked for also the rows before the gaps of others. Returns what
+    /// `list_engine` returns.
+    fn find_pages<W: Write>(
+        &self,
+        reader: &mut Source<'_>,
+        writer: &mut W,
+        store: &mut Folder<'_, '_>,
+    ) -> Result<bool, ToolFault>
+        ensures { IfErr result IsOutside }
+    {
+        let alloc = store.context.alloc();
+        if self.salvage {
+            salvage_pages_engine(alloc, reader, writer, self.how(), store)
+        } else {
+            pages_engine(alloc, reader, writer, self.how(), store)
+        }
+    }
+}
+
+/// Says on standard error that a capture with so many lines has no pages.
+fn say_no_pages(context: &Context<'_>, lines: u64) -> Result<(), ToolFault>
     ensures { IfErr result IsOutside }
 {
-    let mut reader = input::open(rt, input, Part::Input, notes)?;
-    let mut writer = printed::print(rt)?;
-    let listed = list_engine(rt.alloc(), &mut reader, &mut writer, how);
-    reader.close(notes);
-    let printed = printed::end_print(writer, listed.is_ok(), notes);
-    let worth = listed?;
-    printed?;
-    say_other_order(rt, how, worth)
+    // of a capture without a good frame the line of counts is the only one
+    let words = if lines > 1 {
+        "no error correction: no pages"
+    } else {
+        "no frame: no pages"
+    };
+    notice(context, words)
 }
 
 /// The folder that the pages in a capture are written into, and what was found so far.
 #[derive(Drop)]
-struct Folder<'a> {
-    rt: &'a HostRuntime,
+struct Folder<'a, 'b> {
     name: &'a str,
     form: ListForm,
-    notes: &'a mut Notes,
+    context: &'a mut Context<'b>,
     numbers: PageNumbers,
     is_empty: bool,
     is_whole: bool,
 }
 
-impl FoundStore for Folder<'_> {
+impl FoundStore for Folder<'_, '_> {
     ghost use Rattle.faxtool.specs.Folders.{NotesFound};
 
     ghost takes = { λ old found new. NotesFound old.numbers old.is_whole found new.numbers new.is_whole };
@@ -83,7 +226,7 @@ impl FoundStore for Folder<'_> {
     }
 }
 
-impl FrontStore for Folder<'_> {
+impl FrontStore for Folder<'_, '_> {
     ghost use Rattle.faxtool.specs.Folders.{NotesFront};
 
     ghost fronts = { λ old page new. NotesFront old.numbers new.numbers new.is_whole };
@@ -95,7 +238,7 @@ impl FrontStore for Folder<'_> {
     }
 }
 
-impl Folder<'_> {
+impl Folder<'_, '_> {
     /// Writes a page, or the rows of one before a gap, into a new file with the first free number, and says so. A page without rows has no
     /// file, as no code gives one.
     fn store(&mut self, page: Page, is_front: bool) -> Result<(), ToolFault>
@@ -107,14 +250,14 @@ impl Folder<'_> {
         if page.rows().is_empty() {
             return Ok(());
         }
-        let pages = [page];
-        let mut octets = Vec::new(self.rt.alloc());
-        write_pbm(&pages, &mut octets).map_err(|_fault| NO_MEMORY)?;
-        let file = output::write_page(self.rt, self.name, first, octets.as_slice(), self.notes)?;
+        let file = match store_page(self.context.rt(), self.name, first, &page) {
+            Ok(file) => file,
+            Err(refused) => return Err(refused.noted(self.context)),
+        };
         let _moved = self.numbers.written(file);
         let stored = Stored {
             numbers: self.numbers,
-            page: &pages[0],
+            page: &page,
         };
         if is_front {
             return self.tell_front(stored);
@@ -127,9 +270,13 @@ impl Folder<'_> {
         ensures { IfErr result IsOutside }
     {
         if self.form == ListForm::Records {
-            return write_stored_front(self.rt.alloc(), &stored, &mut self.rt.stdout());
+            return write_stored_front(
+                self.context.rt().alloc(),
+                &stored,
+                &mut self.context.rt().stdout(),
+            );
         }
-        println!(self.rt; "{}", StoredFront(stored))?;
+        println!(self.context.rt(); "{}", StoredFront(stored))?;
         Ok(())
     }
 
@@ -138,9 +285,13 @@ impl Folder<'_> {
         ensures { IfErr result IsOutside }
     {
         if self.form == ListForm::Records {
-            return write_stored(self.rt.alloc(), stored, &mut self.rt.stdout());
+            return write_stored(
+                self.context.rt().alloc(),
+                stored,
+                &mut self.context.rt().stdout(),
+            );
         }
-        println!(self.rt; "{stored}")?;
+        println!(self.context.rt(); "{stored}")?;
         Ok(())
     }
 
@@ -149,9 +300,13 @@ impl Folder<'_> {
         ensures { IfErr result IsOutside }
     {
         if self.form == ListForm::Records {
-            return write_missing(self.rt.alloc(), found, &mut self.rt.stderr());
+            return write_missing(
+                self.context.rt().alloc(),
+                found,
+                &mut self.context.rt().stderr(),
+            );
         }
-        eprintln!(self.rt; "{}", Missing(found))?;
+        eprintln!(self.context.rt(); "{}", Missing(found))?;
         Ok(())
     }
 
@@ -187,85 +342,5 @@ impl<W: Write + Drop> Write for Counted<W> {
 
     fn flush(&mut self) -> io::Result<()> {
         self.writer.flush()
-    }
-}
-
-/// Where the pages in frames go.
-#[derive(Clone, Copy)]
-pub struct FoundPages<'a> {
-    /// The name of the folder.
-    pub folder: &'a str,
-    /// Whether the rows before the gap of a page that isn't whole go there too.
-    pub salvage: bool,
-}
-
-/// Lists the frames in a file, and writes their pages into a folder; names what is missing of others on standard error. Returns whether
-/// nothing is missing.
-fn store_pages(
-    rt: &HostRuntime,
-    how: ListOptions,
-    pages: FoundPages<'_>,
-    input: &str,
-    notes: &mut Notes,
-) -> Result<bool, ToolFault>
-    ensures { IfErr result IsOutside }
-{
-    let mut reader = input::open(rt, input, Part::Input, notes)?;
-    let mut counted = Counted {
-        writer: printed::print(rt)?,
-        lines: 0,
-    };
-    let mut store = Folder {
-        rt,
-        name: pages.folder,
-        form: how.form,
-        notes,
-        numbers: PageNumbers::new(),
-        is_empty: true,
-        is_whole: true,
-    };
-    let listed = if pages.salvage {
-        salvage_pages_engine(rt.alloc(), &mut reader, &mut counted, how, &mut store)
-    } else {
-        pages_engine(rt.alloc(), &mut reader, &mut counted, how, &mut store)
-    };
-    let is_empty = store.is_empty;
-    let is_whole = store.is_whole;
-    reader.close(notes);
-    let Counted { writer, lines } = counted;
-    let printed = printed::end_print(writer, listed.is_ok(), notes);
-    let worth = listed?;
-    printed?;
-    say_other_order(rt, how, worth)?;
-    if is_empty {
-        // of a capture without a good frame the line of counts is the only one
-        let words = if lines > 1 {
-            "no error correction: no pages"
-        } else {
-            "no frame: no pages"
-        };
-        notice(rt, how.form == ListForm::Records, words)?;
-    }
-    Ok(is_whole && !is_empty)
-}
-
-/// Lists the frames in a file. If a folder is given, writes their pages into its files page-1.pbm and so on, each as soon as it is
-/// complete, if asked for also the rows before the gaps of others, and names what is missing on standard error. Returns whether nothing is
-/// missing.
-pub fn frames_file(
-    rt: &HostRuntime,
-    how: ListOptions,
-    pages: Option<FoundPages<'_>>,
-    input: &str,
-    notes: &mut Notes,
-) -> Result<bool, ToolFault>
-    ensures { IfErr result IsOutside }
-{
-    match pages {
-        Some(pages) => store_pages(rt, how, pages, input, notes),
-        None => {
-            list_file(rt, how, input, notes)?;
-            Ok(true)
-        }
     }
 }

@@ -1,22 +1,58 @@
 //! The command `identify`.
 
-use crate::context::Notes;
+use crate::commands::{Completeness, NO_NAMES, Names, Runs};
+use crate::context::Context;
+use crate::files::apart::CommandFiles;
 use crate::files::bounded::{Ways, read_coded};
 use crate::files::printed;
+use crate::files::progress::Watch;
 use faults::ToolFault;
-use page_files::identify_engine;
+use page_files::{PageForm, identify_engine};
+use std::alloc::AllocError;
 
-/// Prints the format that a file begins as, and in which ways it reads as a page. Errors: `NoPages` (7) or `Unidentified` (29) if there is
-/// neither; then it prints how far each way reads.
-pub fn identify_file(rt: &HostRuntime, input: &str, notes: &mut Notes) -> Result<(), ToolFault> {
-    read_coded(rt, input, Ways::Tried, notes)?;
-    let mut writer = printed::print(rt)?;
-    let identified = identify_engine(rt.alloc(), notes.octets.as_slice(), &mut writer);
-    let printed = printed::end_print(writer, identified.is_ok(), notes);
-    let fault = identified?;
-    printed?;
-    match fault {
-        Some(fault) => Err(fault),
-        None => Ok(()),
+/// Prints as which format a file begins, and in which ways it reads as a page.
+#[derive(Debug, PartialEq, Eq, Drop)]
+pub struct IdentifyCommand {
+    /// The name of the file.
+    pub input: String,
+}
+
+impl Runs for IdentifyCommand {
+    ghost use Rattle.std.specs.Prelude.{None};
+    ghost use Rattle.faxtool.specs.Runs.{IdentifyGives};
+
+    ghost width = { λ command. None };
+
+    ghost gives = { λ command result. IdentifyGives result };
+
+    fn names(&self) -> Names<'_> {
+        Names {
+            input: self.input.as_str(),
+            ..NO_NAMES
+        }
+    }
+
+    fn add_files(&self, files: &mut CommandFiles<'_>) -> Result<(), AllocError> {
+        files.reads("FILE", self.input.as_str())?;
+        files.prints()
+    }
+
+    fn page(&self) -> Option<PageForm> {
+        None
+    }
+
+    // Where the file is of no known format and reads as no page, it prints how far each way reads before that fault.
+    fn run(&self, context: &mut Context<'_>) -> Result<Completeness, ToolFault> {
+        let octets = read_coded(context, self.input.as_str(), Ways::Tried, Watch::Shown)?;
+        let mut writer = printed::print(context)?;
+        let identified = identify_engine(context.alloc(), octets.as_slice(), &mut writer);
+        context.keep_octets(octets);
+        let printed = printed::end_print(context, writer, identified.is_ok());
+        let fault = identified?;
+        printed?;
+        match fault {
+            Some(fault) => Err(fault),
+            None => Ok(Completeness::Whole),
+        }
     }
 }

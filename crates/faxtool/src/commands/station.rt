@@ -1,26 +1,33 @@
 //! One end of a call, by lines of text on standard input and output.
 
-ghost use Rattle.faults.specs.Faults.{IsOutside};
-ghost use Rattle.std.specs.Prelude.{IfErr};
-
 pub(crate) mod ending;
 pub(crate) mod no_line;
 pub(crate) mod trace;
 
+ghost use Rattle.faults.specs.Faults.{IsOutside};
+ghost use Rattle.faxtool.specs.Runs.{IsHalt, IsNoDocument};
+ghost use Rattle.std.specs.Prelude.{IfErr, IfOk, IfSome};
+
 use crate::args::station_words::GivenWaits;
+use crate::commands::station::ending::end_station;
 use crate::commands::station::no_line::{LastLine, NoLine, no_line};
 use crate::commands::station::trace::Trace;
-use crate::context::{Notes, Part};
-use crate::explain::notice;
-use crate::files::input::read_input;
-use crate::files::output;
+use crate::commands::{Completeness, NO_NAMES, Names, Runs};
+use crate::context::{Context, Part};
+use crate::explain::notice_as;
+use crate::files::apart::CommandFiles;
+use crate::files::images::store_page;
+use crate::files::input::read_images;
 use crate::files::printed::{self, Printed};
+use crate::files::progress::Watch;
+use crate::files::{STANDARD, output};
 use calls::{CallOptions, end_word};
 use conversations::{
     Conversation, ConverseFault, Durations, Ending, Keeper, PageStore, converse, keep_pages,
 };
 use faults::{FAILED, NO_MEMORY, ToolFault};
-use raster::{Page, read_pbm, write_pbm};
+use page_files::PageForm;
+use raster::{Page, read_pbm};
 use signals::{Caps, Wish};
 use stations::{CallEnd, Caller, LimitedAnswerer, Limits, StoppableCaller, Turn};
 use std::alloc::AllocError;
@@ -41,12 +48,20 @@ pub(crate) enum Halted {
 }
 
 impl From<io::Error> for Halted {
+    ghost use Rattle.faxtool.specs.Runs.{IsHalt};
+
+    ghost from_gives = { λ _ halted. IsHalt halted };
+
     fn from(error: io::Error) -> Halted {
         Halted::Fault(ToolFault::from(error))
     }
 }
 
 impl From<AllocError> for Halted {
+    ghost use Rattle.faxtool.specs.Runs.{IsHalt};
+
+    ghost from_gives = { λ _ halted. IsHalt halted };
+
     fn from(error: AllocError) -> Halted {
         Halted::Fault(ToolFault::from(error))
     }
@@ -125,8 +140,11 @@ impl PageStore for Folder<'_> {
         let Some(number) = self.stored.checked_add(1) else {
             return Err(FAILED);
         };
-        let octets = image_of(self.rt, page)?;
-        match output::store_page(self.rt, self.name, self.next, octets.as_slice()) {
+        if page.rows().is_empty() {
+            // no station stores such a page
+            return Err(FAILED);
+        }
+        match store_page(self.rt, self.name, self.next, &page) {
             Ok(written) => {
                 self.stored = number;
                 self.next = written.saturating_add(1);
@@ -135,9 +153,9 @@ impl PageStore for Folder<'_> {
                 }
                 Ok(())
             }
-            Err(error) => {
-                self.failed = Some(error.kind());
-                Err(ToolFault::from(error))
+            Err(refused) => {
+                self.failed = refused.kind;
+                Err(refused.fault)
             }
         }
     }
@@ -150,22 +168,7 @@ impl Folder<'_> {
         else {
             return;
         };
-        let _told = notice(self.rt, self.records, words.as_str());
-    }
-}
-
-/// A page as a PBM image.
-fn image_of(rt: &HostRuntime, page: Page) -> Result<Vec<u8>, ToolFault>
-    ensures { IfErr result IsOutside }
-{
-    let mut octets = Vec::new(rt.alloc());
-    if page.rows().is_empty() {
-        // no station stores such a page
-        return Err(FAILED);
-    }
-    match write_pbm(&[page], &mut octets) {
-        Ok(()) => Ok(octets),
-        Err(_) => Err(NO_MEMORY),
+        let _told = notice_as(self.rt, self.records, words.as_str());
     }
 }
 
@@ -184,89 +187,137 @@ impl Keeper<LimitedAnswerer> for Folder<'_> {
     }
 }
 
-/// Where the answers of a station go.
-#[derive(Drop)]
-struct Answers<'a> {
-    rt: &'a HostRuntime,
-    writer: BufWriter<Printed<'a>>,
-    trace: Trace<'a>,
+/// The fault of a follower or a keeper: `NoMemory` (9), or `Io` (8).
+fn outside(fault: ToolFault) -> ToolFault
+    ensures { IsOutside result }
+{
+    match fault {
+        ToolFault::No(9) => NO_MEMORY,
+        _ => FAILED,
+    }
 }
 
 /// Why the lines go no further; `line` is the last one that was read. Why they can't be read is noted.
-fn halted_by(
-    rt: &HostRuntime,
-    fault: ConverseFault<ToolFault>,
-    line: &[u8],
-    notes: &mut Notes,
-) -> Halted {
+fn halted_by(context: &mut Context<'_>, fault: ConverseFault<ToolFault>, line: &[u8]) -> Halted
+    ensures { IsHalt result }
+{
     match fault {
-        ConverseFault::Line(number) => Halted::Line(number, no_line(rt.alloc(), line)),
+        ConverseFault::Line(number) => Halted::Line(number, no_line(context.alloc(), line)),
         ConverseFault::NoMemory | ConverseFault::Writer(ErrorKind::OutOfMemory) => {
             Halted::Fault(NO_MEMORY)
         }
         ConverseFault::Reader(kind) => {
-            notes.blame(Part::Input, kind);
+            context.blame(Part::Input, kind);
             Halted::Fault(FAILED)
         }
         ConverseFault::Writer(_) | ConverseFault::TooManyLines => Halted::Fault(FAILED),
-        ConverseFault::Follower(fault) => Halted::Fault(fault),
+        ConverseFault::Follower(fault) => Halted::Fault(outside(fault)),
     }
+}
+
+/// Where the answers of a station go.
+#[derive(Drop)]
+struct Answers<'a> {
+    writer: BufWriter<Printed<'a>>,
+    trace: Trace<'a>,
 }
 
 /// Takes the lines of standard input until the call is over, and writes the answer to each. If the input ends before, the line is lost.
 fn talk<S: Stoppable, K: Keeper<S, Refused = ToolFault>>(
+    context: &mut Context<'_>,
     conversation: &mut Conversation<S>,
     keeper: &mut K,
     answers: &mut Answers<'_>,
-    notes: &mut Notes,
-) -> Result<(), Halted> {
-    let rt = answers.rt;
-    let input = BufReader::with_capacity(rt.alloc(), READ_AT_ONCE, rt.reader())?;
-    let mut reader = LastLine::new(rt.alloc(), input);
-    let Answers { writer, trace, .. } = answers;
-    match converse(rt.alloc(), &mut reader, conversation, keeper, writer, trace) {
+) -> Result<(), Halted>
+    ensures { IfErr result IsHalt }
+{
+    let alloc = context.alloc();
+    let input = BufReader::with_capacity(alloc, READ_AT_ONCE, context.rt().reader())?;
+    let mut reader = LastLine::new(alloc, input);
+    let Answers { writer, trace } = answers;
+    match converse(alloc, &mut reader, conversation, keeper, writer, trace) {
         Ok(Ending::Over | Ending::Lost) => Ok(()),
-        Ok(Ending::Unkept(fault)) => Err(Halted::Fault(fault)),
-        Err(fault) => Err(halted_by(rt, fault, reader.line(), notes)),
+        Ok(Ending::Unkept(fault)) => Err(Halted::Fault(outside(fault))),
+        Err(fault) => Err(halted_by(context, fault, reader.line())),
     }
 }
 
-/// Talks, and notes why standard output failed.
+/// Talks, and notes why standard output failed. Returns why the lines went no further, if that is so. Errors: `Io` (8) if the trace can't be
+/// opened, and that is noted; `NoMemory` (9).
 fn talk_out<S: Stoppable, K: Keeper<S, Refused = ToolFault>>(
-    rt: &HostRuntime,
+    context: &mut Context<'_>,
     conversation: &mut Conversation<S>,
     keeper: &mut K,
     trace: Option<&str>,
-    notes: &mut Notes,
-) -> Result<Option<Halted>, ToolFault> {
-    let trace = Trace::open(rt, trace, notes)?;
-    let writer = printed::print(rt)?;
-    let mut answers = Answers { rt, writer, trace };
-    let talked = talk(conversation, keeper, &mut answers, notes);
+) -> Result<Option<Halted>, ToolFault>
+    ensures halted { IfOk result (λ halted. IfSome halted IsHalt) }
+    ensures fault { IfErr result IsOutside }
+{
+    let trace = Trace::open(context, trace)?;
+    let writer = printed::print(context)?;
+    let mut answers = Answers { writer, trace };
+    let talked = talk(context, conversation, keeper, &mut answers);
     if let Some(kind) = answers.writer.get_ref().failed() {
-        notes.blame(Part::Printed, kind);
+        context.blame(Part::Printed, kind);
     }
     Ok(talked.err())
 }
 
-/// An answerer by lines.
-#[derive(Clone, Copy)]
-pub(crate) struct Answering<'a> {
+/// Runs an answerer by lines of text.
+#[derive(Debug, PartialEq, Eq, Drop)]
+pub struct AnswerCommand {
     /// What it can do.
-    pub(crate) caps: Caps,
-    /// How many pages wait in memory at most.
-    pub(crate) limit: u32,
+    pub caps: Caps,
+    /// How many pages wait in memory at most, 1 to 1,000.
+    pub limit: u32,
     /// How long its waits run.
-    pub(crate) waits: GivenWaits,
-    /// The name of the folder of its pages.
-    pub(crate) out: &'a str,
-    /// The name of the file of its trace, if one is asked for.
-    pub(crate) trace: Option<&'a str>,
+    pub waits: GivenWaits,
+    /// The name of the folder that the stored pages go to.
+    pub out: String,
+    /// The name of the file that the trace goes to, if one is given.
+    pub trace: Option<String>,
 }
 
-impl Answering<'_> {
-    /// Runs it. Errors: `Io` (8) if a file can't be opened, and that is noted; `NoMemory` (9).
-    pub(crate) fn run(&self, rt: &HostRuntime, notes: &mut Notes) -> Result<Talked, ToolFault> {
+impl Runs for AnswerCommand {
+    ghost use Rattle.std.specs.Prelude.{None};
+    ghost use Rattle.faxtool.specs.Runs.{FailsOutside};
+
+    ghost width = { λ command. None };
+
+    ghost gives = { λ command result. FailsOutside result };
+
+    fn names(&self) -> Names<'_> {
+        Names {
+            output: Some(self.out.as_str()),
+            trace: self.trace.as_deref(),
+            ..NO_NAMES
+        }
+    }
+
+    fn add_files(&self, files: &mut CommandFiles<'_>) -> Result<(), AllocError> {
+        files.reads("standard input", STANDARD)?;
+        files.may_write("--trace", self.trace.as_deref())?;
+        files.prints()
+    }
+
+    fn page(&self) -> Option<PageForm> {
+        None
+    }
+
+    fn run(&self, context: &mut Context<'_>) -> Result<Completeness, ToolFault> {
+        // before a line is read
+        output::check_folder(context, self.out.as_str(), Part::Output)?;
+        let talked = self.talk(context)?;
+        end_station(context, &talked, false)
+    }
+}
+
+impl AnswerCommand {
+    /// Takes the lines. Errors: `Io` (8) if a file can't be opened, and that is noted; `NoMemory` (9).
+    fn talk(&self, context: &mut Context<'_>) -> Result<Talked, ToolFault>
+        ensures halted { IfOk result (λ talked. IfSome talked.halted IsHalt) }
+        ensures fault { IfErr result IsOutside }
+    {
         let caps = Caps {
             receiver: true,
             ecm: true,
@@ -276,20 +327,21 @@ impl Answering<'_> {
             pages: u64::from(self.limit).max(1),
             octets: u64::MAX,
         };
-        let (station, first) = LimitedAnswerer::new(rt.alloc(), caps, limits);
-        let terminal = Terminal::new(rt.alloc(), station, first);
+        let (station, first) = LimitedAnswerer::new(context.alloc(), caps, limits);
+        let terminal = Terminal::new(context.alloc(), station, first);
         let mut conversation = Conversation::new_answerer(terminal, durations(self.waits));
         let mut folder = Folder {
-            rt,
-            name: self.out,
-            records: notes.records,
+            rt: context.rt(),
+            name: self.out.as_str(),
+            records: context.is_json(),
             stored: 0,
             next: 1,
             failed: None,
         };
-        let halted = talk_out(rt, &mut conversation, &mut folder, self.trace, notes)?;
+        let trace = self.trace.as_deref();
+        let halted = talk_out(context, &mut conversation, &mut folder, trace)?;
         if let Some(kind) = folder.failed {
-            notes.blame(Part::Output, kind);
+            context.blame(Part::Output, kind);
         }
         Ok(Talked {
             end: conversation.end(),
@@ -299,44 +351,83 @@ impl Answering<'_> {
     }
 }
 
-/// A caller by lines.
-#[derive(Clone, Copy)]
-pub(crate) struct Dialling<'a> {
+/// Runs a caller by lines of text.
+#[derive(Debug, PartialEq, Eq, Drop)]
+pub struct DialCommand {
     /// What it is run with.
-    pub(crate) options: &'a CallOptions,
+    pub options: CallOptions,
     /// How long its waits run.
-    pub(crate) waits: GivenWaits,
-    /// The name of the file of its trace, if one is asked for.
-    pub(crate) trace: Option<&'a str>,
+    pub waits: GivenWaits,
+    /// The name of the file that the trace goes to, if one is given.
+    pub trace: Option<String>,
     /// The name of the document's file.
-    pub(crate) input: &'a str,
+    pub input: String,
 }
 
-impl Dialling<'_> {
+impl Runs for DialCommand {
+    ghost use Rattle.std.specs.Prelude.{None};
+    ghost use Rattle.faxtool.specs.Runs.{DialGives};
+
+    ghost width = { λ command. None };
+
+    ghost gives = { λ command result. DialGives command result };
+
+    fn names(&self) -> Names<'_> {
+        Names {
+            input: self.input.as_str(),
+            trace: self.trace.as_deref(),
+            ..NO_NAMES
+        }
+    }
+
+    fn add_files(&self, files: &mut CommandFiles<'_>) -> Result<(), AllocError> {
+        files.reads("standard input", STANDARD)?;
+        files.reads("IN", self.input.as_str())?;
+        files.may_write("--trace", self.trace.as_deref())?;
+        files.prints()
+    }
+
+    fn page(&self) -> Option<PageForm> {
+        None
+    }
+
+    fn run(&self, context: &mut Context<'_>) -> Result<Completeness, ToolFault> {
+        let caller = self.caller(context)?;
+        let talked = self.talk(context, caller)?;
+        end_station(context, &talked, true)
+    }
+}
+
+impl DialCommand {
     /// Returns the caller, with the document of its file. Errors: the first fault of the file, `WidthNotCallable` (26), `Io` (8) if the
     /// file can't be read, and that is noted; `NoMemory` (9).
-    fn caller(&self, rt: &HostRuntime, notes: &mut Notes) -> Result<Caller, ToolFault> {
-        read_input(rt, self.input, notes)?;
-        let mut images = notes.octets.as_slice();
-        let document = read_pbm(rt.alloc(), &mut images, self.options.fine)?;
+    fn caller(&self, context: &mut Context<'_>) -> Result<Caller, ToolFault>
+        ensures { IfErr result (IsNoDocument self.now.options.fine) }
+    {
+        read_images(context, self.input.as_str(), Watch::Silent)?;
+        let mut images = context.octets();
+        let document = read_pbm(context.alloc(), &mut images, self.options.fine)?;
         let wish = Wish {
             modems: self.options.modems,
             coding: self.options.coding,
             small: self.options.small,
         };
-        match Caller::new(rt.alloc(), document, wish) {
+        match Caller::new(context.alloc(), document, wish) {
             Ok(caller) => Ok(caller),
             Err(fault) => Err(ToolFault::No(fault.number())),
         }
     }
 
-    /// Runs it. Errors: those of `caller`, and `Io` (8) if the trace can't be opened, and that is noted.
-    pub(crate) fn run(&self, rt: &HostRuntime, notes: &mut Notes) -> Result<Talked, ToolFault> {
-        let caller = self.caller(rt, notes)?;
+    /// Takes the lines. Errors: `Io` (8) if the trace can't be opened, and that is noted; `NoMemory` (9).
+    fn talk(&self, context: &mut Context<'_>, caller: Caller) -> Result<Talked, ToolFault>
+        ensures halted { IfOk result (λ talked. IfSome talked.halted IsHalt) }
+        ensures fault { IfErr result IsOutside }
+    {
         let station = StoppableCaller::new(caller);
-        let terminal = Terminal::new(rt.alloc(), station, Turn::Silent);
+        let terminal = Terminal::new(context.alloc(), station, Turn::Silent);
         let mut conversation = Conversation::new_caller(terminal, durations(self.waits));
-        let halted = talk_out(rt, &mut conversation, &mut NoPages, self.trace, notes)?;
+        let trace = self.trace.as_deref();
+        let halted = talk_out(context, &mut conversation, &mut NoPages, trace)?;
         let caller = conversation.terminal().station().station();
         Ok(Talked {
             end: conversation.end(),

@@ -1,9 +1,10 @@
-//! The files of a job that have to be apart: no two that are written are the same file, nor one that is read and one that is written.
+//! The files of a command that have to be apart: no two that are written are the same file, nor one that is read and one that is written.
 
 ghost use Rattle.faxtool.specs.Apart.{IsApartOutcome};
-ghost use Rattle.std.specs.Prelude.{◌≡◌, IfErr, IfOk};
+ghost use Rattle.std.specs.Prelude.{IfErr};
 
-use crate::args::words::{Job, Outcome, Request, unfit};
+use crate::args::words::{Outcome, unfit};
+use crate::commands::Runs;
 use crate::files::STANDARD;
 use std::alloc::AllocError;
 use std::fs::{self, Files};
@@ -16,9 +17,9 @@ const MOST_LINKS: u32 = 40;
 /// What the files of a call's octets are called in its folder.
 pub(crate) const SENT: [&str; 2] = ["to-answerer.bits", "to-caller.bits"];
 
-/// A file that a job reads or writes.
+/// A file that a command reads or writes.
 #[derive(Drop)]
-struct JobFile {
+struct CommandFile {
     /// What the words of the command call it.
     role: &'static str,
     name: String,
@@ -37,19 +38,19 @@ enum Identity {
     Other,
 }
 
-/// The files of a job, as they are named.
+/// The files of a command, as they are named.
 #[derive(Drop)]
-struct JobFiles<'a> {
+pub struct CommandFiles<'a> {
     rt: &'a HostRuntime,
-    files: Vec<JobFile>,
+    files: Vec<CommandFile>,
 }
 
-impl JobFiles<'_> {
+impl CommandFiles<'_> {
     fn add(&mut self, role: &'static str, name: &str, is_written: bool) -> Result<(), AllocError> {
         let alloc = self.rt.alloc();
         let identity = identity_of(self.rt, name, is_written)?;
         let name = String::from_str(alloc, name)?;
-        let file = JobFile {
+        let file = CommandFile {
             role,
             name,
             is_written,
@@ -61,28 +62,31 @@ impl JobFiles<'_> {
         Ok(())
     }
 
-    fn reads(&mut self, role: &'static str, name: &str) -> Result<(), AllocError> {
+    /// Adds a file that is read. Errors: memory was refused.
+    pub fn reads(&mut self, role: &'static str, name: &str) -> Result<(), AllocError> {
         self.add(role, name, false)
     }
 
-    fn writes(&mut self, role: &'static str, name: &str) -> Result<(), AllocError> {
+    /// Adds a file that is written. Errors: memory was refused.
+    pub fn writes(&mut self, role: &'static str, name: &str) -> Result<(), AllocError> {
         self.add(role, name, true)
     }
 
-    fn may_write(&mut self, role: &'static str, name: &Option<String>) -> Result<(), AllocError> {
+    /// Adds a file that is written, if one is named. Errors: memory was refused.
+    pub fn may_write(&mut self, role: &'static str, name: Option<&str>) -> Result<(), AllocError> {
         match name {
-            Some(name) => self.writes(role, name.as_str()),
+            Some(name) => self.writes(role, name),
             None => Ok(()),
         }
     }
 
-    /// What is printed goes to standard output.
-    fn prints(&mut self) -> Result<(), AllocError> {
+    /// Adds standard output, which what is printed goes to. Errors: memory was refused.
+    pub fn prints(&mut self) -> Result<(), AllocError> {
         self.writes("what is printed", STANDARD)
     }
 
-    /// The files of a call's octets, in the folder of `--bits`.
-    fn may_write_bits(&mut self, folder: &Option<String>) -> Result<(), AllocError> {
+    /// Adds the files of a call's octets, in the folder of `--bits`, if it is named. Errors: memory was refused.
+    pub fn may_write_bits(&mut self, folder: Option<&str>) -> Result<(), AllocError> {
         if let Some(folder) = folder {
             for name in SENT {
                 let name = format!(in self.rt.alloc(); "{folder}/{name}")?;
@@ -92,79 +96,8 @@ impl JobFiles<'_> {
         Ok(())
     }
 
-    fn add_job(&mut self, job: &Job) -> Result<(), AllocError> {
-        match job {
-            Job::Code { input, output, .. } => {
-                self.reads("IN", input.as_str())?;
-                self.writes("OUT", output.as_str())
-            }
-            Job::Decode { input, output, .. } => {
-                self.reads("FILE", input.as_str())?;
-                self.writes("OUT", output.as_str())
-            }
-            Job::Show { input, .. } | Job::Frames { input, .. } | Job::Identify { input } => {
-                self.reads("FILE", input.as_str())?;
-                self.prints()
-            }
-            Job::Captures {
-                diagram,
-                caller,
-                answerer,
-                ..
-            } => {
-                self.reads("--caller", caller.as_str())?;
-                self.reads("--answerer", answerer.as_str())?;
-                self.writes("--diagram", diagram.as_str())
-            }
-            Job::Call {
-                script,
-                out,
-                bits,
-                diagram,
-                input,
-                ..
-            } => {
-                self.reads("--script", script.as_str())?;
-                self.add_call(input.as_str(), out, bits, diagram)
-            }
-            Job::Drive {
-                out,
-                bits,
-                diagram,
-                input,
-                ..
-            } => self.add_call(input.as_str(), out, bits, diagram),
-            Job::Answer { trace, .. } => {
-                self.reads("standard input", STANDARD)?;
-                self.may_write("--trace", trace)?;
-                self.prints()
-            }
-            Job::Dial { trace, input, .. } => {
-                self.reads("standard input", STANDARD)?;
-                self.reads("IN", input.as_str())?;
-                self.may_write("--trace", trace)?;
-                self.prints()
-            }
-            Job::Version { .. } => Ok(()),
-        }
-    }
-
-    fn add_call(
-        &mut self,
-        input: &str,
-        out: &Option<String>,
-        bits: &Option<String>,
-        diagram: &Option<String>,
-    ) -> Result<(), AllocError> {
-        self.reads("IN", input)?;
-        self.may_write("--out", out)?;
-        self.may_write("--diagram", diagram)?;
-        self.may_write_bits(bits)?;
-        self.prints()
-    }
-
     /// Returns the first two files that aren't apart.
-    fn first_two(&self) -> Option<(&JobFile, &JobFile)> {
+    fn first_two(&self) -> Option<(&CommandFile, &CommandFile)> {
         for (at, file) in self.files.iter().enumerate() {
             for other in self.files.iter().skip(at.saturating_add(1)) {
                 if are_one(file, other) {
@@ -237,8 +170,8 @@ fn in_folder(rt: &HostRuntime, name: &str) -> Result<Identity, AllocError> {
     }
 }
 
-/// Returns whether two files of a job aren't apart: one of them is written, and they are the same file or both standard output.
-fn are_one(one: &JobFile, other: &JobFile) -> bool {
+/// Returns whether two files of a command aren't apart: one of them is written, and they are the same file or both standard output.
+fn are_one(one: &CommandFile, other: &CommandFile) -> bool {
     if !one.is_written && !other.is_written {
         return false;
     }
@@ -246,7 +179,7 @@ fn are_one(one: &JobFile, other: &JobFile) -> bool {
 }
 
 /// Returns whether two files are both standard output.
-fn are_both_printed(one: &JobFile, other: &JobFile) -> bool {
+fn are_both_printed(one: &CommandFile, other: &CommandFile) -> bool {
     let are_written = one.is_written && other.is_written;
     are_written && one.name.as_str() == STANDARD && other.name.as_str() == STANDARD
 }
@@ -264,22 +197,17 @@ fn is_same(one: &Identity, other: &Identity) -> bool {
     }
 }
 
-/// Returns the request that these words ask for, if its job's files are apart. Errors: the text for the user, or `NoMemory` (9).
-pub(crate) fn with_files_apart(
-    rt: &HostRuntime,
-    words: &[&str],
-    request: Request,
-) -> Result<Request, Outcome>
-    ensures same { IfOk result (λ given. given ≡ request) }
-    ensures refused { IfErr result IsApartOutcome }
+/// Checks that the files of a command, which these words ask for, are apart. Errors: the text for the user, or `NoMemory` (9).
+pub fn check_apart<C: Runs>(rt: &HostRuntime, words: &[&str], command: &C) -> Result<(), Outcome>
+    ensures { IfErr result IsApartOutcome }
 {
-    let mut files = JobFiles {
+    let mut files = CommandFiles {
         rt,
         files: Vec::new(rt.alloc()),
     };
-    files.add_job(&request.job)?;
+    command.add_files(&mut files)?;
     let Some((one, other)) = files.first_two() else {
-        return Ok(request);
+        return Ok(());
     };
     let text = if are_both_printed(one, other) {
         format!(in rt.alloc();

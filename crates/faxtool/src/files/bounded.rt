@@ -5,8 +5,9 @@ ghost use Rattle.raster.specs.Pixels.{IsWidth};
 ghost use Rattle.faxtool.specs.Bounds.{HavePageWidths};
 ghost use Rattle.std.specs.Prelude.{All, IfErr};
 
-use crate::context::{Cause, Notes, Part};
+use crate::context::{Cause, Context, Part};
 use crate::files::input::{self, Source};
+use crate::files::progress::Watch;
 use faults::{FAILED, ToolFault};
 use page_code::{CodesPages, Coding, PageRead};
 use page_files::PageForm;
@@ -53,49 +54,46 @@ impl Ways {
     }
 }
 
-/// Reads the input as coded pages, which are read in these ways; its octets go to the notes. If they are refused in each way long before
-/// the last octet read so far, no more are read: it makes no page of them, however many follow. Errors: `Io` (8) if it can't be read
-/// or has more than `MOST_CODED` octets; `NoMemory` (9).
+/// Returns the octets of the input as coded pages, which are read in these ways. If they are refused in each way long before the last octet
+/// read so far, no more are read: it makes no page of them, however many follow. Errors: `Io` (8) if it can't be read or has more than
+/// `MOST_CODED` octets; `NoMemory` (9).
 pub(crate) fn read_coded(
-    rt: &HostRuntime,
+    context: &mut Context<'_>,
     input: &str,
     ways: Ways,
-    notes: &mut Notes,
-) -> Result<(), ToolFault>
+    watch: Watch,
+) -> Result<Vec<u8>, ToolFault>
     requires { HavePageWidths ways }
     ensures { IfErr result IsOutside }
 {
-    let mut source = input::open(rt, input, Part::Input, notes)?;
-    let mut octets = Vec::new(rt.alloc());
-    let read = read_pieces(rt, &mut source, ways, &mut octets);
-    source.close(notes);
-    bounded(read, Part::Input, MOST_CODED, notes)?;
-    notes.octets = octets;
-    Ok(())
+    let mut source = input::open(context, input, Part::Input, watch)?;
+    let mut octets = Vec::new(context.alloc());
+    let read = read_pieces(context.alloc(), &mut source, ways, &mut octets);
+    source.close(context);
+    bounded(context, read, Part::Input, MOST_CODED)?;
+    Ok(octets)
 }
 
-/// Returns all octets of a script. Errors: `Io` (8) if it can't be read or has more than `MOST_SCRIPT` octets; `NoMemory` (9).
-pub(crate) fn read_script_file(
-    rt: &HostRuntime,
-    script: &str,
-    notes: &mut Notes,
-) -> Result<Vec<u8>, ToolFault>
+/// Reads a script; its octets go to the context. Errors: `Io` (8) if it can't be read or has more than `MOST_SCRIPT` octets; `NoMemory`
+/// (9).
+pub(crate) fn read_script_file(context: &mut Context<'_>, script: &str) -> Result<(), ToolFault>
     ensures { IfErr result IsOutside }
 {
-    let mut source = input::open(rt, script, Part::Script, notes)?;
-    let mut octets = Vec::new(rt.alloc());
+    let mut source = input::open(context, script, Part::Script, Watch::Shown)?;
+    let mut octets = Vec::new(context.alloc());
     let read = read_script_pieces(&mut source, &mut octets);
-    source.close(notes);
-    bounded(read, Part::Script, MOST_SCRIPT, notes)?;
-    Ok(octets)
+    source.close(context);
+    bounded(context, read, Part::Script, MOST_SCRIPT)?;
+    context.keep_script(octets);
+    Ok(())
 }
 
 /// Notes that a file has more octets than `most`, unless it was read. Errors: `Io` (8).
 fn bounded(
+    context: &mut Context<'_>,
     read: Result<bool, ToolFault>,
     part: Part,
     most: usize,
-    notes: &mut Notes,
 ) -> Result<(), ToolFault>
     requires { IfErr read IsOutside }
     ensures { IfErr result IsOutside }
@@ -103,8 +101,8 @@ fn bounded(
     match read {
         Ok(true) => Ok(()),
         Ok(false) => {
-            notes.cause = Some(Cause::TooLong(most));
-            notes.blame(part, ErrorKind::FileTooLarge);
+            context.note_cause(Cause::TooLong(most));
+            context.blame(part, ErrorKind::FileTooLarge);
             Err(FAILED)
         }
         Err(fault) => Err(fault),
@@ -113,7 +111,7 @@ fn bounded(
 
 /// Reads a file, and looks at what is read so far from time to time. Returns whether it has `MOST_CODED` octets at most.
 fn read_pieces(
-    rt: &HostRuntime,
+    alloc: Global,
     source: &mut Source<'_>,
     ways: Ways,
     octets: &mut Vec<u8>,
@@ -123,7 +121,7 @@ fn read_pieces(
 {
     for look in LOOKS {
         read_up_to(source, octets, look)?;
-        if octets.len() < look || is_no_page(rt.alloc(), octets.as_slice(), ways)? {
+        if octets.len() < look || is_no_page(alloc, octets.as_slice(), ways)? {
             return Ok(true);
         }
     }

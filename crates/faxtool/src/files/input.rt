@@ -3,9 +3,9 @@
 ghost use Rattle.faults.specs.Faults.{IsOutside};
 ghost use Rattle.std.specs.Prelude.{IfErr};
 
-use crate::context::{Notes, Part};
+use crate::context::{Context, Part};
 use crate::files::STANDARD;
-use crate::files::progress::Progress;
+use crate::files::progress::{Progress, Watch};
 use faults::ToolFault;
 use std::io::{ErrorKind, Read};
 use std::{fs, io};
@@ -70,7 +70,7 @@ impl Source<'_> {
     }
 
     /// Notes what was read and why it failed.
-    pub fn close(self, notes: &mut Notes) {
+    pub fn close(self, context: &mut Context<'_>) {
         let Source {
             from: _,
             part,
@@ -83,13 +83,13 @@ impl Source<'_> {
         } = self;
         progress.end();
         if is_open {
-            notes.unread = Some(part);
+            context.note_unread(part);
         }
         if let Some(kind) = failed {
-            notes.blame(part, kind);
+            context.blame(part, kind);
         }
         if part == Part::Input {
-            notes.octets = octets;
+            context.keep_octets(octets);
         }
     }
 }
@@ -102,60 +102,76 @@ fn begins_image(octets: &[u8]) -> bool {
     }
 }
 
+/// What a file is read as.
+#[derive(Clone, Copy, Debug, PartialEq, Eq)]
+enum Kind {
+    /// An image: if the file doesn't begin as one, its first octets are all that is read.
+    Image,
+    /// Any octets.
+    Octets,
+}
+
 /// A file or standard input, opened for reading. Errors: `Io` (8) if it can't be opened, and that is noted.
 pub fn open<'a>(
-    rt: &'a HostRuntime,
+    context: &mut Context<'a>,
     name: &str,
     part: Part,
-    notes: &mut Notes,
+    watch: Watch,
 ) -> Result<Source<'a>, ToolFault>
     ensures { IfErr result IsOutside }
 {
+    open_as(context, name, part, watch, Kind::Octets)
+}
+
+/// The input, opened as an image: if it doesn't begin as one, its first octets are all that is read. Errors: `Io` (8) if it can't be opened,
+/// and that is noted.
+pub fn open_image<'a>(
+    context: &mut Context<'a>,
+    name: &str,
+    watch: Watch,
+) -> Result<Source<'a>, ToolFault>
+    ensures { IfErr result IsOutside }
+{
+    open_as(context, name, Part::Input, watch, Kind::Image)
+}
+
+fn open_as<'a>(
+    context: &mut Context<'a>,
+    name: &str,
+    part: Part,
+    watch: Watch,
+    kind: Kind,
+) -> Result<Source<'a>, ToolFault>
+    ensures { IfErr result IsOutside }
+{
+    let rt = context.rt();
     let from = if name == STANDARD {
         Origin::Standard(rt.reader())
     } else {
-        match fs::open(rt, name) {
-            Ok(file) => Origin::File(file),
-            Err(error) => {
-                notes.blame(part, error.kind());
-                return Err(ToolFault::from(error));
-            }
-        }
+        Origin::File(context.checked(fs::open(rt, name), part)?)
     };
     Ok(Source {
         from,
         part,
-        progress: Progress::new(rt, notes.long),
+        progress: Progress::new(rt, watch),
         failed: None,
         is_open: false,
-        image: notes.image && part == Part::Input,
+        image: kind == Kind::Image,
         room: FIRST_OCTETS,
         octets: Vec::new(rt.alloc()),
     })
 }
 
-/// Returns all octets of a file or of standard input. If an image is wanted and the file doesn't begin as one, its first octets are all
-/// that is read. Errors: `Io` (8) if it can't be read; `NoMemory` (9).
-fn read_file(
-    rt: &HostRuntime,
-    name: &str,
-    part: Part,
-    notes: &mut Notes,
-) -> Result<Vec<u8>, ToolFault>
+/// Reads the input as images; its octets go to the context. If it doesn't begin as an image, its first octets are all that is read. Errors:
+/// `Io` (8) if it can't be read; `NoMemory` (9).
+pub fn read_images(context: &mut Context<'_>, input: &str, watch: Watch) -> Result<(), ToolFault>
     ensures { IfErr result IsOutside }
 {
-    let mut reader = open(rt, name, part, notes)?;
-    let mut octets = Vec::new(rt.alloc());
+    let mut reader = open_image(context, input, watch)?;
+    let mut octets = Vec::new(context.alloc());
     let read = reader.read_to_end(&mut octets);
-    reader.close(notes);
-    read?;
-    Ok(octets)
-}
-
-/// Reads the input; its octets go to the notes. Errors: `Io` (8) if it can't be read; `NoMemory` (9).
-pub fn read_input(rt: &HostRuntime, input: &str, notes: &mut Notes) -> Result<(), ToolFault>
-    ensures { IfErr result IsOutside }
-{
-    notes.octets = read_file(rt, input, Part::Input, notes)?;
+    reader.close(context);
+    let _count = read?;
+    context.keep_octets(octets);
     Ok(())
 }

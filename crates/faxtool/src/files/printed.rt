@@ -3,7 +3,7 @@
 ghost use Rattle.faults.specs.Faults.{IsOutside};
 ghost use Rattle.std.specs.Prelude.{◌≡◌, IfErr};
 
-use crate::context::{Notes, Part};
+use crate::context::{Context, Part};
 use faults::ToolFault;
 use std::io;
 use std::io::{BufWriter, ErrorKind, Write};
@@ -40,9 +40,10 @@ impl Write for Printed<'_> {
 }
 
 /// Standard output with a buffer before it. Errors: `NoMemory` (9).
-pub fn print(rt: &HostRuntime) -> Result<BufWriter<Printed<'_>>, ToolFault>
+pub fn print<'a>(context: &Context<'a>) -> Result<BufWriter<Printed<'a>>, ToolFault>
     ensures { IfErr result IsOutside }
 {
+    let rt = context.rt();
     let printed = Printed { rt, failed: None };
     Ok(BufWriter::with_capacity(rt.alloc(), PRINTED_AT_ONCE, printed)?)
 }
@@ -50,15 +51,15 @@ pub fn print(rt: &HostRuntime) -> Result<BufWriter<Printed<'_>>, ToolFault>
 /// Ends what was printed: writes the rest if all was done, and notes why it failed. Errors: `Io` (8) if it can't be written; `NoMemory`
 /// (9).
 pub fn end_print(
+    context: &mut Context<'_>,
     mut printed: BufWriter<Printed<'_>>,
     done: bool,
-    notes: &mut Notes,
 ) -> Result<(), ToolFault>
     ensures { IfErr result IsOutside }
 {
     let ended = if done { printed.flush() } else { Ok(()) };
     if let Some(kind) = printed.get_ref().failed {
-        notes.blame(Part::Printed, kind);
+        context.blame(Part::Printed, kind);
     }
     Ok(ended?)
 }

@@ -3,6 +3,15 @@
 use std::io::{Eprint, IsTerminal, Write};
 use std::time::Instant;
 
+/// Whether progress is shown while a file is read.
+#[derive(Clone, Copy, Debug, PartialEq, Eq)]
+pub enum Watch {
+    /// It is, where reading takes long.
+    Shown,
+    /// It isn't, since lines are printed meanwhile or soon.
+    Silent,
+}
+
 /// The seconds after which progress is shown.
 const QUIET: u64 = 2;
 
@@ -16,11 +25,11 @@ pub struct Progress<'a> {
 }
 
 impl<'a> Progress<'a> {
-    /// Nothing was read yet. `is_shown` says whether it is shown how far the reading is.
-    pub fn new(rt: &'a HostRuntime, is_shown: bool) -> Progress<'a> {
+    /// Nothing was read yet.
+    pub fn new(rt: &'a HostRuntime, watch: Watch) -> Progress<'a> {
         // Only reading is shown: coding, decoding and a call's events are single calls of proved functions, which neither read nor write
         // meanwhile.
-        let begun = if is_shown && rt.stderr().is_terminal() {
+        let begun = if watch == Watch::Shown && rt.stderr().is_terminal() {
             Instant::now(rt).ok()
         } else {
             None

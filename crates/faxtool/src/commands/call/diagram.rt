@@ -3,8 +3,9 @@
 ghost use Rattle.faults.specs.Faults.{IsOutside};
 ghost use Rattle.std.specs.Prelude.{IfErr};
 
-use crate::commands::call::bits::{self, CallFiles, CallOutput};
-use crate::context::{Notes, Part};
+use crate::commands::call::CallFiles;
+use crate::commands::call::bits::{self, CallOutput};
+use crate::context::{Context, Part};
 use crate::files::output;
 use call_pictures::{Ladder, WithDiagram, write_picture};
 use faults::ToolFault;
@@ -12,15 +13,14 @@ use faults::ToolFault;
 /// Opens a call's outputs, with its picture if that is asked for. Errors: `Io` (8) if a file can't be made or standard output is closed,
 /// and the file is noted; `NoMemory` (9).
 pub(crate) fn open<'a>(
-    rt: &'a HostRuntime,
+    context: &mut Context<'a>,
     files: CallFiles<'_>,
-    notes: &mut Notes,
 ) -> Result<WithDiagram<CallOutput<'a>>, ToolFault>
     ensures { IfErr result IsOutside }
 {
-    let writer = bits::open(rt, files.bits, notes)?;
+    let writer = bits::open(context, files.bits)?;
     let ladder = match files.diagram {
-        Some(_name) => Some(Ladder::new(rt.alloc())),
+        Some(_name) => Some(Ladder::new(context.alloc())),
         None => None,
     };
     Ok(WithDiagram { writer, ladder })
@@ -29,32 +29,26 @@ pub(crate) fn open<'a>(
 /// Ends a call's outputs; then writes the picture, if it is asked for, all was done and the rest is written. Errors: `Io` (8) if a file
 /// can't be written, and the file is noted; `NoMemory` (9).
 pub(crate) fn close(
-    rt: &HostRuntime,
+    context: &mut Context<'_>,
     output: WithDiagram<CallOutput<'_>>,
     done: bool,
     name: Option<&str>,
-    notes: &mut Notes,
 ) -> Result<(), ToolFault>
     ensures { IfErr result IsOutside }
 {
     let WithDiagram { writer, ladder } = output;
-    bits::close(rt, writer, done, notes)?;
+    bits::close(context, writer, done)?;
     match (name, ladder) {
-        (Some(name), Some(ladder)) if done => draw(rt, name, ladder, notes),
+        (Some(name), Some(ladder)) if done => draw(context, name, ladder),
         _ => Ok(()),
     }
 }
 
 /// Writes the picture of a call into a file. Errors: `Io` (8) if it can't be written, and that is noted; `NoMemory` (9).
-pub(crate) fn draw(
-    rt: &HostRuntime,
-    name: &str,
-    ladder: Ladder,
-    notes: &mut Notes,
-) -> Result<(), ToolFault>
+pub(crate) fn draw(context: &mut Context<'_>, name: &str, ladder: Ladder) -> Result<(), ToolFault>
     ensures { IfErr result IsOutside }
 {
-    let mut octets = Vec::new(rt.alloc());
+    let mut octets = Vec::new(context.alloc());
     write_picture(ladder, &mut octets)?;
-    output::write(rt, Part::Diagram, name, octets.as_slice(), notes)
+    output::save(context, Part::Diagram, name, octets.as_slice())
 }

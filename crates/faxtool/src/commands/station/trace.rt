@@ -3,8 +3,8 @@
 ghost use Rattle.faults.specs.Faults.{IsOutside};
 ghost use Rattle.std.specs.Prelude.{◌≡◌, IfErr, None, OnOk};
 
-use crate::context::{Notes, Part};
-use crate::explain::notice;
+use crate::context::{Context, Part};
+use crate::explain::notice_as;
 use captures::{ContentText, write_traced, write_traced_check};
 use conversations::{Follower, Heard, Kind, Said, TimedLine, heard_as};
 use faults::ToolFault;
@@ -52,28 +52,32 @@ impl<'a> Trace<'a> {
     /// The trace that goes to a file, after what is there; or none. Errors: `Io` (8) if the file can't be opened, and that is noted;
     /// `NoMemory` (9).
     pub(crate) fn open(
-        rt: &'a HostRuntime,
+        context: &mut Context<'a>,
         name: Option<&str>,
-        notes: &mut Notes,
     ) -> Result<Trace<'a>, ToolFault>
         ensures { IfErr result IsOutside }
     {
         let Some(name) = name else {
-            return Ok(Trace { rt, file: None });
+            return Ok(Trace {
+                rt: context.rt(),
+                file: None,
+            });
         };
-        let opened = OpenOptions::new().append(true).create(true).open(rt, name);
-        if let Err(error) = &opened {
-            notes.blame(Part::Trace, error.kind());
-        }
+        let opened = OpenOptions::new()
+            .append(true)
+            .create(true)
+            .open(context.rt(), name);
+        let writer = context.checked(opened, Part::Trace)?;
+        let alloc = context.alloc();
         let file = TraceFile {
-            alloc: rt.alloc(),
-            records: notes.records,
-            writer: BufWriter::new(rt.alloc(), opened?)?,
-            heard: Deframer::new(rt.alloc()),
-            said: Deframer::new(rt.alloc()),
+            alloc,
+            records: context.is_json(),
+            writer: BufWriter::new(alloc, writer)?,
+            heard: Deframer::new(alloc),
+            said: Deframer::new(alloc),
         };
         Ok(Trace {
-            rt,
+            rt: context.rt(),
             file: Some(file),
         })
     }
@@ -89,7 +93,7 @@ impl<'a> Trace<'a> {
         let records = self.file.as_ref().is_some_and(|file| file.records);
         self.file = None;
         let words = "the trace can't be written any more and ends here; the call goes on";
-        let _told = notice(self.rt, records, words);
+        let _told = notice_as(self.rt, records, words);
     }
 
     /// Writes what a line brings to a station that listens so. Errors: `Io` (8) from the file, `NoMemory` (9).

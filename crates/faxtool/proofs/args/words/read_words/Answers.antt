@@ -3,7 +3,7 @@ use Rattle.std.proofs.Common.{◌≡◌, List, map, rules, subst}
 use Rattle.std.specs.Prelude.{Option}
 use Rattle.clap.specs.Words.{Row, Text, app_of}
 use Rattle.std.specs.Prelude.{codes}
-use Rattle.faxtool.specs.Jobs.{HasNoJob, IsFaxtool, IsJobOf, asks}
+use Rattle.faxtool.specs.Jobs.{HasNoCommand, IsFaxtool, IsCommandOf, asks}
 use Rattle.faxtool.proofs.JobLemmas.{is_faxtool_free, is_faxtool_simple, refused_by_kind, refused_for_job}
 use Rattle.faxtool.proofs.args.words.read_words.Goals as goal
 
@@ -22,7 +22,7 @@ returns-in-Ok-2 c =
       a,
       is,
       c.in-Ok.ensures.kinds (is_faxtool_free a is),
-      subst (λ (o : Option (Text × List Row)). IsJobOf o c.in-Ok-2.job) met (search
+      subst (λ (o : Option (Text × List Row)). IsCommandOf o c.in-Ok-2.command) met (search
           rules),
       subst (λ (o : Option (Text × List Row)). c.asks-explain.result ≡ asks (codes "explain") o) met c.asks-explain.ensures,
       subst (λ (o : Option (Text × List Row)). c.asks-json.result ≡ asks (codes "json") o) met c.asks-json.ensures,
@@ -34,4 +34,4 @@ returns c =
     let is : IsFaxtool a = c.in_ok-command.ensures in
     let met = (c.in-Ok.ensures.ok.2 (is_faxtool_simple a is)).1 in
     refused_for_job (map (λ word. word.now) c.args.words.now) a c.in_ok-unfit-in-Err-2.field-0 c.from-in-Err-2.result is
-    (subst HasNoJob met (search rules)) c.from-in-Err-2.ensures
+    (subst HasNoCommand met (search rules)) c.from-in-Err-2.ensures

@@ -1,7 +1,7 @@
--- What the check asks of `call_job`.
+-- What the check asks of `call_command`.
 use Rattle.clap.specs.Words.{found_of, rows_of}
 use Rattle.faxtool.proofs.JobLemmas.{no_line, no_options, no_times}
-use Rattle.faxtool.proofs.args.words.call_job.Goals as goal
+use Rattle.faxtool.proofs.args.words.call_command.Goals as goal
 
 pub returns-in_default : goal.returns-in_default
 returns-in_default c = no_options (rows_of (found_of c.args.matches.now)) c.in_default.ensures

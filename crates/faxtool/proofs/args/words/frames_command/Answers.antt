@@ -1,8 +1,8 @@
--- What the check asks of `frames_job`.
+-- What the check asks of `frames_command`.
 use Rattle.std.proofs.Common.{rules}
 use Rattle.clap.specs.Words.{found_of, rows_of}
 use Rattle.faxtool.proofs.JobLemmas.{no_folder}
-use Rattle.faxtool.proofs.args.words.frames_job.Goals as goal
+use Rattle.faxtool.proofs.args.words.frames_command.Goals as goal
 
 pub returns-then-is_none : goal.returns-then-is_none
 returns-then-is_none c =
