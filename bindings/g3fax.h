@@ -266,8 +266,9 @@ typedef struct g3_burst {
  * of the burst's frames, in order. */
 G3_CHECK g3_status g3_terminal_next_burst(g3_terminal *terminal, g3_octets *out, g3_burst *burst);
 
-/* what a station listens for: V.21 alone; a training check by `carrier`; V.21, and the frames of a page by `carrier` */
-enum { G3_HEARS_V21 = 1, G3_HEARS_CHECK = 2, G3_HEARS_PAGES = 3 };
+/* what a station listens for: V.21 alone; a training check by `carrier`; V.21, and the frames of a page by `carrier`, one of which comes next;
+ * or the same where V.21 comes first, and pages only after it: for a modem that hears one carrier at a time */
+enum { G3_HEARS_V21 = 1, G3_HEARS_CHECK = 2, G3_HEARS_PAGES = 3, G3_HEARS_V21_THEN_PAGES = 4 };
 /* why a call ended */
 enum {
     G3_END_NORMAL = 1,         /* all pages went over */

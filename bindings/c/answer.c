@@ -29,7 +29,7 @@ static g3_status receive(const g3_state *state, const char *hex)
     for (char digits[3] = ""; (digits[0] = hex[0]) > ' ' && (digits[1] = hex[1]) > ' '; hex += 2)
         octets[length++] = (uint8_t)strtoul(digits, NULL, 16);
     while (carrier > 0 && strcmp(name, g3_carrier_name(carrier)) != 0) carrier--;
-    int awaited = state->carrier == carrier && state->listens == (check ? G3_HEARS_CHECK : G3_HEARS_PAGES);
+    int awaited = state->carrier == carrier && (check ? state->listens == G3_HEARS_CHECK : state->listens >= G3_HEARS_PAGES);
     if (!begun || !(awaited || (carrier == G3_V21 && !check))) return G3_OK;
     g3_status status = (check ? g3_terminal_hear_training : g3_terminal_hear)(&terminal, octets, length);
     if (status == G3_OK) status = g3_terminal_state(&terminal, &after);

@@ -18,7 +18,7 @@ static g3_status hear(g3_terminal *to, const g3_burst *burst, const uint8_t *oct
     if (status != G3_OK) return status;
     if (burst->check && state.listens == G3_HEARS_CHECK && state.carrier == burst->carrier)
         return g3_terminal_hear_training(to, octets, length);
-    if (burst->carrier == G3_V21 || (!burst->check && state.listens == G3_HEARS_PAGES && state.carrier == burst->carrier))
+    if (burst->carrier == G3_V21 || (!burst->check && state.listens >= G3_HEARS_PAGES && state.carrier == burst->carrier))
         return g3_terminal_hear(to, octets, length);
     return G3_OK; /* its modem doesn't listen for that */
 }

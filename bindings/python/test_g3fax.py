@@ -450,7 +450,7 @@ class Calls(unittest.TestCase):
                 hearer.hear_training(burst.octets)
             elif burst.carrier == Carrier.V21:
                 hearer.hear(burst.octets)
-            elif not burst.check and (state.listens, state.carrier) == (Listens.PAGES, burst.carrier):
+            elif not burst.check and state.listens in (Listens.PAGES, Listens.V21_THEN_PAGES) and state.carrier == burst.carrier:
                 hearer.hear(burst.octets)
         return said
 
@@ -532,6 +532,7 @@ class Calls(unittest.TestCase):
                 for content in burst.frames():
                     answerer.hear_frame(content)
             self.assertEqual((answerer.progress.pages, answerer.progress.accepted), (1, (0, 0)))
+            self.assertEqual(answerer.state.listens, Listens.V21_THEN_PAGES)  # DCN comes next
             [mcf] = next(answerer.bursts()).frames()
             caller.hear_frame(mcf)
             self.assertEqual((caller.progress.confirmed, caller.progress.block), (1, 0))

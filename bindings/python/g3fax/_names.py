@@ -99,11 +99,12 @@ class Wait(_Choice):
 
 
 class Listens(_Choice):
-    """What a station listens for: V.21 alone; a training check; V.21, and the frames of a page."""
+    """What a station listens for: V.21 alone; a training check; V.21, and the frames of a page; or these with V.21 first."""
 
     V21 = 1
     CHECK = 2
     PAGES = 3
+    V21_THEN_PAGES = 4
 
 
 class End(_Choice):

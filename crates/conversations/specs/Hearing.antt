@@ -10,7 +10,7 @@ use Rattle.signals.specs.declared.params.Speed.{Speed}
 use Rattle.signals.specs.declared.params.Speed.TheVariants.{V27At2400, V27At4800, V29At7200, V29At9600, V17At7200, V17At9600, V17At12000}
 use Rattle.signals.specs.declared.params.Speed.TheVariants.{V17At14400}
 use Rattle.stations.specs.declared.listening.Listening.{Listening}
-use Rattle.stations.specs.declared.listening.Listening.TheVariants.{V21, Training, V21OrPage}
+use Rattle.stations.specs.declared.listening.Listening.TheVariants.{V21, Training, V21OrPage, V21ThenPage}
 
 -- a speed's place among the eight
 abbrev pub place_of : Speed → ℕ
@@ -32,12 +32,14 @@ abbrev pub check_heard : Listening → Speed → Heard
 check_heard V21 speed = Nothing
 check_heard (Training agreed) speed = cond (same_speed speed agreed) HeardCheck Nothing
 check_heard (V21OrPage agreed) speed = Nothing
+check_heard (V21ThenPage agreed) speed = Nothing
 
--- frames at a message speed are heard if a page at that speed is awaited
+-- frames at a message speed are heard if a page at that speed is awaited, also if V.21 is to come first
 abbrev pub page_heard : Listening → Speed → Heard
 page_heard V21 speed = Nothing
 page_heard (Training agreed) speed = Nothing
 page_heard (V21OrPage agreed) speed = cond (same_speed speed agreed) HeardFrames Nothing
+page_heard (V21ThenPage agreed) speed = cond (same_speed speed agreed) HeardFrames Nothing
 
 -- what bits of a kind by a carrier are to a station: frames by V.21 always, a training check and the frames of a page if they are awaited
 -- at that speed

@@ -29,6 +29,8 @@ pub fn heard_as(listens: Listening, channel: Channel, kind: Kind) -> Heard
             if is_same(speed, agreed) => Heard::Check,
         (Channel::Message(speed), Kind::Frames, Listening::V21OrPage(agreed))
             if is_same(speed, agreed) => Heard::Frames,
+        (Channel::Message(speed), Kind::Frames, Listening::V21ThenPage(agreed))
+            if is_same(speed, agreed) => Heard::Frames,
         _ => Heard::Nothing,
     }
 }

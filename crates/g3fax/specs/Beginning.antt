@@ -75,6 +75,7 @@ pub record IsNewAnswerer (caps : Caps) (limit : ℕ) (answering : AnsweringField
       station = new_answerer caps no_params;
       limits = record { pages = limit; octets = 2 ^ 64 - 1 };
       told = false;
+      said = Dis;
       cut = None;
     };
     turn = Dis;

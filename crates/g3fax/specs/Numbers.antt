@@ -9,6 +9,7 @@ use Rattle.stations.specs.declared.carrier.Carrier.{Carrier}
 use Rattle.stations.specs.declared.carrier.Carrier.TheVariants.{V21, Training, Page}
 use Rattle.stations.specs.declared.listening.Listening.{Listening}
 use Rattle.stations.specs.declared.listening.Listening.TheVariants.{V21 as HearsV21, Training as HearsCheck, V21OrPage as HearsPages}
+use Rattle.stations.specs.declared.listening.Listening.TheVariants.{V21ThenPage as HearsV21First}
 use Rattle.stations.specs.declared.stopping.CallEnd.{CallEnd}
 use Rattle.stations.specs.declared.stopping.CallEnd.TheVariants.{By, Stopped, LineLost}
 use Rattle.stations.specs.declared.turn.End.{End}
@@ -60,17 +61,19 @@ check_number V21 = 0
 check_number (Training speed) = 1
 check_number (Page speed) = 0
 
--- what a station listens for: V.21 alone, a training check, or V.21 and the frames of a page
+-- what a station listens for: V.21 alone, a training check, V.21 and the frames of a page, or these with V.21 first
 abbrev pub listens_number : Listening → ℕ
 listens_number HearsV21 = 1
 listens_number (HearsCheck speed) = 2
 listens_number (HearsPages speed) = 3
+listens_number (HearsV21First speed) = 4
 
 -- the carrier that it listens for beside V.21; 0 for none
 abbrev pub listens_carrier : Listening → ℕ
 listens_carrier HearsV21 = 0
 listens_carrier (HearsCheck speed) = speed_number speed
 listens_carrier (HearsPages speed) = speed_number speed
+listens_carrier (HearsV21First speed) = speed_number speed
 
 -- why a call ended, by what a station heard or didn't hear
 abbrev pub reason_number : End → ℕ

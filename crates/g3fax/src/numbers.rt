@@ -91,6 +91,7 @@ pub(crate) fn listens_number(listens: Listening) -> u32
         Listening::V21 => 1,
         Listening::Training(_) => 2,
         Listening::V21OrPage(_) => 3,
+        Listening::V21ThenPage(_) => 4,
     }
 }
 
@@ -101,7 +102,7 @@ pub(crate) fn listens_carrier(listens: Listening) -> u32
     match listens {
         Listening::V21 => 0,
         Listening::Training(speed) => speed_number(speed),
-        Listening::V21OrPage(speed) => speed_number(speed),
+        Listening::V21OrPage(speed) | Listening::V21ThenPage(speed) => speed_number(speed),
     }
 }
 

@@ -21,7 +21,7 @@ pub struct G3State {
     pub pages: u64,
     /// How many good frames were heard.
     pub frames: u64,
-    /// 1 if it listens for V.21 alone, 2 for a training check, 3 for V.21 and the frames of a page.
+    /// 1 if it listens for V.21 alone, 2 for a training check, 3 for V.21 and the frames of a page, 4 for these with V.21 first.
     pub listens: u32,
     /// The carrier of the training check or the page, 2 to 9; 0 if it listens for V.21 alone.
     pub carrier: u32,

@@ -5,6 +5,7 @@ use Rattle.raster.specs.Pages.{PagePixels}
 use Rattle.signals.specs.Signals.{fcd, pps}
 use Rattle.stations.specs.AnswererStep.{Answerer, AnswererAnswer, answerer_silent, answerer_step, is_repeated, Steps}
 use Rattle.stations.specs.Inputs.{AnswererInput, listens, is_busy}
+use Rattle.stations.specs.Listening.{last_reply}
 use Rattle.stations.specs.Stopping.{StaysSilent}
 use Rattle.stations.specs.declared.limiting.Limits.{Limits}
 use Rattle.stations.specs.declared.stopping.Cut.{Cut}
@@ -74,11 +75,12 @@ limited_step limits s input =
 abbrev pub IsWithin : Limits → List PagePixels → Type 0
 IsWithin limits pages = (pages ≡ []) ⊎ ((front : List PagePixels) × (page : PagePixels) × (pages ≡ front ++ page ∷ []) × (is_full limits front ≡ false))
 
--- an answerer with its limits, whether the program said last that it is busy, and what cut its call off, if anything did
+-- an answerer with its limits, whether the program said last that it is busy, its last reply, and what cut its call off, if anything did
 pub record LimitedFields : Type 0 where
   pub station : Answerer
   pub limits : Limits
   pub told : Bool
+  pub said : Turn
   pub cut : Option Cut
 
 -- whether the program said last that the answerer is busy; a full one remembers it
@@ -90,7 +92,7 @@ told_by told input = told
 abbrev pub LimitedSteps : {E : Type 0} → LimitedFields → AnswererInput → LimitedFields → Result Turn E → Type 0
 LimitedSteps old input new (Ok turn) =
     Steps old.station new.station turn (limited_step old.limits old.station input) × (new.limits ≡ old.limits) ×
-    (new.told ≡ told_by old.told input) × (new.cut ≡ old.cut)
+    (new.told ≡ told_by old.told input) × (new.cut ≡ old.cut) × (new.said ≡ last_reply old.said turn)
 LimitedSteps old input new (Err refused) = new ≡ old
 
 -- a step of the program with limits; after a cut it is silent and changes nothing

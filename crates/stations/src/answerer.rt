@@ -200,6 +200,13 @@ impl Answerer {
         self.busy = busy;
     }
 
+    /// The last accepted block.
+    pub(crate) fn last_accepted(&self) -> Option<Accepted>
+        ensures { result ≡ self.now.accepted }
+    {
+        self.accepted
+    }
+
     /// The mark of the last accepted block.
     pub(crate) fn last_mark(&self) -> Option<Mark>
         ensures { result ≡ option_map (λ (accepted : AcceptedBlock). accepted.mark) self.now.accepted }

@@ -9,7 +9,8 @@ ghost use Rattle.stations.specs.Bursts.{CutByCarrier, TurnsCut};
 ghost use Rattle.stations.specs.LimitedRuns.{LimitedIsPlain};
 ghost use Rattle.stations.specs.LimitedServing.{LimitedServes};
 ghost use Rattle.stations.specs.Limiting.{BusyBefore};
-ghost use Rattle.stations.specs.Listening.{AnswerersHear};
+ghost use Rattle.stations.specs.Listening.{AnswerersHear, PagesComeWhereHeard, RepliesLeaveEars, RepliesTellWhatIsFirst};
+ghost use Rattle.stations.specs.Listening.{SilenceLeavesWhatIsFirst};
 ghost use Rattle.stations.specs.Stopping.{CutsEnd};
 ghost use Rattle.stations.specs.Taken.{FrontStays, TakenAndThere};
 ghost use Rattle.stations.specs.TurnsShow.{AnswerersShow};
@@ -184,9 +185,18 @@ pub fn bursts_cut()
     ensures turns { TurnsCut }
 {}
 
-/// A training check, or an FCD, that does something finds the answerer listening for it at the speed agreed.
+/// A training check, or an FCD, that does something finds the answerer listening for it at the speed agreed, also where V.21 comes first.
 pub fn answerers_hear()
-    ensures { AnswerersHear }
+    ensures hear { AnswerersHear }
+    ensures after { RepliesLeaveEars }
+{}
+
+/// After RNR V.21 comes first, after CFR and PPR a page does, and after the MCF to a new block its end decides; silence leaves what comes
+/// first. A caller sends no page where V.21 is to come first.
+pub fn first_is_told()
+    ensures replies { RepliesTellWhatIsFirst }
+    ensures silence { SilenceLeavesWhatIsFirst }
+    ensures caller { PagesComeWhereHeard }
 {}
 
 /// No step of an answerer depends on the pages that are stored. Pages taken and pages there, joined in order, are what

@@ -12,6 +12,7 @@ ghost use Rattle.stations.specs.declared.stopping.Cut.TheVariants.{Stop, Loss};
 use crate::answerer::Answerer;
 use crate::input::AnswererIn;
 use crate::laws::stored_is_read;
+use crate::listening::last_reply;
 use crate::stopping::{CallEnd, Cut, call_end};
 use crate::turn::Turn;
 use raster::Page;
@@ -38,6 +39,7 @@ pub struct LimitedAnswerer {
     station: Answerer,
     limits: Limits,
     told: bool,
+    said: Turn,
     cut: Option<Cut>,
 }
 
@@ -46,7 +48,7 @@ impl Model for LimitedAnswerer {
 
     ghost Value = { LimitedFields };
 
-    ghost view = { λ a. record { station = a.station; limits = a.limits; told = a.told; cut = a.cut } };
+    ghost view = { λ a. record { station = a.station; limits = a.limits; told = a.told; said = a.said; cut = a.cut } };
 
     ghost invariant = { λ a. IsWithin a.limits a.station.pages };
 }
@@ -59,7 +61,7 @@ impl LimitedAnswerer {
         requires ecm { caps.ecm ≡ true }
         requires pages { 0 < limits.pages }
         requires octets { 0 < limits.octets }
-        ensures station { result.0 ≡ record { station = new_answerer caps no_params; limits = limits; told = false; cut = None } }
+        ensures station { result.0 ≡ record { station = new_answerer caps no_params; limits = limits; told = false; said = Turn.Dis; cut = None } }
         ensures turn { result.1 ≡ Turn.Dis }
     {
         let (station, turn) = Answerer::new(alloc, caps);
@@ -67,6 +69,7 @@ impl LimitedAnswerer {
             station,
             limits,
             told: false,
+            said: turn,
             cut: None,
         };
         (limited, turn)
@@ -99,10 +102,13 @@ impl LimitedAnswerer {
         let filled = is_full(self.limits, self.station.pages());
         let becomes_full = !full && filled;
         if !becomes_full {
+            self.said = last_reply(self.said, turn);
             return Ok(turn);
         }
         self.station.become_busy(true);
-        Ok(as_not_ready(turn))
+        let turn = as_not_ready(turn);
+        self.said = last_reply(self.said, turn);
+        Ok(turn)
     }
 
     /// Takes out the stored pages, in the order in which they came, and so makes room; an answerer that runs is then as
@@ -152,6 +158,13 @@ impl LimitedAnswerer {
         ensures { result.now ≡ self.now.station }
     {
         &self.station
+    }
+
+    /// The last turn that wasn't silent.
+    pub(crate) fn said(&self) -> &Turn
+        ensures { result.now ≡ self.now.said }
+    {
+        &self.said
     }
 }
 

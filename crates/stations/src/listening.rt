@@ -4,12 +4,15 @@ ghost use Rattle.std.specs.Prelude.{◌≡◌};
 ghost use Rattle.stations.specs.CallerFields.{Represents};
 ghost use Rattle.stations.specs.CallerStep.{Caller as CallerTuple, confirmed};
 ghost use Rattle.stations.specs.Listening.{answerer_listens, answerer_params, answerer_peer, caller_params, caller_peer};
+ghost use Rattle.stations.specs.Listening.{ends_group, is_v21_first, last_reply, listens_after, put_v21_first};
 ghost use Rattle.stations.specs.declared.listening.Listening.TheVariants.{V21};
 
 use crate::answerer::Answerer;
 use crate::caller::Caller;
-use crate::turn::{AnswererState, CallerState};
-use signals::{Caps, Params, Speed};
+use crate::limiting::LimitedAnswerer;
+use crate::mark::Accepted;
+use crate::turn::{AnswererState, CallerState, Turn};
+use signals::{Caps, PageEnd, Params, Speed};
 
 /// What a modem listens for. Frames by V.21 are heard in every state; at a message speed more is heard.
 #[derive(Clone, Copy, Debug, PartialEq, Eq)]
@@ -20,6 +23,49 @@ pub enum Listening {
     Training(Speed),
     /// The frames of a page at this speed, and PPS and all other frames by V.21 (T.30, Annex A).
     V21OrPage(Speed),
+    /// The same, but V.21 comes first, and pages only after it: after RNR, and after the MCF to a PPS with EOP or EOM.
+    V21ThenPage(Speed),
+}
+
+/// The last reply of a station after a turn.
+pub(crate) fn last_reply(reply: Turn, turn: Turn) -> Turn
+    ensures { result ≡ last_reply reply turn }
+{
+    match turn {
+        Turn::Silent => reply,
+        _ => turn,
+    }
+}
+
+/// Whether a block with this end is the last one of its group.
+fn ends_group(ends: PageEnd) -> bool
+    ensures { result ≡ ends_group ends }
+{
+    match ends {
+        PageEnd::Null | PageEnd::Mps => false,
+        PageEnd::Eom | PageEnd::Eop => true,
+    }
+}
+
+/// Whether what follows a reply comes by V.21, by the block that was accepted last.
+fn is_v21_first(reply: &Turn, accepted: Option<Accepted>) -> bool
+    ensures { result ≡ is_v21_first reply.now accepted }
+{
+    match (*reply, accepted) {
+        (Turn::Rnr, _) => true,
+        (Turn::Mcf, Some(accepted)) => ends_group(accepted.ends),
+        _ => false,
+    }
+}
+
+/// Of V.21 and a page V.21 comes first.
+fn put_v21_first(listening: Listening) -> Listening
+    ensures { result ≡ put_v21_first listening }
+{
+    match listening {
+        Listening::V21OrPage(speed) => Listening::V21ThenPage(speed),
+        _ => listening,
+    }
 }
 
 impl Caller {
@@ -59,7 +105,7 @@ impl Caller {
 }
 
 impl Answerer {
-    /// Returns what the answerer listens for; after the end V.21, and nothing that it hears changes anything.
+    /// Returns what the answerer listens for, whatever it said last; after the end V.21, and nothing that it hears changes anything.
     pub fn listens(&self) -> Listening
         ensures { result ≡ answerer_listens self.now }
     {
@@ -71,6 +117,17 @@ impl Answerer {
             AnswererState::PhaseB => Listening::V21,
             AnswererState::WaitTraining => Listening::Training(speed),
             AnswererState::Message => Listening::V21OrPage(speed),
+        }
+    }
+
+    /// Returns what the answerer listens for if `reply` is the last turn of it that wasn't silent: it tells which carrier comes first.
+    pub fn listens_after(&self, reply: &Turn) -> Listening
+        ensures { result ≡ listens_after reply.now self.now }
+    {
+        if is_v21_first(reply, self.last_accepted()) {
+            put_v21_first(self.listens())
+        } else {
+            self.listens()
         }
     }
 
@@ -99,5 +156,14 @@ impl Answerer {
             }
             _ => Some(self.agreed_params()),
         }
+    }
+}
+
+impl LimitedAnswerer {
+    /// Returns what the answerer listens for, and which carrier comes first; after the end V.21.
+    pub fn listens(&self) -> Listening
+        ensures { result ≡ listens_after self.now.said self.now.station }
+    {
+        self.station().listens_after(self.said())
     }
 }

@@ -13,7 +13,7 @@ use Rattle.stations.specs.CallerStep.{Caller}
 use Rattle.stations.specs.Inputs.{CallerInput}
 use Rattle.stations.specs.Limiting.{LimitedFields}
 use Rattle.stations.specs.AnswererStep.{Answerer}
-use Rattle.stations.specs.Listening.{answerer_listens}
+use Rattle.stations.specs.Listening.{listens_after}
 use Rattle.stations.specs.Stopping.{StoppableCallerFields, call_end}
 use Rattle.stations.specs.Stopping.{CallerStepsUnlessCut as StepsUnlessCut}
 use Rattle.stations.specs.Waits.{answerer_longer_wait, answerer_wait, caller_wait, unless_over}
@@ -74,7 +74,7 @@ pub limited_is_shown :
     (v : LimitedFields) (s : Answerer) (end : Option CallEnd) (wait longer one two : Option Wait) (listens : Listening) →
     s ≡ v.station → end ≡ call_end v.station.ending v.cut → wait ≡ unless_over s.ending (Some (answerer_wait s.state)) →
     longer ≡ unless_over s.ending (answerer_longer_wait s.state) → one ≡ unless_ended end wait → two ≡ unless_ended end longer →
-    listens ≡ answerer_listens s → LimitedShows v (record { running = one; longer = two; listens = listens; end = end })
+    listens ≡ listens_after v.said v.station → LimitedShows v (record { running = one; longer = two; listens = listens; end = end })
 limited_is_shown v s end wait longer one two listens is e w l a b hears =
     rw (a, b, hears, w, l, e, is)
     (rw (

@@ -7,7 +7,7 @@ use Rattle.stations.specs.CallerFields.{Represents}
 use Rattle.stations.specs.CallerStep.{Caller, caller_items}
 use Rattle.stations.specs.Inputs.{AnswererInput, framed}
 use Rattle.stations.specs.Limiting.{LimitedFields, freed, limited_step, told_by}
-use Rattle.stations.specs.Listening.{answerer_listens}
+use Rattle.stations.specs.Listening.{last_reply, listens_after}
 use Rattle.stations.specs.Stopping.{StoppableCallerFields, call_end, cut_by, stop_turn}
 use Rattle.stations.specs.Waits.{answerer_longer_wait, answerer_wait, caller_longer_wait, caller_wait, unless_over}
 use Rattle.stations.specs.declared.carrier.Carrier.TheVariants.{V21 as ByV21}
@@ -43,7 +43,7 @@ told_after told (Some input) = told_by told input
 abbrev pub LimitedStepsUnlessCut : Option Cut → LimitedFields → PlainInput → LimitedFields → Turn → Type 0
 LimitedStepsUnlessCut None old input new turn =
     Steps old.station new.station turn (limited_answers old.limits old.station (answerer_takes input)) × (new.limits ≡ old.limits) ×
-    (new.told ≡ told_after old.told (answerer_takes input)) × (new.cut ≡ None)
+    (new.told ≡ told_after old.told (answerer_takes input)) × (new.cut ≡ None) × (new.said ≡ last_reply old.said turn)
 LimitedStepsUnlessCut (Some why) old input new turn = (new ≡ old) × (turn ≡ Silent)
 
 -- a caller after something cut its call off
@@ -86,18 +86,18 @@ caller_shown t cut = record {
 abbrev pub CallerShows : StoppableCallerFields → Shown → Type 0
 CallerShows v shown = (t : Caller) → Represents v.station t → shown ≡ caller_shown t v.cut
 
--- what an answerer shows of its call
-abbrev pub answerer_shown : Answerer → Option Cut → Shown
-answerer_shown s cut = record {
+-- what an answerer whose last reply this is shows of its call
+abbrev pub answerer_shown : Turn → Answerer → Option Cut → Shown
+answerer_shown said s cut = record {
   running = unless_cut cut (unless_over s.ending (Some (answerer_wait s.state)));
   longer = unless_cut cut (unless_over s.ending (answerer_longer_wait s.state));
-  listens = answerer_listens s;
+  listens = listens_after said s;
   end = call_end s.ending cut;
 }
 
 -- what an answerer with limits shows: the waits that run, none after the end, what it listens for, and its end
 abbrev pub LimitedShows : LimitedFields → Shown → Type 0
-LimitedShows v shown = shown ≡ answerer_shown v.station v.cut
+LimitedShows v shown = shown ≡ answerer_shown v.said v.station v.cut
 
 -- the program stops the call: DCN takes the place of the turn that is kept; if the call has ended nothing changes
 abbrev pub stopped : {S : Type 0} → (Cut → S → S) → (S → Turn) → Speaking S → Speaking S

@@ -148,7 +148,7 @@ impl Stoppable for LimitedAnswerer {
         Shown {
             running: unless_ended(end, station.waits()),
             longer: unless_ended(end, station.longer_wait()),
-            listens: station.listens(),
+            listens: self.listens(),
             end,
         }
     }
