@@ -3,6 +3,7 @@ pub mod Texts
 pub mod SignalWords
 pub mod Records
 pub mod TraceRecords
+pub mod Contents
 pub mod Frames
 pub mod Fronts
 pub mod Captured

@@ -2,6 +2,7 @@
 #![tactic(auto)]
 
 mod captured;
+mod content_reader;
 mod found;
 mod found_records;
 mod frames;
@@ -15,9 +16,10 @@ mod texts;
 mod trace_records;
 
 pub use crate::captured::{Captured, captured_in};
+pub use crate::content_reader::ContentReader;
 pub use crate::found::{FoundStore, pages_engine};
 pub use crate::found_records::{write_missing, write_stored, write_stored_front};
-pub use crate::frames::{ListForm, ListOptions, feed_in, frames_engine, list_engine, read_some};
+pub use crate::frames::{ListForm, ListOptions, frames_engine, list_engine};
 pub use crate::fronts::{FrontStore, salvage_pages_engine};
 pub use crate::missing::{Missing, Stored, StoredFront};
 pub use crate::numbers::PageNumbers;
