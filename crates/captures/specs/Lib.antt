@@ -1,5 +1,6 @@
 -- The definitions of `captures`.
 pub mod Texts
+pub mod Names
 pub mod SignalWords
 pub mod Records
 pub mod TraceRecords

@@ -121,10 +121,12 @@ impl ContentReader {
         ensures order { result.order ≡ order }
         ensures begins { (line : List ℕ) → HasRead result line line (good (bits_of order line)) }
     {
+        let deframer = Deframer::new(alloc);
+        let content = Vec::new(alloc);
         ContentReader {
             order,
-            deframer: Deframer::new(alloc),
-            content: Vec::new(alloc),
+            deframer,
+            content,
             given: 0,
             octets: 0,
         }

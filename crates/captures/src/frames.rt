@@ -119,9 +119,10 @@ pub(crate) fn flush_waiting<W: Write>(
     ensures same { OnOk result (Keeps (W.contents writer.old) (W.contents writer.new)) }
     ensures fault { IfErr result IsOutside }
 {
-    if !contents.is_waiting() {
-        writer.flush()?;
+    if contents.is_waiting() {
+        return Ok(());
     }
+    writer.flush()?;
     Ok(())
 }
 

@@ -9,6 +9,7 @@ mod frames;
 mod fronts;
 pub mod laws;
 mod missing;
+mod names;
 mod numbers;
 mod records;
 mod signal_words;
