@@ -42,13 +42,6 @@ piece_read old new (Some left) (Some rest) line coming piece stands taken step i
       omega (arith, size, was, more);
 }
 
--- no octet came
-pub still_stands : (reader : ContentReading) (left rest : Option (List ℕ)) (line : List ℕ) (coming : List (List ℕ))
-    → StandsIn reader left line coming → Consumes left rest [] → StandsIn reader rest line coming
-still_stands reader None rest line coming stands none = absurd stands
-still_stands reader (Some left) None line coming stands none = absurd none
-still_stands reader (Some left) (Some rest) line coming stands none = subst (λ (l : List ℕ). HasRead reader line l coming) none stands
-
 first_waits : (queue : List (List ℕ)) (content : List ℕ) → slice_get queue 0 ≡ Some content → queue ≡ content ∷ drop 1 queue
 first_waits [] content e = cc
 first_waits (x ∷ xs) content e = let same : x ≡ content = cc in ap (λ c. c ∷ xs) same

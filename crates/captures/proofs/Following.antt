@@ -42,7 +42,9 @@ found_from s contents = (hears_all contents s).found ++ at_end (hears_all conten
 pub found_with_one : (s : Capture) (content : List ℕ) (later : List (List ℕ)) → found_from s (content ∷ later)
     ≡ (hears_read (read_content content) s).found ++ found_from (hears_read (read_content content) s).then later
 unfolding hears_all
-found_with_one s content later = append_assoc (hears_read (read_content content) s).found _ _
+found_with_one s content later =
+    let first : Step = hears_read (read_content content) s in
+    append_assoc first.found (hears_all later first.then).found (at_end (hears_all later first.then).then)
 
 found_at_end : (s : Capture) → found_from s [] ≡ at_end s
 unfolding hears_all
@@ -68,8 +70,9 @@ pub content_stored : {S : Type 0} (takes : FoundStep S) (order : Order) (before 
     (later : List (List ℕ)) → GivesOn takes (hears_read (read_content content) s) next now new
     → StoreLeft takes order before now s line (content ∷ later) → StoreLeft takes order before new next line later
 content_stored takes order before now new s next line content later gives old = λ after each.
+    let first : Step = hears_read (read_content content) s in
     old after (subst (λ (l : List Captured). TakesEach takes now l after) (sym (found_with_one s content later))
-    (both_taken takes now new after _ _ gives.given
+    (both_taken takes now new after first.found (found_from first.then later) gives.given
     (subst (λ (c : Capture). TakesEach takes new (found_from c later) after) gives.is each)))
 
 -- no content is left
@@ -97,7 +100,7 @@ pub content_found : (order : Order) (out more : List Captured) (s next : Capture
 content_found order out more s next line content later is found old =
     let step : Step = hears_read (read_content content) s in
     ap (λ (l : List Captured). l ++ found_from next later) found
-    ∙ (append_assoc out step.found _
+    ∙ (append_assoc out step.found (found_from next later)
     ∙ (ap (λ (c : Capture). out ++ (step.found ++ found_from c later)) is
     ∙ (ap (λ (l : List Captured). out ++ l) (sym (found_with_one s content later)) ∙ old)))
 
