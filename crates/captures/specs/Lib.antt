@@ -1,7 +1,7 @@
 -- The definitions of `captures`.
 pub mod Texts
-pub mod Names
 pub mod SignalWords
+pub mod Names
 pub mod Records
 pub mod TraceRecords
 pub mod Contents
