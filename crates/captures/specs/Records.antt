@@ -25,7 +25,7 @@ named name = object (member (codes "signal") (words name) no_members)
 
 -- the record of a DIS: what a station can do
 abbrev pub dis_record : Caps → Data
-dis_record caps = object (member (codes "code") (words (code_name (cond caps.t6 T6 OneDim)))
+dis_record caps = object (member (codes "code") (words (cond caps.t6 (code_name T6) (code_name OneDim)))
     (member (codes "error_correction") (boolean caps.ecm)
     (member (codes "lines") (words (lines_text caps.fine))
     (member (codes "modems") (words (modems_text caps.modems))

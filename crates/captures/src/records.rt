@@ -13,10 +13,9 @@ ghost use Rattle.std.specs.Prelude.{◌≡◌, ◌++◌, ◌∷◌, [], cond, ma
 
 use crate::names::{carrier, code};
 use crate::signal_words::is_in_map;
-use crate::texts::{lines, modems, page_end};
+use crate::texts::{either, lines, modems, page_end};
 use faults::{ToolFault, write_record};
 use hdlc::Counts;
-use raster::Coding;
 use serde_json::{Value, json};
 use signals::{Caps, PageEnd, Params, Signal, read};
 use std::alloc::{AllocError, Global};
@@ -32,7 +31,7 @@ fn dis_record(alloc: Global, caps: Caps) -> Result<Value, AllocError>
         "modems": modems(caps.modems),
         "lines": lines(caps.fine),
         "width": caps.widest.pixels(),
-        "code": code(if caps.t6 { Coding::T6 } else { Coding::OneDim }),
+        "code": either(caps.t6, "mmr", "mh"),
         "error_correction": caps.ecm,
     })
 }
