@@ -1,26 +1,14 @@
--- The frames of a capture while its bits come in pieces, and the order in which frames are drawn.
-use Rattle.std.proofs.Common.{◌≡◌, ◌+◌, ℕ, Bool, List, [], ◌∷◌, ◌++◌, Option, Some, None, length, drop, map, slice_get, take, refl}
-use Rattle.std.proofs.Common.{ap, sym, ◌∙◌, subst, arith}
-use Rattle.std.specs.Prelude.{IfSome}
-use Rattle.std.proofs.KnownBytes.{Consumes-nil, Consumes-trans}
-use Rattle.std.proofs.lemmas.List.{append-nil, append_assoc, drop_all, map-append}
+-- The frames of a capture while its contents come, and the order in which frames are drawn.
+use Rattle.std.proofs.Common.{◌≡◌, ◌+◌, ℕ, List, [], ◌∷◌, ◌++◌, None, Some, map, refl, ap, sym, ◌∙◌, subst, arith}
+use Rattle.std.proofs.lemmas.List.{append-nil, append_assoc, map-append}
 use Rattle.std.proofs.lemmas.List.Elements.{filter_map-append}
 use Rattle.std.proofs.lemmas.List.Sums.{sum_by-append}
-use Rattle.std.proofs.Math.Seq.{drop-append_seam}
 use Rattle.std.proofs.Math.Bool.{cond}
-use Rattle.std.proofs.Math.Nat.{le_refl}
-use Rattle.std.specs.Io.KnownBytes.{Consumes, IsAtEnd}
 use Rattle.std.specs.Option.{is_none}
-use Rattle.raster.specs.Packed as Packed
 use Rattle.raster.specs.Packed.{bits_of}
 use Rattle.raster.specs.declared.packed.Order.{Order}
-use Rattle.raster.proofs.OctetBits.{bits_of-join}
-use Rattle.hdlc.specs.DeframerState.{DeframerState, IsAfter}
-use Rattle.hdlc.specs.Flags.{flags, gaps}
 use Rattle.hdlc.specs.Gaps.{good}
-use Rattle.hdlc.proofs.Gaps.{good_stays}
 use Rattle.line_sim.specs.declared.event.Entry.{Entry}
-use Rattle.signals.specs.declared.signal.Side.{Side}
 use Rattle.signals.specs.declared.signal.Side.TheVariants.{Caller, Answerer}
 use Rattle.call_pictures.specs.declared.captured_call.Before.{Before}
 use Rattle.call_pictures.specs.declared.captured_call.Before.TheVariants.{Nothing}
@@ -29,161 +17,49 @@ use Rattle.call_pictures.specs.declared.captured_call.LineFrame.{LineFrame}
 use Rattle.call_pictures.specs.CapturedCalls.{AreInOrder, IsDrawnOf, before_after, content_frame, drawn_of, frames_of, left_after, next_frame}
 use Rattle.call_pictures.specs.CapturedCalls.{others_of}
 
--- ---- contents that wait
+-- ---- contents
 
 -- the kinds of more contents
-pub frames_both : (xs ys : List (List ℕ)) → frames_of (xs ++ ys) ≡ frames_of xs ++ frames_of ys
+frames_both : (xs ys : List (List ℕ)) → frames_of (xs ++ ys) ≡ frames_of xs ++ frames_of ys
 frames_both xs ys = filter_map-append content_frame xs ys
 
 -- the others of more contents
-pub others_both : (xs ys : List (List ℕ)) → others_of (xs ++ ys) ≡ others_of xs + others_of ys
+others_both : (xs ys : List (List ℕ)) → others_of (xs ++ ys) ≡ others_of xs + others_of ys
 others_both xs ys = sum_by-append (λ content. cond (is_none (content_frame content)) 1 0) xs ys
 
--- what was taken, and what is taken of the contents that wait, is what is taken of all
-pub record TakenSo (start framing : DeframerState) (old now : List CapturedFrame) (before others : ℕ) : Type 0 where
-  pub kinds : now ++ frames_of framing.queue ≡ old ++ frames_of start.queue
-  pub count : others + others_of framing.queue ≡ before + others_of start.queue
-  pub rest : framing ≡ record start { queue = framing.queue }
+-- what was taken, and what is taken of what is still to come of a line, is what is taken of all
+pub record TakesLeft (order : Order) (known : List CapturedFrame) (others : ℕ) (line : List ℕ) (coming : List (List ℕ)) : Type 0 where
+  pub frames : known ++ frames_of coming ≡ frames_of (good (bits_of order line))
+  pub count : others + others_of coming ≡ others_of (good (bits_of order line))
 
-pub none_taken : (start : DeframerState) (old : List CapturedFrame) (before : ℕ) → TakenSo start start old old before before
-none_taken start old before = record { kinds = refl; count = refl; rest = refl }
+pub all_to_take : (order : Order) (known : List CapturedFrame) (line : List ℕ) → known ≡ []
+    → TakesLeft order known 0 line (good (bits_of order line))
+all_to_take order known line none = record {
+  frames = ap (λ (l : List CapturedFrame). l ++ frames_of (good (bits_of order line))) none;
+  count = omega arith;
+}
 
 -- one content more
-pub one_taken : (start framing left : DeframerState) (content : List ℕ) (old now new : List CapturedFrame) (before others more : ℕ)
-    → TakenSo start framing old now before others → slice_get framing.queue 0 ≡ Some content → new ≡ now ++ frames_of (content ∷ [])
-    → more ≡ others + others_of (content ∷ []) → left ≡ record framing { queue = drop 1 framing.queue }
-    → TakenSo start left old new before more
-one_taken start framing left content old now new before others more was waits kinds count is =
-    let frames : framing.queue ≡ content ∷ drop 1 framing.queue = front framing.queue waits in
-    let gone : left.queue ≡ drop 1 framing.queue = ap (λ (f : DeframerState). f.queue) is in
-    record {
-      kinds =
-          ap (λ (l : List CapturedFrame). l ++ frames_of left.queue) kinds
-          ∙ (append_assoc now (frames_of (content ∷ [])) (frames_of left.queue)
-          ∙ (ap (λ (l : List CapturedFrame). now ++ l)
-          (sym (frames_both (content ∷ []) left.queue) ∙ ap frames_of (ap (λ (q : List (List ℕ)). content ∷ q) gone ∙ sym frames))
-          ∙ was.kinds));
-      count =
-          let both : others_of (content ∷ left.queue) ≡ others_of (content ∷ []) + others_of left.queue =
-          others_both (content ∷ []) left.queue in
-          let same : others_of (content ∷ left.queue) ≡ others_of framing.queue =
-          ap others_of (ap (λ (q : List (List ℕ)). content ∷ q) gone ∙ sym frames) in
-          let old_count = was.count in
-          omega (arith, both, same, old_count, count);
-      rest = is ∙ (ap (λ (f : DeframerState). record f { queue = drop 1 framing.queue }) was.rest
-          ∙ ap (λ q. record start { queue = q }) (sym gone));
-    }
-  where
-    front : (queue : List (List ℕ)) → slice_get queue 0 ≡ Some content → queue ≡ content ∷ drop 1 queue
-    front [] e = cc
-    front (x ∷ xs) e = let same : x ≡ content = cc in ap (λ c. c ∷ xs) same
+pub one_taken : (order : Order) (known new : List CapturedFrame) (others more : ℕ) (line content : List ℕ) (later : List (List ℕ))
+    → new ≡ known ++ frames_of (content ∷ []) → more ≡ others + others_of (content ∷ [])
+    → TakesLeft order known others line (content ∷ later) → TakesLeft order new more line later
+one_taken order known new others more line content later is count old = record {
+  frames = ap (λ (l : List CapturedFrame). l ++ frames_of later) is
+      ∙ (append_assoc known (frames_of (content ∷ [])) (frames_of later)
+      ∙ (ap (λ (l : List CapturedFrame). known ++ l) (sym (frames_both (content ∷ []) later)) ∙ old.frames));
+  count =
+      let both : others_of (content ∷ later) ≡ others_of (content ∷ []) + others_of later = others_both (content ∷ []) later in
+      let was = old.count in
+      omega (arith, both, was, count);
+}
 
--- no content waits
-pub all_taken : (start framing : DeframerState) (old now : List CapturedFrame) (before others : ℕ)
-    → TakenSo start framing old now before others
-    → slice_get framing.queue 0 ≡ None
-    → (now ≡ old ++ frames_of start.queue) × (others ≡ before + others_of start.queue)
-    × (record framing { queue = drop 1 framing.queue } ≡ record start { queue = [] })
-all_taken start framing old now before others was none =
-    let empty : framing.queue ≡ [] = nothing framing.queue none in
-    let zero : others_of framing.queue ≡ 0 = ap others_of empty in (
-      sym (append-nil now) ∙ (ap (λ (q : List (List ℕ)). now ++ frames_of q) (sym empty) ∙ was.kinds),
-      omega (arith, zero, was.count),
-      ap (λ q. record framing { queue = drop 1 q }) empty ∙ ap (λ (f : DeframerState). record f { queue = [] }) was.rest,
-    )
-  where
-    nothing : (queue : List (List ℕ)) → slice_get queue 0 ≡ None → queue ≡ []
-    nothing [] e = refl
-    nothing (x ∷ xs) e = cc
-
--- ---- bits in pieces
-
--- the bits of these octets came, and their good contents are taken
-pub record CapturedSo (order : Order) (start left : Option (List ℕ)) (framing : DeframerState) (kinds : List CapturedFrame) (others : ℕ)
-    : Type 0 where
-  pub came : List ℕ
-  pub read : Consumes start left came
-  pub after : IsAfter framing (bits_of order came) (length (good (bits_of order came)))
-  pub are : kinds ≡ frames_of (good (bits_of order came))
-  pub count : others ≡ others_of (good (bits_of order came))
-
-pub none_came : (order : Order) (start : Option (List ℕ)) (framing : DeframerState) (kinds : List CapturedFrame) (others : ℕ)
-    → IsAfter framing [] 0 → kinds ≡ [] → others ≡ 0 → CapturedSo order start start framing kinds others
-unfolding flags gaps Packed.bits_in
-none_came order start framing kinds others fresh empty zero =
-    record { came = []; read = Consumes-nil start; after = fresh; are = empty; count = zero }
-
--- one piece more
-pub piece_came : (order : Order) (start left rest : Option (List ℕ)) (framing fed after : DeframerState) (now new : List CapturedFrame)
-    (others more : ℕ) (piece : List ℕ)
-    → CapturedSo order start left framing now others → Consumes left rest piece
-    → ((bits : List Bool) (handed : ℕ) → IsAfter framing bits handed → IsAfter fed (bits ++ bits_of order piece) handed)
-    → new ≡ now ++ frames_of fed.queue → more ≡ others + others_of fed.queue → after ≡ record fed { queue = [] }
-    → CapturedSo order start rest after new more
-piece_came order start left rest framing fed after now new others more piece old taken step kinds count is =
-    let bits = bits_of order old.came in
-    let whole = bits_of order (old.came ++ piece) in
-    let joined : whole ≡ bits ++ bits_of order piece = bits_of-join order old.came piece in
-    let stays : IsAfter fed whole (length (good bits)) = subst (λ b. IsAfter fed b (length (good bits))) (sym joined)
-    (step bits (length (good bits)) old.after) in
-    let later = good_stays bits (bits_of order piece) in
-    let grown : good whole ≡ good bits ++ later.0 = ap good joined ∙ later.1 in
-    let queue : fed.queue ≡ later.0 = stays.queued ∙ (ap (drop (length (good bits))) grown ∙ drop-append_seam (good bits) later.0) in
-    record {
-      came = old.came ++ piece;
-      read = Consumes-trans start left rest old.came piece old.read taken;
-      after = subst (λ f. IsAfter f whole (length (good whole))) (sym is) (record {
-        kept = stays.kept;
-        counted = stays.counted;
-        within = le_refl (length (good whole));
-        queued = sym (drop_all (length (good whole)) (good whole) (le_refl (length (good whole))));
-      });
-      are =
-          kinds ∙ (ap (λ (l : List CapturedFrame). l ++ frames_of fed.queue) old.are
-          ∙ (ap (λ (q : List (List ℕ)). frames_of (good bits) ++ frames_of q) queue
-          ∙ (sym (frames_both (good bits) later.0) ∙ ap frames_of (sym grown))));
-      count =
-          let both : others_of (good bits ++ later.0) ≡ others_of (good bits) + others_of later.0 = others_both (good bits) later.0 in
-          let all : others_of (good whole) ≡ others_of (good bits ++ later.0) = ap others_of grown in
-          let waits : others_of fed.queue ≡ others_of later.0 = ap others_of queue in
-          let was : others ≡ others_of (good bits) = old.count in
-          omega (arith, both, all, waits, was, count);
-    }
-
--- no octet came
-pub nothing : (left rest : Option (List ℕ)) (count : ℕ) (piece : List ℕ) → count ≡ 0 → Consumes left rest (take count piece)
-    → Consumes left rest []
-nothing left rest count piece zero came = subst (λ n. Consumes left rest (take n piece)) zero came
-
--- all octets came
-pub all_came : (order : Order) (start left rest : Option (List ℕ)) (framing : DeframerState) (kinds : List CapturedFrame) (others : ℕ)
-    → CapturedSo order start left framing kinds others → Consumes left rest [] → IsAtEnd rest
-    → IfSome start (λ octets. (kinds ≡ frames_of (good (bits_of order octets))) × (others ≡ others_of (good (bits_of order octets))))
-all_came order start left rest framing kinds others old none end =
-    whole start (Consumes-trans start left rest old.came [] old.read none)
-  where
-    whole : (start : Option (List ℕ)) → Consumes start rest (old.came ++ [])
-        → IfSome start (λ octets. (kinds ≡ frames_of (good (bits_of order octets))) × (others ≡ others_of (good (bits_of order octets))))
-    whole None taken = tt
-    whole (Some octets) taken = at rest taken end
-      where
-        at : (rest : Option (List ℕ)) → Consumes (Some octets) rest (old.came ++ []) → IsAtEnd rest
-            → (kinds ≡ frames_of (good (bits_of order octets))) × (others ≡ others_of (good (bits_of order octets)))
-        at None taken end = absurd taken
-        at (Some xs) taken end =
-            let came : octets ≡ old.came = taken ∙ (ap (λ l. (old.came ++ []) ++ l) end
-            ∙ (append-nil (old.came ++ []) ∙ append-nil old.came)) in
-            subst (λ l. (kinds ≡ frames_of (good (bits_of order l))) × (others ≡ others_of (good (bits_of order l)))) (sym came)
-            (old.are, old.count)
-
--- the first of both
-pub first_of : (start : Option (List ℕ)) (A B : List ℕ → Type 0) → IfSome start (λ octets. A octets × B octets) → IfSome start A
-first_of None A B both = tt
-first_of (Some octets) A B both = both.0
-
-pub second_of : (start : Option (List ℕ)) (A B : List ℕ → Type 0) → IfSome start (λ octets. A octets × B octets) → IfSome start B
-second_of None A B both = tt
-second_of (Some octets) A B both = both.1
+-- no content is left
+pub all_taken : (order : Order) (known : List CapturedFrame) (others : ℕ) (line : List ℕ) → TakesLeft order known others line []
+    → (known ≡ frames_of (good (bits_of order line))) × (others ≡ others_of (good (bits_of order line)))
+all_taken order known others line left =
+    let none : others_of [] ≡ 0 = refl in
+    let was = left.count in
+    (sym (append-nil known) ∙ left.frames, omega (arith, none, was))
 
 -- ---- the order
 

@@ -9,18 +9,14 @@ ghost use Rattle.std.specs.Prelude.{◌≡◌, ◌+◌, ◌++◌, ◌∷◌, [],
 
 use crate::ladder::Ladder;
 use calls::after;
-use captures::{feed_in, read_some};
+use captures::ContentReader;
 use faults::{FAILED, NO_MEMORY, ToolFault};
-use hdlc::Deframer;
 use line_sim::{Entry, Event, Fields, Kind};
 use raster::packed::Order;
 use signals::Side;
 use stations::Turn;
 use std::alloc::Global;
 use std::io::Read;
-
-/// How many octets of a capture are read at a time.
-const PIECE: usize = 4096;
 
 /// A frame of a capture.
 #[derive(Clone, Copy, Debug)]
@@ -69,19 +65,6 @@ impl CapturedFrames {
     }
 }
 
-/// Takes the frames whose contents wait.
-fn take_frames(deframer: &mut Deframer, frames: &mut CapturedFrames) -> Result<(), ToolFault>
-    ensures known { OnOk result (frames.new.known.items ≡ frames.old.known.items ++ frames_of deframer.old.queue) }
-    ensures others { OnOk result (frames.new.others ≡ frames.old.others + others_of deframer.old.queue) }
-    ensures taken { OnOk result (deframer.new ≡ record deframer.old { queue = [] }) }
-    ensures fault { IfErr result IsOutside }
-{
-    while let Some(content) = deframer.next() {
-        frames.take(content)?;
-    }
-    Ok(())
-}
-
 /// Reads the frames of a capture, whose octets have the bits in this order. Errs with `FAILED` (8) if the reader fails or doesn't end in
 /// 2^64 reads, and with `NO_MEMORY` (9).
 pub fn captured_frames<R: Read>(
@@ -95,19 +78,17 @@ pub fn captured_frames<R: Read>(
         frames.others ≡ others_of (good (bits_of order octets)))) }
     ensures fault { IfErr result IsOutside }
 {
-    let mut deframer = Deframer::new(alloc);
+    let mut contents = ContentReader::new(alloc, order);
     let mut frames = CapturedFrames {
         known: Vec::new(alloc),
         others: 0,
     };
-    let mut piece = [0; PIECE];
-    for _read in 0..u64::MAX {
-        let count = read_some(reader, &mut piece)?;
-        if count == 0 {
+    for _content in 0..u64::MAX {
+        let more = contents.advance(reader)?;
+        if !more {
             return Ok(frames);
         }
-        feed_in(&mut deframer, order, &piece[..count])?;
-        take_frames(&mut deframer, &mut frames)?;
+        frames.take(contents.content())?;
     }
     Err(FAILED)
 }

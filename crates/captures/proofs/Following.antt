@@ -1,16 +1,13 @@
--- What is given on while bits come in pieces.
-use Rattle.std.proofs.Common.{◌≡◌, ℕ, Bool, List, [], ◌∷◌, ◌++◌, Option, Some, None, length, drop, slice_get, arith, subst, refl}
-use Rattle.std.specs.Prelude.{IfSome}
-use Rattle.std.specs.Io.KnownBytes.{Consumes, IsAtEnd}
+-- What is given on while the contents of a line come.
+use Rattle.std.proofs.Common.{◌≡◌, ℕ, List, [], ◌∷◌, ◌++◌, None, length, arith, subst, refl, sym, ap, ◌∙◌}
+use Rattle.std.proofs.lemmas.List.{append_assoc}
 use Rattle.raster.specs.Packed.{bits_of}
 use Rattle.raster.specs.declared.packed.Order.{Order}
-use Rattle.hdlc.specs.DeframerState.{DeframerState, IsAfter}
 use Rattle.hdlc.specs.Gaps.{good}
 use Rattle.signals.specs.Reading.{read_content}
-use Rattle.captures.specs.Captured.{Capture, at_end, captured, empty_capture, hears_all, hears_read}
+use Rattle.captures.specs.Captured.{Capture, Step, at_end, captured, empty_capture, hears_all, hears_read}
 use Rattle.captures.specs.Found.{FoundStep, GivesOn, TakesEach}
 use Rattle.captures.specs.declared.captured.Captured.{Captured}
-use Rattle.captures.proofs.Capturing.{FindsLeft, HeardSo, all_found, none_found, none_heard, one_found, piece_heard, whole_heard}
 
 -- ---- one after the other
 
@@ -30,85 +27,84 @@ all_are takes first all now [] way none = way now refl
 all_are takes first all now (found ∷ rest) way none = absurd (omega arith)
 
 -- what is found after what was found
-pub both_taken : {S : Type 0} (takes : FoundStep S) (first now after : S) (xs ys : List Captured) → TakesEach takes first xs now
+both_taken : {S : Type 0} (takes : FoundStep S) (first now after : S) (xs ys : List Captured) → TakesEach takes first xs now
     → TakesEach takes now ys after → TakesEach takes first (xs ++ ys) after
 both_taken takes first now after [] ys is each = subst (λ s. TakesEach takes s ys after) is each
 both_taken takes first now after (x ∷ xs) ys (mid, one, rest) each = (mid, one, both_taken takes mid now after xs ys rest each)
 
--- ---- contents that wait
+-- ---- contents
 
--- what was found in the contents heard so far is taken
-pub record GivesLeft {S : Type 0} (takes : FoundStep S) (start framing : DeframerState) (old now : Capture) (before after : S) : Type 0 where
-  pub out : List Captured
-  pub finds : FindsLeft start framing old now [] out
-  pub given : TakesEach takes before out after
+-- what is found in contents after a state, and at the end of the line
+abbrev pub found_from : Capture → List (List ℕ) → List Captured
+found_from s contents = (hears_all contents s).found ++ at_end (hears_all contents s).then
 
-pub none_given : {S : Type 0} (takes : FoundStep S) (start : DeframerState) (old : Capture) (before : S)
-    → GivesLeft takes start start old old before before
-none_given takes start old before = record { out = []; finds = none_found start old []; given = refl }
+-- what one content finds, and what the later ones do
+pub found_with_one : (s : Capture) (content : List ℕ) (later : List (List ℕ)) → found_from s (content ∷ later)
+    ≡ (hears_read (read_content content) s).found ++ found_from (hears_read (read_content content) s).then later
+unfolding hears_all
+found_with_one s content later =
+    let first : Step = hears_read (read_content content) s in
+    append_assoc first.found (hears_all later first.then).found (at_end (hears_all later first.then).then)
 
-pub one_given : {S : Type 0} (takes : FoundStep S) (start framing left : DeframerState) (content : List ℕ) (old now next : Capture)
-    (before after more : S) → GivesLeft takes start framing old now before after → slice_get framing.queue 0 ≡ Some content
-    → GivesOn takes (hears_read (read_content content) now) next after more → left ≡ record framing { queue = drop 1 framing.queue }
-    → GivesLeft takes start left old next before more
-one_given takes start framing left content old now next before after more was waits gives is =
-    let step = hears_read (read_content content) now in
-    record {
-      out = was.out ++ step.found;
-      finds = one_found start framing left content old now next [] was.out (was.out ++ step.found) was.finds waits
-          (record { is = gives.is; found = refl }) is;
-      given = both_taken takes before after more was.out step.found was.given gives.given;
-    }
+found_at_end : (s : Capture) → found_from s [] ≡ at_end s
+unfolding hears_all
+found_at_end s = refl
 
-pub all_given : {S : Type 0} (takes : FoundStep S) (start framing : DeframerState) (old now : Capture) (before after : S)
-    → GivesLeft takes start framing old now before after → slice_get framing.queue 0 ≡ None
-    → GivesOn takes (hears_all start.queue old) now before after
-all_given takes start framing old now before after was none =
-    let heard = (all_found start framing old now [] was.out was.finds none).0 in
-    record { is = heard.is; given = subst (λ (l : List Captured). TakesEach takes before l after) heard.found was.given }
+found_in_all : (contents : List (List ℕ)) → captured contents ≡ found_from (empty_capture None) contents
+unfolding captured
+found_in_all contents = refl
 
--- ---- bits in pieces
+-- where what is found in what is still to come of a line is taken, all is
+abbrev pub StoreLeft : {S : Type 0} → FoundStep S → Order → S → S → Capture → List ℕ → List (List ℕ) → Type 0
+StoreLeft takes order before now s line coming = IsOnWay takes before (captured (good (bits_of order line))) now (found_from s coming)
 
--- the bits of these octets came, and what was found in their good contents is taken
-pub record FollowedSo {S : Type 0} (takes : FoundStep S) (order : Order) (start left : Option (List ℕ)) (framing : DeframerState)
-    (now : Capture) (before after : S) : Type 0 where
-  pub out : List Captured
-  pub heard : HeardSo order start left framing now out
-  pub given : TakesEach takes before out after
+pub all_to_store : {S : Type 0} (takes : FoundStep S) (order : Order) (before : S) (s : Capture) (line : List ℕ) → s ≡ empty_capture None
+    → StoreLeft takes order before before s line (good (bits_of order line))
+all_to_store takes order before s line is =
+    subst (λ (l : List Captured). IsOnWay takes before l before (found_from s (good (bits_of order line))))
+    (sym (found_in_all (good (bits_of order line)) ∙ ap (λ (c : Capture). found_from c (good (bits_of order line))) (sym is)))
+    (λ after each. each)
 
-pub none_followed : {S : Type 0} (takes : FoundStep S) (order : Order) (start : Option (List ℕ)) (framing : DeframerState) (now : Capture)
-    (before : S) → IsAfter framing [] 0 → now ≡ empty_capture None → FollowedSo takes order start start framing now before before
-none_followed takes order start framing now before fresh is =
-    record { out = []; heard = none_heard order start framing now [] fresh is refl; given = refl }
+-- one content more
+pub content_stored : {S : Type 0} (takes : FoundStep S) (order : Order) (before now new : S) (s next : Capture) (line content : List ℕ)
+    (later : List (List ℕ)) → GivesOn takes (hears_read (read_content content) s) next now new
+    → StoreLeft takes order before now s line (content ∷ later) → StoreLeft takes order before new next line later
+content_stored takes order before now new s next line content later gives old = λ after each.
+    let first : Step = hears_read (read_content content) s in
+    old after (subst (λ (l : List Captured). TakesEach takes now l after) (sym (found_with_one s content later))
+    (both_taken takes now new after first.found (found_from first.then later) gives.given
+    (subst (λ (c : Capture). TakesEach takes new (found_from c later) after) gives.is each)))
 
--- one piece more
-pub piece_followed : {S : Type 0} (takes : FoundStep S) (order : Order) (start left rest : Option (List ℕ))
-    (framing fed after : DeframerState) (now new : Capture) (before held more : S) (piece : List ℕ)
-    → FollowedSo takes order start left framing now before held → Consumes left rest piece
-    → ((bits : List Bool) (handed : ℕ) → IsAfter framing bits handed → IsAfter fed (bits ++ bits_of order piece) handed)
-    → GivesOn takes (hears_all fed.queue now) new held more → after ≡ record fed { queue = [] }
-    → FollowedSo takes order start rest after new before more
-piece_followed takes order start left rest framing fed after now new before held more piece old taken step gives is =
-    let found = (hears_all fed.queue now).found in
-    record {
-      out = old.out ++ found;
-      heard = piece_heard order start left rest framing fed after now new old.out (old.out ++ found) piece old.heard taken step
-          (record { is = gives.is; found = refl }) is;
-      given = both_taken takes before held more old.out found old.given gives.given;
-    }
+-- no content is left
+pub all_stored : {S : Type 0} (takes : FoundStep S) (order : Order) (before now after : S) (s : Capture) (line : List ℕ)
+    → TakesEach takes now (at_end s) after → StoreLeft takes order before now s line []
+    → TakesEach takes before (captured (good (bits_of order line))) after
+all_stored takes order before now after s line given left =
+    left after (subst (λ (l : List Captured). TakesEach takes now l after) (sym (found_at_end s)) given)
 
--- all octets came
-pub whole_followed : {S : Type 0} (takes : FoundStep S) (order : Order) (start left rest : Option (List ℕ)) (framing : DeframerState)
-    (now : Capture) (before held after : S) → FollowedSo takes order start left framing now before held → Consumes left rest []
-    → IsAtEnd rest → TakesEach takes held (at_end now) after
-    → IfSome start (λ octets. TakesEach takes before (captured (good (bits_of order octets))) after)
-whole_followed {S} takes order start left rest framing now before held after old none end given =
-    by_start start (whole_heard order start left rest framing now old.out (old.out ++ at_end now) old.heard none end refl)
-  where
-    all : TakesEach takes before (old.out ++ at_end now) after
-    all = both_taken takes before held after old.out (at_end now) old.given given
+-- ---- a list of what is found
 
-    by_start : (start : Option (List ℕ)) → IfSome start (λ octets. old.out ++ at_end now ≡ captured (good (bits_of order octets)))
-        → IfSome start (λ octets. TakesEach takes before (captured (good (bits_of order octets))) after)
-    by_start None is = tt
-    by_start (Some octets) is = subst (λ (l : List Captured). TakesEach takes before l after) is all
+-- what was found, and what is found in what is still to come of a line, is all that is found in it
+abbrev pub OutLeft : Order → List Captured → Capture → List ℕ → List (List ℕ) → Type 0
+OutLeft order out s line coming = out ++ found_from s coming ≡ captured (good (bits_of order line))
+
+pub all_to_find : (order : Order) (out : List Captured) (s : Capture) (line : List ℕ) → out ≡ [] → s ≡ empty_capture None
+    → OutLeft order out s line (good (bits_of order line))
+all_to_find order out s line none is = ap (λ (l : List Captured). l ++ found_from s (good (bits_of order line))) none
+    ∙ (ap (λ (c : Capture). found_from c (good (bits_of order line))) is ∙ sym (found_in_all (good (bits_of order line))))
+
+-- one content more
+pub content_found : (order : Order) (out more : List Captured) (s next : Capture) (line content : List ℕ) (later : List (List ℕ))
+    → next ≡ (hears_read (read_content content) s).then → more ≡ out ++ (hears_read (read_content content) s).found
+    → OutLeft order out s line (content ∷ later) → OutLeft order more next line later
+content_found order out more s next line content later is found old =
+    let step : Step = hears_read (read_content content) s in
+    ap (λ (l : List Captured). l ++ found_from next later) found
+    ∙ (append_assoc out step.found (found_from next later)
+    ∙ (ap (λ (c : Capture). out ++ (step.found ++ found_from c later)) is
+    ∙ (ap (λ (l : List Captured). out ++ l) (sym (found_with_one s content later)) ∙ old)))
+
+-- no content is left
+pub all_found : (order : Order) (out all : List Captured) (s : Capture) (line : List ℕ) → all ≡ out ++ at_end s
+    → OutLeft order out s line [] → all ≡ captured (good (bits_of order line))
+all_found order out all s line is left = is ∙ (ap (λ (l : List Captured). out ++ l) (sym (found_at_end s)) ∙ left)

@@ -2,6 +2,7 @@
 mod SignalWords
 pub mod RecordData
 mod TurnedBits
+pub mod Contents
 mod Listing
 mod MarkedFrames
 mod HexText

@@ -3,8 +3,10 @@ pub mod Texts
 pub mod Below
 pub mod OtherWords
 pub mod SignalWords
+pub mod Names
 pub mod Records
 pub mod TraceRecords
+pub mod Contents
 pub mod Frames
 pub mod Fronts
 pub mod Captured

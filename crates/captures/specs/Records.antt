@@ -3,6 +3,7 @@ use Rattle.std.specs.Prelude.{ℕ, suc, zero, ◌++◌, ◌∷◌, [], List, Opt
 use Rattle.std.specs.Prelude.{length, map, take, unwrap_or}
 use Rattle.hdlc.specs.declared.counts.Counts.{Counts}
 use Rattle.hex.specs.Hex.{encode_lower}
+use Rattle.raster.specs.declared.coding.Coding.TheVariants.{OneDim, T6}
 use Rattle.serde_json.specs.Data.{Data, array, boolean, member, no_members, object}
 use Rattle.serde_json.specs.View.{items_of}
 use Rattle.signals.specs.Agreement.{pixels_of}
@@ -15,7 +16,8 @@ use Rattle.signals.specs.declared.fault.SignalFault.{SignalFault}
 use Rattle.signals.specs.declared.signal.PageEnd.{PageEnd}
 use Rattle.faults.specs.RecordLines.{count, words}
 use Rattle.captures.specs.SignalWords.{is_in_map}
-use Rattle.captures.specs.Texts.{coding_text, lines_text, modems_text, page_end_text, speed_text}
+use Rattle.captures.specs.Names.{carrier_name, code_name}
+use Rattle.captures.specs.Texts.{lines_text, modems_text, page_end_text}
 
 -- the record of a signal that has no fields: its name as `signal`
 abbrev pub named : List ℕ → Data
@@ -23,7 +25,7 @@ named name = object (member (codes "signal") (words name) no_members)
 
 -- the record of a DIS: what a station can do
 abbrev pub dis_record : Caps → Data
-dis_record caps = object (member (codes "code") (words (cond caps.t6 (codes "t6") (codes "mh")))
+dis_record caps = object (member (codes "code") (words (cond caps.t6 (code_name T6) (code_name OneDim)))
     (member (codes "error_correction") (boolean caps.ecm)
     (member (codes "lines") (words (lines_text caps.fine))
     (member (codes "modems") (words (modems_text caps.modems))
@@ -33,11 +35,11 @@ dis_record caps = object (member (codes "code") (words (cond caps.t6 (codes "t6"
 
 -- the record of a DCS: how pages are sent
 abbrev pub dcs_record : Params → Data
-dcs_record params = object (member (codes "code") (words (coding_text params.coding))
+dcs_record params = object (member (codes "code") (words (code_name params.coding))
     (member (codes "frame_octets") (count (cond params.small 64 256))
     (member (codes "lines") (words (lines_text params.fine))
     (member (codes "signal") (words (codes "DCS"))
-    (member (codes "speed") (words (speed_text params.speed))
+    (member (codes "speed") (words (carrier_name params.speed))
     (member (codes "width") (count (pixels_of params.width)) no_members))))))
 
 -- the number of an FCD's frame, and how many octets of data it has

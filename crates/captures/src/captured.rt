@@ -1,6 +1,6 @@
 //! The pages in what is sent on a line, by its signals alone, over any reader.
 
-ghost use Rattle.captures.specs.Captured.{Takes, after_lack, at_end, captured, empty_capture, gathers, gives_up, hears, hears_all};
+ghost use Rattle.captures.specs.Captured.{Takes, after_lack, at_end, captured, empty_capture, gathers, gives_up, hears};
 ghost use Rattle.captures.specs.Captured.{hears_block, hears_fcd, hears_pps, hears_read, is_taken, is_waiting, judges, lacking};
 ghost use Rattle.captures.specs.Captured.{later_one, left_open, overlaid, page_in, takes_block, turns_from, turns_to, with_block};
 ghost use Rattle.faults.specs.Faults.{IsOutside};
@@ -17,9 +17,8 @@ ghost use Rattle.std.specs.Prelude.{None, OnOk, Some, cond, false, map, nat_eq, 
 ghost use Rattle.partial_page.specs.Assembling.{all_there, last_counted};
 ghost use Rattle.partial_page.specs.Assembling.{asked_by};
 
-use crate::frames::{PIECE, feed_in, read_some};
+use crate::content_reader::ContentReader;
 use faults::{FAILED, NO_MEMORY, ToolFault};
-use hdlc::Deframer;
 use page_code::{CodesPages, PageRead};
 use partial_page::{BlockAssembler, BlockFault, BlockStore};
 use raster::Page;
@@ -639,22 +638,6 @@ impl Capture {
             Err(_) => Ok(()),
         }
     }
-
-    /// All contents that wait.
-    fn hear_waiting(
-        &mut self,
-        deframer: &mut Deframer,
-        out: &mut Vec<Captured>,
-    ) -> Result<(), ToolFault>
-        ensures taken { OnOk result (Takes (hears_all deframer.old.queue self.old) self.new out.old.items out.new.items) }
-        ensures queue { OnOk result (deframer.new ≡ record deframer.old { queue = [] }) }
-        ensures fault { IfErr result IsOutside }
-    {
-        while let Some(content) = deframer.next() {
-            self.hear_content(content, out)?;
-        }
-        Ok(())
-    }
 }
 
 /// Reads the octets of a line, in this bit order, and returns what its signals carry, in their order (ITU-T T.30, Annex A): the pages, each
@@ -670,18 +653,16 @@ pub fn captured_in<R: Read>(
         found.items ≡ captured (good (bits_of order octets)))) }
     ensures fault { IfErr result IsOutside }
 {
-    let mut deframer = Deframer::new(alloc);
+    let mut contents = ContentReader::new(alloc, order);
     let mut capture = Capture::new(alloc);
     let mut out = Vec::new(alloc);
-    let mut piece = [0; PIECE];
-    for _read in 0..u64::MAX {
-        let count = read_some(reader, &mut piece)?;
-        if count == 0 {
+    for _content in 0..u64::MAX {
+        let more = contents.advance(reader)?;
+        if !more {
             capture.end(&mut out)?;
             return Ok(out);
         }
-        feed_in(&mut deframer, order, &piece[..count])?;
-        capture.hear_waiting(&mut deframer, &mut out)?;
+        capture.hear_content(contents.content(), &mut out)?;
     }
     Err(FAILED)
 }

@@ -1,22 +1,20 @@
 //! The frames in bits listed, and the pages that they carry given on, both as they come.
 
-ghost use Rattle.captures.specs.Captured.{at_end, captured, hears_all, hears_read};
+ghost use Rattle.captures.specs.Captured.{at_end, captured, hears_read};
 ghost use Rattle.faults.specs.Faults.{IsOutside};
 ghost use Rattle.captures.specs.Found.{GivesOn, TakesEach};
-ghost use Rattle.captures.specs.Frames.{IsOtherOrderWorth, frame_line, frame_lines, listing};
+ghost use Rattle.captures.specs.Frames.{IsOtherOrderWorth, frame_line, listing};
 ghost use Rattle.captures.specs.declared.captured.Captured.{Captured};
 ghost use Rattle.hdlc.specs.Gaps.{good};
 ghost use Rattle.raster.specs.Packed.{bits_of};
 ghost use Rattle.signals.specs.Reading.{read_content};
 ghost use Rattle.std.specs.Io.KnownBytes.{Appends};
-ghost use Rattle.std.specs.Prelude.{◌≡◌, ◌↔◌, ◌+◌, [], IfErr, IfOk, IfSome, IsTrue, OnOk, length};
+ghost use Rattle.std.specs.Prelude.{◌≡◌, ◌↔◌, IfErr, IfOk, IfSome, IsTrue, OnOk};
 
 use crate::captured::{Capture, Captured};
-use crate::frames::{
-    ListOptions, PIECE, feed_in, has_no_frame, read_some, write_counts, write_frame,
-};
+use crate::content_reader::ContentReader;
+use crate::frames::{ListOptions, flush_waiting, has_no_frame, write_counts, write_frame};
 use faults::{FAILED, ToolFault};
-use hdlc::Deframer;
 use std::alloc::Global;
 use std::io::{Read, Write};
 
@@ -64,29 +62,6 @@ fn take_frame<W: Write, S: FoundStore>(
     give_all(found, store)
 }
 
-/// Writes a line for each waiting content, the first with this number, and gives the store what each completes. Returns the next number.
-fn take_frames<W: Write, S: FoundStore>(
-    capture: &mut Capture,
-    deframer: &mut Deframer,
-    first: u64,
-    how: ListOptions,
-    writer: &mut W,
-    store: &mut S,
-) -> Result<u64, ToolFault>
-    ensures lines { OnOk result (Appends (W.contents writer.old) (W.contents writer.new) (frame_lines how first deframer.old.queue)) }
-    ensures next { IfOk result (λ next. next ≡ first + length deframer.old.queue) }
-    ensures taken { OnOk result (deframer.new ≡ record deframer.old { queue = [] }) }
-    ensures given { OnOk result (GivesOn S.takes (hears_all deframer.old.queue capture.old) capture.new store.old store.new) }
-    ensures fault { IfErr result IsOutside }
-{
-    let mut number = first;
-    while let Some(content) = deframer.next() {
-        take_frame(capture, number, content, how, writer, store)?;
-        number = number.checked_add(1).ok_or(FAILED)?;
-    }
-    Ok(number)
-}
-
 /// Reports unfinished pages at the end of the input.
 fn end_capture<S: FoundStore>(capture: &mut Capture, store: &mut S) -> Result<(), ToolFault>
     ensures given { OnOk result (TakesEach S.takes store.old (at_end capture.old) store.new) }
@@ -114,22 +89,17 @@ pub fn pages_engine<R: Read, W: Write, S: FoundStore>(
         TakesEach S.takes store.old (captured (good (bits_of how.order octets))) store.new)) }
     ensures fault { IfErr result IsOutside }
 {
-    let mut deframer = Deframer::new(alloc);
+    let mut contents = ContentReader::new(alloc, how.order);
     let mut capture = Capture::new(alloc);
-    let mut number = 1;
-    let mut octets: u64 = 0;
-    let mut piece = [0; PIECE];
-    for _read in 0..u64::MAX {
-        let count = read_some(reader, &mut piece)?;
-        if count == 0 {
+    for number in 1..u64::MAX {
+        let more = contents.advance(reader)?;
+        if !more {
             end_capture(&mut capture, store)?;
-            write_counts(alloc, deframer.counts(), how, writer)?;
-            return Ok(has_no_frame(octets, number));
+            write_counts(alloc, contents.counts(), how, writer)?;
+            return Ok(has_no_frame(contents.octets(), number));
         }
-        feed_in(&mut deframer, how.order, &piece[..count])?;
-        octets = octets.saturating_add(count as u64);
-        number = take_frames(&mut capture, &mut deframer, number, how, writer, store)?;
-        writer.flush()?;
+        take_frame(&mut capture, number, contents.content(), how, writer, store)?;
+        flush_waiting(&contents, writer)?;
     }
     Err(FAILED)
 }

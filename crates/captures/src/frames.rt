@@ -1,22 +1,21 @@
 //! What `frames` does: it lists the frames in bits, over any reader and any writer.
 
 ghost use Rattle.faults.specs.Faults.{IsOutside};
-ghost use Rattle.captures.specs.Frames.{IsOtherOrderWorth, counts_line, frame_line, frame_lines, last_line, listing, plain_line};
+ghost use Rattle.captures.specs.Frames.{IsOtherOrderWorth, counts_line, frame_line, last_line, listing, plain_line};
 ghost use Rattle.captures.specs.Frames.{plain_list};
-ghost use Rattle.hdlc.specs.DeframerState.{IsAfter};
 ghost use Rattle.raster.specs.Packed.{bits_of};
-ghost use Rattle.raster.specs.declared.packed.Order.TheVariants.{LsbFirst, MsbFirst};
-ghost use Rattle.std.specs.Io.KnownBytes.{Appends, Consumes, IsAtEnd};
-ghost use Rattle.std.specs.Prelude.{◌≡◌, ◌<◌, ◌≤◌, ◌↔◌, ◌+◌, ◌++◌, ◌∷◌, ℕ, Bool, List, [], IfErr, IfOk, IfSome, IsTrue, OnOk, length, take};
+ghost use Rattle.raster.specs.declared.packed.Order.TheVariants.{LsbFirst};
+ghost use Rattle.std.specs.Io.KnownBytes.{Appends, Keeps};
+ghost use Rattle.std.specs.Prelude.{◌≡◌, ◌<◌, ◌↔◌, IfErr, IfOk, IfSome, IsTrue, OnOk};
 
+use crate::content_reader::ContentReader;
 use crate::records::{write_counts_record, write_frame_record};
 use crate::signal_words::write_words;
 use crate::texts::ContentText;
 use faults::{FAILED, ToolFault};
-use hdlc::{Counts, Deframer};
-use raster::packed::{Order, word_at, word_octets};
-use std::alloc::{AllocError, Global};
-use std::io;
+use hdlc::Counts;
+use raster::packed::Order;
+use std::alloc::Global;
 use std::io::{Read, Write};
 
 /// How each frame is written.
@@ -40,9 +39,6 @@ pub struct ListOptions {
     /// How each frame is written.
     pub form: ListForm,
 }
-
-/// How many octets are read at a time.
-pub(crate) const PIECE: usize = 4096;
 
 /// Writes the line of a good frame: its number, its content in hex (`most` octets at most), and what it says.
 fn write_content<W: Write>(
@@ -86,27 +82,6 @@ pub(crate) fn write_frame<W: Write>(
     }
 }
 
-/// Writes a line for each waiting content, the first with this number. Returns the next number.
-fn write_frames<W: Write>(
-    alloc: Global,
-    deframer: &mut Deframer,
-    first: u64,
-    how: ListOptions,
-    writer: &mut W,
-) -> Result<u64, ToolFault>
-    ensures lines { OnOk result (Appends (W.contents writer.old) (W.contents writer.new) (frame_lines how first deframer.old.queue)) }
-    ensures next { IfOk result (λ next. next ≡ first + length deframer.old.queue) }
-    ensures taken { OnOk result (deframer.new ≡ record deframer.old { queue = [] }) }
-    ensures fault { IfErr result IsOutside }
-{
-    let mut number = first;
-    while let Some(content) = deframer.next() {
-        write_frame(alloc, number, content, how, writer)?;
-        number = number.checked_add(1).ok_or(FAILED)?;
-    }
-    Ok(number)
-}
-
 /// Writes the line of how many gaps there were of each class.
 fn write_counts_line<W: Write>(counts: Counts, writer: &mut W) -> Result<(), ToolFault>
     ensures line { OnOk result (Appends (W.contents writer.old) (W.contents writer.new) (counts_line counts)) }
@@ -136,56 +111,19 @@ pub(crate) fn write_counts<W: Write>(
     }
 }
 
-/// Reads octets into the front of a buffer that isn't empty and returns how many: 0 only at the reader's end. An interrupted read is tried
-/// again.
-pub fn read_some<R: Read>(reader: &mut R, piece: &mut [u8]) -> Result<usize, ToolFault>
-    requires { 0 < length piece.old }
-    ensures room { IfOk result (λ count. count ≤ length piece.new) }
-    ensures came { IfOk result (λ count. Consumes (R.remaining reader.old) (R.remaining reader.new) (take count piece.new)) }
-    ensures end { IfOk result (λ count. count ≡ 0 → IsAtEnd (R.remaining reader.new)) }
+/// Flushes the writer if the next content isn't read yet: what is written is then seen while the line is waited for.
+pub(crate) fn flush_waiting<W: Write>(
+    contents: &ContentReader,
+    writer: &mut W,
+) -> Result<(), ToolFault>
+    ensures same { OnOk result (Keeps (W.contents writer.old) (W.contents writer.new)) }
     ensures fault { IfErr result IsOutside }
 {
-    for _try in 0..u64::MAX {
-        match reader.read(piece) {
-            Ok(count) => return Ok(count),
-            Err(error) => {
-                if error.kind() != io::ErrorKind::Interrupted {
-                    return Err(ToolFault::from(error));
-                }
-            }
-        }
+    if contents.is_waiting() {
+        return Ok(());
     }
-    Err(FAILED)
-}
-
-/// Returns the octet with its bits in the opposite order.
-fn turned(octet: u8) -> u8
-    ensures { bits_of LsbFirst (result ∷ []) ≡ bits_of MsbFirst (octet ∷ []) }
-{
-    let word = word_at(Order::MsbFirst, &[octet], 0);
-    word_octets(Order::LsbFirst, word)[0]
-}
-
-/// Feeds a deframer the bits of octets, the most significant of each first. Errors: memory is refused for a content.
-fn feed_turned(deframer: &mut Deframer, piece: &[u8]) -> Result<(), AllocError>
-    ensures ok { OnOk result ((bits : List Bool) (handed : ℕ) → IsAfter deframer.old bits handed
-        → IsAfter deframer.new (bits ++ bits_of MsbFirst piece.now) handed) }
-{
-    for octet in piece {
-        deframer.feed(&[turned(*octet)])?;
-    }
+    writer.flush()?;
     Ok(())
-}
-
-/// Feeds a deframer the bits of octets in this order. Errors: memory is refused for a content.
-pub fn feed_in(deframer: &mut Deframer, order: Order, piece: &[u8]) -> Result<(), AllocError>
-    ensures ok { OnOk result ((bits : List Bool) (handed : ℕ) → IsAfter deframer.old bits handed
-        → IsAfter deframer.new (bits ++ bits_of order piece.now) handed) }
-{
-    match order {
-        Order::LsbFirst => deframer.feed(piece),
-        Order::MsbFirst => feed_turned(deframer, piece),
-    }
 }
 
 /// Returns whether over 64 octets gave no frame; `number` is that of the next frame.
@@ -212,20 +150,15 @@ pub fn list_engine<R: Read, W: Write>(
     ensures worth { IfOk result (λ worth. IfSome (R.remaining reader.old) (λ octets. IsTrue worth ↔ IsOtherOrderWorth how.order octets)) }
     ensures fault { IfErr result IsOutside }
 {
-    let mut deframer = Deframer::new(alloc);
-    let mut number = 1;
-    let mut octets: u64 = 0;
-    let mut piece = [0; PIECE];
-    for _read in 0..u64::MAX {
-        let count = read_some(reader, &mut piece)?;
-        if count == 0 {
-            write_counts(alloc, deframer.counts(), how, writer)?;
-            return Ok(has_no_frame(octets, number));
+    let mut contents = ContentReader::new(alloc, how.order);
+    for number in 1..u64::MAX {
+        let more = contents.advance(reader)?;
+        if !more {
+            write_counts(alloc, contents.counts(), how, writer)?;
+            return Ok(has_no_frame(contents.octets(), number));
         }
-        feed_in(&mut deframer, how.order, &piece[..count])?;
-        octets = octets.saturating_add(count as u64);
-        number = write_frames(alloc, &mut deframer, number, how, writer)?;
-        writer.flush()?;
+        write_frame(alloc, number, contents.content(), how, writer)?;
+        flush_waiting(&contents, writer)?;
     }
     Err(FAILED)
 }

@@ -1,23 +1,21 @@
 //! The frames in bits listed, and the pages that they carry given on, also the rows before a gap of those that aren't whole.
 
-ghost use Rattle.captures.specs.Captured.{hears_all, hears_read};
+ghost use Rattle.captures.specs.Captured.{hears_read};
 ghost use Rattle.faults.specs.Faults.{IsOutside};
-ghost use Rattle.captures.specs.Frames.{IsOtherOrderWorth, frame_line, frame_lines, listing};
-ghost use Rattle.captures.specs.Fronts.{GivesFront, IsFrontPage, Salvages, SalvagesAll, SalvagesEach, SalvagesEnd};
+ghost use Rattle.captures.specs.Frames.{IsOtherOrderWorth, frame_line, listing};
+ghost use Rattle.captures.specs.Fronts.{GivesFront, IsFrontPage, Salvages, SalvagesAll, SalvagesEnd};
 ghost use Rattle.hdlc.specs.Gaps.{good};
 ghost use Rattle.raster.specs.Packed.{bits_of};
 ghost use Rattle.raster.specs.Pages.{PagePixels};
 ghost use Rattle.signals.specs.Reading.{read_content};
 ghost use Rattle.std.specs.Io.KnownBytes.{Appends};
-ghost use Rattle.std.specs.Prelude.{◌≡◌, ◌↔◌, ◌+◌, [], IfErr, IfOk, IfSome, IsTrue, OnOk, length};
+ghost use Rattle.std.specs.Prelude.{◌≡◌, ◌↔◌, IfErr, IfOk, IfSome, IsTrue, OnOk};
 
 use crate::captured::Capture;
+use crate::content_reader::ContentReader;
 use crate::found::{FoundStore, give_all};
-use crate::frames::{
-    ListOptions, PIECE, feed_in, has_no_frame, read_some, write_counts, write_frame,
-};
+use crate::frames::{ListOptions, flush_waiting, has_no_frame, write_counts, write_frame};
 use faults::{FAILED, ToolFault};
-use hdlc::Deframer;
 use page_code::CodesPages;
 use raster::Page;
 use run_tables::Order;
@@ -93,31 +91,6 @@ fn salvage_frame<W: Write, S: FoundStore + FrontStore>(
     give_all(found, store)
 }
 
-/// Writes a line for each waiting content, the first with this number, and gives the store what each completes, with the rows before gaps.
-/// Returns the next number.
-fn salvage_frames<W: Write, S: FoundStore + FrontStore>(
-    capture: &mut Capture,
-    deframer: &mut Deframer,
-    first: u64,
-    how: ListOptions,
-    writer: &mut W,
-    store: &mut S,
-) -> Result<u64, ToolFault>
-    ensures lines { OnOk result (Appends (W.contents writer.old) (W.contents writer.new) (frame_lines how first deframer.old.queue)) }
-    ensures next { IfOk result (λ next. next ≡ first + length deframer.old.queue) }
-    ensures taken { OnOk result (deframer.new ≡ record deframer.old { queue = [] }) }
-    ensures is { OnOk result (capture.new ≡ (hears_all deframer.old.queue capture.old).then) }
-    ensures given { OnOk result (SalvagesEach S.takes S.fronts deframer.old.queue capture.old store.old store.new) }
-    ensures fault { IfErr result IsOutside }
-{
-    let mut number = first;
-    while let Some(content) = deframer.next() {
-        salvage_frame(capture, number, content, how, writer, store)?;
-        number = number.checked_add(1).ok_or(FAILED)?;
-    }
-    Ok(number)
-}
-
 /// Gives the store the rows of the open page before its gap, and reports unfinished pages at the end of the input.
 fn salvage_end<S: FoundStore + FrontStore>(
     capture: &mut Capture,
@@ -150,22 +123,17 @@ pub fn salvage_pages_engine<R: Read, W: Write, S: FoundStore + FrontStore>(
         SalvagesAll S.takes S.fronts (good (bits_of how.order octets)) store.old store.new)) }
     ensures fault { IfErr result IsOutside }
 {
-    let mut deframer = Deframer::new(alloc);
+    let mut contents = ContentReader::new(alloc, how.order);
     let mut capture = Capture::new(alloc);
-    let mut number = 1;
-    let mut octets: u64 = 0;
-    let mut piece = [0; PIECE];
-    for _read in 0..u64::MAX {
-        let count = read_some(reader, &mut piece)?;
-        if count == 0 {
+    for number in 1..u64::MAX {
+        let more = contents.advance(reader)?;
+        if !more {
             salvage_end(&mut capture, store)?;
-            write_counts(alloc, deframer.counts(), how, writer)?;
-            return Ok(has_no_frame(octets, number));
+            write_counts(alloc, contents.counts(), how, writer)?;
+            return Ok(has_no_frame(contents.octets(), number));
         }
-        feed_in(&mut deframer, how.order, &piece[..count])?;
-        octets = octets.saturating_add(count as u64);
-        number = salvage_frames(&mut capture, &mut deframer, number, how, writer, store)?;
-        writer.flush()?;
+        salvage_frame(&mut capture, number, contents.content(), how, writer, store)?;
+        flush_waiting(&contents, writer)?;
     }
     Err(FAILED)
 }

@@ -2,12 +2,14 @@
 #![tactic(auto)]
 
 mod captured;
+mod content_reader;
 mod found;
 mod found_records;
 mod frames;
 mod fronts;
 pub mod laws;
 mod missing;
+mod names;
 mod numbers;
 mod other_words;
 mod records;
@@ -16,9 +18,10 @@ mod texts;
 mod trace_records;
 
 pub use crate::captured::{Captured, captured_in};
+pub use crate::content_reader::ContentReader;
 pub use crate::found::{FoundStore, pages_engine};
 pub use crate::found_records::{write_missing, write_stored, write_stored_front};
-pub use crate::frames::{ListForm, ListOptions, feed_in, frames_engine, list_engine, read_some};
+pub use crate::frames::{ListForm, ListOptions, frames_engine, list_engine};
 pub use crate::fronts::{FrontStore, salvage_pages_engine};
 pub use crate::missing::{Missing, Stored, StoredFront};
 pub use crate::numbers::PageNumbers;

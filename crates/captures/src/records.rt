@@ -11,8 +11,9 @@ ghost use Rattle.signals.specs.Signals.{plain};
 ghost use Rattle.std.specs.Io.KnownBytes.{Appends};
 ghost use Rattle.std.specs.Prelude.{◌≡◌, ◌++◌, ◌∷◌, [], cond, map, IfErr, IfOk, OnOk};
 
+use crate::names::{carrier, code};
 use crate::signal_words::is_in_map;
-use crate::texts::{coding, either, lines, modems, page_end, speed};
+use crate::texts::{either, lines, modems, page_end};
 use faults::{ToolFault, write_record};
 use hdlc::Counts;
 use serde_json::{Value, json};
@@ -30,7 +31,7 @@ fn dis_record(alloc: Global, caps: Caps) -> Result<Value, AllocError>
         "modems": modems(caps.modems),
         "lines": lines(caps.fine),
         "width": caps.widest.pixels(),
-        "code": either(caps.t6, "t6", "mh"),
+        "code": either(caps.t6, "mmr", "mh"),
         "error_correction": caps.ecm,
     })
 }
@@ -42,10 +43,10 @@ fn dcs_record(alloc: Global, params: Params) -> Result<Value, AllocError>
     let octets = if params.small { 64u32 } else { 256u32 };
     json!(in alloc; {
         "signal": "DCS",
-        "speed": speed(params.speed),
+        "speed": carrier(params.speed),
         "lines": lines(params.fine),
         "width": params.width.pixels(),
-        "code": coding(params.coding),
+        "code": code(params.coding),
         "frame_octets": octets,
     })
 }

@@ -1,36 +1,38 @@
 -- What the check asks of `captured_frames`.
-use Rattle.std.proofs.Common.{refl, take}
-use Rattle.call_pictures.proofs.CapturedCalls.{all_came, first_of, none_came, nothing, piece_came, second_of}
+use Rattle.std.proofs.Common.{◌≡◌, ◌+◌, ◌++◌, ◌∷◌, [], ℕ, List, subst}
+use Rattle.captures.proofs.Contents.{before_first, no_more, one_more}
+use Rattle.call_pictures.specs.CapturedCalls.{frames_of, others_of}
+use Rattle.call_pictures.proofs.CapturedCalls.{TakesLeft, all_taken, all_to_take, one_taken}
 use Rattle.call_pictures.proofs.captured_call.captured_frames.Goals as goal
 
-pub loop-read-init : goal.loop-read-init
-loop-read-init g c =
-    none_came _ _ c.new-deframer.result c.new.result.items 0 c.new-deframer.ensures c.new.ensures.items refl
+pub loop-content-init : goal.loop-content-init
+loop-content-init g c =
+    before_first (g.R.Read.remaining c.args.reader.now) c.args.order c.new-contents.result (TakesLeft c.args.order c.new.result.items 0)
+    c.new-contents.ensures.begins (λ line. all_to_take c.args.order c.new.result.items line c.new.ensures.items)
 
-pub loop-read-preserved : goal.loop-read-preserved
-loop-read-preserved g c =
-    piece_came c.args.order (g.R.Read.remaining c.args.reader.now) (g.R.Read.remaining c.loop-read.reader)
-    (g.R.Read.remaining c.read_some.new.reader) c.loop-read.deframer c.feed_in.new.deframer c.take_frames.new.deframer
-    c.loop-read.frames.known.items c.take_frames.new.frames.known.items c.loop-read.frames.others c.take_frames.new.frames.others
-    (take c.in_ok-count.count c.read_some.new.piece) c.loop-read.invariant c.in_ok-count.ensures.came c.in_ok-feed_in.ensures.ok
-    c.in_ok-take_frames.ensures.known c.in_ok-take_frames.ensures.others c.in_ok-take_frames.ensures.taken
+pub loop-content-preserved : goal.loop-content-preserved
+loop-content-preserved g c =
+    let old = c.loop-content.frames in
+    let new = c.take.new.self in
+    one_more (g.R.Read.remaining c.args.reader.now) (g.R.Read.remaining c.loop-content.reader) (g.R.Read.remaining c.advance.new.reader)
+    c.loop-content.contents c.advance.new.self c.in_ok-more.more (TakesLeft c.args.order old.known.items old.others)
+    (TakesLeft c.args.order new.known.items new.others) c.loop-content.invariant c.if-not-more.false c.in_ok-more.ensures.next
+    (λ line later left. one_taken c.args.order old.known.items new.known.items old.others new.others line c.advance.new.self.content later
+    (subst (λ (l : List ℕ). new.known.items ≡ old.known.items ++ frames_of (l ∷ [])) c.content.ensures c.in_ok-take.ensures.known)
+    (subst (λ (l : List ℕ). new.others ≡ old.others + others_of (l ∷ [])) c.content.ensures c.in_ok-take.ensures.others) left)
 
-pub returns-then-count-eq0-clause-known : goal.returns-then-count-eq0-clause-known
-returns-then-count-eq0-clause-known g c =
-    first_of (g.R.Read.remaining c.args.reader.now) _ _
-    (all_came c.args.order (g.R.Read.remaining c.args.reader.now) (g.R.Read.remaining c.loop-read.reader)
-    (g.R.Read.remaining c.read_some.new.reader) c.loop-read.deframer c.loop-read.frames.known.items c.loop-read.frames.others
-    c.loop-read.invariant
-    (nothing (g.R.Read.remaining c.loop-read.reader) (g.R.Read.remaining c.read_some.new.reader) c.in_ok-count.count c.read_some.new.piece
-    c.if-count-eq0.true c.in_ok-count.ensures.came)
-    (c.in_ok-count.ensures.end c.if-count-eq0.true))
+pub returns-then-not-more-clause-known : goal.returns-then-not-more-clause-known
+returns-then-not-more-clause-known g c =
+    let frames = c.loop-content.frames in
+    no_more (g.R.Read.remaining c.args.reader.now) (g.R.Read.remaining c.loop-content.reader) (g.R.Read.remaining c.advance.new.reader)
+    c.loop-content.contents c.advance.new.self c.in_ok-more.more (TakesLeft c.args.order frames.known.items frames.others) _
+    c.loop-content.invariant c.if-not-more.true c.in_ok-more.ensures.next
+    (λ line read left. (all_taken c.args.order frames.known.items frames.others line left).0)
 
-pub returns-then-count-eq0-clause-others : goal.returns-then-count-eq0-clause-others
-returns-then-count-eq0-clause-others g c =
-    second_of (g.R.Read.remaining c.args.reader.now) _ _
-    (all_came c.args.order (g.R.Read.remaining c.args.reader.now) (g.R.Read.remaining c.loop-read.reader)
-    (g.R.Read.remaining c.read_some.new.reader) c.loop-read.deframer c.loop-read.frames.known.items c.loop-read.frames.others
-    c.loop-read.invariant
-    (nothing (g.R.Read.remaining c.loop-read.reader) (g.R.Read.remaining c.read_some.new.reader) c.in_ok-count.count c.read_some.new.piece
-    c.if-count-eq0.true c.in_ok-count.ensures.came)
-    (c.in_ok-count.ensures.end c.if-count-eq0.true))
+pub returns-then-not-more-clause-others : goal.returns-then-not-more-clause-others
+returns-then-not-more-clause-others g c =
+    let frames = c.loop-content.frames in
+    no_more (g.R.Read.remaining c.args.reader.now) (g.R.Read.remaining c.loop-content.reader) (g.R.Read.remaining c.advance.new.reader)
+    c.loop-content.contents c.advance.new.self c.in_ok-more.more (TakesLeft c.args.order frames.known.items frames.others) _
+    c.loop-content.invariant c.if-not-more.true c.in_ok-more.ensures.next
+    (λ line read left. (all_taken c.args.order frames.known.items frames.others line left).1)

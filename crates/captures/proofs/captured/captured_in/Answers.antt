@@ -1,28 +1,39 @@
 -- What the check asks of `captured_in`.
-use Rattle.std.proofs.Common.{◌≡◌, [], take, subst}
-use Rattle.std.specs.Io.KnownBytes.{Consumes}
-use Rattle.captures.proofs.Capturing.{none_heard, piece_heard, whole_heard}
+use Rattle.std.proofs.Common.{◌≡◌, ◌++◌, ◌∙◌, ℕ, List, subst}
+use Rattle.signals.specs.Reading.{read_content}
+use Rattle.captures.specs.Captured.{Takes, hears_read}
+use Rattle.captures.proofs.Contents.{before_first, no_more, one_more}
+use Rattle.captures.proofs.Following.{OutLeft, all_found, all_to_find, content_found}
 use Rattle.captures.proofs.captured.captured_in.Goals as goal
 
-pub loop-read-init : goal.loop-read-init
-loop-read-init g c =
-    none_heard c.args.order (g.R.Read.remaining c.args.reader.now) c.new-deframer.result c.new-capture.result c.new-out.result.items
-    c.new-deframer.ensures c.new-capture.ensures c.new-out.ensures.items
+pub loop-content-init : goal.loop-content-init
+loop-content-init g c = (
+  c.new-contents.ensures.order,
+  before_first (g.R.Read.remaining c.args.reader.now) c.args.order c.new-contents.result
+      (OutLeft c.args.order c.new-out.result.items c.new-capture.result) c.new-contents.ensures.begins
+      (λ line. all_to_find c.args.order c.new-out.result.items c.new-capture.result line c.new-out.ensures.items c.new-capture.ensures),
+)
 
-pub returns-then-count-eq0-clause-found : goal.returns-then-count-eq0-clause-found
-returns-then-count-eq0-clause-found g c =
-    let zero : c.in_ok-count.count ≡ 0 = c.if-count-eq0.true in
-    let none : Consumes (g.R.Read.remaining c.loop-read.reader) (g.R.Read.remaining c.read_some.new.reader) [] =
-    subst (λ n. Consumes (g.R.Read.remaining c.loop-read.reader) (g.R.Read.remaining c.read_some.new.reader) (take n c.read_some.new.piece))
-    zero c.in_ok-count.ensures.came in
-    whole_heard c.args.order (g.R.Read.remaining c.args.reader.now) (g.R.Read.remaining c.loop-read.reader)
-    (g.R.Read.remaining c.read_some.new.reader) c.loop-read.deframer c.loop-read.capture c.loop-read.out.items
-    c.end.new.out.items c.loop-read.invariant none (c.in_ok-count.ensures.end zero) c.in_ok-end.ensures.named
+pub loop-content-preserved : goal.loop-content-preserved
+loop-content-preserved g c =
+    let taken : Takes (hears_read (read_content c.advance.new.self.content) c.loop-content.capture) c.hear_content.new.self
+    c.loop-content.out.items c.hear_content.new.out.items =
+    subst (λ (l : List ℕ). Takes (hears_read (read_content l) c.loop-content.capture) c.hear_content.new.self c.loop-content.out.items
+    c.hear_content.new.out.items) c.content.ensures c.in_ok-hear_content.ensures.taken in (
+      c.in_ok-more.ensures.order ∙ c.loop-content.invariant.0,
+      one_more (g.R.Read.remaining c.args.reader.now) (g.R.Read.remaining c.loop-content.reader) (g.R.Read.remaining c.advance.new.reader)
+          c.loop-content.contents c.advance.new.self c.in_ok-more.more
+          (OutLeft c.args.order c.loop-content.out.items c.loop-content.capture)
+          (OutLeft c.args.order c.hear_content.new.out.items c.hear_content.new.self)
+          c.loop-content.invariant.1 c.if-not-more.false c.in_ok-more.ensures.next
+          (λ line later left. content_found c.args.order c.loop-content.out.items c.hear_content.new.out.items c.loop-content.capture
+          c.hear_content.new.self line c.advance.new.self.content later taken.is taken.found left),
+    )
 
-pub loop-read-preserved : goal.loop-read-preserved
-loop-read-preserved g c =
-    piece_heard c.args.order (g.R.Read.remaining c.args.reader.now) (g.R.Read.remaining c.loop-read.reader)
-    (g.R.Read.remaining c.read_some.new.reader) c.loop-read.deframer c.feed_in.new.deframer c.hear_waiting.new.deframer
-    c.loop-read.capture c.hear_waiting.new.self c.loop-read.out.items c.hear_waiting.new.out.items
-    (take c.in_ok-count.count c.read_some.new.piece) c.loop-read.invariant c.in_ok-count.ensures.came c.in_ok-feed_in.ensures.ok
-    c.in_ok-hear_waiting.ensures.taken c.in_ok-hear_waiting.ensures.queue
+pub returns-then-not-more-clause-found : goal.returns-then-not-more-clause-found
+returns-then-not-more-clause-found g c =
+    no_more (g.R.Read.remaining c.args.reader.now) (g.R.Read.remaining c.loop-content.reader) (g.R.Read.remaining c.advance.new.reader)
+    c.loop-content.contents c.advance.new.self c.in_ok-more.more (OutLeft c.args.order c.loop-content.out.items c.loop-content.capture) _
+    c.loop-content.invariant.1 c.if-not-more.true c.in_ok-more.ensures.next
+    (λ line read left. all_found c.args.order c.loop-content.out.items c.end.new.out.items c.loop-content.capture line
+    c.in_ok-end.ensures.named left)

@@ -1,7 +1,10 @@
 -- What holds in the loop of `captured_in`.
-use Rattle.captures.proofs.Capturing.{HeardSo}
+use Rattle.std.proofs.Common.{◌≡◌}
+use Rattle.captures.proofs.Contents.{Left}
+use Rattle.captures.proofs.Following.{OutLeft}
 use Rattle.captures.proofs.captured.captured_in.Given as goal
 
-abbrev pub invariant-loop-read : goal.invariant-loop-read
-invariant-loop-read g l =
-    HeardSo l.order (g.R.Read.remaining l.initial.reader) (g.R.Read.remaining l.reader) l.deframer l.capture l.out.items
+abbrev pub invariant-loop-content : goal.invariant-loop-content
+invariant-loop-content g l =
+    (l.contents.order ≡ l.order) × Left (g.R.Read.remaining l.initial.reader) (g.R.Read.remaining l.reader) l.contents
+    (OutLeft l.order l.out.items l.capture)

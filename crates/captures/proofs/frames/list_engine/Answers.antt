@@ -1,32 +1,50 @@
 -- What the check asks of `list_engine`.
-use Rattle.std.proofs.Common.{rules, take}
-use Rattle.captures.proofs.Listing.{all_listed, none_listed, nothing, piece_listed, worth_told}
+use Rattle.std.proofs.Common.{ℕ, List, ◌+◌, ◌∙◌, subst}
 use Rattle.std.proofs.KnownBytes.{Appends-kept}
+use Rattle.std.specs.Io.KnownBytes.{Appends}
+use Rattle.captures.specs.Frames.{frame_line}
+use Rattle.captures.proofs.Contents.{before_first, no_more, one_more}
+use Rattle.captures.proofs.Listing.{LinesLeft, all_left, all_listed, line_done, worth_told}
 use Rattle.captures.proofs.frames.list_engine.Goals as goal
 
-pub loop-read-init : goal.loop-read-init
-loop-read-init g c = none_listed _ _ _ c.new-deframer.result c.new-deframer.ensures
+pub loop-number-init : goal.loop-number-init
+loop-number-init g c = (
+  c.new-contents.ensures.order,
+  before_first (g.R.Read.remaining c.args.reader.now) c.args.how.order c.new-contents.result
+      (LinesLeft c.args.how (g.W.Write.contents c.args.writer.now) (g.W.Write.contents c.args.writer.now) 1) c.new-contents.ensures.begins
+      (all_left c.args.how (g.W.Write.contents c.args.writer.now)),
+)
 
-pub returns-then-count-eq0-clause-listed : goal.returns-then-count-eq0-clause-listed
-returns-then-count-eq0-clause-listed g c =
-    all_listed _ _ _ _ _ _ _ c.loop-read.deframer c.loop-read.number c.loop-read.octets c.counts.result c.loop-read.invariant
-    (nothing (g.R.Read.remaining c.loop-read.reader) (g.R.Read.remaining c.read_some.new.reader) c.in_ok-count.count c.read_some.new.piece
-    c.if-count-eq0.true c.in_ok-count.ensures.came)
-    (c.in_ok-count.ensures.end c.if-count-eq0.true) c.counts.ensures c.in_ok-write_counts.ensures.line
+pub loop-number-preserved : goal.loop-number-preserved
+loop-number-preserved g c = (
+  c.in_ok-more.ensures.order ∙ c.loop-number.invariant.0,
+  one_more (g.R.Read.remaining c.args.reader.now) (g.R.Read.remaining c.loop-number.reader) (g.R.Read.remaining c.advance.new.reader)
+      c.loop-number.contents c.advance.new.self c.in_ok-more.more
+      (LinesLeft c.args.how (g.W.Write.contents c.args.writer.now) (g.W.Write.contents c.loop-number.writer) c.loop-number.number)
+      (LinesLeft c.args.how (g.W.Write.contents c.args.writer.now) (g.W.Write.contents c.flush_waiting.new.writer) (c.loop-number.number + 1))
+      c.loop-number.invariant.1 c.if-not-more.false c.in_ok-more.ensures.next
+      (λ line later left. line_done c.args.how (g.W.Write.contents c.args.writer.now) (g.W.Write.contents c.loop-number.writer)
+      (g.W.Write.contents c.flush_waiting.new.writer) c.loop-number.number line c.advance.new.self.content later
+      (Appends-kept _ _ _ _ (subst (λ l. Appends (g.W.Write.contents c.loop-number.writer) (g.W.Write.contents c.write_frame.new.writer)
+      (frame_line c.args.how c.loop-number.number l)) c.content.ensures c.in_ok-write_frame.ensures.line)
+      c.in_ok-flush_waiting.ensures.same) left),
+)
 
-pub returns-then-count-eq0-clause-worth : goal.returns-then-count-eq0-clause-worth
-returns-then-count-eq0-clause-worth g c =
-    worth_told c.args.how (g.R.Read.remaining c.args.reader.now) (g.R.Read.remaining c.loop-read.reader)
-    (g.R.Read.remaining c.read_some.new.reader) (g.W.Write.contents c.args.writer.now) (g.W.Write.contents c.loop-read.writer)
-    c.loop-read.deframer c.loop-read.number c.loop-read.octets c.has_no_frame.result c.loop-read.invariant
-    (nothing (g.R.Read.remaining c.loop-read.reader) (g.R.Read.remaining c.read_some.new.reader) c.in_ok-count.count c.read_some.new.piece
-    c.if-count-eq0.true c.in_ok-count.ensures.came)
-    (c.in_ok-count.ensures.end c.if-count-eq0.true) c.has_no_frame.ensures
+pub returns-then-not-more-clause-listed : goal.returns-then-not-more-clause-listed
+returns-then-not-more-clause-listed g c =
+    no_more (g.R.Read.remaining c.args.reader.now) (g.R.Read.remaining c.loop-number.reader) (g.R.Read.remaining c.advance.new.reader)
+    c.loop-number.contents c.advance.new.self c.in_ok-more.more
+    (LinesLeft c.args.how (g.W.Write.contents c.args.writer.now) (g.W.Write.contents c.loop-number.writer) c.loop-number.number)
+    _ c.loop-number.invariant.1 c.if-not-more.true c.in_ok-more.ensures.next
+    (λ line read left. all_listed c.args.how (g.W.Write.contents c.args.writer.now) (g.W.Write.contents c.loop-number.writer)
+    (g.W.Write.contents c.write_counts.new.writer) c.loop-number.number c.advance.new.self c.counts.result line
+    (c.in_ok-more.ensures.order ∙ c.loop-number.invariant.0) c.counts.ensures c.in_ok-write_counts.ensures.line read left)
 
-pub loop-read-preserved : goal.loop-read-preserved
-loop-read-preserved g c =
-    piece_listed _ _ _ _ _ _ _ c.loop-read.deframer c.feed_in.new.deframer c.write_frames.new.deframer c.loop-read.number
-    c.in_ok-number.number c.loop-read.octets c.saturating_add-octets.result (take c.in_ok-count.count c.read_some.new.piece)
-    c.loop-read.invariant c.in_ok-count.ensures.came c.in_ok-feed_in.ensures.ok
-    (Appends-kept _ _ _ _ c.in_ok-number.ensures.lines c.flush.ensures.bytes) c.in_ok-number.ensures.next
-    c.in_ok-number.ensures.taken (search rules)
+pub returns-then-not-more-clause-worth : goal.returns-then-not-more-clause-worth
+returns-then-not-more-clause-worth g c =
+    no_more (g.R.Read.remaining c.args.reader.now) (g.R.Read.remaining c.loop-number.reader) (g.R.Read.remaining c.advance.new.reader)
+    c.loop-number.contents c.advance.new.self c.in_ok-more.more
+    (LinesLeft c.args.how (g.W.Write.contents c.args.writer.now) (g.W.Write.contents c.loop-number.writer) c.loop-number.number)
+    _ c.loop-number.invariant.1 c.if-not-more.true c.in_ok-more.ensures.next
+    (λ line read left. worth_told c.args.how (g.W.Write.contents c.args.writer.now) (g.W.Write.contents c.loop-number.writer)
+    c.loop-number.number c.octets.result c.advance.new.self c.has_no_frame.result line c.octets.ensures c.has_no_frame.ensures read left)

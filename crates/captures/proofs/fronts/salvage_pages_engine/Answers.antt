@@ -1,49 +1,81 @@
 -- What the check asks of `salvage_pages_engine`.
-use Rattle.std.proofs.Common.{rules, take}
-use Rattle.captures.proofs.Listing.{all_listed, none_listed, nothing, piece_listed, worth_told}
-use Rattle.captures.proofs.Salvaging.{nothing_salvaged, piece_salvaged, whole_salvaged}
+use Rattle.std.proofs.Common.{ℕ, List, ◌≡◌, ◌+◌, ◌∙◌, subst}
 use Rattle.std.proofs.KnownBytes.{Appends-kept}
+use Rattle.std.specs.Io.KnownBytes.{Appends}
+use Rattle.captures.specs.Frames.{frame_line}
+use Rattle.captures.proofs.Contents.{before_first, no_more, one_more}
+use Rattle.captures.proofs.Listing.{LinesLeft, all_left, all_listed, line_done, worth_told}
+use Rattle.signals.specs.Reading.{read_content}
+use Rattle.captures.specs.Captured.{hears_read}
+use Rattle.captures.specs.Fronts.{Salvages}
+use Rattle.captures.proofs.Salvaging.{SalvageLeft, all_salvaged, all_to_salvage, content_salvaged}
 use Rattle.captures.proofs.fronts.salvage_pages_engine.Goals as goal
 
-pub loop-read-init : goal.loop-read-init
-loop-read-init g c = (
-  none_listed _ _ _ c.new-deframer.result c.new-deframer.ensures,
-  nothing_salvaged _ _ _ _ c.new-deframer.result c.new-capture.result _ c.new-deframer.ensures c.new-capture.ensures,
+pub loop-number-init : goal.loop-number-init
+loop-number-init g c = (
+  c.new-contents.ensures.order,
+  before_first (g.R.Read.remaining c.args.reader.now) c.args.how.order c.new-contents.result
+      (λ line coming. LinesLeft c.args.how (g.W.Write.contents c.args.writer.now) (g.W.Write.contents c.args.writer.now) 1 line coming
+      × SalvageLeft g.S.FoundStore.takes g.S.FrontStore.fronts c.args.how.order c.args.store.now c.args.store.now c.new-capture.result line coming) c.new-contents.ensures.begins
+      (λ line. (
+        all_left c.args.how (g.W.Write.contents c.args.writer.now) line,
+        all_to_salvage g.S.FoundStore.takes g.S.FrontStore.fronts c.args.how.order c.args.store.now c.new-capture.result line
+            c.new-capture.ensures,
+      )),
 )
 
-pub returns-then-count-eq0-clause-listed : goal.returns-then-count-eq0-clause-listed
-returns-then-count-eq0-clause-listed g c =
-    all_listed _ _ _ _ _ _ _ c.loop-read.deframer c.loop-read.number c.loop-read.octets c.counts.result c.loop-read.invariant.0
-    (nothing (g.R.Read.remaining c.loop-read.reader) (g.R.Read.remaining c.read_some.new.reader) c.in_ok-count.count c.read_some.new.piece
-    c.if-count-eq0.true c.in_ok-count.ensures.came)
-    (c.in_ok-count.ensures.end c.if-count-eq0.true) c.counts.ensures c.in_ok-write_counts.ensures.line
-
-pub returns-then-count-eq0-clause-worth : goal.returns-then-count-eq0-clause-worth
-returns-then-count-eq0-clause-worth g c =
-    worth_told c.args.how (g.R.Read.remaining c.args.reader.now) (g.R.Read.remaining c.loop-read.reader)
-    (g.R.Read.remaining c.read_some.new.reader) (g.W.Write.contents c.args.writer.now) (g.W.Write.contents c.loop-read.writer)
-    c.loop-read.deframer c.loop-read.number c.loop-read.octets c.has_no_frame.result c.loop-read.invariant.0
-    (nothing (g.R.Read.remaining c.loop-read.reader) (g.R.Read.remaining c.read_some.new.reader) c.in_ok-count.count c.read_some.new.piece
-    c.if-count-eq0.true c.in_ok-count.ensures.came)
-    (c.in_ok-count.ensures.end c.if-count-eq0.true) c.has_no_frame.ensures
-
-pub returns-then-count-eq0-clause-given : goal.returns-then-count-eq0-clause-given
-returns-then-count-eq0-clause-given g c =
-    whole_salvaged _ _ c.args.how.order (g.R.Read.remaining c.args.reader.now) (g.R.Read.remaining c.loop-read.reader)
-    (g.R.Read.remaining c.read_some.new.reader) c.loop-read.deframer c.loop-read.capture _ _ _ c.loop-read.invariant.1
-    (nothing (g.R.Read.remaining c.loop-read.reader) (g.R.Read.remaining c.read_some.new.reader) c.in_ok-count.count c.read_some.new.piece
-    c.if-count-eq0.true c.in_ok-count.ensures.came)
-    (c.in_ok-count.ensures.end c.if-count-eq0.true) c.in_ok-salvage_end.ensures.given
-
-pub loop-read-preserved : goal.loop-read-preserved
-loop-read-preserved g c = (
-  piece_listed _ _ _ _ _ _ _ c.loop-read.deframer c.feed_in.new.deframer c.salvage_frames.new.deframer c.loop-read.number
-      c.in_ok-number.number c.loop-read.octets c.saturating_add-octets.result (take c.in_ok-count.count c.read_some.new.piece)
-      c.loop-read.invariant.0 c.in_ok-count.ensures.came c.in_ok-feed_in.ensures.ok
-      (Appends-kept _ _ _ _ c.in_ok-number.ensures.lines c.flush.ensures.bytes) c.in_ok-number.ensures.next
-      c.in_ok-number.ensures.taken (search rules),
-  piece_salvaged _ _ c.args.how.order _ (g.R.Read.remaining c.loop-read.reader) (g.R.Read.remaining c.read_some.new.reader)
-      c.loop-read.deframer c.feed_in.new.deframer c.salvage_frames.new.deframer c.loop-read.capture c.salvage_frames.new.capture _ _ _
-      (take c.in_ok-count.count c.read_some.new.piece) c.loop-read.invariant.1 c.in_ok-count.ensures.came c.in_ok-feed_in.ensures.ok
-      c.in_ok-number.ensures.is c.in_ok-number.ensures.given c.in_ok-number.ensures.taken,
+pub loop-number-preserved : goal.loop-number-preserved
+loop-number-preserved g c = (
+  c.in_ok-more.ensures.order ∙ c.loop-number.invariant.0,
+  one_more (g.R.Read.remaining c.args.reader.now) (g.R.Read.remaining c.loop-number.reader) (g.R.Read.remaining c.advance.new.reader)
+      c.loop-number.contents c.advance.new.self c.in_ok-more.more
+      (λ line coming. LinesLeft c.args.how (g.W.Write.contents c.args.writer.now) (g.W.Write.contents c.loop-number.writer) c.loop-number.number line coming
+      × SalvageLeft g.S.FoundStore.takes g.S.FrontStore.fronts c.args.how.order c.args.store.now c.loop-number.store c.loop-number.capture line coming)
+      (λ line coming. LinesLeft c.args.how (g.W.Write.contents c.args.writer.now) (g.W.Write.contents c.flush_waiting.new.writer) (c.loop-number.number + 1) line coming
+      × SalvageLeft g.S.FoundStore.takes g.S.FrontStore.fronts c.args.how.order c.args.store.now c.salvage_frame.new.store c.salvage_frame.new.capture line coming)
+      c.loop-number.invariant.1 c.if-not-more.false c.in_ok-more.ensures.next
+      (λ line later left. (
+        line_done c.args.how (g.W.Write.contents c.args.writer.now) (g.W.Write.contents c.loop-number.writer)
+            (g.W.Write.contents c.flush_waiting.new.writer) c.loop-number.number line c.advance.new.self.content later
+            (Appends-kept _ _ _ _ (subst (λ l. Appends (g.W.Write.contents c.loop-number.writer) (g.W.Write.contents c.salvage_frame.new.writer)
+            (frame_line c.args.how c.loop-number.number l)) c.content.ensures c.in_ok-salvage_frame.ensures.line)
+            c.in_ok-flush_waiting.ensures.same) left.0,
+        content_salvaged g.S.FoundStore.takes g.S.FrontStore.fronts c.args.how.order c.args.store.now c.loop-number.store
+            c.salvage_frame.new.store c.loop-number.capture c.salvage_frame.new.capture line c.advance.new.self.content later
+            (subst (λ (l : List ℕ). c.salvage_frame.new.capture ≡ (hears_read (read_content l) c.loop-number.capture).then) c.content.ensures
+            c.in_ok-salvage_frame.ensures.is)
+            (subst (λ (l : List ℕ). Salvages g.S.FoundStore.takes g.S.FrontStore.fronts (read_content l) c.loop-number.capture
+            c.loop-number.store c.salvage_frame.new.store) c.content.ensures c.in_ok-salvage_frame.ensures.given) left.1,
+      )),
 )
+
+pub returns-then-not-more-clause-listed : goal.returns-then-not-more-clause-listed
+returns-then-not-more-clause-listed g c =
+    no_more (g.R.Read.remaining c.args.reader.now) (g.R.Read.remaining c.loop-number.reader) (g.R.Read.remaining c.advance.new.reader)
+    c.loop-number.contents c.advance.new.self c.in_ok-more.more
+    (λ line coming. LinesLeft c.args.how (g.W.Write.contents c.args.writer.now) (g.W.Write.contents c.loop-number.writer) c.loop-number.number line coming
+    × SalvageLeft g.S.FoundStore.takes g.S.FrontStore.fronts c.args.how.order c.args.store.now c.loop-number.store c.loop-number.capture line coming)
+    _ c.loop-number.invariant.1 c.if-not-more.true c.in_ok-more.ensures.next
+    (λ line read left. all_listed c.args.how (g.W.Write.contents c.args.writer.now) (g.W.Write.contents c.loop-number.writer)
+    (g.W.Write.contents c.write_counts.new.writer) c.loop-number.number c.advance.new.self c.counts.result line
+    (c.in_ok-more.ensures.order ∙ c.loop-number.invariant.0) c.counts.ensures c.in_ok-write_counts.ensures.line read left.0)
+
+pub returns-then-not-more-clause-worth : goal.returns-then-not-more-clause-worth
+returns-then-not-more-clause-worth g c =
+    no_more (g.R.Read.remaining c.args.reader.now) (g.R.Read.remaining c.loop-number.reader) (g.R.Read.remaining c.advance.new.reader)
+    c.loop-number.contents c.advance.new.self c.in_ok-more.more
+    (λ line coming. LinesLeft c.args.how (g.W.Write.contents c.args.writer.now) (g.W.Write.contents c.loop-number.writer) c.loop-number.number line coming
+    × SalvageLeft g.S.FoundStore.takes g.S.FrontStore.fronts c.args.how.order c.args.store.now c.loop-number.store c.loop-number.capture line coming)
+    _ c.loop-number.invariant.1 c.if-not-more.true c.in_ok-more.ensures.next
+    (λ line read left. worth_told c.args.how (g.W.Write.contents c.args.writer.now) (g.W.Write.contents c.loop-number.writer)
+    c.loop-number.number c.octets.result c.advance.new.self c.has_no_frame.result line c.octets.ensures c.has_no_frame.ensures read left.0)
+
+pub returns-then-not-more-clause-given : goal.returns-then-not-more-clause-given
+returns-then-not-more-clause-given g c =
+    no_more (g.R.Read.remaining c.args.reader.now) (g.R.Read.remaining c.loop-number.reader) (g.R.Read.remaining c.advance.new.reader)
+    c.loop-number.contents c.advance.new.self c.in_ok-more.more
+    (λ line coming. LinesLeft c.args.how (g.W.Write.contents c.args.writer.now) (g.W.Write.contents c.loop-number.writer) c.loop-number.number line coming
+    × SalvageLeft g.S.FoundStore.takes g.S.FrontStore.fronts c.args.how.order c.args.store.now c.loop-number.store c.loop-number.capture line coming)
+    _ c.loop-number.invariant.1 c.if-not-more.true c.in_ok-more.ensures.next
+    (λ line read left. all_salvaged g.S.FoundStore.takes g.S.FrontStore.fronts c.args.how.order c.args.store.now c.loop-number.store
+    c.salvage_end.new.store c.loop-number.capture line c.in_ok-salvage_end.ensures.given left.1)

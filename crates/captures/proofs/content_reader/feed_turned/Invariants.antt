@@ -3,7 +3,7 @@ use Rattle.std.proofs.Common.{ℕ, Bool, List, ◌++◌, take}
 use Rattle.hdlc.specs.DeframerState.{IsAfter}
 use Rattle.raster.specs.Packed.{bits_of}
 use Rattle.raster.specs.declared.packed.Order.TheVariants.{MsbFirst}
-use Rattle.captures.proofs.frames.feed_turned.Given as goal
+use Rattle.captures.proofs.content_reader.feed_turned.Given as goal
 
 abbrev pub invariant-loop-octet : goal.invariant-loop-octet
 invariant-loop-octet l =

@@ -6,7 +6,7 @@ use Rattle.raster.specs.Packed.{bits_of}
 use Rattle.raster.specs.declared.packed.Order.TheVariants.{MsbFirst}
 use Rattle.faults.proofs.FirstElements.{take_next}
 use Rattle.captures.proofs.TurnedBits.{none_turned, one_turned}
-use Rattle.captures.proofs.frames.feed_turned.Goals as goal
+use Rattle.captures.proofs.content_reader.feed_turned.Goals as goal
 
 pub loop-octet-init : goal.loop-octet-init
 loop-octet-init c bits handed after = none_turned c.args.deframer.now c.args.piece.now bits handed after

@@ -1,7 +1,7 @@
 -- What the check asks of `turned`.
 use Rattle.std.proofs.Common.{refl}
 use Rattle.captures.proofs.TurnedBits.{turned_octet}
-use Rattle.captures.proofs.frames.turned.Goals as goal
+use Rattle.captures.proofs.content_reader.turned.Goals as goal
 
 pub returns : goal.returns
 returns c =
