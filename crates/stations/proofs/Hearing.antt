@@ -120,7 +120,7 @@ accepts_so s Eop mark octets pages runs turn = ap (λ e. put_v21_first (unless_t
 
 stores_so : (s : Answerer) (ends : PageEnd) (mark : Mark) (read : Option PagePixels) → s.ending ≡ None →
     EndDecides ends (stores s ends mark read)
-stores_so s ends mark None runs turn = cc
+stores_so s ends mark None runs = λ turn. cc
 stores_so s ends mark (Some page) runs = accepts_so s ends mark [] (s.pages ++ page ∷ []) runs
 
 takes_so : (s : Answerer) (ends : PageEnd) (mark : Mark) (octets : List ℕ) → s.ending ≡ None → EndDecides ends (takes_block s ends mark octets)
