@@ -17,7 +17,7 @@ use terminals::{Shown, wait_millis};
 pub struct Durations {
     /// T1, for the other station to appear: 35 s in T.30.
     pub t1: u32,
-    /// T2, an answerer's, for a command: 6 s in T.30.
+    /// T2, an answerer's, for a command: 6 s ± 1 s in T.30, and 7 s here.
     pub t2: u32,
     /// T4, a caller's, for an answer: 3 s in T.30.
     pub t4: u32,
@@ -26,7 +26,7 @@ pub struct Durations {
 }
 
 impl Durations {
-    /// The durations of T.30: 35 s, 6 s, 3 s and 60 s.
+    /// The durations of T.30 as `wait_millis` has them: 35 s, 7 s, 3 s and 60 s.
     pub fn of_t30() -> Durations
         ensures { (wait : AnyWait) → duration result wait ≡ wait_millis wait }
     {
