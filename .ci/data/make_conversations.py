@@ -95,7 +95,7 @@ dcs_again = [("rx 6000", PAGE, WHITE_BURST), ("rx 7000", "v21", [DCS]), ("rx 900
 referred("second_dcs", "--answer --out DIR", BEGUN + dcs_again)
 referred("page_carrier_before_the_check", "--answer --out DIR", BEGUN[:2] + [("rx 3000", PAGE, [DCN]), ("rx 4000", PAGE, CHECK)])
 # Both waits are over at 50,000 ms after the DCS, T2 and T1.
-referred("two_waits_at_once", "--answer --out DIR", BEGUN[:2] + ["quiet 2100", "quiet 50000", "quiet 50020"])
+referred("two_waits_at_once", "--answer --out DIR", BEGUN[:2] + ["quiet 2100", "quiet 37100", "quiet 37120"])
 referred("cfr_and_dcn_in_one_burst", "--call IN", [("rx 1000", "v21", [DIS]), ("rx 4000", "v21", [CFR, DCN])], WHITE)
 # A PPR between two RNRs of a block: T5 runs from the first RNR.
 asked = [("rx 6000", "v21", [RNR]), ("rx 8000", "v21", ["FF13BC" + 32 * "FF"]), ("rx 10000", "v21", [RNR]), ("rx 12500", "v21", [RNR])]

@@ -39,7 +39,7 @@ COMBS_BITS = 12 * (EOL + 1216 * ("000111" + "010")) + 6 * EOL
 COMBS_CODE = octets_of(COMBS_BITS.ljust(-(-len(COMBS_BITS) // 8) * 8, "0")).hex()
 
 CAPS = "Caps { receiver: true, modems: V17, fine: true, widest: W2432, t6: true, ecm: true }"
-T1, T2, T4, T5 = "wait T1 35000", "wait T2 6000", "wait T4 3000", "wait T5 60000"
+T1, T2, T4, T5 = "wait T1 35000", "wait T2 7000", "wait T4 3000", "wait T5 60000"
 ALL = f"Burst([{', '.join(32 * ['255'])}])"
 
 

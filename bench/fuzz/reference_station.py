@@ -29,7 +29,7 @@ MOST_LINE = 400000
 CARRIERS = {"0000": "v27ter-2400", "0100": "v27ter-4800", "1100": "v29-7200", "1000": "v29-9600"}
 CARRIERS |= {"1101": "v17-7200", "1001": "v17-9600", "0101": "v17-12000", "0001": "v17-14400"}
 RATES = {name: int(name.partition("-")[2]) for name in CARRIERS.values()} | {"v21": 300}
-WAITS = {"t1": 35000, "t2": 6000, "t4": 3000, "t5": 60000}
+WAITS = {"t1": 35000, "t2": 7000, "t4": 3000, "t5": 60000}
 FIRST_DIS = 1000
 LINE = re.compile(
     rb"(?P<word>quiet|busy|not-ready|ready|stop|end) (?P<at>[0-9]{1,15})"

@@ -58,13 +58,13 @@ def worst_phase(lines):
 
 
 class TimedLine(OctetLine):
-    """A line that knows how long the waits were that are over, in seconds: T1 35 s, T2 6 s, T4 3 s and T5 60 s."""
+    """A line that knows how long the waits were that are over, in seconds: T1 35 s, T2 7 s, T4 3 s and T5 60 s."""
 
     waited = 0
 
     def event(self, word):
         waits_for_dis = self.caller.state == "WaitDis"
-        self.waited += {"caller-timeout": 35 if waits_for_dis else 3, "caller-t5": 60, "answerer-t1": 35, "answerer-t2": 6}.get(word, 0)
+        self.waited += {"caller-timeout": 35 if waits_for_dis else 3, "caller-t5": 60, "answerer-t1": 35, "answerer-t2": 7}.get(word, 0)
         return super().event(word)
 
     def seconds(self):

@@ -542,7 +542,7 @@ class Calls(unittest.TestCase):
     def test_ends(self):
         answerer = g3fax.Answerer()
         self.assertEqual(answerer.state[2:], (Listens.V21, None, Wait.T2, Wait.T1, None))
-        self.assertEqual([wait.millis for wait in Wait], [35000, 6000, 3000, 60000])
+        self.assertEqual([wait.millis for wait in Wait], [35000, 7000, 3000, 60000])
         bursts = list(answerer.bursts())
         self.assertEqual([(burst.carrier, burst.check, burst.last) for burst in bursts], [(Carrier.V21, False, True)])
         contents, _ = g3fax.frames(bursts[0].octets)

@@ -35,7 +35,7 @@ _faxtool_values() {
         --widest) echo 1728 2048 2432 ;;
         --limit) echo 2 10 ;;
         --t1) echo 35000 ;;
-        --t2) echo 6000 ;;
+        --t2) echo 7000 ;;
         --t4) echo 3000 ;;
         --t5) echo 60000 ;;
     esac

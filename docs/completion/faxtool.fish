@@ -75,7 +75,7 @@ complete -c faxtool -n '__fish_seen_subcommand_from station' -l limit -x -a '2 1
 complete -c faxtool -n '__fish_seen_subcommand_from station' -l frame -x -a '256 64' -d 'The octets of data in a frame, 256 or 64, 256 if not said (with --call)'
 complete -c faxtool -n '__fish_seen_subcommand_from station' -l fine -d 'Sends 7.7 lines a millimetre in place of 3.85 (with --call)'
 complete -c faxtool -n '__fish_seen_subcommand_from station' -l t1 -x -a '35000' -d 'How long T1 runs in milliseconds, 35000 if not said'
-complete -c faxtool -n '__fish_seen_subcommand_from station' -l t2 -x -a '6000' -d 'How long T2 runs in milliseconds, 6000 if not said'
+complete -c faxtool -n '__fish_seen_subcommand_from station' -l t2 -x -a '7000' -d 'How long T2 runs in milliseconds, 7000 if not said'
 complete -c faxtool -n '__fish_seen_subcommand_from station' -l t4 -x -a '3000' -d 'How long T4 runs in milliseconds, 3000 if not said'
 complete -c faxtool -n '__fish_seen_subcommand_from station' -l t5 -x -a '60000' -d 'How long T5 runs in milliseconds, 60000 if not said'
 complete -c faxtool -n '__fish_seen_subcommand_from station' -l trace -r -F -d 'The file that what is heard and said is written to, with its time'

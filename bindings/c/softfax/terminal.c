@@ -6,7 +6,7 @@
 #include <stdlib.h>
 #include <string.h>
 
-/* Durations in milliseconds. The waits of T.30 are those of the library, g3_wait_millis, but T2. */
+/* Durations in milliseconds. The waits of T.30 are those of the library, g3_wait_millis. */
 enum {
     BEFORE_CED = 1800,        /* an answerer is silent at first, and then says CED (T.30, 4) */
     CED = 2600,
@@ -15,7 +15,6 @@ enum {
     LONGEST_UNREAD = 6000,    /* a signal with no frame where no page is awaited: after that it is the line's hiss */
     LONGEST_READ = 60000,     /* a signal with frames on and on, beside the longest block: nobody who means it says more at once */
     LONGEST_CRACKLE = 300000, /* a line that is never silent for long, with no frame: T1 is over, whatever else is heard */
-    LONGER_T2 = 7000,         /* T.30 has 6 s and a sixth to either side: by 7 s a caller's T4, 3 s, has run out twice for certain */
     LATEST_CHECK = 3600,      /* after a DCS: 75 ms, 1.4 s of V.17's training, 1.5 s, and how late the other side may be */
     LEAST_CHECK = 1000,       /* a signal that may have been a training check that couldn't be read */
     LEAST_SIGNAL = 700,       /* a shorter one without a frame is a crackle, or the echo of our own CNG: no wait runs anew from it */
@@ -321,7 +320,7 @@ static void hush(terminal *it)
 /* Whether a wait that runs since a time is over. */
 static int is_past(const terminal *it, uint32_t wait, int64_t since)
 {
-    return wait != 0 && it->now - since >= (wait == G3_T2 ? LONGER_T2 : g3_wait_millis(wait));
+    return wait != 0 && it->now - since >= g3_wait_millis(wait);
 }
 
 /* Whether the wait that runs is over. T1 of a caller runs from what was heard last. The others run from our last turn or the last signal,

@@ -1,4 +1,5 @@
 pub mod Clocks
+pub mod Expecting
 pub mod TalkedLines
 mod HexPieces
 pub mod Led

@@ -20,7 +20,7 @@ use Rattle.terminals.specs.BurstSizes.{AnswerersBurstsAreShort, CallersBurstsAre
 use Rattle.terminals.specs.declared.sending.SentBurst.{SentBurst}
 use Rattle.conversations.specs.LineLaws.{ChannelsHaveNames, FitsALine, KindsHaveNames, PlainSaid, ReadsWhatIsSent, SaysOneThing}
 use Rattle.conversations.specs.LineLaws.{AnswerersFitLines, CallersFitLines, SentFitsALine}
-use Rattle.conversations.specs.LineLaws.{quiet, busy, not_ready, ready, stop, ended, received, plain_said, rx_line}
+use Rattle.conversations.specs.LineLaws.{quiet, busy, not_ready, ready, missed, stop, ended, received, plain_said, rx_line}
 use Rattle.conversations.specs.Lines.{AreBits, IsBurst, IsNumber, IsReceived, IsWordOf, ReceivedAfter}
 use Rattle.conversations.specs.Lines.{channel_name, kind_name, octets_for, spaced}
 use Rattle.conversations.specs.Writing.{burst_words, channel_of, kind_of}
@@ -29,7 +29,7 @@ use Rattle.conversations.specs.declared.carrier.Channel.TheVariants.{V21, Messag
 use Rattle.conversations.specs.declared.carrier.Kind.{Kind}
 use Rattle.conversations.specs.declared.carrier.Kind.TheVariants.{Frames, Check}
 use Rattle.conversations.specs.declared.line.Said.{Said}
-use Rattle.conversations.specs.declared.line.Said.TheVariants.{Quiet, Busy, Received, NotReady, Ready, Stop, End}
+use Rattle.conversations.specs.declared.line.Said.TheVariants.{Quiet, Busy, Received, NotReady, Ready, Missed, Stop, End}
 use Rattle.conversations.specs.declared.line.TimedLine.{TimedLine}
 use Rattle.conversations.proofs.Words.{bits_are, channel_solid, kind_solid, number_solid, one_number, same_cut, word_is_not_rx, word_solid}
 use Rattle.conversations.proofs.Words.{rx_solid}
@@ -84,7 +84,8 @@ word_back word =
     (cond (nat_eq (at word 0) 98) busy
     (cond (nat_eq (at word 0) 110) not_ready
     (cond (nat_eq (at word 0) 114) ready
-    (cond (nat_eq (at word 0) 115) stop ended))))
+    (cond (nat_eq (at word 0) 109) missed
+    (cond (nat_eq (at word 0) 115) stop ended)))))
 
 is_said_back : (word : List ℕ) (said : Said) → IsWordOf word said → plain_said said ≡ word_back word
 is_said_back word Quiet h = rw h refl
@@ -92,6 +93,7 @@ is_said_back word Busy h = rw h refl
 is_said_back word (Received channel kind bits octets) h = absurd h
 is_said_back word NotReady h = rw h refl
 is_said_back word Ready h = rw h refl
+is_said_back word Missed h = rw h refl
 is_said_back word Stop h = rw h refl
 is_said_back word End h = rw h refl
 
@@ -120,12 +122,14 @@ one_received text (Received c k n xs) Quiet h g = absurd g
 one_received text (Received c k n xs) Busy h g = absurd g
 one_received text (Received c k n xs) NotReady h g = absurd g
 one_received text (Received c k n xs) Ready h g = absurd g
+one_received text (Received c k n xs) Missed h g = absurd g
 one_received text (Received c k n xs) Stop h g = absurd g
 one_received text (Received c k n xs) End h g = absurd g
 one_received text Quiet other h g = absurd h
 one_received text Busy other h g = absurd h
 one_received text NotReady other h g = absurd h
 one_received text Ready other h g = absurd h
+one_received text Missed other h g = absurd h
 one_received text Stop other h g = absurd h
 one_received text End other h g = absurd h
 

@@ -7,6 +7,7 @@ use Rattle.conversations.proofs.ServedLines.{AreAmong, Serves, all_read_among, b
 use Rattle.conversations.proofs.ServedLines.{serves_more, step_serves, taken_serves}
 use Rattle.conversations.specs.Answering.{StoreStep, StoresEach, limited_behaviour, pages_of}
 use Rattle.conversations.specs.Conversations.{ConversationFields, Gives, PlainGiven, SendsIfBegun, TakesLine, gives, heard_given, line_gives}
+use Rattle.conversations.specs.Conversations.{missed_given}
 use Rattle.conversations.specs.Conversations.{over_given, nothing, stopping, losing, frames, input}
 use Rattle.conversations.specs.Conversing.{AnswersAll, AnswersNext, TalkState}
 use Rattle.conversations.specs.Lines.{Says}
@@ -18,7 +19,7 @@ use Rattle.conversations.specs.Hearing.{heard_as}
 use Rattle.conversations.specs.declared.hearing.Heard.{Heard}
 use Rattle.conversations.specs.declared.hearing.Heard.TheVariants.{Frames, Check, Nothing}
 use Rattle.conversations.specs.declared.line.Said.{Said}
-use Rattle.conversations.specs.declared.line.Said.TheVariants.{Quiet, Busy, Received, NotReady, Ready, Stop, End}
+use Rattle.conversations.specs.declared.line.Said.TheVariants.{Quiet, Busy, Received, NotReady, Ready, Missed, Stop, End}
 use Rattle.conversations.specs.declared.line.TimedLine.{TimedLine}
 use Rattle.conversations.specs.declared.clock.Clock.{Clock}
 use Rattle.conversations.specs.declared.clock.Durations.{Durations}
@@ -35,6 +36,8 @@ use Rattle.stations.specs.LimitedServing.{LimitedServes}
 use Rattle.stations.specs.Limiting.{LimitedFields}
 use Rattle.stations.specs.Runs.{IsReadOf, StoredIsRead}
 use Rattle.stations.specs.Taken.{TakenAndThere}
+use Rattle.stations.specs.declared.listening.Listening.{Listening}
+use Rattle.stations.specs.declared.listening.Listening.TheVariants.{V21, Training, V21OrPage, V21ThenPage}
 use Rattle.stations.specs.declared.stopping.Cut.{Cut}
 use Rattle.stations.specs.declared.stopping.Cut.TheVariants.{Stop as StopCut, Loss}
 use Rattle.stations.specs.declared.turn.Turn.{Turn}
@@ -154,6 +157,12 @@ gives_heard Frames said = record { octets = inr refl; none = tt }
 gives_heard Check said = record { octets = inl refl; none = λ signal is. cc }
 gives_heard Nothing said = gives_nothing said
 
+gives_missed : (listens : Listening) (said : Said) → GivesOf (missed_given listens) said
+gives_missed V21 said = gives_nothing said
+gives_missed (Training speed) said = record { octets = inl refl; none = λ signal is. cc }
+gives_missed (V21OrPage speed) said = gives_nothing said
+gives_missed (V21ThenPage speed) said = gives_nothing said
+
 gives_if : (begun : Bool) (g : PlainGiven) (said : Said) → GivesOf g said → GivesOf (cond begun g nothing) said
 gives_if true g said h = h
 gives_if false g said h = gives_nothing said
@@ -167,6 +176,7 @@ gives_of begun side shown c d (Received channel kind bits octets) =
     (gives_heard (heard_as shown.listens channel kind) (Received channel kind bits octets))
 gives_of begun side shown c d NotReady = record { octets = inl refl; none = λ signal is. cc }
 gives_of begun side shown c d Ready = record { octets = inl refl; none = λ signal is. cc }
+gives_of begun side shown c d Missed = gives_if begun _ Missed (gives_missed shown.listens Missed)
 gives_of begun side shown c d Stop = record { octets = inl refl; none = tt }
 gives_of begun side shown c d End = record { octets = inl refl; none = tt }
 

@@ -2,7 +2,7 @@
 use Rattle.std.proofs.Common.{◌≡◌, ◌≤◌, ◌∙◌, Bool, true, ap, refl, subst}
 use Rattle.std.specs.Prelude.{cond}
 use Rattle.conversations.specs.Clocks.{asked_since, clock_at, heard_now}
-use Rattle.conversations.specs.Conversations.{Behaviour, ConversationFields, Gives, PlainGiven, TakesLine, begins, line_gives}
+use Rattle.conversations.specs.Conversations.{Behaviour, ConversationFields, Gives, IsInTime, PlainGiven, TakesLine, begins, line_gives}
 use Rattle.conversations.specs.declared.clock.Clock.{Clock}
 use Rattle.conversations.specs.declared.line.TimedLine.{TimedLine}
 use Rattle.signals.specs.declared.signal.Side.{Side}
@@ -12,11 +12,11 @@ use Rattle.terminals.specs.declared.stopping.Shown.{Shown}
 pub line_taken :
     {S : Type 0} (b : Behaviour S) (old : ConversationFields S) (line : TimedLine) (terminal : TerminalFields S) (clock heard asked : Clock)
     (begun brought : Bool) (given : PlainGiven) (shown later : Shown) (side : Side) →
-    old.clock.now ≤ line.at → b.shows old.terminal.speaking.station shown → side ≡ b.side → clock ≡ clock_at old.clock line.said line.at →
+    IsInTime old line → b.shows old.terminal.speaking.station shown → side ≡ b.side → clock ≡ clock_at old.clock line.said line.at →
     given ≡ line_gives old.begun side shown clock old.durations line.said → Gives b old.terminal given terminal brought →
     b.shows terminal.speaking.station later → heard ≡ heard_now brought clock → asked ≡ asked_since later.longer heard →
     begun ≡ cond old.begun true (begins line.said line.at) →
-    TakesLine S b old line (record { terminal = terminal; clock = asked; durations = old.durations; begun = begun })
+    TakesLine S b old line (record { terminal = terminal; clock = asked; durations = old.durations; begun = begun; says = old.says })
 line_taken b old line terminal clock heard asked begun brought given shown later side in_time shows side_is clock_is given_is gave
     shows_later heard_is asked_is begun_is =
     record {
@@ -35,4 +35,5 @@ line_taken b old line terminal clock heard asked begun brought given shown later
       clock = asked_is ∙ (ap (asked_since later.longer) heard_is ∙ ap (λ c. asked_since later.longer (heard_now brought c)) clock_is);
       begun = begun_is;
       durations = refl;
+      says = refl;
     }

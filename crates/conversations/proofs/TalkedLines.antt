@@ -7,7 +7,7 @@ use Rattle.conversations.specs.Conversing.{AnswersAll, AnswersNext, StopsSo, Tal
 use Rattle.conversations.specs.Reading.{TakesLine as ReadsLine}
 use Rattle.conversations.specs.Talking.{IfRefused, IsNoAnswer}
 use Rattle.conversations.specs.declared.talking.AnswerFault.{AnswerFault}
-use Rattle.conversations.specs.declared.talking.AnswerFault.TheVariants.{NoLine, Backwards, NoMemory, Writer, Follower}
+use Rattle.conversations.specs.declared.talking.AnswerFault.TheVariants.{NoLine, OutOfTime, NoMemory, Writer, Follower}
 
 -- lines were answered, and the one of a number comes
 pub record IsTalking {S K : Type 0} (t : Talker S K) (first now : TalkState S K) (number : ℕ) : Type 0 where
@@ -59,7 +59,7 @@ stopped t first input later c d k l v w contents number line NoLine h read none 
     rest = same_state later d c l k (contents w) (contents v) same.0 same.1 (ap contents same.2);
   };
 }
-stopped t first input later c d k l v w contents number line Backwards h read none same = record {
+stopped t first input later c d k l v w contents number line OutOfTime h read none same = record {
   lines = h.lines;
   last = talk_state input c k (contents v);
   answered = h.answered;

@@ -3,10 +3,12 @@ use Rattle.std.proofs.Common.{◌≡◌, ◌∙◌, ◌++◌, ◌∷◌, List, [
 use Rattle.std.proofs.lemmas.List.{append-nil}
 use Rattle.std.proofs.KnownBytes.{Appends-trans}
 use Rattle.std.specs.Io.KnownBytes.{Appends}
-use Rattle.std.specs.Prelude.{ℕ, Bool, true, false, Option, Some, None, Ok, flat_map}
+use Rattle.std.specs.Prelude.{◌↔◌, ℕ, IsSome, IsTrue, Bool, true, false, Option, Some, None, Ok, flat_map}
 use Rattle.conversations.specs.Conversations.{ConversationFields, SendsIfBegun}
-use Rattle.conversations.specs.Talking.{GivesAll, GivesNext, IsOver, WritesTurn}
-use Rattle.conversations.specs.Writing.{tx_line, word_line}
+use Rattle.conversations.specs.Talking.{GivesAll, GivesNext, WritesTurn, rest_text}
+use Rattle.conversations.specs.Clocks.{next_quiet}
+use Rattle.conversations.specs.Writing.{on_lines, rest_lines, tx_line}
+use Rattle.conversations.specs.declared.writing.Says.{Says}
 use Rattle.signals.specs.declared.signal.Side.{Side}
 use Rattle.terminals.specs.Speaking.{BurstsOf}
 use Rattle.terminals.specs.declared.sending.SentBurst.{SentBurst}
@@ -53,14 +55,21 @@ one_given side lends first now next before here after burst way gives line = rec
       (way.all (burst ∷ rest) new (next, gives, is));
 }
 
--- no burst is left, and the word is written
+-- no burst is left, and what comes after them is written
 pub turn_written : {S : Type 0} (side : Side) (lends : BurstsOf S) (shows : S → Shown → Type 0) (first now new : ConversationFields S)
     (before here after : Option (List ℕ)) (over : Bool) → IsGiving side lends first now before here →
-    GivesNext side lends now None new → IsOver shows new over → Appends here after (word_line over) →
-    WritesTurn S side lends shows first new before after over
-turn_written side lends shows first now new before here after over way none is_over word = record {
+    GivesNext side lends now None new → (shown : Shown) → shows new.terminal.speaking.station shown → (IsTrue over ↔ IsSome shown.end) →
+    Appends here after (rest_text side new shown) → WritesTurn S side lends shows first new before after over
+turn_written side lends shows first now new before here after over way none shown so is_over rest = record {
   bursts = way.done;
   gives = subst (λ (l : List SentBurst). GivesAll side lends first l new) (append-nil way.done) (way.all [] new none);
-  is_over = is_over;
-  writes = Appends-trans before here after (flat_map tx_line way.done) (word_line over) way.written word;
+  rest = rest_text side new shown;
+  says_rest = (shown, so, is_over, refl);
+  writes = Appends-trans before here after (flat_map tx_line way.done) (rest_text side new shown) way.written rest;
 }
+
+-- what is said after the bursts, of values that are equal
+pub rest_is : {S : Type 0} (side : Side) (c : ConversationFields S) (shown : Shown) (says : Says) (begun : Bool) (at : Option ℕ) →
+    says ≡ c.says → begun ≡ c.begun → at ≡ next_quiet c.begun side shown c.clock c.durations →
+    rest_lines shown.end (on_lines says begun shown.listens at) ≡ rest_text side c shown
+rest_is side c shown says begun at says_is begun_is at_is = rw (says_is, begun_is, at_is) refl

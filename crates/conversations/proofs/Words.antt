@@ -17,7 +17,7 @@ use Rattle.hex.specs.declared.error.FromHexError.{FromHexError}
 use Rattle.conversations.specs.Lines.{AreBits, HasNoSpace, IsBurst, IsNumber, IsReceived, IsWordOf, ReceivedAfter, Says, SaysNothing}
 use Rattle.conversations.specs.Lines.{channel_name, kind_name, octets_for, spaced}
 use Rattle.conversations.specs.declared.line.Said.{Said}
-use Rattle.conversations.specs.declared.line.Said.TheVariants.{Quiet, Busy, Received, NotReady, Ready, Stop, End}
+use Rattle.conversations.specs.declared.line.Said.TheVariants.{Quiet, Busy, Received, NotReady, Ready, Missed, Stop, End}
 use Rattle.conversations.specs.declared.line.TimedLine.{TimedLine}
 use Rattle.std.proofs.Common.{inl, inr}
 use Rattle.std.proofs.Common.{MatchResult}
@@ -215,6 +215,7 @@ module _ (text digits after : List ℕ) (solid : HasNoSpace digits) (cut : text 
       not_received (Received channel kind bits octets) h = none channel kind bits octets.items h
       not_received NotReady h = h
       not_received Ready h = h
+      not_received Missed h = h
       not_received Stop h = h
       not_received End h = h
 
@@ -238,6 +239,7 @@ word_solid word Busy h = rw h (solid_at (codes "busy") refl)
 word_solid word (Received channel kind bits octets) h = absurd h
 word_solid word NotReady h = rw h (solid_at (codes "not-ready") refl)
 word_solid word Ready h = rw h (solid_at (codes "ready") refl)
+word_solid word Missed h = rw h (solid_at (codes "missed") refl)
 word_solid word Stop h = rw h (solid_at (codes "stop") refl)
 word_solid word End h = rw h (solid_at (codes "end") refl)
 
@@ -251,6 +253,7 @@ word_is_not_rx word Busy h is = cc (sym h ∙ is)
 word_is_not_rx word (Received channel kind bits octets) h is = h
 word_is_not_rx word NotReady h is = cc (sym h ∙ is)
 word_is_not_rx word Ready h is = cc (sym h ∙ is)
+word_is_not_rx word Missed h is = cc (sym h ∙ is)
 word_is_not_rx word Stop h is = cc (sym h ∙ is)
 word_is_not_rx word End h is = cc (sym h ∙ is)
 

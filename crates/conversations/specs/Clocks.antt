@@ -1,9 +1,9 @@
 -- The times that the waits of a station run from, and the wait that is over at a quiet line (T.30, 5.4.3.1).
-use Rattle.std.specs.Prelude.{ℕ, ◌≡◌, ◌≢◌, ◌⊎◌, ◌+◌, ◌≤◌, Bool, false, cond, nat_le, Option, Some, None}
+use Rattle.std.specs.Prelude.{ℕ, ◌≡◌, ◌≢◌, ◌⊎◌, ◌↔◌, ◌+◌, ◌≤◌, Bool, true, false, cond, nat_le, Option, Some, None}
 use Rattle.conversations.specs.declared.clock.Clock.{Clock}
 use Rattle.conversations.specs.declared.clock.Durations.{Durations}
 use Rattle.conversations.specs.declared.line.Said.{Said}
-use Rattle.conversations.specs.declared.line.Said.TheVariants.{Quiet, Busy, Received, NotReady, Ready, Stop, End}
+use Rattle.conversations.specs.declared.line.Said.TheVariants.{Quiet, Busy, Received, NotReady, Ready, Missed, Stop, End}
 use Rattle.signals.specs.declared.signal.Side.{Side}
 use Rattle.signals.specs.declared.signal.Side.TheVariants.{Caller, Answerer}
 use Rattle.stations.specs.declared.waiting.Wait.{Wait}
@@ -33,6 +33,7 @@ calm_at calm Busy at = None
 calm_at calm (Received channel kind bits octets) at = None
 calm_at calm NotReady at = calm
 calm_at calm Ready at = calm
+calm_at calm Missed at = calm
 calm_at calm Stop at = calm
 calm_at calm End at = calm
 
@@ -123,3 +124,39 @@ abbrev pub CalmIsQuiet : Type 0
 CalmIsQuiet =
     (c : Clock) (at : ℕ) (later : ℕ) → ((clock_at c Busy at).calm ≡ None) × ((after_burst c).calm ≡ None) ×
     ((clock_at (clock_at c Busy at) Quiet later).calm ≡ Some later) × ((clock_at (after_burst c) Quiet later).calm ≡ Some later)
+
+-- when a duration since a time has passed
+abbrev pub due : Option ℕ → ℕ → Option ℕ
+due None passed = None
+due (Some since) passed = Some (since + passed)
+
+-- when the wait that a station shows is over, if nothing comes before
+abbrev pub running_due : Side → Option Wait → Clock → Durations → Option ℕ
+running_due side None c d = None
+running_due side (Some wait) c d = due (runs_from side c wait) (duration d wait)
+
+-- when the longer wait is over, if nothing comes before
+abbrev pub longer_due : Option Wait → Clock → Durations → Option ℕ
+longer_due None c d = None
+longer_due (Some wait) c d = due (longer_runs_from c wait) (duration d wait)
+
+-- the earlier one of two times, of which each may be missing
+abbrev pub earlier : Option ℕ → Option ℕ → Option ℕ
+earlier None other = other
+earlier (Some one) None = Some one
+earlier (Some one) (Some other) = Some (cond (nat_le one other) one other)
+
+-- when the first of the waits that a station shows is over, if nothing comes before
+abbrev pub wait_due : Side → Shown → Clock → Durations → Option ℕ
+wait_due side shown c d = earlier (longer_due shown.longer c d) (running_due side shown.running c d)
+
+-- the time from which a quiet line does something: a station that has begun ends a wait then, and an answerer that hasn't begins
+abbrev pub next_quiet : Bool → Side → Shown → Clock → Durations → Option ℕ
+next_quiet true side shown c d = wait_due side shown c d
+next_quiet false side shown c d = Some 1000
+
+-- The law: at this clock a wait is over at a time exactly if the time at which the first one is over is named, and isn't later.
+abbrev pub WaitsAreNamed : Type 0
+WaitsAreNamed =
+    (side : Side) (shown : Shown) (c : Clock) (d : Durations) (now : ℕ) →
+    (wait_over side shown (record c { now = now }) d ≢ None) ↔ ((at : ℕ) × (wait_due side shown c d ≡ Some at) × (at ≤ now))

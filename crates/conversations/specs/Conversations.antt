@@ -1,11 +1,11 @@
 -- The conversation of a station as a process: what each line gives the station, and when its waits are over.
-use Rattle.std.specs.Prelude.{ℕ, ◌≡◌, ◌⊎◌, ◌<◌, ◌≤◌, ◌++◌, Bool, true, false, cond, nat_le, nat_lt, List, Option, Some, None, Result, Ok, Err}
+use Rattle.std.specs.Prelude.{ℕ, ◌≡◌, ◌⊎◌, ◌<◌, ◌≤◌, ◌+◌, ◌++◌, [], ◌∷◌, Bool, true, false, cond, max, nat_le, nat_lt, List, Option, Some, None, Result, Ok, Err}
 use Rattle.conversations.specs.Clocks.{after_burst, asked_since, clock_at, heard_now, new_clock, wait_over}
 use Rattle.conversations.specs.Hearing.{heard_as}
 use Rattle.conversations.specs.declared.clock.Clock.{Clock}
 use Rattle.conversations.specs.declared.clock.Durations.{Durations}
 use Rattle.conversations.specs.declared.conversation.TakeFault.{TakeFault}
-use Rattle.conversations.specs.declared.conversation.TakeFault.TheVariants.{Backwards, NoMemory}
+use Rattle.conversations.specs.declared.conversation.TakeFault.TheVariants.{OutOfTime, NoMemory}
 use Rattle.conversations.specs.declared.giving.Given.{Given}
 use Rattle.conversations.specs.declared.giving.Given.TheVariants.{Nothing as GivenNothing, Frames as GivenFrames, Check as GivenCheck}
 use Rattle.conversations.specs.declared.giving.Given.TheVariants.{Over as GivenOver, Busy as GivenBusy, Stop as GivenStop}
@@ -13,9 +13,12 @@ use Rattle.conversations.specs.declared.giving.Given.TheVariants.{Loss as GivenL
 use Rattle.conversations.specs.declared.hearing.Heard.{Heard}
 use Rattle.conversations.specs.declared.hearing.Heard.TheVariants.{Frames, Check, Nothing}
 use Rattle.conversations.specs.declared.line.Said.{Said}
-use Rattle.conversations.specs.declared.line.Said.TheVariants.{Quiet, Busy, Received, NotReady, Ready, Stop, End}
+use Rattle.conversations.specs.declared.line.Said.TheVariants.{Quiet, Busy, Received, NotReady, Ready, Missed, Stop, End}
 use Rattle.conversations.specs.declared.line.TimedLine.{TimedLine}
+use Rattle.conversations.specs.declared.writing.Says.{Says}
 use Rattle.signals.specs.declared.signal.Side.{Side}
+use Rattle.stations.specs.declared.listening.Listening.{Listening}
+use Rattle.stations.specs.declared.listening.Listening.TheVariants.{V21, Training, V21OrPage, V21ThenPage}
 use Rattle.stations.specs.declared.stopping.Cut.{Cut}
 use Rattle.stations.specs.declared.turn.Turn.{Turn}
 use Rattle.stations.specs.declared.waiting.Wait.{Wait}
@@ -57,6 +60,14 @@ heard_given Frames octets = frames octets
 heard_given Check octets = input (check octets)
 heard_given Nothing octets = nothing
 
+-- if what was to be heard doesn't come, a station that listens for a training check has heard one without an octet, which is bad; nothing
+-- is given of a page or of V.21, whose sender speaks again
+abbrev pub missed_given : Listening → PlainGiven
+missed_given V21 = nothing
+missed_given (Training speed) = input (check [])
+missed_given (V21OrPage speed) = nothing
+missed_given (V21ThenPage speed) = nothing
+
 -- What a line gives a station. Until the station has begun nothing is heard and no wait is over.
 abbrev pub line_gives : Bool → Side → Shown → Clock → Durations → Said → PlainGiven
 line_gives begun side shown c d Quiet = cond begun (over_given (wait_over side shown c d)) nothing
@@ -65,6 +76,7 @@ line_gives begun side shown c d (Received channel kind bits octets) =
     cond begun (heard_given (heard_as shown.listens channel kind) octets.items) nothing
 line_gives begun side shown c d NotReady = input (busy true)
 line_gives begun side shown c d Ready = input (busy false)
+line_gives begun side shown c d Missed = cond begun (missed_given shown.listens) nothing
 line_gives begun side shown c d Stop = stopping
 line_gives begun side shown c d End = losing
 
@@ -75,6 +87,7 @@ begins Busy at = false
 begins (Received channel kind bits octets) at = false
 begins NotReady at = false
 begins Ready at = false
+begins Missed at = false
 begins Stop at = true
 begins End at = false
 
@@ -82,10 +95,11 @@ begins End at = false
 abbrev pub brings_frame : List ℕ → List ℕ → Bool
 brings_frame before octets = nat_lt (good_frames before) (good_frames (before ++ octets))
 
--- the input is a training check, which is given only if it is awaited
+-- the input is a training check of at least one octet, which is given only if it is awaited
 abbrev pub is_check : PlainInput → Bool
 is_check (said signal) = false
-is_check (check octets) = true
+is_check (check []) = false
+is_check (check (octet ∷ octets)) = true
 is_check (over wait) = false
 is_check (busy is) = false
 
@@ -123,50 +137,72 @@ LosesFrames b old given new = ⊥
 abbrev pub IsRefused : {S : Type 0} → Behaviour S → TerminalFields S → PlainGiven → TerminalFields S → Type 0
 IsRefused b old given new = (new ≡ old) ⊎ LosesFrames b old given new
 
--- a conversation: its terminal, its clock, how long its waits run, and if it has begun
+-- a conversation: its terminal, its clock, how long its waits run, if it has begun, and what it says beside its bursts
 pub record ConversationFields (S : Type 0) : Type 0 where
   pub terminal : TerminalFields S
   pub clock : Clock
   pub durations : Durations
   pub begun : Bool
+  pub says : Says
+
+-- nothing is said beside bursts and a word
+abbrev pub says_least : Says
+says_least = record { hears = false; waits = false }
 
 -- a new conversation of a station, at time 0
 abbrev pub IsNew : {S : Type 0} → TerminalFields S → Durations → Bool → ConversationFields S → Type 0
-IsNew terminal durations begun new = new ≡ record { terminal = terminal; clock = new_clock; durations = durations; begun = begun }
+IsNew terminal durations begun new =
+    new ≡ record { terminal = terminal; clock = new_clock; durations = durations; begun = begun; says = says_least }
+
+-- How much later than the line before it a line can be, in milliseconds. A line that was quiet and is quiet is said so again before T1 is
+-- over, or 35 s if that is more: a clock that jumps further has stood still, or tells the time of day. A carrier in between may be a block
+-- at 2,400 bit/s, of 275 s: ten minutes are enough
+abbrev pub most_step : Option ℕ → Said → Durations → ℕ
+most_step (Some since) Quiet d = max d.t1 35000
+most_step calm what d = max d.t1 600000
+
+-- the time of a line can follow that of the last one: it isn't before it, nor too late
+abbrev pub IsInTime : {S : Type 0} → ConversationFields S → TimedLine → Type 0
+IsInTime c line = (c.clock.now ≤ line.at) × (line.at ≤ c.clock.now + most_step c.clock.calm line.said c.durations)
+
+-- it can't: it is before that of the last line, or too late
+abbrev pub IsOutOfTime : {S : Type 0} → ConversationFields S → TimedLine → Type 0
+IsOutOfTime c line = (line.at < c.clock.now) ⊎ (c.clock.now + most_step c.clock.calm line.said c.durations < line.at)
 
 -- what a line gives the station of a conversation, by what the station shows
 abbrev pub gives : {S : Type 0} → Behaviour S → ConversationFields S → Shown → TimedLine → PlainGiven
 gives b old shown line = line_gives old.begun b.side shown (clock_at old.clock line.said line.at) old.durations line.said
 
--- A line was taken, at a time not before the line before it: the terminal was given what it gives, and the clock and the beginning were
+-- A line was taken, at a time that can follow that of the line before it: the terminal was given what it gives, and the clock and the beginning were
 -- noted.
 pub record TakesLine (S : Type 0) (b : Behaviour S) (old : ConversationFields S) (line : TimedLine) (new : ConversationFields S) :
     Type 0 where
   pub shown : Shown
   pub later : Shown
   pub brought : Bool
-  pub in_time : old.clock.now ≤ line.at
+  pub in_time : IsInTime old line
   pub shows : b.shows old.terminal.speaking.station shown
   pub given : Gives b old.terminal (gives b old shown line) new.terminal brought
   pub shows_later : b.shows new.terminal.speaking.station later
   pub clock : new.clock ≡ asked_since later.longer (heard_now brought (clock_at old.clock line.said line.at))
   pub begun : new.begun ≡ cond old.begun true (begins line.said line.at)
   pub durations : new.durations ≡ old.durations
+  pub says : new.says ≡ old.says
 
 -- memory was refused at a line: all but the terminal is as it was
 pub record RefusesLine (S : Type 0) (b : Behaviour S) (old : ConversationFields S) (line : TimedLine) (new : ConversationFields S) :
     Type 0 where
   pub shown : Shown
-  pub in_time : old.clock.now ≤ line.at
+  pub in_time : IsInTime old line
   pub shows : b.shows old.terminal.speaking.station shown
   pub given : IsRefused b old.terminal (gives b old shown line) new.terminal
   pub rest : new ≡ record old { terminal = new.terminal }
 
--- a line was taken; or its time is before that of the line before it, and nothing has changed; or memory was refused
+-- a line was taken; or its time can't follow that of the line before it, and nothing has changed; or memory was refused
 abbrev pub TakesOrRefuses :
     {S : Type 0} → Behaviour S → ConversationFields S → TimedLine → ConversationFields S → Result (Unit {0}) TakeFault → Type 0
 TakesOrRefuses {S} b old line new (Ok done) = TakesLine S b old line new
-TakesOrRefuses b old line new (Err Backwards) = (line.at < old.clock.now) × (new ≡ old)
+TakesOrRefuses b old line new (Err OutOfTime) = IsOutOfTime old line × (new ≡ old)
 TakesOrRefuses {S} b old line new (Err NoMemory) = RefusesLine S b old line new
 
 -- the clock after a burst was given, or none was

@@ -1,7 +1,7 @@
 -- A whole conversation: the lines of a reader, answered one after the other.
 use Rattle.std.specs.Prelude.{ℕ, ◌≡◌, ◌⊎◌, ◌<◌, ◌+◌, ◌∷◌, [], ⊤, Bool, true, false, List, Option, length}
 use Rattle.std.specs.Io.KnownBytes.{Consumes, IsAtEnd}
-use Rattle.conversations.specs.Conversations.{Behaviour, ConversationFields, TakesLine}
+use Rattle.conversations.specs.Conversations.{Behaviour, ConversationFields, IsOutOfTime, TakesLine}
 use Rattle.conversations.specs.Lines.{Says, SaysNothing}
 use Rattle.conversations.specs.Reading.{TakesTooMany}
 use Rattle.conversations.specs.Reading.{TakesLine as ReadsLine}
@@ -13,7 +13,7 @@ use Rattle.conversations.specs.declared.conversing.Ending.TheVariants.{Over, Los
 use Rattle.conversations.specs.declared.line.Said.TheVariants.{End}
 use Rattle.conversations.specs.declared.line.TimedLine.{TimedLine}
 use Rattle.conversations.specs.declared.talking.AnswerFault.{AnswerFault}
-use Rattle.conversations.specs.declared.talking.AnswerFault.TheVariants.{NoLine, Backwards}
+use Rattle.conversations.specs.declared.talking.AnswerFault.TheVariants.{NoLine, OutOfTime}
 use Rattle.conversations.specs.declared.talking.AnswerFault.TheVariants.{NoMemory as NoMemoryLeft, Writer as WriterFailed}
 use Rattle.conversations.specs.declared.talking.AnswerFault.TheVariants.{Follower as FollowerFailed}
 use Rattle.terminals.specs.Speaking.{BurstsOf}
@@ -77,9 +77,9 @@ pub record Converses (S K E : Type 0) (t : Talker S K) (old new : TalkState S K)
   pub answered : AnswersAll t lines old last
   pub ends : EndsSo t last new ending
 
--- octets are none of a station's lines, or their time runs back
+-- octets are none of a station's lines, or their time can't follow
 abbrev pub IsNoLine : {S : Type 0} → ConversationFields S → List ℕ → Type 0
-IsNoLine c line = SaysNothing line ⊎ ((timed : TimedLine) × Says line timed × (timed.at < c.clock.now))
+IsNoLine c line = SaysNothing line ⊎ ((timed : TimedLine) × Says line timed × IsOutOfTime c timed)
 
 -- the next line is too long, or it is read and isn't answered: all else is as it was
 pub record RefusesNext (S K : Type 0) (old new : TalkState S K) : Type 0 where
@@ -114,7 +114,7 @@ StopsSo t old new TooManyLines = ⊤
 -- the fault of a conversation whose line of this number, from 1, isn't answered
 abbrev pub unanswered : {F : Type 0} → AnswerFault F → ℕ → ConverseFault F
 unanswered NoLine number = Line number
-unanswered Backwards number = Line number
+unanswered OutOfTime number = Line number
 unanswered NoMemoryLeft number = NoMemory
 unanswered (WriterFailed kind) number = Writer kind
 unanswered (FollowerFailed fault) number = Follower fault

@@ -1,9 +1,10 @@
 -- What a station hears of a carrier of the other side (T.30, 5.3 and Annex A).
-use Rattle.std.specs.Prelude.{ℕ, Bool, cond, nat_eq}
+use Rattle.std.specs.Prelude.{ℕ, ◌≡◌, ◌≢◌, ◌⊎◌, ◌↔◌, Bool, cond, nat_eq, Option, Some, None}
 use Rattle.conversations.specs.declared.carrier.Channel.{Channel}
 use Rattle.conversations.specs.declared.carrier.Channel.TheVariants.{V21 as ByV21, Message}
 use Rattle.conversations.specs.declared.carrier.Kind.{Kind}
 use Rattle.conversations.specs.declared.carrier.Kind.TheVariants.{Frames, Check}
+use Rattle.conversations.specs.declared.hearing.Expected.{Expected}
 use Rattle.conversations.specs.declared.hearing.Heard.{Heard}
 use Rattle.conversations.specs.declared.hearing.Heard.TheVariants.{Frames as HeardFrames, Check as HeardCheck, Nothing}
 use Rattle.signals.specs.declared.params.Speed.{Speed}
@@ -48,3 +49,25 @@ heard_as listens ByV21 Frames = HeardFrames
 heard_as listens ByV21 Check = Nothing
 heard_as listens (Message speed) Frames = page_heard listens speed
 heard_as listens (Message speed) Check = check_heard listens speed
+
+-- what is expected first: a training check or a page before V.21, unless V.21 comes first
+abbrev pub expected_first : Listening → Expected
+expected_first V21 = record { channel = ByV21; kind = Frames }
+expected_first (Training speed) = record { channel = Message speed; kind = Check }
+expected_first (V21OrPage speed) = record { channel = Message speed; kind = Frames }
+expected_first (V21ThenPage speed) = record { channel = ByV21; kind = Frames }
+
+-- what is expected after it, or in its place: V.21 after a training check or a page, and a page after V.21
+abbrev pub expected_then : Listening → Option Expected
+expected_then V21 = None
+expected_then (Training speed) = Some (record { channel = ByV21; kind = Frames })
+expected_then (V21OrPage speed) = Some (record { channel = ByV21; kind = Frames })
+expected_then (V21ThenPage speed) = Some (record { channel = Message speed; kind = Frames })
+
+-- a station expects this, first or then
+abbrev pub IsExpected : Listening → Expected → Type 0
+IsExpected listens it = (it ≡ expected_first listens) ⊎ (Some it ≡ expected_then listens)
+
+-- The law: a station expects what it hears, and nothing else.
+abbrev pub ExpectsWhatIsHeard : Type 0
+ExpectsWhatIsHeard = (listens : Listening) (it : Expected) → IsExpected listens it ↔ (heard_as listens it.channel it.kind ≢ Nothing)

@@ -17,7 +17,7 @@ use Rattle.conversations.specs.Writing.{burst_words, channel_of, kind_of}
 use Rattle.conversations.specs.declared.carrier.Channel.{Channel}
 use Rattle.conversations.specs.declared.carrier.Kind.{Kind}
 use Rattle.conversations.specs.declared.line.Said.{Said}
-use Rattle.conversations.specs.declared.line.Said.TheVariants.{Quiet, Busy, Received, NotReady, Ready, Stop, End}
+use Rattle.conversations.specs.declared.line.Said.TheVariants.{Quiet, Busy, Received, NotReady, Ready, Missed, Stop, End}
 use Rattle.conversations.specs.declared.line.TimedLine.{TimedLine}
 
 -- The law: two carriers have two names.
@@ -30,7 +30,7 @@ KindsHaveNames = (one other : Kind) → kind_name one ≡ kind_name other → on
 
 -- what a line says, with octets as a list
 pub data PlainSaid : Type 0 where
-  quiet busy not_ready ready stop ended : PlainSaid
+  quiet busy not_ready ready missed stop ended : PlainSaid
   received : Channel → Kind → ℕ → List ℕ → PlainSaid
 
 -- the plain value of what a line says
@@ -40,6 +40,7 @@ plain_said Busy = busy
 plain_said (Received channel kind bits octets) = received channel kind bits octets.items
 plain_said NotReady = not_ready
 plain_said Ready = ready
+plain_said Missed = missed
 plain_said Stop = stop
 plain_said End = ended
 

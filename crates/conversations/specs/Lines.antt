@@ -10,7 +10,7 @@ use Rattle.conversations.specs.declared.carrier.Channel.TheVariants.{V21, Messag
 use Rattle.conversations.specs.declared.carrier.Kind.{Kind}
 use Rattle.conversations.specs.declared.carrier.Kind.TheVariants.{Frames, Check}
 use Rattle.conversations.specs.declared.line.Said.{Said}
-use Rattle.conversations.specs.declared.line.Said.TheVariants.{Quiet, Busy, Received, NotReady, Ready, Stop, End}
+use Rattle.conversations.specs.declared.line.Said.TheVariants.{Quiet, Busy, Received, NotReady, Ready, Missed, Stop, End}
 use Rattle.conversations.specs.declared.line.TimedLine.{TimedLine}
 
 -- words with one space between two of them
@@ -69,6 +69,7 @@ IsWordOf word Busy = word ≡ codes "busy"
 IsWordOf word (Received channel kind bits octets) = ⊥
 IsWordOf word NotReady = word ≡ codes "not-ready"
 IsWordOf word Ready = word ≡ codes "ready"
+IsWordOf word Missed = word ≡ codes "missed"
 IsWordOf word Stop = word ≡ codes "stop"
 IsWordOf word End = word ≡ codes "end"
 

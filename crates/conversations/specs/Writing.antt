@@ -1,5 +1,5 @@
 -- What a station as a process writes: a line for each burst that is sent, and a word after them.
-use Rattle.std.specs.Prelude.{◌++◌, ◌∷◌, [], ℕ, Bool, true, false, List, codes}
+use Rattle.std.specs.Prelude.{◌++◌, ◌∷◌, [], ◌&&◌, ℕ, Bool, true, false, cond, List, Option, Some, None, codes}
 use Rattle.std.specs.Fmt.{decimal}
 use Rattle.hex.specs.Hex.{encode_upper}
 use Rattle.stations.specs.declared.carrier.Carrier.{Carrier}
@@ -9,7 +9,12 @@ use Rattle.conversations.specs.declared.carrier.Channel.{Channel}
 use Rattle.conversations.specs.declared.carrier.Channel.TheVariants as channel
 use Rattle.conversations.specs.declared.carrier.Kind.{Kind}
 use Rattle.conversations.specs.declared.carrier.Kind.TheVariants.{Frames, Check}
+use Rattle.conversations.specs.declared.hearing.Expected.{Expected}
+use Rattle.conversations.specs.declared.writing.Says.{Says}
+use Rattle.conversations.specs.Hearing.{expected_first, expected_then}
 use Rattle.conversations.specs.Lines.{channel_name, kind_name, spaced}
+use Rattle.stations.specs.declared.listening.Listening.{Listening}
+use Rattle.stations.specs.declared.stopping.CallEnd.{CallEnd}
 
 -- the carrier that a burst goes by
 abbrev pub channel_of : Carrier → Channel
@@ -32,7 +37,34 @@ burst_words burst = spaced (channel_name (channel_of burst.carrier) ∷ kind_nam
 abbrev pub tx_line : SentBurst → List ℕ
 tx_line burst = spaced (codes "tx" ∷ burst_words burst ∷ []) ++ 10 ∷ []
 
--- the line after the bursts: `done` if the call is over, else `wait`
-abbrev pub word_line : Bool → List ℕ
-word_line true = codes "done" ++ 10 ∷ []
-word_line false = codes "wait" ++ 10 ∷ []
+-- hear CARRIER KIND: a line of what a station expects
+abbrev pub hear_line : Expected → List ℕ
+hear_line it = spaced (codes "hear" ∷ channel_name it.channel ∷ kind_name it.kind ∷ []) ++ 10 ∷ []
+
+-- the line of what may be expected too, if there is anything
+abbrev pub then_line : Option Expected → List ℕ
+then_line None = []
+then_line (Some it) = hear_line it
+
+-- the lines of what a station that listens for this expects, what comes first in front; none if they aren't wanted
+abbrev pub hear_lines : Bool → Listening → List ℕ
+hear_lines false listens = []
+hear_lines true listens = hear_line (expected_first listens) ++ then_line (expected_then listens)
+
+-- the line of a call that goes on: `wait`, and the time from which a quiet line does something, if it is named
+abbrev pub wait_line : Option ℕ → List ℕ
+wait_line None = codes "wait" ++ 10 ∷ []
+wait_line (Some at) = spaced (codes "wait" ∷ decimal at ∷ []) ++ 10 ∷ []
+
+-- the line of a call that is over
+abbrev pub done_line : List ℕ
+done_line = codes "done" ++ 10 ∷ []
+
+-- the lines after the bursts of a call that goes on: what is expected, once the station has begun, and `wait`; of both only what is wanted
+abbrev pub on_lines : Says → Bool → Listening → Option ℕ → List ℕ
+on_lines says begun listens at = hear_lines (says.hears && begun) listens ++ wait_line (cond says.waits at None)
+
+-- the lines after the bursts: `done` if the call has ended
+abbrev pub rest_lines : Option CallEnd → List ℕ → List ℕ
+rest_lines None on = on
+rest_lines (Some why) on = done_line

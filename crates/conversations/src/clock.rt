@@ -1,6 +1,7 @@
 //! The times that the waits of a station run from.
 
 ghost use Rattle.conversations.specs.Clocks.{after_burst, asked_since, clock_at, duration, heard_now, is_past, longer_over, longer_runs_from};
+ghost use Rattle.conversations.specs.Clocks.{due, earlier, longer_due, running_due, wait_due};
 ghost use Rattle.conversations.specs.Clocks.{new_clock, running_over, runs_from, since_or, wait_over};
 ghost use Rattle.conversations.specs.declared.line.Said.{Said as AnySaid};
 ghost use Rattle.std.specs.Prelude.{◌≡◌};
@@ -17,7 +18,7 @@ use terminals::{Shown, wait_millis};
 pub struct Durations {
     /// T1, for the other station to appear: 35 s in T.30.
     pub t1: u32,
-    /// T2, an answerer's, for a command: 6 s in T.30.
+    /// T2, an answerer's, for a command: 6 s ± 1 s in T.30, and 7 s here.
     pub t2: u32,
     /// T4, a caller's, for an answer: 3 s in T.30.
     pub t4: u32,
@@ -26,7 +27,7 @@ pub struct Durations {
 }
 
 impl Durations {
-    /// The durations of T.30: 35 s, 6 s, 3 s and 60 s.
+    /// The durations of T.30 as `wait_millis` has them: 35 s, 7 s, 3 s and 60 s.
     pub fn of_t30() -> Durations
         ensures { (wait : AnyWait) → duration result wait ≡ wait_millis wait }
     {
@@ -85,7 +86,7 @@ impl Clock {
         let calm = match said {
             Said::Quiet => Some(self.calm.unwrap_or(at)),
             Said::Busy | Said::Received { .. } => None,
-            Said::NotReady | Said::Ready | Said::Stop | Said::End => self.calm,
+            Said::NotReady | Said::Ready | Said::Missed | Said::Stop | Said::End => self.calm,
         };
         Clock {
             now: at,
@@ -133,6 +134,35 @@ impl Clock {
         match self.longer_over(shown.longer, durations) {
             Some(wait) => Some(wait),
             None => self.running_over(side, shown.running, durations),
+        }
+    }
+
+    /// The time at which the first of the two waits that a station shows is over, in milliseconds, if nothing comes before; None if none
+    /// runs yet. It may have passed.
+    pub fn wait_due(self, side: Side, shown: Shown, durations: Durations) -> Option<u128>
+        ensures { result ≡ wait_due side shown self durations }
+    {
+        let longer = self.longer_due(shown.longer, durations);
+        earlier(longer, self.running_due(side, shown.running, durations))
+    }
+
+    /// The time at which the longer wait is over.
+    fn longer_due(self, longer: Option<Wait>, durations: Durations) -> Option<u128>
+        ensures { result ≡ longer_due longer self durations }
+    {
+        match longer {
+            Some(wait) => due(self.longer_from(wait), durations.of(wait)),
+            None => None,
+        }
+    }
+
+    /// The time at which the wait that runs is over.
+    fn running_due(self, side: Side, running: Option<Wait>, durations: Durations) -> Option<u128>
+        ensures { result ≡ running_due side running self durations }
+    {
+        match running {
+            Some(wait) => due(self.from(side, wait), durations.of(wait)),
+            None => None,
         }
     }
 
@@ -189,5 +219,26 @@ impl Clock {
             Some(since) => since as u128 + duration as u128 <= self.now as u128,
             None => false,
         }
+    }
+}
+
+/// When a duration since a time has passed.
+fn due(since: Option<u64>, duration: u32) -> Option<u128>
+    ensures { result ≡ due since duration }
+{
+    match since {
+        Some(since) => Some(since as u128 + duration as u128),
+        None => None,
+    }
+}
+
+/// The earlier one of two times.
+fn earlier(one: Option<u128>, other: Option<u128>) -> Option<u128>
+    ensures { result ≡ earlier one other }
+{
+    match (one, other) {
+        (None, _) => other,
+        (Some(_), None) => one,
+        (Some(one), Some(other)) => Some(if one <= other { one } else { other }),
     }
 }

@@ -1,25 +1,27 @@
 //! The conversation of a station as a process: lines that are taken, and bursts that are given.
 
-ghost use Rattle.conversations.specs.Conversations.{IsNew, SendsIfBegun, TakesOrRefuses, behaviour, with_pages_taken, hung_up_so};
+ghost use Rattle.conversations.specs.Conversations.{IsInTime, IsNew, IsOutOfTime, SendsIfBegun, TakesOrRefuses, behaviour, with_pages_taken, hung_up_so};
+ghost use Rattle.conversations.specs.Clocks.{next_quiet};
 ghost use Rattle.std.specs.Prelude.{◌≡◌, ◌↔◌, IsTrue, IsSome, true, false};
 ghost use Rattle.terminals.specs.declared.stopping.Shown.{Shown as AnyShown};
 
 use crate::clock::{Clock, Durations};
-use crate::giving::{give, has_begun, line_gives};
+use crate::giving::{give, has_begun, line_gives, most_step};
 use crate::line::TimedLine;
+use crate::writing::Says;
 use raster::Page;
 use stations::{CallEnd, LimitedAnswerer, StoppableCaller};
 use std::alloc::AllocError;
 use std::marker::Model;
-use terminals::{SentBurst, Station, Stoppable, Terminal};
+use terminals::{SentBurst, Shown, Station, Stoppable, Terminal};
 use thiserror::Error;
 
 /// Why a line wasn't taken.
 #[derive(Clone, Copy, Debug, PartialEq, Eq, Drop, Error)]
 pub enum TakeFault {
-    /// The line's time is before that of the line before it. Nothing has changed.
-    #[error("time runs back")]
-    Backwards,
+    /// The line's time is before that of the line before it, or too late after it. Nothing has changed.
+    #[error("time runs back or jumps")]
+    OutOfTime,
     /// Memory was refused. Nothing has changed, or frames that the line brought are lost.
     #[error("no memory")]
     NoMemory,
@@ -43,6 +45,7 @@ pub struct Conversation<S: Stoppable> {
     clock: Clock,
     durations: Durations,
     begun: bool,
+    says: Says,
 }
 
 impl<S: Stoppable> Model for Conversation<S> {
@@ -50,7 +53,7 @@ impl<S: Stoppable> Model for Conversation<S> {
 
     ghost Value = { ConversationFields S };
 
-    ghost view = { λ c. record { terminal = c.terminal; clock = c.clock; durations = c.durations; begun = c.begun } };
+    ghost view = { λ c. record { terminal = c.terminal; clock = c.clock; durations = c.durations; begun = c.begun; says = c.says } };
 }
 
 impl Conversation<StoppableCaller> {
@@ -66,6 +69,7 @@ impl Conversation<StoppableCaller> {
             clock: Clock::new(),
             durations,
             begun: true,
+            says: Says::LEAST,
         }
     }
 }
@@ -84,6 +88,7 @@ impl Conversation<LimitedAnswerer> {
             clock: Clock::new(),
             durations,
             begun: false,
+            says: Says::LEAST,
         }
     }
 
@@ -98,13 +103,23 @@ impl Conversation<LimitedAnswerer> {
 }
 
 impl<S: Stoppable> Conversation<S> {
-    /// Takes a line: gives the station what the line says, and sets the clock. Errs with `Backwards` if its time is before that of the line
-    /// before it: nothing has changed. Errs with `NoMemory`: nothing has changed, or frames that the line brought are lost.
+    /// The conversation, which says this beside its bursts from now on.
+    pub fn saying(self, says: Says) -> Conversation<S>
+        ensures { result ≡ record self { says = says } }
+    {
+        let mut conversation = self;
+        conversation.says = says;
+        conversation
+    }
+
+    /// Takes a line: gives the station what the line says, and sets the clock. Errs with `OutOfTime` if its time is before that of the line
+    /// before it; if it is a quiet line after a quiet one, and later by more than T1 and 35 s; or if it is later by more than T1 and ten
+    /// minutes: nothing has changed. Errs with `NoMemory`: nothing has changed, or frames that the line brought are lost.
     pub fn take(&mut self, line: &TimedLine) -> Result<(), TakeFault>
         ensures { TakesOrRefuses (behaviour S.sends S.steps S.shows S.cut_off S.stop_says) self.old line.now self.new result }
     {
-        if line.at < self.clock.now {
-            return Err(TakeFault::Backwards);
+        if self.is_out_of_time(line) {
+            return Err(TakeFault::OutOfTime);
         }
         let clock = self.clock.at(&line.said, line.at);
         let side = self.terminal.station().side();
@@ -151,6 +166,35 @@ impl<S: Stoppable> Conversation<S> {
         ensures { result ≡ self.now.begun }
     {
         self.begun
+    }
+
+    /// True if the time of a line can't follow that of the last one.
+    fn is_out_of_time(&self, line: &TimedLine) -> bool
+        ensures yes { IsTrue result → IsOutOfTime self.now line.now }
+        ensures no { result ≡ false → IsInTime self.now line.now }
+    {
+        let now = self.clock.now;
+        let most = most_step(self.clock.calm, &line.said, self.durations);
+        line.at < now || line.at - now > u64::from(most)
+    }
+
+    /// What the station says beside its bursts.
+    pub(crate) fn says(&self) -> Says
+        ensures { result ≡ self.now.says }
+    {
+        self.says
+    }
+
+    /// The time from which a quiet line does something, by what the station shows, in milliseconds; None if it isn't known yet.
+    pub(crate) fn next_quiet(&self, shown: Shown) -> Option<u128>
+        ensures { result ≡ next_quiet self.now.begun S.sends shown self.now.clock self.now.durations }
+    {
+        if self.begun {
+            let side = self.terminal.station().side();
+            self.clock.wait_due(side, shown, self.durations)
+        } else {
+            Some(1000)
+        }
     }
 
     /// Why the call ended; None while it goes on.

@@ -26,7 +26,7 @@ pub enum Ending<E> {
 /// Why a conversation stopped before its end.
 #[derive(Clone, Copy, Debug, PartialEq, Eq, Drop)]
 pub enum ConverseFault<F> {
-    /// The line of this number, from 1, has more than 400,000 octets, isn't a line of a station, or its time runs back. It has changed
+    /// The line of this number, from 1, has more than 400,000 octets, isn't a line of a station, or its time can't follow. It has changed
     /// nothing but what is left to be read.
     Line(u64),
     /// Memory was refused.
@@ -46,7 +46,7 @@ fn unanswered<F>(fault: AnswerFault<F>, number: u64) -> ConverseFault<F>
     ensures { result ≡ unanswered fault number }
 {
     match fault {
-        AnswerFault::NoLine | AnswerFault::Backwards => ConverseFault::Line(number),
+        AnswerFault::NoLine | AnswerFault::OutOfTime => ConverseFault::Line(number),
         AnswerFault::NoMemory => ConverseFault::NoMemory,
         AnswerFault::Writer(kind) => ConverseFault::Writer(kind),
         AnswerFault::Follower(fault) => ConverseFault::Follower(fault),
@@ -64,13 +64,13 @@ fn lose<S: Stoppable>(conversation: &mut Conversation<S>) -> Result<(), AllocErr
     };
     match conversation.take(&lost) {
         Ok(()) => Ok(()),
-        Err(TakeFault::Backwards | TakeFault::NoMemory) => Err(AllocError),
+        Err(TakeFault::OutOfTime | TakeFault::NoMemory) => Err(AllocError),
     }
 }
 
 /// Reads line after line and answers each, as `answer` does, until the call is over, and returns how it ended. If no line is left before
 /// that, the station's line is lost at the time of the last one; if something that a line brought can't be kept, the conversation ends
-/// after the answer to that line. Errs with `Line` at the first line that is too long, isn't a line of a station, or whose time runs back;
+/// after the answer to that line. Errs with `Line` at the first line that is too long, isn't a line of a station, or whose time can't follow;
 /// with `NoMemory`; and with `Reader`, `Writer` or `Follower` if one of these fails. Holds one line at a time.
 pub fn converse<S: Stoppable, R: Read, K: Keeper<S>, W: Write, F: Follower>(
     alloc: Global,

@@ -1,14 +1,15 @@
 //! What a line gives a station.
 
-ghost use Rattle.conversations.specs.Conversations.{begins, heard_given, line_gives, over_given, plain_given};
-ghost use Rattle.conversations.specs.Conversations.{Gives, IsRefused, behaviour, frames, nothing};
+ghost use Rattle.conversations.specs.Conversations.{begins, heard_given, line_gives, missed_given, most_step, over_given, plain_given};
+ghost use Rattle.conversations.specs.Conversations.{Gives, IsRefused, behaviour, frames, is_check, nothing};
+ghost use Rattle.terminals.specs.Hearing.{check as heard_check};
 ghost use Rattle.std.specs.Prelude.{◌≡◌, cond, true, IfOk, OnErr};
 
 use crate::clock::{Clock, Durations};
 use crate::hearing::{Heard, heard_as};
 use crate::line::Said;
 use signals::Side;
-use stations::Wait;
+use stations::{Listening, Wait};
 use std::alloc::AllocError;
 use terminals::{Shown, Stoppable, Terminal};
 
@@ -53,6 +54,7 @@ pub(crate) fn line_gives<'a>(
         Said::Busy => Given::Nothing,
         Said::NotReady => Given::Busy(true),
         Said::Ready => Given::Busy(false),
+        Said::Missed => missed_given(begun, shown.listens),
         Said::Stop => Given::Stop,
         Said::End => Given::Loss,
     }
@@ -79,6 +81,26 @@ fn heard_given(begun: bool, heard: Heard, octets: &[u8]) -> Given<'_>
     }
 }
 
+/// What is given if what was to be heard didn't come, if the station has begun.
+fn missed_given<'a>(begun: bool, listens: Listening) -> Given<'a>
+    ensures { plain_given result ≡ cond begun (missed_given listens) nothing }
+{
+    match listens {
+        Listening::Training(_) if begun => Given::Check(b""),
+        _ => Given::Nothing,
+    }
+}
+
+/// How much later than the line before it a line can be, in milliseconds, by since when the line is calm.
+pub(crate) fn most_step(calm: Option<u64>, said: &Said, durations: Durations) -> u32
+    ensures { result ≡ most_step calm said.now durations }
+{
+    match (calm, said) {
+        (Some(_), Said::Quiet) => durations.t1.max(35_000),
+        _ => durations.t1.max(600_000),
+    }
+}
+
 /// True if a station has begun after a line: an answerer begins at the first quiet line from 1,000 ms on, or at a line that stops it.
 pub(crate) fn has_begun(begun: bool, said: &Said, at: u64) -> bool
     ensures { result ≡ cond begun true (begins said.now at) }
@@ -93,11 +115,16 @@ fn begins(said: &Said, at: u64) -> bool
     match said {
         Said::Quiet => at >= 1000,
         Said::Stop => true,
-        Said::Busy | Said::Received { .. } | Said::NotReady | Said::Ready | Said::End => false,
+        Said::Busy
+        | Said::Received { .. }
+        | Said::NotReady
+        | Said::Ready
+        | Said::Missed
+        | Said::End => false,
     }
 }
 
-/// Gives the terminal an input. Returns true if it brought a good frame or the awaited training check. Errs if memory is refused.
+/// Gives the terminal an input. Returns true if it brought a good frame or an octet of the awaited training check. Errs if memory is refused.
 pub(crate) fn give<S: Stoppable>(
     terminal: &mut Terminal<S>,
     given: Given<'_>,
@@ -112,7 +139,7 @@ pub(crate) fn give<S: Stoppable>(
         Given::Frames(octets) => hear(terminal, octets),
         Given::Check(octets) => {
             terminal.hear_training(octets)?;
-            Ok(true)
+            Ok(has_octets(octets))
         }
         Given::Over(wait) => {
             terminal.wait_over(wait)?;
@@ -130,6 +157,16 @@ pub(crate) fn give<S: Stoppable>(
             terminal.lost();
             Ok(false)
         }
+    }
+}
+
+/// Whether a training check has octets.
+fn has_octets(check: &[u8]) -> bool
+    ensures { result ≡ is_check (heard_check check.now) }
+{
+    match check {
+        [] => false,
+        _ => true,
     }
 }
 

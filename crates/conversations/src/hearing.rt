@@ -1,6 +1,6 @@
 //! What a station hears of a carrier of the other side.
 
-ghost use Rattle.conversations.specs.Hearing.{heard_as, place_of, same_speed};
+ghost use Rattle.conversations.specs.Hearing.{expected_first, expected_then, heard_as, place_of, same_speed};
 ghost use Rattle.std.specs.Prelude.{◌≡◌};
 
 use crate::carrier::{Channel, Kind};
@@ -16,6 +16,52 @@ pub enum Heard {
     Check,
     /// It ignores them.
     Nothing,
+}
+
+/// A carrier that a station expects, and what its bits are.
+#[derive(Clone, Copy, Debug, PartialEq, Eq)]
+pub struct Expected {
+    /// The carrier.
+    pub channel: Channel,
+    /// What its bits are.
+    pub kind: Kind,
+}
+
+/// What a station that listens for this expects first.
+pub fn expected_first(listens: Listening) -> Expected
+    ensures { result ≡ expected_first listens }
+{
+    match listens {
+        Listening::V21 | Listening::V21ThenPage(_) => Expected {
+            channel: Channel::V21,
+            kind: Kind::Frames,
+        },
+        Listening::Training(speed) => Expected {
+            channel: Channel::Message(speed),
+            kind: Kind::Check,
+        },
+        Listening::V21OrPage(speed) => Expected {
+            channel: Channel::Message(speed),
+            kind: Kind::Frames,
+        },
+    }
+}
+
+/// What it expects after that, or in its place; None if it is V.21 alone.
+pub fn expected_then(listens: Listening) -> Option<Expected>
+    ensures { result ≡ expected_then listens }
+{
+    match listens {
+        Listening::V21 => None,
+        Listening::Training(_) | Listening::V21OrPage(_) => Some(Expected {
+            channel: Channel::V21,
+            kind: Kind::Frames,
+        }),
+        Listening::V21ThenPage(speed) => Some(Expected {
+            channel: Channel::Message(speed),
+            kind: Kind::Frames,
+        }),
+    }
 }
 
 /// How a station that listens for this takes bits of a kind by a carrier: frames by V.21 always, a training check and the frames of a page

@@ -19,6 +19,7 @@ pub use crate::carrier::{Channel, Kind};
 pub use crate::clock::{Clock, Durations};
 pub use crate::conversation::{Conversation, TakeFault};
 pub use crate::conversing::{ConverseFault, Ending, converse};
-pub use crate::hearing::{Heard, heard_as};
+pub use crate::hearing::{Expected, Heard, expected_first, expected_then, heard_as};
 pub use crate::line::{LineRefused, MOST_OCTETS, Said, TimedLine, read_line};
 pub use crate::talking::{AnswerFault, Answered, Follower, Keeper, answer};
+pub use crate::writing::Says;

@@ -44,6 +44,8 @@ pub enum Said {
     NotReady,
     /// `ready`: the receiver can take pages again.
     Ready,
+    /// `missed`: what was to be heard didn't come.
+    Missed,
     /// `stop`: the call is to be ended in order.
     Stop,
     /// `end`: the line has dropped.
@@ -179,6 +181,7 @@ fn said_by(word: &[u8]) -> Option<Said>
         b"busy" => Some(Said::Busy),
         b"not-ready" => Some(Said::NotReady),
         b"ready" => Some(Said::Ready),
+        b"missed" => Some(Said::Missed),
         b"stop" => Some(Said::Stop),
         b"end" => Some(Said::End),
         _ => None,

@@ -6,7 +6,7 @@ ghost use Rattle.std.specs.Prelude.{◌≡◌, Bool, IfErr, IfOk, is_none};
 
 use crate::conversation::{Conversation, TakeFault};
 use crate::line::{LineRefused, TimedLine, read_line};
-use crate::writing::{write_burst, write_word};
+use crate::writing::{write_burst, write_rest};
 use stations::Listening;
 use std::alloc::{AllocError, Global};
 use std::io;
@@ -46,8 +46,8 @@ pub trait Follower {
 pub enum AnswerFault<F> {
     /// The octets aren't a line of a station. Nothing has changed.
     NoLine,
-    /// The line's time is before that of the line before it. Nothing has changed.
-    Backwards,
+    /// The line's time is before that of the line before it, or too late after it. Nothing has changed.
+    OutOfTime,
     /// Memory was refused.
     NoMemory,
     /// The writer failed.
@@ -88,8 +88,8 @@ pub struct Answered<E> {
     pub unkept: Option<E>,
 }
 
-/// Writes the bursts that are left of the turn, in order, a line each, and then `done` if the call is over, else `wait`; returns true for
-/// `done`. `at` is the time of the answered line, in milliseconds. Errs with `Writer`, `NoMemory` or `Follower`; a part of the answer may
+/// Writes the bursts that are left of the turn, in order, a line each, and then `done` if the call is over, else what the station says beside
+/// and `wait`; returns true for `done`. `at` is the time of the answered line, in milliseconds. Errs with `Writer`, `NoMemory` or `Follower`; a part of the answer may
 /// be written then.
 pub fn write_turn<S: Stoppable, W: Write, F: Follower>(
     alloc: Global,
@@ -104,8 +104,10 @@ pub fn write_turn<S: Stoppable, W: Write, F: Follower>(
 {
     for _burst in 0..MOST_BURSTS {
         let Some(burst) = conversation.next_burst()? else {
-            let over = conversation.is_over();
-            write_word(writer, over)?;
+            let shown = conversation.terminal().shown();
+            let at = conversation.next_quiet(shown);
+            let begun = conversation.has_begun();
+            let over = write_rest(writer, conversation.says(), begun, shown, at)?;
             return Ok(over);
         };
         follower.said(at, &burst).map_err(AnswerFault::Follower)?;
@@ -115,8 +117,8 @@ pub fn write_turn<S: Stoppable, W: Write, F: Follower>(
 }
 
 /// Answers a line, which comes without its LF: takes it, keeps what it brought, and only then writes the bursts of the turn and a word. If
-/// something can't be kept, the answer is what the conversation says after that. Errs with `NoLine`, or with `Backwards` if the time runs
-/// back: nothing has changed. Errs with `NoMemory`, `Writer` or `Follower`.
+/// something can't be kept, the answer is what the conversation says after that. Errs with `NoLine`, or with `OutOfTime` if the time can't
+/// follow: nothing has changed. Errs with `NoMemory`, `Writer` or `Follower`.
 pub fn answer<S: Stoppable, K: Keeper<S>, W: Write, F: Follower>(
     alloc: Global,
     line: &[u8],
@@ -145,7 +147,7 @@ pub fn answer<S: Stoppable, K: Keeper<S>, W: Write, F: Follower>(
     }
     match conversation.take(&timed) {
         Ok(()) => {}
-        Err(TakeFault::Backwards) => return Err(AnswerFault::Backwards),
+        Err(TakeFault::OutOfTime) => return Err(AnswerFault::OutOfTime),
         Err(TakeFault::NoMemory) => return Err(AnswerFault::NoMemory),
     }
     let unkept = keeper.keep(conversation);

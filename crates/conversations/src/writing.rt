@@ -1,19 +1,37 @@
 //! What a station as a process writes: the bursts that are sent, and a word after them.
 
-ghost use Rattle.conversations.specs.Writing.{channel_of, kind_of, tx_line, word_line};
+ghost use Rattle.conversations.specs.Writing.{channel_of, hear_line, hear_lines, kind_of, on_lines, rest_lines, then_line, tx_line, wait_line};
 ghost use Rattle.hex.specs.Hex.{encode_upper};
 ghost use Rattle.std.specs.Io.KnownBytes.{Appends};
-ghost use Rattle.std.specs.Prelude.{◌≡◌, OnOk};
+ghost use Rattle.std.specs.Prelude.{◌≡◌, ◌↔◌, IfOk, IsSome, IsTrue, OnOk};
 
 use crate::carrier::{Channel, Kind};
-use stations::Carrier;
+use crate::hearing::{Expected, expected_first, expected_then};
+use stations::{Carrier, Listening};
 use std::alloc::Global;
 use std::io;
 use std::io::Write;
-use terminals::SentBurst;
+use terminals::{SentBurst, Shown};
 
 /// How many octets are written in hex at a time.
 const PIECE: usize = 1024;
+
+/// What a station says beside its bursts, and beside the words `wait` and `done`.
+#[derive(Clone, Copy, Debug, PartialEq, Eq)]
+pub struct Says {
+    /// What it expects on the line, a line `hear CARRIER KIND` for each thing.
+    pub hears: bool,
+    /// The time from which a quiet line does something, after `wait`.
+    pub waits: bool,
+}
+
+impl Says {
+    /// Nothing, as a driver wants it that reads bursts and words alone.
+    pub const LEAST: Says = Says {
+        hears: false,
+        waits: false,
+    };
+}
 
 impl Channel {
     /// The carrier of a burst, as lines name it.
@@ -65,14 +83,84 @@ pub fn write_burst<W: Write>(alloc: Global, burst: &SentBurst, writer: &mut W) -
     writer.write_all(b"\n")
 }
 
-/// Writes the line after the bursts, `done` if the call is over, else `wait`, and flushes the writer. Errs if the writer fails.
-pub fn write_word<W: Write>(writer: &mut W, done: bool) -> io::Result<()>
-    ensures { OnOk result (Appends (W.contents writer.old) (W.contents writer.new) (word_line done)) }
+/// Writes a line of what a station expects. Errs if the writer fails.
+fn write_hear<W: Write>(writer: &mut W, expected: Expected) -> io::Result<()>
+    ensures { OnOk result (Appends (W.contents writer.old) (W.contents writer.new) (hear_line expected)) }
 {
-    if done {
-        writer.write_all(b"done\n")?;
-    } else {
-        writer.write_all(b"wait\n")?;
+    let channel = expected.channel.name();
+    let kind = expected.kind.name();
+    write!(writer, "hear {channel} {kind}\n")
+}
+
+/// Writes the line of what may be expected too, if there is anything. Errs if the writer fails.
+fn write_then<W: Write>(writer: &mut W, expected: Option<Expected>) -> io::Result<()>
+    ensures { OnOk result (Appends (W.contents writer.old) (W.contents writer.new) (then_line expected)) }
+{
+    match expected {
+        Some(expected) => write_hear(writer, expected),
+        None => Ok(()),
     }
-    writer.flush()
+}
+
+/// Writes what a station expects, a line for each thing, what comes first in front; nothing if it isn't wanted. Errs if the writer fails.
+fn write_hears<W: Write>(writer: &mut W, wanted: bool, listens: Listening) -> io::Result<()>
+    ensures { OnOk result (Appends (W.contents writer.old) (W.contents writer.new) (hear_lines wanted listens)) }
+{
+    if !wanted {
+        return Ok(());
+    }
+    write_hear(writer, expected_first(listens))?;
+    write_then(writer, expected_then(listens))
+}
+
+/// Writes `wait`, with a time in milliseconds if one is named. Errs if the writer fails.
+fn write_wait<W: Write>(writer: &mut W, at: Option<u128>) -> io::Result<()>
+    ensures { OnOk result (Appends (W.contents writer.old) (W.contents writer.new) (wait_line at)) }
+{
+    match at {
+        Some(at) => write!(writer, "wait {at}\n"),
+        None => writer.write_all(b"wait\n"),
+    }
+}
+
+/// Writes the lines after the bursts of a call that goes on: what the station expects, once it has `begun`, and `wait`, with the time `at` if
+/// it is wanted. Errs if the writer fails.
+fn write_on<W: Write>(
+    writer: &mut W,
+    says: Says,
+    begun: bool,
+    listens: Listening,
+    at: Option<u128>,
+) -> io::Result<()>
+    ensures { OnOk result (Appends (W.contents writer.old) (W.contents writer.new) (on_lines says begun listens at)) }
+{
+    write_hears(writer, says.hears && begun, listens)?;
+    write_wait(writer, if says.waits { at } else { None })
+}
+
+/// Writes the lines after the bursts, by what the station shows, and flushes the writer: `done` if the call is over, else what it expects, once
+/// it has `begun`, and `wait`, with the time `at`; of both only what is wanted. Returns true for `done`. Errs if the writer fails.
+pub(crate) fn write_rest<W: Write>(
+    writer: &mut W,
+    says: Says,
+    begun: bool,
+    shown: Shown,
+    at: Option<u128>,
+) -> io::Result<bool>
+    ensures writes { OnOk result (Appends (W.contents writer.old) (W.contents writer.new)
+        (rest_lines shown.end (on_lines says begun shown.listens at))) }
+    ensures over { IfOk result (λ over. IsTrue over ↔ IsSome shown.end) }
+{
+    match shown.end {
+        Some(_) => {
+            writer.write_all(b"done\n")?;
+            writer.flush()?;
+            Ok(true)
+        }
+        None => {
+            write_on(writer, says, begun, shown.listens, at)?;
+            writer.flush()?;
+            Ok(false)
+        }
+    }
 }

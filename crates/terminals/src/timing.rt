@@ -9,8 +9,8 @@ use stations::{Carrier, Wait};
 /// How long T1 runs, in milliseconds: 35 s ± 5 s (T.30, 5.4.3.1).
 pub const T1_MILLIS: u32 = 35_000;
 
-/// How long T2 runs, in milliseconds: 6 s ± 1 s (T.30, 5.4.3.1).
-pub const T2_MILLIS: u32 = 6_000;
+/// How long T2 runs, in milliseconds: 7 s of 6 s ± 1 s (T.30, 5.4.3.1), so that it isn't over when a caller's T4 is over a second time.
+pub const T2_MILLIS: u32 = 7_000;
 
 /// How long T4 runs, in milliseconds: 3 s ± 15 % (T.30, 5.4.3.1).
 pub const T4_MILLIS: u32 = 3_000;

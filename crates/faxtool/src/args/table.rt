@@ -432,7 +432,7 @@ const STATION_ARGUMENTS: &[Argument<'static>] = &[
     },
     Argument {
         id: "t2",
-        help: "How long T2 runs in milliseconds, 6000 if not said",
+        help: "How long T2 runs in milliseconds, 7000 if not said",
         ..MILLIS
     },
     Argument {

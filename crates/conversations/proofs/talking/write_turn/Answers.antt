@@ -1,9 +1,12 @@
 -- What the check asks of `write_turn`.
-use Rattle.std.proofs.Common.{◌≡◌, None, Option, rules, subst}
+use Rattle.std.proofs.Common.{◌≡◌, ℕ, List, None, Option, rules, subst}
+use Rattle.std.specs.Io.KnownBytes.{Appends}
 use Rattle.std.specs.declared.alloc.AllocError.{AllocError}
-use Rattle.conversations.proofs.Turns.{begins_giving, given_next, one_given, turn_written}
+use Rattle.conversations.proofs.Turns.{begins_giving, given_next, one_given, rest_is, turn_written}
 use Rattle.conversations.proofs.talking.write_turn.Goals as goal
 use Rattle.conversations.specs.Talking.{GivesNext}
+use Rattle.terminals.specs.Runs.{TerminalFields}
+use Rattle.terminals.specs.Stopping.{IsShown}
 use Rattle.terminals.specs.declared.sending.SentBurst.{SentBurst}
 
 pub loop-burst-init : goal.loop-burst-init
@@ -16,7 +19,14 @@ returns-in_default-clause-ok g c =
     turn_written _ _ _ _ c.loop-burst.conversation _ _ (g.W.Write.contents c.loop-burst.writer) _ _ c.loop-burst.invariant
     (subst (λ (sent : Option SentBurst).
     GivesNext g.S.Station.sends g.S.Station.lends c.loop-burst.conversation sent c.next_burst.new.self) none given)
-    c.is_over-over.ensures c.in_ok-write_word.ensures
+    c.shown-shown.result
+    (subst (λ (t : TerminalFields g.row.S.Denot). IsShown g.S.Stoppable.shows t.speaking.station c.shown-shown.result) c.terminal.ensures
+    c.shown-shown.ensures)
+    c.in_ok-over.ensures.over
+    (subst (λ (text : List ℕ). Appends (g.W.Write.contents c.loop-burst.writer) (g.W.Write.contents c.write_rest.new.writer) text)
+    (rest_is g.S.Station.sends c.next_burst.new.self c.shown-shown.result c.says.result c.has_begun-begun.result c.next_quiet-at.result
+    c.says.ensures c.has_begun-begun.ensures c.next_quiet-at.ensures)
+    c.in_ok-over.ensures.writes)
 
 pub loop-burst-preserved : goal.loop-burst-preserved
 loop-burst-preserved g c =
