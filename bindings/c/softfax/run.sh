@@ -98,6 +98,15 @@ has caller '{"end":"normal","confirmed":1,"peer":"0 1"}'
 [ "$(cat "$work/got/page-3.pbm")" = taken ] || fails "page-3.pbm was overwritten"
 [ "$(head -n 2 "$work/got/page-4.pbm" | tail -n 1)" = "1728 400" ] || fails "page-4.pbm isn't square"
 
+# a caller without error correction
+mkfifo "$work/up" "$work/down"
+timeout 60 "$softfax" --answer "$work/got" --rx "$work/up" --tx "$work/down" --json 2> "$work/answerer" &
+answerer=$! status=0
+timeout 60 "$OUT/softfax-test" "$work" --refused "$work/down" "$work/up" || fails "a caller without error correction ended with status $?"
+wait "$answerer" || status=$?
+[ "$status" = 1 ] || fails "the answerer of a caller without error correction ended with status $status"
+has answerer '{"end":"refused","pages":0,"why":"the caller sends without error correction"}'
+
 refuses 2 usage
 refuses 2 usage --call --rx /dev/null --tx /dev/null
 refuses 2 usage --call "$work/1.pbm" --answer "$work" --rx /dev/null --tx /dev/null
