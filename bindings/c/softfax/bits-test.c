@@ -1,7 +1,8 @@
 /* bits-test [SEEDS [--tell]]: calls of the terminal with itself over modems of plain bits, so that it is tested where libspandsp isn't
  * installed. Each kind of call is tried on each line: a clean one, lines that cut one carrier of the caller, and lines that noise strikes
  * again and again, with so many seeds, 1 if not said. Status 1: a page is stored that isn't the document's, a confirmed one is missing, an
- * end doesn't hang up, a call fails on a line that is struck once at most, or one that is stopped doesn't end in order. --tell: what happens in each call, on standard error. */
+ * end doesn't hang up, a call fails on a line that is struck once at most, or one that is stopped doesn't end in order. --tell: what
+ * happens in each call, on standard error. */
 #include "stopped.h"
 #include <stdio.h>
 #include <stdlib.h>

@@ -20,8 +20,9 @@ enum op {
 
 /* Durations in milliseconds. */
 static const int LONGEST[OPS] = {
-    [SETS_UP] = 3000, [ASKS] = 3000, [DIALS] = 90000, [ANSWERS] = 30000, [AWAITS_SILENCE] = 2500 /* after that it is hiss */, [ABORTS] = 600,
-    [GOES_ON_HOOK] = 3000, [FTH] = 6000, [FTH_HELD] = 6000, [FTM] = 6000, [FTM_DATA] = 15000, [FTH_END] = 15000, [FTM_END] = 15000};
+    [SETS_UP] = 3000, [ASKS] = 3000, [DIALS] = 90000, [ANSWERS] = 30000, [AWAITS_SILENCE] = 2500 /* after that it is hiss */,
+    [ABORTS] = 600, [GOES_ON_HOOK] = 3000,
+    [FTH] = 6000, [FTH_HELD] = 6000, [FTM] = 6000, [FTM_DATA] = 15000, [FTH_END] = 15000, [FTM_END] = 15000};
 enum {
     LONGEST_GAP = 3000,  /* without an octet in a frame or a page that comes */
     NEXT_FRAME = 1200,   /* from a frame to CONNECT of the next one */
@@ -591,6 +592,12 @@ static void end_late_op(modem *it)
     case GOES_ON_HOOK:
         it->op = FREE;
         it->stage = CLASS1_IS_OVER;
+        return;
+    case FTM_DATA: /* it takes no more: what is left isn't said */
+        it->out.count = 0;
+        mind_xoff(it, 0);
+        put_end(it);
+        begin(it, FTM_END);
         return;
     case FTH_END: case FTM_END:
         if (!it->ended_again) { /* octets may have been lost, and it still waits for the end */

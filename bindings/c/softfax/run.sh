@@ -1,8 +1,8 @@
 #!/bin/sh
 # Builds softfax and its tests, and runs them: calls of the terminal with itself over plain bits, also with each growth of memory refused in
 # turn; calls over libspandsp's modems and over its Class 1 modem, with its own terminal each way and with itself; two processes that are
-# joined by two pipes, or by two ttys, under the sanitizers, also with growths of memory refused, and under valgrind; and what softfax says of
-# wrong files, signals, streams that stall and modems that fail.
+# joined by two pipes, or by two ttys, under the sanitizers, also with growths of memory refused, and under valgrind; and what softfax says
+# of wrong files, signals, streams that stall and modems that fail.
 #
 #     bindings/c/softfax/run.sh [--audio | --table SEEDS]
 #
@@ -222,7 +222,8 @@ echo "softfax: two processes carry a page over two ttys, and two signals end a c
 
 if command -v valgrind > /dev/null; then
     make -s -C "$here" LIB="$LIB" OUT="$OUT" memory-test
-    valgrind -q --error-exitcode=99 --leak-check=full "$OUT/memory-test" 100 30 > "$work/said" 2>&1 || { cat "$work/said" >&2; fails valgrind; }
+    valgrind -q --error-exitcode=99 --leak-check=full "$OUT/memory-test" 100 30 > "$work/said" 2>&1 \
+        || { cat "$work/said" >&2; fails "valgrind of memory-test"; }
     printf '#!/bin/sh\nexec valgrind -q --error-exitcode=99 --leak-check=full --track-fds=yes "%s" "$@"\n' "$OUT/softfax" > "$work/valgrind"
     chmod +x "$work/valgrind"
     softfax=$work/valgrind

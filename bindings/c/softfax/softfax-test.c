@@ -187,7 +187,8 @@ int main(int argc, char **argv)
     else if (argc >= 4 && strcmp(argv[2], "--table") == 0) is_right = try_table(argc - 3, argv + 3, papers, argv[1]);
     else if (argc == 9 && strcmp(argv[2], "--call") == 0) is_right = try_one(argv + 3, papers, argv[1]);
     else if (argc == 5 && strcmp(argv[2], "--refused") == 0) is_right = call_over_pipes(argv + 3, papers, argv[1]);
-    else fprintf(stderr, "usage: softfax-test FOLDER [--table SEEDS [LINE..] | --call PAIR LINE MODEMS CODING PAGES SEED | --refused IN OUT]\n");
+    else fprintf(stderr, "usage: softfax-test FOLDER [--table SEEDS [LINE..] | --call PAIR LINE MODEMS CODING PAGES SEED |\n"
+        "                    --refused IN OUT]\n");
     for (uint32_t i = 0; i < MOST_PAGES; i++) paper_free(&papers[i]);
     return !is_right;
 }
