@@ -68,10 +68,11 @@ class Call:
         with subprocess.Popen(words, stderr=subprocess.PIPE, text=True) as program:
             try:
                 self.serve(master, slave, program)
-            finally:
-                is_late = program.poll() is None
-                if is_late:
-                    program.kill()
+            except (OSError, subprocess.TimeoutExpired) as fault:
+                FAULTS.append(f"{self.name}: {fault}")
+            is_late = program.poll() is None
+            if is_late:
+                program.kill()
             said = program.stderr.read()
         if is_late or program.returncode != 1 or self.wanted not in said or self.must_say not in self.told:
             late = "too late" if is_late else f"with status {program.returncode}"
