@@ -167,6 +167,8 @@ if [ "$softfax" = "$OUT/softfax-checked" ]; then
     { printf 'P4\n1728 8\n'; seq 10000 99999 | head -c 1728; } > "$work/few.pbm"
     mkdir "$work/refusals"
     timeout 300 python3 "$here/refusals.py" "$softfax" "$work/few.pbm" "$work/refusals"
+else
+    echo "softfax: the compiler has no sanitizers: growths of memory aren't refused here"
 fi
 
 # modems that fail
