@@ -15,7 +15,11 @@ LIB=${LIB:-$here/../../build}
 OUT=${OUT:-$here/build}
 work=$(mktemp -d)
 exchange='' modems=''
-trap 'for one in $exchange $modems; do kill "$one" 2> /dev/null || true; done; rm -rf "$work"' EXIT
+leaves() {
+    for one in $exchange $modems; do kill "$one" 2> /dev/null || true; done
+    rm -rf "$work"
+}
+trap leaves EXIT
 
 fails() {
     echo "softfax: FAILED: $*" >&2
@@ -153,6 +157,8 @@ stops 1 "end stopped confirmed 0" --call "$work/1.pbm" --rx /dev/zero --tx "$wor
 stops 0 "end stopped confirmed 0" --call "$work/1.pbm" --rx /dev/zero --tx /dev/null --most-seconds 5
 # nor does standard error, which nobody reads, and which is full
 mkfifo "$work/err"
+# it keeps the pipe open, and reads nothing
+# shellcheck disable=SC2217
 sleep 60 < "$work/err" &
 holder=$!
 head -c 65536 /dev/zero > "$work/err"
