@@ -5,8 +5,8 @@
 #
 # The terminal over modems of plain bits, and behind Class 1 modems of its own, is built with the kit's clang under the address sanitizer
 # and with traps for what C doesn't define, and always run, also with growths of memory refused in turn. The rest wants libspandsp-dev and
-# a C compiler, the one that CC names or cc: calls over its modems and its Class 1 modem, with its own terminal each way, two processes, and
-# wrong files. Ends with status 1 at the first fault.
+# a C compiler, the one that CC names or cc: bindings/c/softfax/run.sh, with calls over its modems and its Class 1 modem, the program itself
+# under the compiler's sanitizers, if it has them, and under valgrind, if that is installed. Ends with status 1 at the first fault.
 set -e
 top=$(cd "$(dirname "$0")/.." && pwd)
 kit=${KIT:-/opt/rattle}

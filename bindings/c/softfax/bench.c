@@ -2,6 +2,7 @@
  *
  *     bench FOLDER                                        the calls of the gate
  *     bench FOLDER --table SEEDS [PAIR [LINE]] [WAYS..]   a table: each pair, or one or "all", on each line, or on one
+ *     bench FOLDER --call SEED PAIR LINE [WAYS..]         one call of it; what happens is told on standard error
  *     bench --ptys LINK LINK                              two ptys, in real time, with a link to each: what dials on one rings at the other
  *
  * PAIR is the caller and the answerer, as it:ours, where "it" is libspandsp's own terminal and ours is behind a modem. A cell of the table
@@ -73,14 +74,19 @@ static int try_call(bench *it, const pair *who, const trial *kind)
     return 1;
 }
 
+static int try_seed(bench *it, const pair *who, const line_kind *line, uint32_t seed, const char *tells)
+{
+    trial kind = {.line = *line, .modems = 1 + seed % 3, .coding = seed / 3 % 2 ? G3_MMR : G3_MH, .pages = 1 + seed / 6 % 3, .limit = 2,
+        .seed = seed, .papers = it->papers, .ctc = 1, .ced_joins_dis = who->answerer_is_ours, .identity = "+49 30 1234", .tells = tells};
+    return try_call(it, who, &kind);
+}
+
 /* Twelve kinds of calls, with so many seeds each. */
 static int try_cell(bench *it, const pair *who, const line_kind *line, uint32_t seeds)
 {
     it->calls = it->well = it->broken = 0;
     for (uint32_t i = 0; i < 12 * seeds; i++) {
-        trial kind = {.line = *line, .modems = 1 + i % 3, .coding = i / 3 % 2 ? G3_MMR : G3_MH, .pages = 1 + i / 6 % 3, .limit = 2,
-            .seed = i, .papers = it->papers, .ctc = 1, .ced_joins_dis = who->answerer_is_ours, .identity = "+49 30 1234"};
-        if (!try_call(it, who, &kind)) return 0;
+        if (!try_seed(it, who, line, i, NULL)) return 0;
     }
     return 1;
 }
@@ -88,6 +94,15 @@ static int try_cell(bench *it, const pair *who, const line_kind *line, uint32_t 
 static int is_wanted(const char *name, const char *wanted)
 {
     return wanted == NULL || strcmp(name, wanted) == 0 || strcmp(wanted, "all") == 0;
+}
+
+/* One call, of a pair and on a line that are named; returns whether it went well. */
+static int try_named(bench *it, uint32_t seed, const char *who, const char *on)
+{
+    int pair = 0, line = 0;
+    while (pair < PAIRS_COUNT && (who == NULL || strcmp(PAIRS[pair].name, who) != 0)) pair++;
+    while (line < LINES_COUNT && (on == NULL || strcmp(LINES[line].name, on) != 0)) line++;
+    return pair < PAIRS_COUNT && line < LINES_COUNT && try_seed(it, &PAIRS[pair], &LINES[line], seed, "told") && it->well == 1;
 }
 
 static void print_head(const char *who)
@@ -126,6 +141,7 @@ static int try_gate(bench *it)
     static const struct { int pair; const char *line; uint32_t seeds; } CELLS[] = {
         {0, "clean", 3}, {1, "clean", 2}, {2, "clean", 2}, {0, "training of the check cut", 2}, {0, "100 ms of the page cut", 1},
         {0, "PPS cut", 2}};
+    static const soft_ways OTHERS[] = {{.silent = 1, .fixed = 1, .late = 20}, {.xoff = 1, .echoes = 1}};
     uint32_t calls = 0, well = 0, broken = 0;
     for (size_t i = 0; i < sizeof CELLS / sizeof CELLS[0]; i++) {
         int line = 0;
@@ -133,9 +149,11 @@ static int try_gate(bench *it)
         if (!try_cell(it, &PAIRS[CELLS[i].pair], &LINES[line], CELLS[i].seeds)) return 0;
         calls += it->calls, well += it->well, broken += it->broken;
     }
-    it->way.ways = (soft_ways){.silent = 1, .fixed = 1, .late = 20};
-    if (!try_cell(it, &PAIRS[0], &LINES[0], 1)) return 0;
-    calls += it->calls, well += it->well, broken += it->broken;
+    for (size_t i = 0; i < sizeof OTHERS / sizeof OTHERS[0]; i++) {
+        it->way.ways = OTHERS[i];
+        if (!try_cell(it, &PAIRS[0], &LINES[0], 1)) return 0;
+        calls += it->calls, well += it->well, broken += it->broken;
+    }
     printf("softfax: %u of %u calls by Class 1 modems of spandsp complete, with its own terminal each way and with ours\n", well, calls);
     return well == calls && broken == 0;
 }
@@ -238,24 +256,32 @@ static int take_way(soft_ways *to, const char *word)
     return strncmp(word, "late=", 5) == 0 && (to->late = atoi(word + 5)) > 0;
 }
 
+static int usage(void)
+{
+    fprintf(stderr, "usage: bench FOLDER [--table SEEDS [PAIR [LINE]] [WAYS..] | --call SEED PAIR LINE [WAYS..]] | --ptys LINK LINK\n");
+    return 2;
+}
+
 int main(int argc, char **argv)
 {
     static const uint32_t WIDTHS[MOST_PAGES] = {1728, 2432, 1728};
     static bench it = {.way = {.kind = &soft_of_spandsp}};
     const char *words[4] = {NULL};
-    int count = 0, has_table = 0, is_right = 0;
+    int count = 0, has_table = 0, has_call = 0, is_right = 0;
     if (argc == 4 && strcmp(argv[1], "--ptys") == 0) return !run_ptys(argv + 2);
     for (int i = 1; i < argc; i++) {
         if (strcmp(argv[i], "--table") == 0) has_table = 1;
+        else if (strcmp(argv[i], "--call") == 0) has_call = 1;
         else if (!take_way(&it.way.ways, argv[i]) && count < 4) words[count++] = argv[i];
     }
-    int seeds = has_table && count > 1 ? atoi(words[1]) : 0;
-    if (count == 0 || (count > 1) != has_table || (has_table && seeds <= 0)) return fprintf(stderr, "usage: bench FOLDER [--table SEEDS [PAIR [LINE]] [WAYS..]] | --ptys LINK LINK\n"), 2;
+    int number = count > 1 ? atoi(words[1]) : 0;
+    if (count == 0 || (count > 1) != (has_table || has_call) || (has_table && number <= 0)) return usage();
     it.folder = words[0];
     for (uint32_t i = 0; i < MOST_PAGES; i++) {
         if (!paper_new(&it.papers[i], WIDTHS[i], ROWS, i + 1)) return fprintf(stderr, "bench: no memory\n"), 1;
     }
-    is_right = has_table ? try_table(&it, (uint32_t)seeds, words[2], words[3]) : try_gate(&it);
+    if (has_call) is_right = try_named(&it, (uint32_t)number, words[2], words[3]);
+    else is_right = has_table ? try_table(&it, (uint32_t)number, words[2], words[3]) : try_gate(&it);
     for (uint32_t i = 0; i < MOST_PAGES; i++) paper_free(&it.papers[i]);
     return !is_right;
 }

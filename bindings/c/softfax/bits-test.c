@@ -1,7 +1,8 @@
 /* bits-test [SEEDS [--tell]]: calls of the terminal with itself over modems of plain bits, so that it is tested where libspandsp isn't
  * installed. Each kind of call is tried on each line: a clean one, lines that cut one carrier of the caller, and lines that noise strikes
  * again and again, with so many seeds, 1 if not said. Status 1: a page is stored that isn't the document's, a confirmed one is missing, an
- * end doesn't hang up, a call fails on a line that is struck once at most, or one that is stopped doesn't end in order. --tell: what happens in each call, on standard error. */
+ * end doesn't hang up, a call fails on a line that is struck once at most, or one that is stopped doesn't end in order. --tell: what
+ * happens in each call, on standard error. */
 #include "stopped.h"
 #include <stdio.h>
 #include <stdlib.h>
@@ -61,6 +62,57 @@ static int try_line(const line_kind *line, uint32_t seeds, const paper *papers, 
     return all.broken == 0 && all.endless == 0 && (line->every != 0 || all.well == all.calls);
 }
 
+/* A caller that says frames by V.21 without end. */
+typedef struct babbler {
+    modem *modem;
+    uint8_t octets[64];
+    uint64_t bits;
+} babbler;
+
+static void babbler_step(void *user, const int16_t *in, int16_t *out)
+{
+    babbler *it = user;
+    (void)in;
+    if (!modem_of_sound.say(it->modem, out)) modem_of_sound.begin_carrier(it->modem, G3_V21, 0, it->octets, it->bits);
+}
+
+static int babbler_is_over(void *user)
+{
+    (void)user;
+    return 1; /* it isn't waited for */
+}
+
+static const char *babbler_ending(void *user)
+{
+    (void)user;
+    return "babbles";
+}
+
+static void babbler_leave(void *user, outcome *out)
+{
+    (void)out;
+    modem_of_sound.free(((babbler *)user)->modem);
+}
+
+/* A call from it; returns whether the answerer refuses it in time. */
+static int try_babbler(const char *tells)
+{
+    static const uint8_t CONTENT[] = {0xff, 0x03, 0x23, 0}; /* one that isn't for us, and isn't the last of its signal */
+    enum { SOON = 90 };
+    babbler it = {.modem = modem_new()};
+    party caller = {&it, babbler_step, babbler_is_over, babbler_ending, babbler_leave}, answerer;
+    trial kind = {.line = {.name = "babble"}, .modems = G3_V17, .coding = G3_MMR, .limit = 1, .tells = tells};
+    g3_octets handle = G3_EMPTY;
+    uint64_t length = 0;
+    outcome came;
+    if (it.modem == NULL || g3_frame_write(CONTENT, sizeof CONTENT, &handle, &it.bits) != G3_OK) return 0;
+    if (g3_octets_copy(&handle, it.octets, sizeof it.octets, &length) != G3_OK || !trial_ours(&answerer, &kind, 0)) return 0;
+    g3_octets_free(&handle);
+    trial_run(&caller, &answerer, &kind, &came);
+    printf("a caller that never stops: %s after %u s\n", came.answerer, came.seconds);
+    return strcmp(came.answerer, "refused") == 0 && came.seconds < SOON;
+}
+
 int main(int argc, char **argv)
 {
     static const uint32_t WIDTHS[MOST_PAGES] = {1728, 2432, 1728};
@@ -72,7 +124,7 @@ int main(int argc, char **argv)
         if (!paper_new(&papers[i], WIDTHS[i], ROWS, i + 1)) return fprintf(stderr, "bits-test: no memory\n"), 1;
     }
     for (uint32_t i = 0; i < LINES_COUNT; i++) is_right &= try_line(&LINES[i], seeds, papers, tells);
-    is_right &= stopped_try(trial_ours, tells);
+    is_right &= stopped_try(trial_ours, tells) & try_babbler(tells);
     for (uint32_t i = 0; i < MOST_PAGES; i++) paper_free(&papers[i]);
     return !is_right;
 }

@@ -207,5 +207,5 @@ static void modem_forget(modem *it)
 }
 
 const modem_kind modem_of_sound = {
-    modem_free, modem_begin_tone, modem_begin_carrier, modem_say, modem_cut, modem_listen, modem_hear, modem_is_noisy, modem_hush, modem_forget,
-    0, 0};
+    modem_free, modem_begin_tone, modem_begin_carrier, modem_say, modem_cut, modem_listen, modem_hear, modem_is_noisy, modem_hush,
+    modem_forget, 0, 0};

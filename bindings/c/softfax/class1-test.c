@@ -1,7 +1,7 @@
-/* class1-test [--tell]: calls of the terminal behind two Class 1 modems of t31.c, over bits.c's line, so that class1.c is tested
- * without libspandsp. Each kind of call is tried on each line, also with modems that have other ways. Then modems that fail: each has to be named in
- * words. Status 1: a call fails, a page is stored that isn't the document's, a confirmed one is missing, or an end doesn't hang up. --tell:
- * what happens in each call, on standard error. */
+/* class1-test [--tell]: calls of the terminal behind two Class 1 modems of t31.c, over bits.c's line, so that class1.c is tested without
+ * libspandsp. Each kind of call is tried on each line, also with modems that have other ways. Then modems that fail: each has to be named
+ * in words. Status 1: a call fails, a page is stored that isn't the document's, a confirmed one is missing, or an end doesn't hang up.
+ * --tell: what happens in each call, on standard error. */
 #include "behind.h"
 #include "stopped.h"
 #include <stdio.h>

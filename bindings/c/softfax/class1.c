@@ -20,9 +20,11 @@ enum op {
 
 /* Durations in milliseconds. */
 static const int LONGEST[OPS] = {
-    [SETS_UP] = 3000, [ASKS] = 3000, [DIALS] = 90000, [ANSWERS] = 30000, [AWAITS_SILENCE] = 2500 /* after that it is hiss */, [ABORTS] = 600,
-    [GOES_ON_HOOK] = 3000, [FTH] = 6000, [FTH_HELD] = 6000, [FTM] = 6000, [FTM_DATA] = 15000, [FTH_END] = 15000, [FTM_END] = 15000};
+    [SETS_UP] = 3000, [ASKS] = 3000, [DIALS] = 90000, [ANSWERS] = 30000, [AWAITS_SILENCE] = 2500 /* after that it is hiss */,
+    [ABORTS] = 600, [GOES_ON_HOOK] = 3000,
+    [FTH] = 6000, [FTH_HELD] = 6000, [FTM] = 6000, [FTM_DATA] = 15000, [FTH_END] = 15000, [FTM_END] = 15000};
 enum {
+    LONGEST_DRAIN = 4000, /* before it is told to hang up: it may say the rest of a page first */
     LONGEST_GAP = 3000,  /* without an octet in a frame or a page that comes */
     NEXT_FRAME = 1200,   /* from a frame to CONNECT of the next one */
     LATEST_PAGE = 3300,  /* until a page's carrier; the caller's T4 is over by then, and it speaks by V.21 */
@@ -344,8 +346,10 @@ static void make_way(modem *it)
     int is_left = is_receiving(it->op) || (it->op >= SETS_UP && it->op <= AWAITS_SILENCE);
     if (it->hangs_up && is_left) abort_op(it);
     else if (it->hangs_up && it->op >= FTH) {
+        it->out.count = 0;
         mind_xoff(it, 0);
         put_end(it);
+        put_end(it); /* the first one may follow a single DLE */
         begin(it, ABORTS);
     } else if (it->says && is_receiving(it->op)) abort_op(it);
 }
@@ -592,6 +596,12 @@ static void end_late_op(modem *it)
         it->op = FREE;
         it->stage = CLASS1_IS_OVER;
         return;
+    case FTM_DATA: /* it takes no more: what is left isn't said */
+        it->out.count = 0;
+        mind_xoff(it, 0);
+        put_end(it);
+        begin(it, FTM_END);
+        return;
     case FTH_END: case FTM_END:
         if (!it->ended_again) { /* octets may have been lost, and it still waits for the end */
             it->ended_again = 1;
@@ -608,8 +618,8 @@ static void end_late_op(modem *it)
 static void end_op(modem *it)
 {
     int64_t lasts = it->now - it->since, still = it->now - it->moved;
-    int is_data = it->op == FTM_DATA;
-    if (LONGEST[it->op] > 0 && (is_data ? still : lasts) > LONGEST[it->op]) {
+    int longest = it->op == ABORTS && it->hangs_up ? LONGEST_DRAIN : LONGEST[it->op];
+    if (longest > 0 && (it->op == FTM_DATA ? still : lasts) > longest) {
         end_late_op(it);
         return;
     }

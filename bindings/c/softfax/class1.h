@@ -15,9 +15,9 @@ typedef struct class1_setup {
 } class1_setup;
 
 extern const modem_kind modem_of_class1;
-/* Makes a modem on a port; what `setup` points at is kept by address. It sets the modem up, and dials or waits for RING. The terminal is made
- * once the stage is CLASS1_IS_ON: a caller's other side has been heard by then, and an answerer's terminal begins with its DIS. NULL if
- * memory is refused. */
+/* Makes a modem on a port; what `setup` points at is kept by address. It sets the modem up, and dials or waits for RING. The terminal is
+ * made once the stage is CLASS1_IS_ON: a caller's other side has been heard by then, and an answerer's terminal begins with its DIS. NULL
+ * if memory is refused. */
 modem *class1_new(const port *port, const class1_setup *setup);
 /* Hangs up: dialling, waiting and any command under way are left. */
 void class1_hang_up(modem *it);

@@ -1,8 +1,7 @@
-/* memory-test [STEP [FIRST_STEP]]: a call of the terminal with itself over modems of plain bits, and one behind Class 1 modems of t31.c, with
- * every growth of memory refused in turn; in the second one every STEP-th, if that is said, since most of its growths are those of t31.c,
- * and in the first one every FIRST_STEP-th. Status 1: a page
- * is stored that isn't the document's, a confirmed one is missing, an end doesn't hang up, or a block is left. Linked with --wrap=malloc,
- * --wrap=realloc and --wrap=free. */
+/* memory-test [STEP [FIRST_STEP]]: a call of the terminal with itself over modems of plain bits, and one behind Class 1 modems of t31.c,
+ * with every growth of memory refused in turn; in the second one every STEP-th, if that is said, since most of its growths are those of
+ * t31.c, and in the first one every FIRST_STEP-th. Status 1: a page is stored that isn't the document's, a confirmed one is missing, an
+ * end doesn't hang up, or a block is left. Linked with --wrap=malloc, --wrap=realloc and --wrap=free. */
 #include "behind.h"
 #include "../../tests/heap.h"
 #include <stdio.h>

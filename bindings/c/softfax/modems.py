@@ -68,10 +68,11 @@ class Call:
         with subprocess.Popen(words, stderr=subprocess.PIPE, text=True) as program:
             try:
                 self.serve(master, slave, program)
-            finally:
-                is_late = program.poll() is None
-                if is_late:
-                    program.kill()
+            except (OSError, subprocess.TimeoutExpired) as fault:
+                FAULTS.append(f"{self.name}: {fault}")
+            is_late = program.poll() is None
+            if is_late:
+                program.kill()
             said = program.stderr.read()
         if is_late or program.returncode != 1 or self.wanted not in said or self.must_say not in self.told:
             late = "too late" if is_late else f"with status {program.returncode}"
@@ -124,7 +125,7 @@ CALLS = [
     Call("no dial tone", "the modem says NO DIALTONE", replies(D=b"\r\nNO DIALTONE\r\n")),
     Call("a tty that goes", "the tty is gone", lambda told: OK, goes_at=b"ATD"),
     Call("a modem that falls silent amid a call", "the modem has fallen silent", until(b"ATD", OK, FRAME), within=45),
-    Call("a modem that is asked for nothing, and falls silent", "the modem has fallen silent", until(b"=?", OK, OK), words=ANSWER, within=60),
+    Call("a modem that falls silent while nobody calls", "the modem has fallen silent", until(b"=?", OK, OK), words=ANSWER, within=60),
     Call("SIGTERM while it dials", "end no-call confirmed 0", dials, kills_at=b"ATD", must_say=b"ATH0\r"),
     Call("SIGTERM while it waits for a ring", "end no-call pages 0", lambda told: OK, words=ANSWER, kills_at=b"=?", must_say=b"ATH0\r"),
     Call("no ring in time", "end no-call pages 0", lambda told: OK, words=[*ANSWER, "--most-seconds", "2"], must_say=b"ATH0\r"),

@@ -11,8 +11,9 @@ void options_usage(void)
 {
     fprintf(stderr,
         "usage: softfax --call PAGE.pbm.. | --answer DIR   --rx IN --tx OUT [--wav FILE]\n"
-        "       softfax --tty DEVICE --call NUMBER PAGE.pbm.. | --answer DIR [--rings N]   [--init COMMAND|NAME].. [--xon] [--trace-at FILE]\n"
-        "       [--modems v17|v29|v27ter] [--code mmr|mh] [--fine] [--square] [--no-ctc] [--id NAME] [--most-seconds N] [--json]\n"
+        "       softfax --tty DEVICE --call NUMBER PAGE.pbm.. | --answer DIR [--rings N]\n"
+        "       [--init COMMAND|NAME].. [--xon] [--trace-at FILE]\n"
+        "  both [--modems v17|v29|v27ter] [--code mmr|mh] [--fine] [--square] [--no-ctc] [--id NAME] [--most-seconds N] [--json]\n"
         "       [--tell]\n");
 }
 

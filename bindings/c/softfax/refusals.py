@@ -1,7 +1,7 @@
 #!/usr/bin/env python3
-"""Calls of two processes of softfax-checked over two pipes, in which one growth of memory is refused, of the caller or of the answerer: each
-of the first ones, and some of the others; or in which the answerer can't sync or link a page. The sanitizers report nothing, both end, and no
-page is confirmed that isn't stored, whole.
+"""Calls of two processes of softfax-checked over two pipes, in which one growth of memory is refused, of the caller or of the answerer:
+each of the first ones, and some of the others; or in which the answerer can't sync or link a page. The sanitizers report nothing, both end,
+and no page is confirmed that isn't stored, whole.
 
     refusals.py SOFTFAX-CHECKED PAGE.pbm FOLDER"""
 
@@ -70,8 +70,8 @@ def call(side, refused, name=""):
 
 
 def keep(fails):
-    """Runs a call whose answerer fails so in keeping its first page, 0: it doesn't; returns what was wrong. A page is synced before it has its
-    name, a name that is free, and its folder after that."""
+    """Runs a call whose answerer fails so in keeping its first page, 0: it doesn't; returns what was wrong. A page is synced before it
+    has its name, a name that is free, and its folder after that."""
     _, fault = call("answerer", 0, f"fails-{fails}")
     work = FOLDER / f"fails-{fails}"
     kept = [line.replace(str(work / "pages"), "DIR") for line in (work / "kept").read_text().splitlines()]

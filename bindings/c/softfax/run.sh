@@ -1,8 +1,8 @@
 #!/bin/sh
 # Builds softfax and its tests, and runs them: calls of the terminal with itself over plain bits, also with each growth of memory refused in
 # turn; calls over libspandsp's modems and over its Class 1 modem, with its own terminal each way and with itself; two processes that are
-# joined by two pipes, or by two ttys, under the sanitizers, also with growths of memory refused, and under valgrind; and what softfax says of
-# wrong files, signals, streams that stall and modems that fail.
+# joined by two pipes, or by two ttys, under the sanitizers, also with growths of memory refused, and under valgrind; and what softfax says
+# of wrong files, signals, streams that stall and modems that fail.
 #
 #     bindings/c/softfax/run.sh [--audio | --table SEEDS]
 #
@@ -15,7 +15,11 @@ LIB=${LIB:-$here/../../build}
 OUT=${OUT:-$here/build}
 work=$(mktemp -d)
 exchange='' modems=''
-trap 'for one in $exchange $modems; do kill "$one" 2> /dev/null || true; done; rm -rf "$work"' EXIT
+leaves() {
+    for one in $exchange $modems; do kill "$one" 2> /dev/null || true; done
+    rm -rf "$work"
+}
+trap leaves EXIT
 
 fails() {
     echo "softfax: FAILED: $*" >&2
@@ -98,6 +102,15 @@ has caller '{"end":"normal","confirmed":1,"peer":"0 1"}'
 [ "$(cat "$work/got/page-3.pbm")" = taken ] || fails "page-3.pbm was overwritten"
 [ "$(head -n 2 "$work/got/page-4.pbm" | tail -n 1)" = "1728 400" ] || fails "page-4.pbm isn't square"
 
+# a caller without error correction
+mkfifo "$work/up" "$work/down"
+timeout 60 "$softfax" --answer "$work/got" --rx "$work/up" --tx "$work/down" --json 2> "$work/answerer" &
+answerer=$! status=0
+timeout 60 "$OUT/softfax-test" "$work" --refused "$work/down" "$work/up" || fails "a caller without error correction ended with status $?"
+wait "$answerer" || status=$?
+[ "$status" = 1 ] || fails "the answerer of a caller without error correction ended with status $status"
+has answerer '{"end":"refused","pages":0,"why":"the caller sends without error correction"}'
+
 refuses 2 usage
 refuses 2 usage --call --rx /dev/null --tx /dev/null
 refuses 2 usage --call "$work/1.pbm" --answer "$work" --rx /dev/null --tx /dev/null
@@ -144,6 +157,8 @@ stops 1 "end stopped confirmed 0" --call "$work/1.pbm" --rx /dev/zero --tx "$wor
 stops 0 "end stopped confirmed 0" --call "$work/1.pbm" --rx /dev/zero --tx /dev/null --most-seconds 5
 # nor does standard error, which nobody reads, and which is full
 mkfifo "$work/err"
+# it keeps the pipe open, and reads nothing
+# shellcheck disable=SC2217
 sleep 60 < "$work/err" &
 holder=$!
 head -c 65536 /dev/zero > "$work/err"
@@ -158,6 +173,8 @@ if [ "$softfax" = "$OUT/softfax-checked" ]; then
     { printf 'P4\n1728 8\n'; seq 10000 99999 | head -c 1728; } > "$work/few.pbm"
     mkdir "$work/refusals"
     timeout 300 python3 "$here/refusals.py" "$softfax" "$work/few.pbm" "$work/refusals"
+else
+    echo "softfax: the compiler has no sanitizers: growths of memory aren't refused here"
 fi
 
 # modems that fail
@@ -213,7 +230,8 @@ echo "softfax: two processes carry a page over two ttys, and two signals end a c
 
 if command -v valgrind > /dev/null; then
     make -s -C "$here" LIB="$LIB" OUT="$OUT" memory-test
-    valgrind -q --error-exitcode=99 --leak-check=full "$OUT/memory-test" 100 30 > "$work/said" 2>&1 || { cat "$work/said" >&2; fails valgrind; }
+    valgrind -q --error-exitcode=99 --leak-check=full "$OUT/memory-test" 100 30 > "$work/said" 2>&1 \
+        || { cat "$work/said" >&2; fails "valgrind of memory-test"; }
     printf '#!/bin/sh\nexec valgrind -q --error-exitcode=99 --leak-check=full --track-fds=yes "%s" "$@"\n' "$OUT/softfax" > "$work/valgrind"
     chmod +x "$work/valgrind"
     softfax=$work/valgrind

@@ -3,11 +3,13 @@
  *     softfax-test FOLDER                         a call of one page each way, and with itself
  *     softfax-test FOLDER --table SEEDS [LINE..]  twelve kinds of calls on each line, or on those that are named, as a table
  *     softfax-test FOLDER --call PAIR LINE MODEMS CODING PAGES SEED    one call of the table; what happens is told on standard error
+ *     softfax-test FOLDER --refused IN OUT        calls over two pipes without error correction, as softfax calls with it
  *
  * PAIR is the caller and the answerer, as it:ours, where "it" is libspandsp's. Noise is in dBm0, the carriers are at -14. FOLDER is for
  * files of libspandsp's terminal, and for one process at a time. Status 1: a page is stored that isn't the document's, or a confirmed one
  * is missing; or a call fails on a clean line. */
 #include "theirs.h"
+#include <signal.h>
 #include <stdio.h>
 #include <stdlib.h>
 #include <string.h>
@@ -153,6 +155,26 @@ static int try_without_correction(const paper *papers, const char *folder)
     return is_right;
 }
 
+/* libspandsp's terminal as a caller without error correction, over two pipes; returns whether it was run until it hung up. */
+static int call_over_pipes(char **names, const paper *papers, const char *folder)
+{
+    trial kind = {.line = LINES[0], .modems = G3_V17, .coding = G3_MMR, .pages = 1, .papers = papers, .has_no_correction = 1};
+    int16_t heard[SLICE] = {0}, said[SLICE];
+    party caller;
+    outcome came = {0};
+    signal(SIGPIPE, SIG_IGN);
+    FILE *out = fopen(names[1], "wb"), *in = out != NULL ? fopen(names[0], "rb") : NULL;
+    int is_begun = in != NULL && begin(0, &kind, 1, folder, &caller), is_open = is_begun;
+    while (is_open && !caller.is_over(caller.it)) {
+        caller.step(caller.it, heard, said);
+        is_open = fwrite(said, sizeof *said, SLICE, out) == SLICE && fflush(out) == 0 && fread(heard, sizeof *heard, SLICE, in) == SLICE;
+    }
+    if (is_begun) caller.leave(caller.it, &came);
+    if (in != NULL) fclose(in);
+    if (out != NULL) fclose(out);
+    return is_begun;
+}
+
 int main(int argc, char **argv)
 {
     static const uint32_t WIDTHS[MOST_PAGES] = {1728, 2432, 1728};
@@ -164,7 +186,9 @@ int main(int argc, char **argv)
     if (argc == 2) is_right = try_few(papers, argv[1]) && try_without_correction(papers, argv[1]);
     else if (argc >= 4 && strcmp(argv[2], "--table") == 0) is_right = try_table(argc - 3, argv + 3, papers, argv[1]);
     else if (argc == 9 && strcmp(argv[2], "--call") == 0) is_right = try_one(argv + 3, papers, argv[1]);
-    else fprintf(stderr, "usage: softfax-test FOLDER [--table SEEDS [LINE..] | --call PAIR LINE MODEMS CODING PAGES SEED]\n");
+    else if (argc == 5 && strcmp(argv[2], "--refused") == 0) is_right = call_over_pipes(argv + 3, papers, argv[1]);
+    else fprintf(stderr, "usage: softfax-test FOLDER [--table SEEDS [LINE..] | --call PAIR LINE MODEMS CODING PAGES SEED |\n"
+        "                    --refused IN OUT]\n");
     for (uint32_t i = 0; i < MOST_PAGES; i++) paper_free(&papers[i]);
     return !is_right;
 }

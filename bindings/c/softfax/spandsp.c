@@ -28,11 +28,21 @@ static void put(soft *it, const uint8_t *octets, int count)
     it->host.write(it->host.user, octets, count);
 }
 
+/* Whether octets have a text: a result may come with its line ends or without. */
+static int has(const uint8_t *octets, size_t count, const char *text)
+{
+    size_t length = strlen(text);
+    for (size_t at = 0; at + length <= count; at++) {
+        if (memcmp(octets + at, text, length) == 0) return 1;
+    }
+    return 0;
+}
+
 static int on_octets(at_state_t *at, void *user, const uint8_t *octets, size_t count)
 {
     soft *it = user;
     (void)at;
-    if (it->ways.silent && count >= 8 && memcmp(octets + 2, "+FCERROR", 8) == 0) return 0;
+    if (it->ways.silent && has(octets, count, "+FCERROR")) return 0;
     if (it->ways.late == 0 || it->count == MOST_LATE || !ring_put(&it->late, octets, (int)count)) {
         put(it, octets, (int)count);
         return 0;

@@ -22,7 +22,9 @@ static int try_call(stopped_begin *begin, const trial *kind)
         && strcmp(calls ? came.answerer : came.caller, "peer left") == 0;
     int is_timely = hurries ? came.seconds < SOON : came.seconds > AFTER_BLOCK;
     int is_right = is_in_order && is_timely && came.equal + came.wrong == 0 && came.confirmed == 0;
-    if (!is_right || kind->tells != NULL) fprintf(stderr, "stopped: caller %s, answerer %s, %u s\n", came.caller, came.answerer, came.seconds);
+    if (!is_right || kind->tells != NULL) {
+        fprintf(stderr, "stopped: caller %s, answerer %s, %u s\n", came.caller, came.answerer, came.seconds);
+    }
     return is_right;
 }
 

@@ -13,7 +13,7 @@ enum {
     BEFORE_CARRIER = 75,      /* silence (T.30, 5.3) */
     AFTER_CALL = 200,         /* silence after the last carrier, so that the line carries all of it */
     LONGEST_UNREAD = 6000,    /* a signal with no frame where no page is awaited: after that it is the line's hiss */
-    LONGEST_READ = 60000,     /* a signal with frames on and on, beside the longest block: nobody who means it says more at once */
+    LONGEST_READ = 60000,     /* beyond that, of a signal with frames: nobody who means it says so much at once */
     LONGEST_CRACKLE = 300000, /* a line that is never silent for long, with no frame: T1 is over, whatever else is heard */
     LATEST_CHECK = 3600,      /* after a DCS: 75 ms, 1.4 s of V.17's training, 1.5 s, and how late the other side may be */
     LEAST_CHECK = 1000,       /* a signal that may have been a training check that couldn't be read */
@@ -309,12 +309,22 @@ static int64_t longest_block(const terminal *it)
     return it->carrier != 0 ? (int64_t)BLOCK_BITS * 1000 / rate_of(it->carrier) : 0;
 }
 
-/* Takes what goes on and on for the hiss of the line. Where pages are awaited it may be a block that no receiver is trained by. */
+/* Ends the call soon, for a reason of the terminal's own. */
+static void refuse(terminal *it, const char *why)
+{
+    it->why = why;
+    tell(it, why, NULL, 0);
+    terminal_hurry(it);
+}
+
+/* Takes what goes on and on for the hiss of the line. Where pages are awaited it may be a block that no receiver is trained by. With frames
+ * in it it is another station that never stops: the call is ended. */
 static void hush(terminal *it)
 {
-    int64_t block = hears_pages(it->listens) ? longest_block(it) : 0, lasts = it->now - it->began;
-    int is_unread = lasts > LONGEST_UNREAD + block && it->now - it->heard > LONGEST_UNREAD + block;
-    if (it->quiet == NEVER && (is_unread || lasts > LONGEST_READ + block)) it->kind->hush(it->modem);
+    int64_t longest = LONGEST_UNREAD + (hears_pages(it->listens) ? longest_block(it) : 0), lasts = it->now - it->began;
+    if (it->quiet != NEVER || lasts <= longest) return;
+    if (it->now - it->heard > longest) it->kind->hush(it->modem);
+    else if (lasts > longest + LONGEST_READ && it->why == NULL) refuse(it, "the other station never stops");
 }
 
 /* Whether a wait that runs since a time is over. */

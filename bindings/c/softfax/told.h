@@ -1,5 +1,5 @@
-/* What softfax tells on standard error, a line in one piece. Nobody may read it: a line is waited for a short while, and then lines are left
- * out until there is room again. So a call never waits for who reads of it. */
+/* What softfax tells on standard error, a line in one piece. Nobody may read it: a line is waited for a short while, and then lines are
+ * left out until there is room again. So a call never waits for who reads of it. */
 #ifndef TOLD_H
 #define TOLD_H
 

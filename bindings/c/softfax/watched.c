@@ -1,6 +1,6 @@
 /* Linked into softfax for tests, with --wrap of malloc, realloc, free, fsync and link. The growth of memory whose number is in REFUSED is
- * refused, and the call of fsync or link whose number is in FAILS fails. The file that GROWTHS names gets how many growths there were; the one
- * that KEPT names gets a line for each fsync and link. */
+ * refused, and the call of fsync or link whose number is in FAILS fails. The file that GROWTHS names gets how many growths there were; the
+ * one that KEPT names gets a line for each fsync and link. */
 #include "../../tests/heap.h"
 #include <errno.h>
 #include <stdio.h>
