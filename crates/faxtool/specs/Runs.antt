@@ -2,7 +2,7 @@
 --
 -- No clause says what a file holds. So the octets that a command has read, and what a writer had before and after, are some octets of which
 -- the engine's definition holds.
-use Rattle.std.specs.Prelude.{◌≡◌, ◌⊎◌, ◌<◌, ◌||◌, ◌∷◌, ℕ, Bool, List, Option, Some, None, Result, Ok, Err, not, true, false, is_some, length}
+use Rattle.std.specs.Prelude.{◌≡◌, ◌⊎◌, ◌<◌, ◌||◌, ◌∷◌, ◌-◌, ℕ, Bool, List, Option, Some, None, Result, Ok, Err, not, true, false, is_some, length}
 use Rattle.std.specs.Prelude.{IfErr, IfOk, if◌then◌else◌}
 use Rattle.call_tallies.specs.ManyCalls.{TellsMany}
 use Rattle.calls.specs.BadLines.{LeavesDriven, RefusesDriven}
@@ -20,7 +20,9 @@ use Rattle.page_files.specs.Identified.{Identifies}
 use Rattle.page_files.specs.LaterPages.{AnswersPage, AreAfter}
 use Rattle.page_files.specs.declared.options.PageForm.{PageForm}
 use Rattle.raster.specs.Pages.{PagePixels}
-use Rattle.stations.specs.declared.CallEnd.{CallEnd}
+use Rattle.stations.specs.declared.stopping.CallEnd.{CallEnd}
+use Rattle.stations.specs.declared.stopping.CallEnd.TheVariants.{By}
+use Rattle.stations.specs.declared.turn.End.TheVariants.{Normal}
 use Rattle.faxtool.specs.declared.args.words.Outcome.{Outcome}
 use Rattle.faxtool.specs.declared.args.words.Outcome.TheVariants.{Done, Fault, Incomplete, Words}
 use Rattle.faxtool.specs.declared.commands.Command.{Command}
@@ -139,6 +141,13 @@ DriveGives command (Err fault) = IsUndriven command fault
 abbrev pub IsHalt : Halted → Type 0
 IsHalt (halted.Line number reason) = Unit {0}
 IsHalt (halted.Fault fault) = IsOutside fault
+
+-- what a station's command gives: a fault that stopped its lines, or whether its call ended normally
+abbrev pub ended_of : Option Halted → Option CallEnd → Result Completeness ToolFault
+ended_of (Some (halted.Fault fault)) end = Err fault
+ended_of (Some (halted.Line number reason)) end = Ok Lacking
+ended_of None (Some (By Normal)) = Ok Whole
+ended_of None _ = Ok Lacking
 
 -- the file has no document that a call carries
 abbrev pub IsNoDocument : Bool → ToolFault → Type 0
