@@ -56,6 +56,22 @@ try_unwritten() {
     count=$((count + 1))
 }
 
+# A station, or `frames --pages`, that is killed while it writes a page leaves no file of the page's name: only a part file, as it was.
+try_killed() {
+    for words in "station --answer --out $work/stored" "frames --pages $work/stored -"; do
+        input=$top/.ci/conversations/reference_page_of_many_rows.lines
+        [ "${words%% *}" = station ] || input=$top/docs/examples/line.bits
+        rm -rf "$work/stored"
+        mkdir "$work/stored"
+        # a write past the limit kills
+        { (ulimit -c 0; ulimit -f 0; exec "$program" $words) < "$input" | cat > "$work/output"; } 2> /dev/null
+        ls "$work/stored" > "$work/left"
+        grep -q '^faxtool-[0-9]*-1\.part$' "$work/left" || fails "$words wasn't killed while it wrote a page"
+        [ "$(wc -l < "$work/left")" = 1 ] || fails "$words was killed, and left: $(cat "$work/left")"
+        count=$((count + 1))
+    done
+}
+
 # Lines of no allowed form, and one of more than 400,000 octets; and one of as many, which is allowed.
 try_no_lines() {
     kept=$work/stored
@@ -240,6 +256,7 @@ CASES
     faults "fault 26" station --call "$(octets "50 34 0A 38 20 31 0A 30")"
     try_taken_numbers
     try_unwritten
+    try_killed
     try_no_lines
     try_no_line_words
     try_trace

@@ -2,11 +2,10 @@
 --
 -- No clause says what a file holds. So the octets that a command has read, and what a writer had before and after, are some octets of which
 -- the engine's definition holds.
-use Rattle.std.specs.Prelude.{◌≡◌, ◌⊎◌, ◌<◌, ◌||◌, ◌∷◌, ℕ, Bool, List, Option, Some, None, Result, Ok, Err, not, true, false, is_some, length}
+use Rattle.std.specs.Prelude.{◌≡◌, ◌⊎◌, ◌<◌, ◌||◌, ◌∷◌, ◌-◌, ℕ, Bool, List, Option, Some, None, Result, Ok, Err, not, true, false, is_some, length}
 use Rattle.std.specs.Prelude.{IfErr, IfOk, if◌then◌else◌}
 use Rattle.call_tallies.specs.ManyCalls.{TellsMany}
 use Rattle.calls.specs.BadLines.{LeavesDriven, RefusesDriven}
-use Rattle.calls.specs.Calls.{IsBadScript, LeavesCall, RefusesCall}
 use Rattle.calls.specs.Ends.{ended_normally}
 use Rattle.calls.specs.SentBits.{Written}
 use Rattle.line_sim.specs.declared.live.Ending.{Ending}
@@ -14,13 +13,16 @@ use Rattle.clap.specs.Words.{kind_of}
 use Rattle.clap.specs.declared.error.kind.ErrorKind.TheVariants.{ArgumentConflict}
 use Rattle.faults.specs.Faults.{IsOutside}
 use Rattle.faults.specs.declared.fault.ToolFault.{ToolFault}
+use Rattle.faults.specs.declared.fault.ToolFault.TheVariants.{No}
 use Rattle.page_files.specs.CodedPages.{AppendsCode, RefusesShow, ShowsPage}
 use Rattle.page_files.specs.Decodings.{RefusesDecoding, broken_asked}
 use Rattle.page_files.specs.Identified.{Identifies}
 use Rattle.page_files.specs.LaterPages.{AnswersPage, AreAfter}
 use Rattle.page_files.specs.declared.options.PageForm.{PageForm}
 use Rattle.raster.specs.Pages.{PagePixels}
-use Rattle.stations.specs.declared.CallEnd.{CallEnd}
+use Rattle.stations.specs.declared.stopping.CallEnd.{CallEnd}
+use Rattle.stations.specs.declared.stopping.CallEnd.TheVariants.{By}
+use Rattle.stations.specs.declared.turn.End.TheVariants.{Normal}
 use Rattle.faxtool.specs.declared.args.words.Outcome.{Outcome}
 use Rattle.faxtool.specs.declared.args.words.Outcome.TheVariants.{Done, Fault, Incomplete, Words}
 use Rattle.faxtool.specs.declared.commands.Command.{Command}
@@ -99,19 +101,9 @@ pub record FramesGives (command : FramesCommand) (given : Result Completeness To
 abbrev pub as_wanted : Bool → Ending → Completeness
 as_wanted normal ending = completeness_of (ended_normally ending || not normal)
 
--- the call of the script was run, and left this ending
-abbrev pub IsCalled : ScriptCommand → Ending → Type 0
-IsCalled command ending = (said images : List ℕ) × (before after : Written) × LeavesCall command.options said images before after ending
-
--- no call by the script was run to its end
-abbrev pub IsUncalled : ScriptCommand → ToolFault → Type 0
-IsUncalled command fault = IsOutside fault ⊎ ((said images : List ℕ)
-    × (IsBadScript said fault ⊎ RefusesCall command.options.fine said images fault))
-
--- the call was run and ended so, or it was refused
+-- a call by a script is lacking only if a normal end is wanted
 abbrev pub ScriptGives : ScriptCommand → Result Completeness ToolFault → Type 0
-ScriptGives command (Ok completeness) = (ending : Ending) × IsCalled command ending × (completeness ≡ as_wanted command.normal ending)
-ScriptGives command (Err fault) = IsUncalled command fault
+ScriptGives command given = IfOk given (λ completeness. command.normal ≡ false → completeness ≡ Whole)
 
 -- call 0 over the bad line was run, and left this ending
 abbrev pub IsDriven : DriveCommand → Ending → Type 0
@@ -140,9 +132,16 @@ abbrev pub IsHalt : Halted → Type 0
 IsHalt (halted.Line number reason) = Unit {0}
 IsHalt (halted.Fault fault) = IsOutside fault
 
+-- what a station's command gives: a fault that stopped its lines, or whether its call ended normally
+abbrev pub ended_of : Option Halted → Option CallEnd → Result Completeness ToolFault
+ended_of (Some (halted.Fault fault)) end = Err fault
+ended_of (Some (halted.Line number reason)) end = Ok Lacking
+ended_of None (Some (By Normal)) = Ok Whole
+ended_of None _ = Ok Lacking
+
 -- the file has no document that a call carries
 abbrev pub IsNoDocument : Bool → ToolFault → Type 0
-IsNoDocument fine fault = IsOutside fault ⊎ ((images : List ℕ) × RefusesDriven fine images fault)
+IsNoDocument fine fault = IsOutside fault ⊎ ((fault ≡ No 26) ⊎ ((images : List ℕ) × RefusesDriven fine images fault))
 
 -- a file or memory failed, or the file has no document that a call carries
 abbrev pub DialGives : DialCommand → Result Completeness ToolFault → Type 0
@@ -156,6 +155,10 @@ VersionGives (Ok completeness) = completeness ≡ Whole
 VersionGives (Err fault) = IsOutside fault
 
 -- ---- all commands
+
+-- what comes of a run is among what can come of its command
+abbrev pub Comes : (Result Completeness ToolFault → Type 0) → Result Completeness ToolFault → Type 0
+Comes gives given = gives given
 
 -- What the program ends with for what can come of a command; before it runs memory can be refused, or its files are not apart.
 abbrev pub Gave : (Result Completeness ToolFault → Type 0) → Outcome → Type 0

@@ -139,6 +139,7 @@ fn shown_name<'a>(named: &'a str, part: Part) -> &'a str {
 pub trait Runs {
     ghost use Rattle.std.specs.Prelude.{ℕ, Option, Result, IfSome};
     ghost use Rattle.faults.specs.declared.fault.ToolFault.{ToolFault};
+    ghost use Rattle.faxtool.specs.Runs.{Comes};
     ghost use Rattle.faxtool.specs.declared.commands.Completeness.{Completeness};
     ghost use Rattle.raster.specs.Pixels.{IsWidth};
 
@@ -162,5 +163,5 @@ pub trait Runs {
     /// Does what it is asked for. Errors: the fault, of which the context has what else is known.
     fn run(&self, context: &mut Context<'_>) -> Result<Completeness, ToolFault>
         requires { IfSome (width self.now) IsWidth }
-        ensures { gives self.now result };
+        ensures { Comes (gives self.now) result };
 }

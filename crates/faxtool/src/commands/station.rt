@@ -29,7 +29,7 @@ use faults::{FAILED, NO_MEMORY, ToolFault};
 use page_files::PageForm;
 use raster::{Page, read_pbm};
 use signals::{Caps, Wish};
-use stations::{CallEnd, Caller, LimitedAnswerer, Limits, StoppableCaller, Turn};
+use stations::{CallEnd, Caller, CallerFault, LimitedAnswerer, Limits, StoppableCaller, Turn};
 use std::alloc::AllocError;
 use std::io;
 use std::io::{BufReader, BufWriter, ErrorKind};
@@ -414,7 +414,7 @@ impl DialCommand {
         };
         match Caller::new(context.alloc(), document, wish) {
             Ok(caller) => Ok(caller),
-            Err(fault) => Err(ToolFault::No(fault.number())),
+            Err(CallerFault::WidthNotCallable) => Err(ToolFault::No(26)),
         }
     }
 

@@ -95,9 +95,9 @@ pub(crate) fn open<'a>(
 }
 
 /// Ends a file: it takes its place if all was done, and is otherwise removed. Errors: `Io` (8) if it can't be written, and that is noted.
-fn end_file(
-    context: &mut Context<'_>,
-    direction: Direction<'_>,
+fn end_file<'a>(
+    context: &mut Context<'a>,
+    direction: Direction<'a>,
     done: bool,
 ) -> Result<(), ToolFault>
     ensures { IfErr result IsOutside }
@@ -114,9 +114,9 @@ fn end_file(
 
 /// Ends a call's outputs: what is printed, and then the files, which take their places if all was done and printed. Errors: `Io` (8) if one
 /// can't be written, and that is noted; `NoMemory` (9).
-pub(crate) fn close(
-    context: &mut Context<'_>,
-    output: CallOutput<'_>,
+pub(crate) fn close<'a>(
+    context: &mut Context<'a>,
+    output: CallOutput<'a>,
     done: bool,
 ) -> Result<(), ToolFault>
     ensures { IfErr result IsOutside }

@@ -28,9 +28,9 @@ pub(crate) fn open<'a>(
 
 /// Ends a call's outputs; then writes the picture, if it is asked for, all was done and the rest is written. Errors: `Io` (8) if a file
 /// can't be written, and the file is noted; `NoMemory` (9).
-pub(crate) fn close(
-    context: &mut Context<'_>,
-    output: WithDiagram<CallOutput<'_>>,
+pub(crate) fn close<'a>(
+    context: &mut Context<'a>,
+    output: WithDiagram<CallOutput<'a>>,
     done: bool,
     name: Option<&str>,
 ) -> Result<(), ToolFault>
