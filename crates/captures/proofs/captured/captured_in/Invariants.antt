@@ -6,5 +6,5 @@ use Rattle.captures.proofs.captured.captured_in.Given as goal
 
 abbrev pub invariant-loop-content : goal.invariant-loop-content
 invariant-loop-content g l =
-    (l.contents.order ≡ l.order) × Left (g.R.Read.remaining l.initial.reader) (g.R.Read.remaining l.reader) l.contents
-    (OutLeft l.order l.out.items l.capture)
+    (l.contents.order ≡ l.fn.order) × Left (g.R.Read.remaining l.initial.reader) (g.R.Read.remaining l.reader) l.contents
+    (OutLeft l.fn.order l.out.items l.capture)
