@@ -152,17 +152,17 @@ pub one_more : (start left rest : Option (List ℕ)) (old new : ContentReading) 
     → Left start left old P → more ≡ true
     → ((line : List ℕ) (coming : List (List ℕ)) → StandsIn old left line coming → GivesNext more new rest line coming)
     → ((line : List ℕ) (later : List (List ℕ)) → P line (new.content ∷ later) → Q line later) → Left start rest new Q
-one_more None left rest old new more P Q was is-more next step = tt
-one_more (Some line) left rest old new more P Q (coming, stands, holds) is-more next step =
+one_more None left rest old new more P Q was goes next step = tt
+one_more (Some line) left rest old new more P Q (coming, stands, holds) goes next step =
     let given : GivesNext true new rest line coming =
-    subst (λ m. GivesNext m new rest line coming) is-more (next line coming stands) in
+    subst (λ m. GivesNext m new rest line coming) goes (next line coming stands) in
     (given.0, given.2, step line given.0 (subst (P line) given.1 holds))
 
 pub no_more : (start left rest : Option (List ℕ)) (old new : ContentReading) (more : Bool) (P : List ℕ → List (List ℕ) → Type 0)
     (Q : List ℕ → Type 0) → Left start left old P → more ≡ false
     → ((line : List ℕ) (coming : List (List ℕ)) → StandsIn old left line coming → GivesNext more new rest line coming)
     → ((line : List ℕ) → HasRead new line [] [] → P line [] → Q line) → IfSome start Q
-no_more None left rest old new more P Q was is-last next ends = tt
-no_more (Some line) left rest old new more P Q (coming, stands, holds) is-last next ends =
-    let given : GivesNext false new rest line coming = subst (λ m. GivesNext m new rest line coming) is-last (next line coming stands) in
+no_more None left rest old new more P Q was over next ends = tt
+no_more (Some line) left rest old new more P Q (coming, stands, holds) over next ends =
+    let given : GivesNext false new rest line coming = subst (λ m. GivesNext m new rest line coming) over (next line coming stands) in
     ends line given.1 (subst (P line) given.0 holds)

@@ -6,4 +6,4 @@ use Rattle.call_pictures.proofs.captured_call.captured_frames.Given as goal
 abbrev pub invariant-loop-content : goal.invariant-loop-content
 invariant-loop-content g l =
     Left (g.R.Read.remaining l.initial.reader) (g.R.Read.remaining l.reader) l.contents
-    (TakesLeft l.order l.frames.known.items l.frames.others)
+    (TakesLeft l.fn.order l.frames.known.items l.frames.others)
