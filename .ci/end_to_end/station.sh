@@ -206,6 +206,16 @@ try_joined() {
     done
 }
 
+# A page is synced under another name, and its folder after it has its own, before MCF; that holds whatever call on the disk fails, and
+# whenever the process is killed.
+try_disk() {
+    ${CC:-cc} -std=gnu11 -Wall -Wextra -O1 -shared -fPIC -o "$work/disk.so" "$top/.ci/end_to_end/disk.c" -ldl || fails "disk.c isn't compiled"
+    runs=$(python3 -B "$top/.ci/end_to_end/disk.py" "$program" "$work/disk.so" "$top/.ci/conversations/worked_answerer") ||
+        fails "pages on a disk that fails"
+    rm "$work/disk.so"
+    count=$((count + runs))
+}
+
 # 200 calls of three pages over lines that lose, with a disk that holds answers for up to 12 s, and a fifth of the callers and answerers
 # killed: no page is confirmed and not stored, none is there twice or cut short.
 try_pool() {
@@ -262,6 +272,7 @@ CASES
     try_trace
     try_station_records
     try_joined
+    try_disk
     try_pool
     python3 -B "$top/bench/fuzz/reference_station.py" --dry > "$work/output" || fails "reference_station.py: $(cat "$work/output")"
     FAXTOOL=$program timeout 600 python3 -B "$top/bench/fuzz/fuzz_station.py" --times 300 --seed 36 > "$work/output" ||
