@@ -12,7 +12,7 @@ use crate::trace::Trace;
 use crate::{files, outputs};
 use calls::{CallOptions, end_word};
 use conversations::{
-    Conversation, ConverseFault, Durations, Ending, Keeper, PageStore, converse, keep_pages,
+    Conversation, ConverseFault, Durations, Ending, Keeper, PageStore, Says, converse, keep_pages,
 };
 use faults::{FAILED, NO_MEMORY, ToolFault};
 use raster::{Page, read_pbm, write_pbm};
@@ -76,6 +76,14 @@ fn durations(given: GivenWaits) -> Durations {
         t2: given.t2.unwrap_or(usual.t2),
         t4: given.t4.unwrap_or(usual.t4),
         t5: given.t5.unwrap_or(usual.t5),
+    }
+}
+
+/// What a station says beside its bursts.
+fn says(given: GivenWaits) -> Says {
+    Says {
+        hears: given.hears,
+        waits: given.hears,
     }
 }
 
@@ -273,7 +281,9 @@ impl Answering<'_> {
         };
         let (station, first) = LimitedAnswerer::new(rt.alloc(), caps, limits);
         let terminal = Terminal::new(rt.alloc(), station, first);
-        let mut conversation = Conversation::new_answerer(terminal, durations(self.waits));
+        let mut conversation = Conversation::new_answerer(terminal, durations(self.waits)).saying(
+            says(self.waits),
+        );
         let mut folder = Folder {
             rt,
             name: self.out,
@@ -330,7 +340,9 @@ impl Dialling<'_> {
         let caller = self.caller(rt, notes)?;
         let station = StoppableCaller::new(caller);
         let terminal = Terminal::new(rt.alloc(), station, Turn::Silent);
-        let mut conversation = Conversation::new_caller(terminal, durations(self.waits));
+        let mut conversation = Conversation::new_caller(terminal, durations(self.waits)).saying(
+            says(self.waits),
+        );
         let halted = talk_out(rt, &mut conversation, &mut NoPages, self.trace, notes)?;
         let caller = conversation.terminal().station().station();
         Ok(Talked {
