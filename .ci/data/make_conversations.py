@@ -43,6 +43,12 @@ def worked(name, words, table, **files):
     write("worked_" + name, words, [text_of(line) for line, _ in table[:-1]], answers, table[-1:], **files)
 
 
+def worked_whole(name, words, table, **files):
+    """As `worked`, with every line out in the table."""
+    answers = [burst if isinstance(burst, str) else "tx " + written(burst) for _, bursts in table[:-1] for burst in bursts]
+    write("worked_" + name, words, [text_of(line) for line, _ in table[:-1]], answers, table[-1:], **files)
+
+
 def referred(name, words, lines, document=b"", errors=None):
     """The answers, and the last line on standard error, are those of the reference."""
     source, pages, answers = folder / f"reference_{name}.pbm", [], []
@@ -54,10 +60,45 @@ def referred(name, words, lines, document=b"", errors=None):
     write("reference_" + name, words, texts, answers, errors or told, document, pages)
 
 
+FTT = "FF1344"  # X010 0010, where a CFR is X010 0001 (T.30, 5.3.6.1.4)
+# What an answerer hears, what comes first in front, and when a wait is over: T1 35 s after the last frame or check, T2 7 s after the first
+# quiet line. A check that doesn't come gets FTT, and is no check that was heard.
+V21, A_CHECK, A_PAGE = "hear v21 hdlc", f"hear {PAGE} raw", f"hear {PAGE} hdlc"
+HEARING = [
+    ("quiet 500", ["wait 1000"]),
+    ("quiet 1000", [("v21", [DIS]), V21, "wait 35000"]),
+    ("quiet 2000", [V21, "wait 9000"]),
+    ("missed 2500", [V21, "wait 9000"]),
+    (("rx 3000", "v21", [DCS]), [A_CHECK, V21, "wait 38000"]),
+    ("quiet 3020", [A_CHECK, V21, "wait 10020"]),
+    ("missed 6000", [("v21", [FTT]), V21, "wait 38000"]),
+    (("rx 10000", "v21", [DCS]), [A_CHECK, V21, "wait 45000"]),
+    (("rx 12000", PAGE, CHECK), [("v21", [CFR]), A_PAGE, V21, "wait"]),
+    ("quiet 12500", [A_PAGE, V21, "wait 47500"]),
+    (("rx 13000", PAGE, WHITE_BURST), [A_PAGE, V21, "wait"]),
+    ("not-ready 13001", [A_PAGE, V21, "wait"]),
+    (("rx 14000", "v21", [LAST]), [("v21", [RNR]), V21, A_PAGE, "wait"]),
+    ("ready 14001", [V21, A_PAGE, "wait"]),
+    (("rx 15000", "v21", [RR]), [("v21", [MCF]), V21, A_PAGE, "wait"]),
+    (("rx 16000", "v21", [DCN]), ["done"]),
+    "end normal pages 1",
+]
+# After a carrier of a minute a line is answered; a quiet line that is later than a quiet one by more than 35 s isn't.
+JUMPING = [
+    ("quiet 1000", [("v21", [DIS]), "wait"]),
+    ("quiet 1100", ["wait"]),
+    ("busy 1200", ["wait"]),
+    (("rx 61200", "v21", [DCS]), ["wait"]),
+    ("quiet 61300", ["wait"]),
+    ("quiet 96301", []),
+    "fault 31 at line 6",
+]
 BEGUN = ["quiet 1000", ("rx 2000", "v21", [DCS]), ("rx 4000", PAGE, CHECK)]
 FIRST_OF_TWO, SECOND = "FF13BF4F000000", "FF13BF2F010000"
 SENT = [("rx 6000", PAGE, WHITE_BURST), ("rx 7000", "v21", [FIRST_OF_TWO])]
 worked("answerer", "--answer --out DIR", ANSWERED, pages=[WHITE])
+worked_whole("answerer_says_what_it_hears", "--answer --hear --out DIR", HEARING, pages=[WHITE])
+worked_whole("clock_that_jumps", "--answer --out DIR", JUMPING)
 worked("caller_before_a_busy_answerer", "--call IN", CALLED, document=WHITE)
 worked("caller", "--call IN", SENT_WELL, document=WHITE)
 worked("caller_alone", "--call IN", UNANSWERED, document=WHITE)

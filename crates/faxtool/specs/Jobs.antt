@@ -186,10 +186,10 @@ with_station_choices app sizes widths = with_rule (with_rule (with_rule (with_ru
     (named_rule (codes "widest") widths)) (number_rule (codes "limit") 1 1000)) (named_rule (codes "frame") sizes))
     (flag_rule (codes "fine"))
 
--- the command with how long the four waits run
+-- the command with how long the four waits run, and whether what is heard, and until when, is said
 abbrev pub with_waits : App → App
-with_waits app = with_rule (with_rule (with_rule (with_rule app (millis_rule (codes "t1"))) (millis_rule (codes "t2")))
-    (millis_rule (codes "t4"))) (millis_rule (codes "t5"))
+with_waits app = with_rule (with_rule (with_rule (with_rule (with_rule app (millis_rule (codes "t1"))) (millis_rule (codes "t2")))
+    (millis_rule (codes "t4"))) (millis_rule (codes "t5"))) (flag_rule (codes "hear"))
 
 -- `station`: which station it is, its options, its waits, the file of its trace, records or not, and the file of the document
 abbrev pub station_app : ValueParser → ValueParser → ValueParser → ValueParser → App
@@ -514,12 +514,13 @@ abbrev pub has_caller : List Row → Bool
 has_caller rows = is_some (first_of (codes "frame") rows) || (is_named (codes "true") (first_of (codes "fine") rows) ||
     is_some (first_of (codes "in") rows))
 
--- the lengths of the waits, if given
+-- the lengths of the waits, if given, and whether what is heard, and until when, is said
 pub record AreWaitsIn (rows : List Row) (waits : GivenWaits) : Type 0 where
   pub t1_is : ReadsNumber (codes "t1") rows waits.t1
   pub t2_is : ReadsNumber (codes "t2") rows waits.t2
   pub t4_is : ReadsNumber (codes "t4") rows waits.t4
   pub t5_is : ReadsNumber (codes "t5") rows waits.t5
+  pub hears_is : waits.hears ≡ is_named (codes "true") (first_of (codes "hear") rows)
 
 -- what an answerer can do, as the values say: it takes each code up to the one named, and fine lines unless it takes standard ones alone
 abbrev pub caps_in : List Row → Coding → Caps

@@ -16,7 +16,7 @@ use page_code::Coding;
 use signals::{Caps, PageWidth};
 use std::alloc::{AllocError, Global};
 
-/// The lengths of the waits in milliseconds, if given.
+/// The lengths of the waits in milliseconds, if given, and whether a station says what it hears and until when it waits.
 #[derive(Clone, Copy, Debug, PartialEq, Eq)]
 pub struct GivenWaits {
     /// T1.
@@ -27,6 +27,8 @@ pub struct GivenWaits {
     pub t4: Option<u32>,
     /// T5.
     pub t5: Option<u32>,
+    /// True if it says what it hears and until when it waits.
+    pub hears: bool,
 }
 
 /// Returns the command of one station, if all its values are given and its options go together.
@@ -155,6 +157,7 @@ fn waits_in(matches: &ArgMatches<'_>) -> GivenWaits
         t2: number_in(matches, "t2"),
         t4: number_in(matches, "t4"),
         t5: number_in(matches, "t5"),
+        hears: is_named(text_in(matches, "hear"), "true"),
     }
 }
 

@@ -446,6 +446,11 @@ const STATION_ARGUMENTS: &[Argument<'static>] = &[
         ..MILLIS
     },
     Argument {
+        id: "hear",
+        help: "Says before each wait what is heard, and after it until when",
+        ..FLAG
+    },
+    Argument {
         id: "trace",
         help: "The file that what is heard and said is written to, with its time",
         ..FILE_OPTION

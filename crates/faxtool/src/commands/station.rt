@@ -23,7 +23,7 @@ use crate::files::progress::Watch;
 use crate::files::{STANDARD, output};
 use calls::{CallOptions, end_word};
 use conversations::{
-    Conversation, ConverseFault, Durations, Ending, Keeper, PageStore, converse, keep_pages,
+    Conversation, ConverseFault, Durations, Ending, Keeper, PageStore, Says, converse, keep_pages,
 };
 use faults::{FAILED, NO_MEMORY, ToolFault};
 use page_files::PageForm;
@@ -96,6 +96,16 @@ fn durations(given: GivenWaits) -> Durations {
         t2: given.t2.unwrap_or(usual.t2),
         t4: given.t4.unwrap_or(usual.t4),
         t5: given.t5.unwrap_or(usual.t5),
+    }
+}
+
+/// What a station says beside its bursts.
+fn says(given: GivenWaits) -> Says
+    ensures { result ≡ record { hears = given.hears; waits = given.hears } }
+{
+    Says {
+        hears: given.hears,
+        waits: given.hears,
     }
 }
 
@@ -329,7 +339,8 @@ impl AnswerCommand {
         };
         let (station, first) = LimitedAnswerer::new(context.alloc(), caps, limits);
         let terminal = Terminal::new(context.alloc(), station, first);
-        let mut conversation = Conversation::new_answerer(terminal, durations(self.waits));
+        let conversation = Conversation::new_answerer(terminal, durations(self.waits));
+        let mut conversation = conversation.saying(says(self.waits));
         let mut folder = Folder {
             rt: context.rt(),
             name: self.out.as_str(),
@@ -425,7 +436,8 @@ impl DialCommand {
     {
         let station = StoppableCaller::new(caller);
         let terminal = Terminal::new(context.alloc(), station, Turn::Silent);
-        let mut conversation = Conversation::new_caller(terminal, durations(self.waits));
+        let conversation = Conversation::new_caller(terminal, durations(self.waits));
+        let mut conversation = conversation.saying(says(self.waits));
         let trace = self.trace.as_deref();
         let halted = talk_out(context, &mut conversation, &mut NoPages, trace)?;
         let caller = conversation.terminal().station().station();
