@@ -40,7 +40,7 @@ struct terminal {
     int64_t heard;                  /* when the last good frame or training check came */
     int64_t listened;               /* since when a training check is awaited */
     int64_t not_before;             /* nothing is said before this, as a check may be on the line that isn't listened for */
-    uint32_t said, page_ends;       /* the kind of the last signal that was said, and what ended with the last PPS that was heard */
+    uint32_t said;                  /* the kind of the last signal that was said */
     int64_t asked;                  /* the last time at which T5 didn't run */
     int64_t began;                  /* when the last signal began */
     int rings;                      /* CNG goes out while nothing is heard */
@@ -157,21 +157,17 @@ void terminal_tell(terminal *it, const char *name, void (*line)(const char *text
     it->line = line;
 }
 
-/* Returns whether a page's carrier can come before V.21, for a modem that hears one of the two. The library listens for both at once: it
- * doesn't say which comes first, so the last signal and the last PPS are looked at here. After MCF to a PPS-EOP or PPS-EOM, and after RNR,
- * the caller speaks by V.21. */
-static int page_is_next(const terminal *it)
+static int hears_pages(uint32_t listens)
 {
-    if (!it->kind->hears_one) return 1;
-    return it->said != G3_RNR && (it->said != G3_MCF || it->page_ends == G3_BLOCK_ALONE || it->page_ends == G3_MPS);
+    return listens == G3_HEARS_PAGES || listens == G3_HEARS_V21_THEN_PAGES;
 }
 
-/* The carrier that the page receiver listens for; 0: none. */
+/* The carrier that the page receiver listens for; 0: none. A modem that hears one carrier hears V.21 where that comes first. */
 static uint32_t carrier_of(const terminal *it, const g3_state *state)
 {
     if (state->listens == G3_HEARS_V21) return 0;
     if (state->listens == G3_HEARS_CHECK) return state->carrier;
-    if (!page_is_next(it)) return 0;
+    if (state->listens == G3_HEARS_V21_THEN_PAGES && it->kind->hears_one) return 0;
     return it->ctc != 0 ? it->ctc : state->carrier;
 }
 
@@ -185,7 +181,7 @@ static void listen(terminal *it)
     if (it->listens != G3_HEARS_CHECK) it->listened = it->now;
     it->listens = state.listens;
     it->carrier = carrier_of(it, &state);
-    it->kind->listen(it->modem, it->carrier, state.listens == G3_HEARS_PAGES && !it->trains_anew);
+    it->kind->listen(it->modem, it->carrier, hears_pages(state.listens) && !it->trains_anew);
 }
 
 /* Notes CTC, and the DCS that ends what it said. The third octet is the kind of the frame; the fifth has the speed, as in a DCS (T.30,
@@ -199,7 +195,7 @@ static void note_ctc(terminal *it, const uint8_t *content, uint64_t length)
     int kind = content[2] & ~SIDE;
     uint32_t carrier = length >= 5 ? CARRIERS[content[4] >> 2 & 15] : 0;
     if (kind == DCS) it->ctc = 0, it->trains_anew = 0;
-    if (kind != CTC || carrier == 0 || it->listens != G3_HEARS_PAGES) return;
+    if (kind != CTC || carrier == 0 || !hears_pages(it->listens)) return;
     it->ctc = carrier;
     it->trains_anew = it->ctr = 1;
 }
@@ -221,12 +217,10 @@ static void note_correction(terminal *it, const uint8_t *content, uint64_t lengt
 /* Hears the content of a good frame. */
 static void hear_content(terminal *it, int receiver, const uint8_t *content, uint64_t length)
 {
-    g3_signal signal;
     tell(it, "hears", frame_name(content[2]), 0);
     it->heard = it->now;
     it->reads = 1;
     if (receiver == BY_V21) {
-        if (g3_signal_read(content, length, &signal) == G3_OK && signal.kind == G3_PPS) it->page_ends = signal.pps.ends;
         if (it->answers_ctc) note_ctc(it, content, length);
         identity_read(content, length, it->peer);
         note_correction(it, content, length);
@@ -327,7 +321,7 @@ static void refuse(terminal *it, const char *why)
  * in it it is another station that never stops: the call is ended. */
 static void hush(terminal *it)
 {
-    int64_t longest = LONGEST_UNREAD + (it->listens == G3_HEARS_PAGES ? longest_block(it) : 0), lasts = it->now - it->began;
+    int64_t longest = LONGEST_UNREAD + (hears_pages(it->listens) ? longest_block(it) : 0), lasts = it->now - it->began;
     if (it->quiet != NEVER || lasts <= longest) return;
     if (it->now - it->heard > longest) it->kind->hush(it->modem);
     else if (lasts > longest + LONGEST_READ && it->why == NULL) refuse(it, "the other station never stops");
