@@ -27,7 +27,7 @@ class Call:
     def __init__(self, name, wanted, reply, **more):
         self.name, self.wanted, self.reply = name, wanted, reply
         self.words = more.get("words", ["--call", "5551234", sys.argv[2]])
-        self.within = more.get("within", 15)     # seconds
+        self.within = more.get("within", 30)     # seconds; a busy machine is slow
         self.goes_at = more.get("goes_at")       # the tty goes when this is told
         self.kills_at = more.get("kills_at")     # SIGTERM comes half a second after this is told
         self.must_say = more.get("must_say", b"")
@@ -124,8 +124,8 @@ CALLS = [
     Call("a busy line", "the modem says BUSY", BUSY),
     Call("no dial tone", "the modem says NO DIALTONE", replies(D=b"\r\nNO DIALTONE\r\n")),
     Call("a tty that goes", "the tty is gone", lambda told: OK, goes_at=b"ATD"),
-    Call("a modem that falls silent amid a call", "the modem has fallen silent", until(b"ATD", OK, FRAME), within=45),
-    Call("a modem that falls silent while nobody calls", "the modem has fallen silent", until(b"=?", OK, OK), words=ANSWER, within=60),
+    Call("a modem that falls silent amid a call", "the modem has fallen silent", until(b"ATD", OK, FRAME), within=90),
+    Call("a modem that falls silent while nobody calls", "the modem has fallen silent", until(b"=?", OK, OK), words=ANSWER, within=120),
     Call("SIGTERM while it dials", "end no-call confirmed 0", dials, kills_at=b"ATD", must_say=b"ATH0\r"),
     Call("SIGTERM while it waits for a ring", "end no-call pages 0", lambda told: OK, words=ANSWER, kills_at=b"=?", must_say=b"ATH0\r"),
     Call("no ring in time", "end no-call pages 0", lambda told: OK, words=[*ANSWER, "--most-seconds", "2"], must_say=b"ATH0\r"),

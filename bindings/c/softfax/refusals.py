@@ -29,13 +29,13 @@ def begin(work, side, refused, words):
 def end(programs):
     """Waits for both; who is still waiting for the other one to begin is stopped. Returns their statuses."""
     try:
-        programs[0].wait(60)
+        programs[0].wait(300)
         for program in programs[1:]:
             try:
                 program.wait(1)
             except subprocess.TimeoutExpired:
                 program.terminate()
-        return [program.wait(30) for program in programs]
+        return [program.wait(120) for program in programs]
     except subprocess.TimeoutExpired:
         for program in programs:
             program.kill()

@@ -67,7 +67,7 @@ fi
 # modems that fail, by the machine's clock: they are tried beside the rest
 { printf 'P4\n1728 40\n'; seq 10000 99999 | head -c 8640; } > "$work/short.pbm"
 mkdir "$work/got" "$work/unused"
-timeout 200 python3 "$here/modems.py" "$softfax" "$work/short.pbm" "$work/unused" > "$work/modems" 2>&1 &
+timeout 300 python3 "$here/modems.py" "$softfax" "$work/short.pbm" "$work/unused" > "$work/modems" 2>&1 &
 modems=$!
 "$OUT/softfax-test" "$work"
 "$OUT/bench" "$work"
@@ -172,7 +172,7 @@ echo "softfax: two processes carry pages over two pipes; wrong files are told, a
 if [ "$softfax" = "$OUT/softfax-checked" ]; then
     { printf 'P4\n1728 8\n'; seq 10000 99999 | head -c 1728; } > "$work/few.pbm"
     mkdir "$work/refusals"
-    timeout 300 python3 "$here/refusals.py" "$softfax" "$work/few.pbm" "$work/refusals"
+    timeout 1200 python3 "$here/refusals.py" "$softfax" "$work/few.pbm" "$work/refusals"
 else
     echo "softfax: the compiler has no sanitizers: growths of memory aren't refused here"
 fi

@@ -161,7 +161,7 @@ static int hears_pages(uint32_t listens)
     return listens == G3_HEARS_PAGES || listens == G3_HEARS_V21_THEN_PAGES;
 }
 
-/* The carrier that the page receiver listens for; 0: none. */
+/* The carrier that the page receiver listens for; 0: none. A modem that hears one carrier hears V.21 where that comes first. */
 static uint32_t carrier_of(const terminal *it, const g3_state *state)
 {
     if (state->listens == G3_HEARS_V21) return 0;
