@@ -512,7 +512,7 @@ STATES = {
 }
 INPUTS = {"CallerIn::Timeout": "T", "CallerIn::T5": "5", "AnswererIn::T1": "1", "AnswererIn::T2": "2"}
 TURNS = {"DCS and training": "Training", "PPS": "Pps", "RR": "Rr", "DCN": "Dcn", "DIS": "Dis"}
-ROW = re.compile(r"\| (?:Caller|Answerer), (.*?) \| (T\d) \| (\d+) s ± .*? \| `(.*?)` \| (.*) \|")
+ROW = re.compile(r"\| (?:Caller|Answerer), (.*?) \| (T\d) \| (\d+) s(?: ± .*?)? \| `(.*?)` \| (.*) \|")
 
 
 def told(state, kind, times):
