@@ -163,7 +163,7 @@ class Talk:
     """Ends that are told lines at a clock, and what is said beside the bursts of the line."""
 
     def __init__(self, rand, ends):
-        self.rand, self.ends, self.clock = rand, ends, rand.choice([0, 0, 20, 1000, 10**6])
+        self.rand, self.ends, self.clock = rand, ends, rand.choice([0, 0, 20, 1000, 590000])
         self.mood, self.step, self.told = rand.choice(MOODS), rand.choice([20, 20, 20, 100, 500, 1700]), 0
         self.asides = rand.choice([0, 1, 1, 1, 8])
 
@@ -192,7 +192,7 @@ class Talk:
         """Nothing is on the line; now and then for a long time in which nothing was said, where two waits may be over at once."""
         often = 0.05 if end.end.station.state in ("WaitTraining", "WaitReady") else 0.003
         if self.rand.random() < often:
-            self.clock += self.rand.choice([2999, 7000, 29000, 40000, 60000])
+            self.clock += self.rand.choice([2999, 7000, 29000, 35000, 36000])
         return self.tell(end, "quiet")
 
     def burst(self, end, burst):

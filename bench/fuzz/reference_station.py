@@ -283,7 +283,7 @@ class Ending:
         """The lines that answer a line, and whether the process ends after them."""
         self.number += 1
         said = read_line(raw)
-        if not said or said.at < self.at:
+        if not said or not self.at <= said.at <= self.at + self.longest(said):
             raise Fault(f"fault 31 at line {self.number}")
         self.at, self.turn = said.at, SILENT
         getattr(self, "on_" + said.word.replace("-", "_"))(said)
@@ -293,6 +293,11 @@ class Ending:
             self.quiet_from = None
         is_over = bool(self.name())
         return [sent(burst) for burst in bursts] + ["done" if is_over else "wait"], is_over
+
+    def longest(self, said):
+        """How much later than the line before it a line may be: T1 or 35 s from quiet to quiet, else T1 or ten minutes."""
+        is_calm = self.quiet_from is not None and said.word == "quiet"
+        return max(self.waits["t1"], 35000 if is_calm else 600000)
 
     def settle(self):
         """What is done before the turn is sent."""
