@@ -216,7 +216,6 @@ static void note_correction(terminal *it, const uint8_t *content, uint64_t lengt
 /* Hears the content of a good frame. */
 static void hear_content(terminal *it, int receiver, const uint8_t *content, uint64_t length)
 {
-    g3_signal signal = G3_INIT(g3_signal);
     tell(it, "hears", frame_name(content[2]), 0);
     it->heard = it->now;
     it->reads = 1;
