@@ -134,8 +134,9 @@ quiet 1\n|Quiet 1|column 1: no line of a station begins with this word
 |quiet 1000000000000000|column 7: a time is expected here, 1 to 15 digits
 |quiet 1 1|column 9: such a line ends after its time
 |quiet 1\040|column 9: such a line ends after its time
-quiet 5\nquiet 6\n|busy 5|column 6: the time is before that of the line before
-quiet 5\n|rx 4 v21 raw 0 |column 4: the time is before that of the line before
+quiet 5\nquiet 6\n|busy 5|column 6: the time is before that of the line before, or too long after it
+quiet 5\n|quiet 35006|column 7: the time is before that of the line before, or too long after it
+quiet 5\n|rx 4 v21 raw 0 |column 4: the time is before that of the line before, or too long after it
 |rx +1 v21 raw 0 |column 4: a time is expected here, 1 to 15 digits
 |rx 1 v17-4800 raw 8 00|column 6: a carrier is expected here
 |rx 1  v21 hdlc 8 00|column 6: a carrier is expected here

@@ -79,8 +79,8 @@ enum Wrong {
     Bits,
     /// The digits aren't those of as many octets as the bits need.
     Hex,
-    /// Its time is before that of the line before it.
-    Backwards,
+    /// Its time is before that of the line before it, or too long after it.
+    OutOfTime,
 }
 
 impl Wrong {
@@ -96,7 +96,7 @@ impl Wrong {
             Wrong::Kind => "hdlc or raw is expected here",
             Wrong::Bits => "the number of bits is expected here, 1 to 7 digits",
             Wrong::Hex => "two hexadecimal digits are expected for each octet of the bits",
-            Wrong::Backwards => "the time is before that of the line before",
+            Wrong::OutOfTime => "the time is before that of the line before, or too long after it",
         }
     }
 }
@@ -158,7 +158,7 @@ pub(crate) fn no_line(alloc: Global, line: &[u8]) -> NoLine {
         _ => {
             let word = words.next_word();
             words.skip(word);
-            Wrong::Backwards
+            Wrong::OutOfTime
         }
     };
     NoLine {
