@@ -6,7 +6,7 @@ pub(crate) mod trace;
 
 ghost use Rattle.faults.specs.Faults.{IsOutside};
 ghost use Rattle.faxtool.specs.Runs.{IsHalt, IsNoDocument};
-ghost use Rattle.std.specs.Prelude.{IfErr, IfOk, IfSome};
+ghost use Rattle.std.specs.Prelude.{◌≡◌, IfErr, IfOk, IfSome};
 
 use crate::args::station_words::GivenWaits;
 use crate::commands::station::ending::end_station;
