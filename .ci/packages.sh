@@ -118,7 +118,7 @@ try_library() {
     # softfax over bits, which wants no modems, as it is installed
     soft=$docs/g3fax/c/softfax
     cc -std=c11 -D_DEFAULT_SOURCE -Wall -Wextra -Werror -O1 -o "$work/bits-test" "$soft/bits-test.c" "$soft/terminal.c" "$soft/identity.c" \
-        "$soft/trial.c" "$soft/line.c" "$soft/paper.c" "$soft/bits.c" -I"$docs/g3fax/c" -I"$to/usr/include" -L"$lib" -lg3fax \
+        "$soft/trial.c" "$soft/stopped.c" "$soft/line.c" "$soft/paper.c" "$soft/bits.c" -I"$docs/g3fax/c" -I"$to/usr/include" -L"$lib" -lg3fax \
         || fails "the installed softfax isn't built"
     LD_LIBRARY_PATH=$lib "$work/bits-test" > "$work/said" || { cat "$work/said" >&2; fails "the installed softfax"; }
 }
