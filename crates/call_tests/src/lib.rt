@@ -1,15 +1,9 @@
-//! What no clause of `stations` and `line_sim` says: worked calls, and streams of foreign peers.
+//! What no clause of `stations` and `line_sim` says: what losses of a block do, a page through each layer, and a stream at size.
 #![tactic(auto)]
 
-#[cfg(test)]
-mod answerer;
-#[cfg(test)]
-mod caller;
 #[cfg(test)]
 mod losses;
 #[cfg(test)]
 mod seams;
 #[cfg(test)]
 mod stream;
-#[cfg(test)]
-mod world;

@@ -39,51 +39,6 @@ fn pages_are_cut_into_blocks(rt: HostRuntime) -> Result<(), Fail> {
     Ok(())
 }
 
-#[test]
-fn a_longer_page_is_refused(rt: HostRuntime) -> Result<(), Fail> {
-    for small in [false, true] {
-        let refused = cut_into(rt.alloc(), 8_388_609, small).err();
-        assert_eq!(rt; refused, Some(BlockFault::PageTooLong));
-    }
-    Ok(())
-}
-
-#[test]
-fn the_last_frame_is_filled(rt: HostRuntime) -> Result<(), Fail> {
-    let alloc = rt.alloc();
-    let blocks = Blocks::cut(alloc, octets(alloc, 600, 7)?, false)?;
-    let mut filled = octets(alloc, 88, 7)?;
-    filled.resize(256, 0)?;
-    assert_eq!(rt; blocks.count(), 1);
-    assert_eq!(rt; blocks.last(0), 2);
-    assert_eq!(rt; blocks.frame(0, 2), filled.as_slice());
-    Ok(())
-}
-
-#[test]
-fn the_missing_frames_are_marked(rt: HostRuntime) -> Result<(), Fail> {
-    let mut store = BlockStore::new(rt.alloc(), false);
-    store.put(0, &[1, 2])?;
-    store.put(2, &[3])?;
-    let mut map = [0xFF; 32];
-    map[0] = 0xFA;
-    assert_eq!(rt; store.missing(2), map);
-    Ok(())
-}
-
-#[test]
-fn a_shorter_frame_replaces_a_full_one(rt: HostRuntime) -> Result<(), Fail> {
-    let alloc = rt.alloc();
-    let mut store = BlockStore::new(alloc, false);
-    store.put(0, &octets(alloc, 256, 7)?)?;
-    store.put(0, &[0xAA])?;
-    assert_eq!(rt; store.frame(0), Some([0xAA].as_slice()));
-    store.clear();
-    assert_eq!(rt; store.frame(0), None);
-    assert!(rt; store.ready());
-    Ok(())
-}
-
 /// Whether octets are frames of a size, each of octets of its number.
 fn are_frames(octets: &[u8], size: usize) -> bool
     requires { 0 < size }
@@ -110,19 +65,6 @@ fn a_whole_block_of_full_frames_is_joined(rt: HostRuntime) -> Result<(), Fail> {
         store.append_joined(255, &mut joined)?;
         assert_eq!(rt; joined.len(), 256 * size);
         assert!(rt; are_frames(&joined, size));
-    }
-    Ok(())
-}
-
-#[test]
-fn data_longer_than_a_frame_are_refused(rt: HostRuntime) -> Result<(), Fail> {
-    let alloc = rt.alloc();
-    for (small, count) in [(true, 65), (false, 257)] {
-        let mut store = BlockStore::new(alloc, small);
-        store.put(0, &[1, 2])?;
-        let refused = store.put(0, &octets(alloc, count, 7)?).err();
-        assert_eq!(rt; refused, Some(BlockFault::TooLong));
-        assert_eq!(rt; store.frame(0), Some([1, 2].as_slice()));
     }
     Ok(())
 }

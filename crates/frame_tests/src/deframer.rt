@@ -1,4 +1,4 @@
-//! Frames found in bits that come in any pieces, and the classes of gaps.
+//! Frames at size that come octet by octet, and refused memory.
 
 ghost use Rattle.std.specs.Prelude.{◌≤◌, length};
 
@@ -49,15 +49,6 @@ fn next_is(deframer: &mut Deframer, content: &[u8]) -> bool {
     }
 }
 
-/// The counts of the bits that digits `0` and `1` write, with 0 bits to an octet.
-fn counted(alloc: Global, digits: &[u8]) -> Result<Counts, AllocError> {
-    let mut writer = BitWriter::new(alloc, Order::LsbFirst);
-    for digit in digits {
-        writer.push(*digit == b'1')?;
-    }
-    Ok(one_by_one(alloc, &writer.into_octets())?.counts())
-}
-
 /// The counts of a number of octets 00 and a few more bits between two flags.
 fn counted_zeros(alloc: Global, octets: u32, more: u32) -> Result<Counts, AllocError> {
     let mut writer = BitWriter::new(alloc, Order::LsbFirst);
@@ -76,70 +67,6 @@ fn counted_zeros(alloc: Global, octets: u32, more: u32) -> Result<Counts, AllocE
         writer.push(*digit == b'1')?;
     }
     Ok(one_by_one(alloc, &writer.into_octets())?.counts())
-}
-
-#[test]
-fn any_pieces(rt: HostRuntime) -> Result<(), Fail> {
-    let mut whole = Deframer::new(rt.alloc());
-    whole.feed(&FRAME)?;
-    assert_eq!(rt; whole.counts(), Counts { good: 1, ..NONE });
-    assert!(rt; next_is(&mut whole, &CONFIRMATION));
-    assert!(rt; whole.next().is_none());
-    let mut pieces = one_by_one(rt.alloc(), &FRAME)?;
-    assert_eq!(rt; pieces.counts(), Counts { good: 1, ..NONE });
-    assert!(rt; next_is(&mut pieces, &CONFIRMATION));
-    assert!(rt; pieces.next().is_none());
-    Ok(())
-}
-
-#[test]
-fn one_after_the_other(rt: HostRuntime) -> Result<(), Fail> {
-    let mut twice = Deframer::new(rt.alloc());
-    twice.feed(&FRAME)?;
-    twice.feed(&framed(rt.alloc(), &[0xFF, 0x13, 0x84])?)?;
-    assert_eq!(rt; twice.counts(), Counts { good: 2, ..NONE });
-    assert!(rt; next_is(&mut twice, &CONFIRMATION));
-    assert!(rt; next_is(&mut twice, &[0xFF, 0x13, 0x84]));
-    assert!(rt; twice.next().is_none());
-    Ok(())
-}
-
-#[test]
-fn flags_may_share(rt: HostRuntime) -> Result<(), Fail> {
-    for shared in [1, 8] {
-        let mut writer = BitWriter::new(rt.alloc(), Order::LsbFirst);
-        write_frame(&CONFIRMATION, &mut writer)?;
-        let end = writer.bits();
-        writer.truncate(end.saturating_sub(shared));
-        write_frame(&CONFIRMATION, &mut writer)?;
-        let deframer = one_by_one(rt.alloc(), &writer.into_octets())?;
-        assert_eq!(rt;
-            deframer.counts(),
-            Counts { good: 2, ..NONE },
-            "{shared} bits"
-        );
-    }
-    assert_eq!(rt; counted(rt.alloc(), b"011111101111110")?, NONE);
-    assert_eq!(rt; counted(rt.alloc(), b"0111111001111110")?, NONE);
-    Ok(())
-}
-
-#[test]
-fn each_class(rt: HostRuntime) -> Result<(), Fail> {
-    let alloc = rt.alloc();
-    let mut wrong = FRAME;
-    wrong[3] = 0x31;
-    assert_eq!(rt;
-        one_by_one(alloc, &wrong)?.counts(),
-        Counts { damaged: 1, ..NONE }
-    );
-    let aborted = Counts { aborted: 1, ..NONE };
-    assert_eq!(rt; one_by_one(alloc, &[0x7E, 0xFF, 0x7E])?.counts(), aborted);
-    // seven 1 bits are fill, eight are aborted, and so are nine, though these are ragged too
-    assert_eq!(rt; counted(alloc, b"01111110111111101111110")?, NONE);
-    assert_eq!(rt; counted(alloc, b"011111101111111101111110")?, aborted);
-    assert_eq!(rt; counted(alloc, b"0111111011111111101111110")?, aborted);
-    Ok(())
 }
 
 #[test]

@@ -125,25 +125,3 @@ fn only_memory_is_refused_for_a_code(rt: HostRuntime) {
         }
     }
 }
-
-// Rows of `..##....`, and then what no code word, no EOFB and no row of this width begins with.
-#[test]
-fn whole_rows_of_refused_pages(rt: HostRuntime) -> Result<(), Fail> {
-    let alloc = rt.alloc();
-    for (coding, octets, runs) in [
-        (Coding::T6, [0x02].as_slice(), [].as_slice()),
-        (Coding::T6, &[0x2F, 0xE0, 0x00], &[2, 2, 4]),
-        (Coding::T6, &[0x2F, 0xF8, 0x10], &[2, 2, 4, 2, 2, 4]),
-        (Coding::OneDim, &[0x00, 0x1A, 0x00], &[]),
-        (
-            Coding::OneDim,
-            &[0x00, 0x17, 0xEC, 0x00, 0x68, 0x00],
-            &[2, 2, 4],
-        ),
-    ] {
-        let page = coding.salvage(alloc, octets, Order::MsbFirst, 8, true)?;
-        assert_eq!(rt; page.fine(), true);
-        assert_eq!(rt; runs_of(alloc, &page)?.as_slice(), runs);
-    }
-    Ok(())
-}

@@ -33,18 +33,3 @@ fn a_page_comes_in_two_pieces(rt: HostRuntime) -> Result<(), Fail> {
     }
     Ok(())
 }
-
-/// How many whole rows of 1,728 pixels the octets spell in T.6.
-fn rows_of(alloc: Global, octets: &[u8]) -> Result<u32, Fail> {
-    let mut reader = PageReader::new(alloc, Coding::T6, Order::LsbFirst, 1728, false);
-    reader.read_on(octets)?;
-    Ok(reader.rows())
-}
-
-#[test]
-fn whole_rows_are_counted(rt: HostRuntime) -> Result<(), Fail> {
-    let alloc = rt.alloc();
-    assert_eq!(rt; rows_of(alloc, &[])?, 0);
-    assert_eq!(rt; rows_of(alloc, &[0x01])?, 1);
-    Ok(())
-}

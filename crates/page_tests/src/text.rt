@@ -1,6 +1,6 @@
-//! Pages as text, and writers that fail.
+//! Writers of text that fail.
 
-use raster::{Document, Page, RasterFault, Row, write_text};
+use raster::{Page, RasterFault, Row, write_text};
 use std::alloc::Global;
 use std::io;
 use std::io::Write;
@@ -41,19 +41,6 @@ fn page_of_three(alloc: Global) -> Result<Page, RasterFault> {
 }
 
 const THREE_ROWS: &str = "..##....\n########\n........\n";
-
-#[test]
-fn a_page_is_written_as_text(rt: HostRuntime) -> Result<(), Fail> {
-    let alloc = rt.alloc();
-    let page = page_of_three(alloc)?;
-    let mut text = Vec::with_capacity(alloc, 27)?;
-    write_text(&page, &mut text)?;
-    assert_eq!(rt; text.as_slice(), THREE_ROWS.as_bytes());
-    let mut document = Document::new(alloc, page)?;
-    document.push(page_of_three(alloc)?)?;
-    assert_eq!(rt; document.pages().len(), 2);
-    Ok(())
-}
 
 #[test]
 fn a_failing_writer_is_a_fault(rt: HostRuntime) -> Result<(), Fail> {

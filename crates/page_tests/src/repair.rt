@@ -135,23 +135,6 @@ fn torn_eols_have_twelve_bits(rt: HostRuntime) -> Result<(), Fail> {
     Ok(())
 }
 
-#[test]
-fn pages_without_a_row_are_refused(rt: HostRuntime) -> Result<(), Fail> {
-    let alloc = rt.alloc();
-    for (texts, place, kind) in [
-        ([].as_slice(), 0, CodeFaultKind::NoRows),
-        (&[EOL, EOL, BLANK], 12, CodeFaultKind::NoRows),
-        (&[EOL, PART, EOL, PART, EOL], 16, CodeFaultKind::BadCode),
-    ] {
-        let octets = octets_of(alloc, texts)?;
-        match OneDim::repair(alloc, &octets, Order::MsbFirst, 8, false) {
-            Ok(_) => assert!(rt; false),
-            Err(fault) => assert_eq!(rt; fault, CodeFault::new(place, kind)),
-        }
-    }
-    Ok(())
-}
-
 /// Rows of two black runs, whose lengths and places change from row to row.
 fn wide_page(alloc: Global, rows: u32) -> Result<Page, RasterFault> {
     let mut page = Page::new(alloc, WIDTH, true)?;
