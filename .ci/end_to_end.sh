@@ -71,6 +71,7 @@ for program in "$@"; do
     try_endless
     try_no_image
     try_rtc
+    try_strips
     try_outputs
     try_closed
     try_scripts

@@ -315,3 +315,53 @@ try_rtc() {
     ! grep -q after error || fails "decode --verbose tells octets after a page that ends the file"
     cd "$top"
 }
+
+# Each strip of a TIFF is handed over as it stands by docs/examples/strips.py, and the commands that it prints decode it: of a file of either
+# order of octets, with a page of T.4, one of T.6 in two strips with the least significant bit first, and one in two dimensions.
+try_strips() {
+    rm -rf "$work/strips" && mkdir "$work/strips" && cd "$work/strips"
+    for order in II MM; do
+        python3 -B - "$data" "$order" > "$order.tif" << 'MAKES'
+import struct, sys
+data, order = sys.argv[1:]
+end = {"II": "<", "MM": ">"}[order]
+strips = [open(f"{data}/page.{name}", "rb").read() for name in ("mh.msb", "mmr.lsb")]
+# the tags of each page: compression, options of T.4, order of bits, and its strips
+pages = [(3, 4, 1, strips[:1]), (4, 0, 2, [strips[1]] * 2), (3, 1, 1, strips[:1])]
+made = bytearray(struct.pack(f"{end}2sHI", order.encode(), 42, 8))
+def long(tag, *values):
+    return tag, 4, values
+for number, (compression, options, bits, coded) in enumerate(pages):
+    at = len(made)
+    after = at + 2 + 12 * 7 + 4
+    far = after + 16
+    places = [far + sum(map(len, coded[:k])) for k in range(len(coded))]
+    tags = [(256, 3, (315,)), (257, 3, (30 * len(coded),)), (259, 3, (compression,)), (266, 3, (bits,)),
+            long(273, *places), long(279, *map(len, coded)), long(292, options)]
+    made += struct.pack(f"{end}H", len(tags))
+    for tag, kind, values in tags:
+        made += struct.pack(f"{end}HHI", tag, kind, len(values))
+        if len(values) == 2:
+            made += struct.pack(f"{end}I", after + 8 * (tag == 279))
+        else:
+            made += struct.pack(f"{end}{'HI'[kind - 3]}", *values).ljust(4, b"\0")
+    follows = far + sum(map(len, coded)) if number + 1 < len(pages) else 0
+    made += struct.pack(f"{end}I", follows)
+    lists = [struct.pack(f"{end}{len(coded)}I", *values).ljust(8, b"\0") for values in (places, map(len, coded))]
+    made += b"".join(lists) + b"".join(coded)
+sys.stdout.buffer.write(made)
+MAKES
+        status=0
+        "$top/docs/examples/strips.py" "$order.tif" . > commands 2> "$work/error" || status=$?
+        [ "$status" = 1 ] || fails "strips.py ended with status $status for a page in two dimensions"
+        [ "$(cat "$work/error")" = "page 3 is in a code that faxtool doesn't read: mr" ] || fails "strips.py doesn't name the page in two dimensions"
+        is_same "$order-1-1.mh" "$data/page.mh.msb" "the strip of a TIFF"
+        is_same "$order-2-2.mmr" "$data/page.mmr.lsb" "the second strip of a TIFF"
+        (faxtool() { "$program" "$@"; } && . ./commands) || fails "a strip of a TIFF isn't decoded"
+        for made in "$order-1-1.mh" "$order-2-1.mmr" "$order-2-2.mmr"; do
+            is_same "$made.pbm" "$data/page.pbm" "the image of a strip"
+        done
+        count=$((count + 3))
+    done
+    cd "$top"
+}
