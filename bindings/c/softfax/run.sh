@@ -60,7 +60,8 @@ fi
 if [ "$1" != --audio ]; then
     make -s -C "$here" LIB="$LIB" OUT="$OUT" bits-test class1-test memory-test
     "$OUT/bits-test"
-    "$OUT/class1-test"
+    mkdir "$work/papers"
+    "$OUT/class1-test" "$work/papers"
     "$OUT/memory-test"
 fi
 
