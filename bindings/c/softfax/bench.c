@@ -50,14 +50,14 @@ typedef struct bench {
     const char *folder;
     behind_way way;
     paper papers[MOST_PAGES];
-    uint32_t calls, well, broken; /* of the cell */
+    uint32_t calls, well, broken, stops; /* of the cell */
 } bench;
 
 /* Runs a call of a pair; returns whether it could begin. */
 static int try_call(bench *it, const pair *who, const trial *kind)
 {
     party caller, answerer;
-    outcome came;
+    outcome came = {0};
     const behind_way *way = &it->way;
     int begins = who->caller_is_ours ? trial_on_pty(&caller, kind, 1, way, it->folder) : trial_theirs(&caller, kind, 1, it->folder);
     if (!begins) return fprintf(stderr, "bench: the caller can't begin\n"), 0;
@@ -68,6 +68,7 @@ static int try_call(bench *it, const pair *who, const trial *kind)
     it->calls++;
     it->well += (uint32_t)is_well;
     it->broken += (uint32_t)trial_is_broken(&came);
+    it->stops += came.stops;
     if (is_well) return 1;
     fprintf(stderr, "%s %s modems %u coding %u pages %u seed %u: caller: %s; answerer: %s; confirmed %u, equal %u, wrong %u; %u s\n",
         who->name, kind->line.name, kind->modems, kind->coding, kind->pages, (uint32_t)kind->seed, came.caller, came.answerer,
@@ -85,7 +86,7 @@ static int try_seed(bench *it, const pair *who, const line_kind *line, uint32_t 
 /* Twelve kinds of calls, with so many seeds each. */
 static int try_cell(bench *it, const pair *who, const line_kind *line, uint32_t seeds)
 {
-    it->calls = it->well = it->broken = 0;
+    it->calls = it->well = it->broken = it->stops = 0;
     for (uint32_t i = 0; i < 12 * seeds; i++) {
         if (!try_seed(it, who, line, i, NULL)) return 0;
     }
@@ -154,6 +155,7 @@ static int try_gate(bench *it)
         it->way.ways = OTHERS[i];
         if (!try_cell(it, &PAIRS[0], &LINES[0], 1)) return 0;
         calls += it->calls, well += it->well, broken += it->broken;
+        if (it->way.ways.xoff && it->stops == 0) return fprintf(stderr, "bench: no XOFF has stopped a tty\n"), 0;
     }
     printf("softfax: %u of %u calls on ptys over Class 1 modems of spandsp complete, with its own terminal each way and with ours\n", well, calls);
     return well == calls && broken == 0;
@@ -232,7 +234,7 @@ static int run_ptys(char **links)
     for (int i = 0; i < 2; i++) {
         port host = {&lines.ptys[i], master_read, master_write, NULL, NULL};
         if (make_pty(&lines.ptys[i], links[i])) lines.ends[i] = soft_of_spandsp.make(&host, &WAYS, on_event, &lines.ends[i]);
-        if (lines.ends[i] == NULL) return perror(links[i]), 0;
+        if (lines.ends[i] == NULL) return perror(links[i]), 0; /* what is left is the process's */
     }
     clock_gettime(CLOCK_MONOTONIC, &next);
     for (int millis = 0; millis < LONGEST && !is_interrupted; millis += SLICE_MILLIS) {

@@ -32,7 +32,7 @@ static int try_call(
     const trial *kind, const behind_way *caller_way, const behind_way *answerer_way, const char *caller_why, const char *answerer_why)
 {
     party caller, answerer;
-    outcome came;
+    outcome came = {0};
     if (!trial_on_pty(&caller, kind, 1, caller_way, folder)) return 0;
     if (!trial_on_pty(&answerer, kind, 0, answerer_way, folder)) {
         caller.leave(caller.it, &came);

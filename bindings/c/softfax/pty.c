@@ -24,7 +24,7 @@ static int wait_a_while(int *tries)
 int pty_new(pty *out)
 {
     const char *name;
-    *out = (pty){-1, -1, "", 0};
+    *out = (pty){.master = -1, .slave = -1};
     out->master = posix_openpt(O_RDWR | O_NOCTTY);
     if (out->master >= 0 && grantpt(out->master) == 0 && unlockpt(out->master) == 0 && (name = ptsname(out->master)) != NULL
         && strlen(name) < sizeof out->name) {
@@ -95,6 +95,7 @@ int pty_write(pty *it, const uint8_t *octets, int count)
     while (input(it) < wanted || (last == XOFF && is_ready(it))) {
         if (!wait_a_while(&tries)) return -1;
     }
+    it->stops += last == XOFF;
     while (last == XON && !is_ready(it) && tries < SOON) tries++; /* a tty that is full stays so until it is read */
     return (int)put;
 }

@@ -9,6 +9,7 @@ typedef struct pty {
     int master, slave; /* the slave stays open, so that the pty stays when a program closes it */
     char name[64];
     uint64_t taken;    /* octets that were read here */
+    uint32_t stops;    /* how often an XOFF has stopped the tty */
 } pty;
 
 /* Returns whether there was one to be had; -1 are descriptors that aren't open. */

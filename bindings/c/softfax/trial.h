@@ -33,6 +33,7 @@ typedef struct outcome {
     uint64_t confirmed;            /* pages, as the caller counts */
     uint32_t equal, wrong;         /* stored pages that are those of the document, in order, and others */
     uint32_t seconds;              /* how long the call was */
+    uint32_t stops;                /* how often a tty was stopped by XOFF */
 } outcome;
 
 /* An end of a call, ours or another. */
