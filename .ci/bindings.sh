@@ -32,6 +32,17 @@ builds() {
         "$lib/libc_nonshared.a" "$lib/libm.so.6" "$lib/ld-linux-x86-64.so.2" "$lib/libgcc_s.so.1" "$lib/libgcc.a" "$lib/crtendS.o"
 }
 
+# builds_older FILE: a C file of bindings as a program of version 0.1.0 in the work folder: by the header of then, and linked to a library
+# of then, of which it sees the names alone.
+builds_older() {
+    file=$top/bindings/$1 name=older-$(basename "$1" .c) lib=$kit/toolchain/lib
+    "$kit/toolchain/bin/clang" -std=c11 -Wall -Wextra -Werror -O1 -g -fPIE -nostdinc -isystem "$top/bindings/include" \
+        -I "$top/bindings/tests/older" -I "$work/older" -c "$file" -o "$work/$name.o"
+    "$kit/toolchain/bin/ld.lld" -pie --eh-frame-hdr -dynamic-linker /lib64/ld-linux-x86-64.so.2 -o "$work/$name" "$lib/Scrt1.o" \
+        "$lib/crti.o" "$lib/crtbeginS.o" "$work/$name.o" "$work/older/libg3fax.so.0" "$lib/libc.so.6" "$lib/libc_nonshared.a" \
+        "$lib/crtendS.o" "$lib/crtn.o"
+}
+
 # gives STATUS NAME WORDS: the example ends with the status.
 gives() {
     end=$1 name=$2 status=0
@@ -53,6 +64,15 @@ for name in encode decode raster frames signals call answer own misuse; do build
 for name in memory random readers; do builds "tests/$name.c" --wrap=malloc --wrap=realloc --wrap=free; done
 for name in pages rows terminals signals; do builds "tests/statuses_$name.c"; done
 builds tests/abi.c
+mkdir "$work/older"
+sed -n 's/^[^(]*\(g3_[a-z0-9_]*\)(.*);$/\1/p' "$top/bindings/tests/older/g3fax.h" > "$work/older/names"
+sed 's/.*/NAME(&)/' "$work/older/names" > "$work/older/names.h"
+sed 's/.*/void &(void);\nvoid &(void) {}/' "$work/older/names" > "$work/older/names.c"
+printf 'G3FAX_0.1 { global: g3_*; local: *; };\n' > "$work/older/exports"
+"$kit/toolchain/bin/clang" -std=c11 -fPIC -nostdinc -c "$work/older/names.c" -o "$work/older/names.o"
+"$kit/toolchain/bin/ld.lld" -shared -soname libg3fax.so.0 --version-script "$work/older/exports" -o "$work/older/libg3fax.so.0" \
+    "$work/older/names.o"
+for name in tests/older c/call c/misuse; do builds_older "$name.c"; done
 
 for code in mh mmr; do
     for order in msb lsb; do
@@ -151,6 +171,37 @@ for name in abi misuse readers statuses_pages statuses_rows statuses_terminals s
     gives 0 "$name"
     [ ! -s "$work/output" ] || fails "$name printed: $(cat "$work/output")"
 done
+
+# programs of version 0.1.0 over the shared library of today: all of its functions, as it had them
+LD_LIBRARY_PATH=$work LD_BIND_NOW=1
+export LD_LIBRARY_PATH LD_BIND_NOW
+gives 0 older-older
+[ ! -s "$work/output" ] || fails "a program of version 0.1.0 printed: $(cat "$work/output")"
+gives 0 older-misuse
+gives 0 older-call "$work/a4.pbm" "$work/stored.pbm" 3
+is_same "$work/stored.pbm" "$work/a4.pbm" "a call by version 0.1.0"
+unset LD_LIBRARY_PATH LD_BIND_NOW
+
+# three readers under the thread sanitizer of a compiler that has one, which sees what g3fax.c reads and writes, and not only the handles.
+# It has to find a number that each call counts up.
+CC=${CC:-cc}
+# watches NAME FILE: readers.c over this g3fax.c, as a program
+watches() {
+    "$CC" -std=c11 -O1 -g -fsanitize=thread -DG3_VERSION='"tried"' -DG3_BUILT="$(sed -n 's/^#define G3_VERSION_NUMBER //p' "$work/g3fax.h")" \
+        -I "$work" "$top/bindings/tests/readers.c" "$2" "$work/libg3fax.a" -Wl,--wrap=malloc,--wrap=realloc,--wrap=free -o "$work/$1"
+}
+echo 'int main(void) { return 0; }' > "$work/empty.c"
+if "$CC" -fsanitize=thread "$work/empty.c" -o "$work/empty" 2> "$work/error" && "$work/empty" 2> "$work/error"; then
+    watches readers-watched "$top/bindings/g3fax.c"
+    gives 0 readers-watched
+    [ ! -s "$work/output" ] || fails "readers under the thread sanitizer printed: $(cat "$work/output")"
+    sed 's/^    HANDLE(page); SIZED(size);/    static int calls; calls++;\n&/' "$top/bindings/g3fax.c" > "$work/counting.c"
+    watches readers-counting "$work/counting.c"
+    gives 66 readers-counting
+    grep -q "data race" "$work/error" || fails "the thread sanitizer said: $(head -5 "$work/error")"
+else
+    echo "bindings: readers weren't watched: $CC has no thread sanitizer that runs here"
+fi
 
 # each growth of memory refused in turn; and random calls on random handles
 gives 0 memory "$data/page.pbm" "$data/line.bits"

@@ -3,10 +3,11 @@
 #
 #     .ci/softfax.sh FOLDER
 #
-# The terminal over modems of plain bits, and behind Class 1 modems of its own, is built with the kit's clang under the address sanitizer
-# and with traps for what C doesn't define, and always run, also with growths of memory refused in turn. The rest wants libspandsp-dev and
-# a C compiler, the one that CC names or cc: bindings/c/softfax/run.sh, with calls over its modems and its Class 1 modem, the program itself
-# under the compiler's sanitizers, if it has them, and under valgrind, if that is installed. Ends with status 1 at the first fault.
+# The terminal over modems of plain bits, and softfax on ptys over Class 1 modems of its own, are built with the kit's clang under the
+# address sanitizer and with traps for what C doesn't define, and always run, the terminal also with growths of memory refused in turn. The
+# rest wants libspandsp-dev and a C compiler, the one that CC names or cc: bindings/c/softfax/run.sh, with calls over its modems and its
+# Class 1 modem, the program itself under the compiler's sanitizers, if it has them, and under valgrind, if that is installed. Ends with
+# status 1 at the first fault.
 set -e
 top=$(cd "$(dirname "$0")/.." && pwd)
 kit=${KIT:-/opt/rattle}
@@ -24,7 +25,7 @@ fails() {
 compiles() {
     for part in "$@"; do
         "$kit/toolchain/bin/clang" -std=c11 -Wall -Wextra -Werror -O2 -g -fPIE -fsanitize=address,undefined -fsanitize-trap=undefined \
-            -nostdinc -isystem "$top/bindings/include" -I "$work" -c "$here/$part.c" -o "$work/softfax-$part.o"
+            -nostdinc -isystem "$work/posix" -isystem "$top/bindings/include" -I "$work" -I "$top/bindings/c" -c "$here/$part.c" -o "$work/softfax-$part.o"
         objects="$objects $work/softfax-$part.o"
     done
 }
@@ -41,18 +42,30 @@ builds() {
         "$lib/libc_nonshared.a" "$lib/libm.so.6" "$lib/ld-linux-x86-64.so.2" "$lib/libgcc_s.so.1" "$lib/libgcc.a" "$lib/crtendS.o"
 }
 
+# the headers of POSIX, in a few lines
+mkdir -p "$work/posix/sys"
+cp "$top/.ci/posix.h" "$work/posix/"
+for name in errno fcntl poll signal stdarg strings termios time unistd sys/ioctl sys/stat; do
+    echo '#include <posix.h>' > "$work/posix/$name.h"
+done
+for name in stdio stdlib string; do printf '#include_next <%s.h>\n#include <posix.h>\n' $name > "$work/posix/$name.h"; done
+
 objects=
 compiles behind t31 class1 class1_words stopped trial line paper terminal identity bits
 shared=$objects
 builds bits-test
 timeout 600 "$work/bits-test" > "$work/output" || fails bits-test
 echo "softfax: $(grep -c '24 of 24' "$work/output") lines of plain bits carry all calls"
-builds class1-test
-timeout 600 "$work/class1-test" > "$work/output" 2>&1 || fails class1-test
-echo "softfax: $(grep -c 'calls by Class 1 complete' "$work/output") lines of plain bits carry all calls behind Class 1 modems"
 builds memory-test --wrap=malloc --wrap=realloc --wrap=free
 timeout 600 "$work/memory-test" 40 > "$work/output" || fails memory-test
 sed 's/^/softfax: /' "$work/output"
+objects=$shared
+compiles on_pty pty call stop told record pages tty inits
+shared=$objects
+builds class1-test
+mkdir "$work/papers"
+timeout 600 "$work/class1-test" "$work/papers" > "$work/output" 2>&1 || fails class1-test
+grep '^softfax: ' "$work/output"
 
 CC=${CC:-cc}
 if ! command -v "$CC" > /dev/null; then

@@ -6,7 +6,9 @@
 #include <stdio.h>
 #include <stdlib.h>
 
-/* The octets of a file, to be freed, with their number; NULL if it can't be read. */
+enum { MOST_FILE = 1 << 28 }; /* octets: a device has no end */
+
+/* The octets of a file, to be freed, with their number; NULL if it can't be read, or has more than MOST_FILE. */
 static inline uint8_t *read_file(const char *name, size_t *length)
 {
     FILE *file = fopen(name, "rb");
@@ -19,7 +21,8 @@ static inline uint8_t *read_file(const char *name, size_t *length)
     *length = 0;
     while (more != NULL && (got = fread(octets + *length, 1, room - *length, file)) > 0) {
         *length += got;
-        if (*length == room && (more = realloc(octets, room *= 2)) != NULL) octets = more;
+        if (*length > MOST_FILE) more = NULL;
+        else if (*length == room && (more = realloc(octets, room *= 2)) != NULL) octets = more;
     }
     fclose(file);
     if (more != NULL) return octets;

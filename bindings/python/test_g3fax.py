@@ -213,6 +213,11 @@ class Pages(unittest.TestCase):
         self.assertRaises(ValueError, g3fax.encode, memoryview(bytes(ROWS * WIDTH)).cast("B", (ROWS, WIDTH)), WIDTH)  # pixels
         self.assertRaises(ValueError, g3fax.encode, memoryview(bytes(80)).cast("I", (2, 10)), 80)
         self.assertRaises(ValueError, g3fax.encode, memoryview(bytes(2 * 3 * 4)).cast("B", (2, 3, 4)), 32)
+        for form in "b", "c":
+            self.assertRaises(ValueError, g3fax.encode, memoryview(PACKED).cast(form, (ROWS, ROW)), WIDTH)
+        for row in memoryview(bytes(WIDTH)).cast("?"), memoryview(PACKED).cast("B", (ROWS, ROW)), array.array("d", [0] * ROW):
+            for rows in g3fax.Page(WIDTH), g3fax.RowCoder(WIDTH):
+                self.assertRaises(ValueError, rows.append, row)
         for form in "?", "H", "I", "d":
             self.assertRaises(ValueError, g3fax.encode, memoryview(bytes(ROW * 8)).cast(form), WIDTH)
         apart = memoryview(bytearray(64 * ROWS)).cast("B", (ROWS, 64))
@@ -250,7 +255,10 @@ class Pages(unittest.TestCase):
                          lambda: page[1.0], lambda: page.write_rows(bytearray(9), 1.0), lambda: page.encode(2.0),
                          lambda: g3fax.RowReader(9.0), lambda: g3fax.RowCoder(9.0), lambda: g3fax.Answerer(limit=1.0),
                          lambda: g3fax.encode_pixels(b"01", 1.0), lambda: g3fax.to_pixels(b"", 1.0), lambda: g3fax.agree(Dis(), 1728.0),
-                         lambda: g3fax.Answerer().wait_over(2.0), lambda: g3fax.agree(Dis(widest=2432.0)),
+                         lambda: g3fax.Page(8, 1.0), lambda: g3fax.Answerer(t6=1.0), lambda: g3fax.Answerer().set_busy(0.0),
+                         lambda: g3fax.write_signal(Signal(Kind.MCF), Side.ANSWERER, 1.0), lambda: g3fax.agree(Dis(), fine=1.0),
+                         lambda: g3fax.RowReader(order=0.0), lambda: g3fax.Answerer().wait_over(2.0),
+                         lambda: g3fax.agree(Dis(widest=2432.0)),
                          lambda: g3fax.write_signal(Signal(Kind.FCD, number=1.0, octets=b"1"), Side.CALLER)]:
                 self.assertRaises(TypeError, call)
 
@@ -268,6 +276,7 @@ class Pages(unittest.TestCase):
             same.close()
             self.assertTrue(page != same and same == same)
         self.assertEqual(repr(g3fax.Document([g3fax.Page.of_rows(PACKED, WIDTH)])), "<g3fax.Document: 1 pages>")
+        self.assertEqual(sorted(name for name, it in vars(g3fax).items() if name[0] != "_" and callable(it)), sorted(g3fax.__all__))
         self.assertEqual((repr(g3fax.Answerer()), repr(g3fax.Deframer())), ("<g3fax.Answerer: the call goes on>", "<g3fax.Deframer>"))
 
     def test_names(self):

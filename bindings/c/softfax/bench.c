@@ -1,4 +1,4 @@
-/* Calls over Class 1 modems of libspandsp, joined by a line of sound.
+/* Calls of softfax on ptys, over Class 1 modems of libspandsp that a line of sound joins, on a clock that runs as fast as the processor.
  *
  *     bench FOLDER                                        the calls of the gate
  *     bench FOLDER --table SEEDS [PAIR [LINE]] [WAYS..]   a table: each pair, or one or "all", on each line, or on one
@@ -7,12 +7,12 @@
  *
  * PAIR is the caller and the answerer, as it:ours, where "it" is libspandsp's own terminal and ours is behind a modem. A cell of the table
  * has twelve kinds of calls with each seed: three modems, two codes, and 1 to 3 pages, of which the second is wider. WAYS are xoff, echoes,
- * silent, fixed, late=MILLIS. FOLDER is for files of libspandsp's terminal. Status 1: a page is stored that isn't the document's, or a
- * confirmed one is missing; in the calls of the gate, also if any fails. */
-#include "behind.h"
+ * silent, fixed, late=MILLIS. FOLDER is for the pages of both kinds of terminals. Status 1: a page is on disk that isn't the document's, or
+ * a confirmed one is missing; in the calls of the gate, also if any fails. */
+#include "on_pty.h"
+#include "pty.h"
 #include "theirs.h"
-#include <fcntl.h>
-#include <pty.h>
+#include <errno.h>
 #include <signal.h>
 #include <stdio.h>
 #include <stdlib.h>
@@ -20,7 +20,6 @@
 #include <termios.h>
 #include <time.h>
 #include <unistd.h>
-#include <errno.h>
 
 enum { ROWS = 288 };
 
@@ -51,22 +50,25 @@ typedef struct bench {
     const char *folder;
     behind_way way;
     paper papers[MOST_PAGES];
-    uint32_t calls, well, broken; /* of the cell */
+    uint32_t calls, well, broken, stops; /* of the cell */
 } bench;
 
 /* Runs a call of a pair; returns whether it could begin. */
 static int try_call(bench *it, const pair *who, const trial *kind)
 {
     party caller, answerer;
-    outcome came;
-    int begins = who->caller_is_ours ? trial_behind(&caller, kind, 1, &it->way) : trial_theirs(&caller, kind, 1, it->folder);
-    begins = begins && (who->answerer_is_ours ? trial_behind(&answerer, kind, 0, &it->way) : trial_theirs(&answerer, kind, 0, it->folder));
-    if (!begins) return fprintf(stderr, "bench: no memory\n"), 0;
+    outcome came = {0};
+    const behind_way *way = &it->way;
+    int begins = who->caller_is_ours ? trial_on_pty(&caller, kind, 1, way, it->folder) : trial_theirs(&caller, kind, 1, it->folder);
+    if (!begins) return fprintf(stderr, "bench: the caller can't begin\n"), 0;
+    begins = who->answerer_is_ours ? trial_on_pty(&answerer, kind, 0, way, it->folder) : trial_theirs(&answerer, kind, 0, it->folder);
+    if (!begins) return caller.leave(caller.it, &came), fprintf(stderr, "bench: the answerer can't begin\n"), 0;
     trial_run(&caller, &answerer, kind, &came);
     int is_well = trial_went_well(kind, &came);
     it->calls++;
     it->well += (uint32_t)is_well;
     it->broken += (uint32_t)trial_is_broken(&came);
+    it->stops += came.stops;
     if (is_well) return 1;
     fprintf(stderr, "%s %s modems %u coding %u pages %u seed %u: caller: %s; answerer: %s; confirmed %u, equal %u, wrong %u; %u s\n",
         who->name, kind->line.name, kind->modems, kind->coding, kind->pages, (uint32_t)kind->seed, came.caller, came.answerer,
@@ -84,7 +86,7 @@ static int try_seed(bench *it, const pair *who, const line_kind *line, uint32_t 
 /* Twelve kinds of calls, with so many seeds each. */
 static int try_cell(bench *it, const pair *who, const line_kind *line, uint32_t seeds)
 {
-    it->calls = it->well = it->broken = 0;
+    it->calls = it->well = it->broken = it->stops = 0;
     for (uint32_t i = 0; i < 12 * seeds; i++) {
         if (!try_seed(it, who, line, i, NULL)) return 0;
     }
@@ -153,8 +155,9 @@ static int try_gate(bench *it)
         it->way.ways = OTHERS[i];
         if (!try_cell(it, &PAIRS[0], &LINES[0], 1)) return 0;
         calls += it->calls, well += it->well, broken += it->broken;
+        if (it->way.ways.xoff && it->stops == 0) return fprintf(stderr, "bench: no XOFF has stopped a tty\n"), 0;
     }
-    printf("softfax: %u of %u calls by Class 1 modems of spandsp complete, with its own terminal each way and with ours\n", well, calls);
+    printf("softfax: %u of %u calls on ptys over Class 1 modems of spandsp complete, with its own terminal each way and with ours\n", well, calls);
     return well == calls && broken == 0;
 }
 
@@ -162,7 +165,7 @@ static int try_gate(bench *it)
 
 typedef struct exchange {
     soft *ends[2];
-    int fd[2];
+    pty ptys[2];
     int dials, is_on; /* dials: which end does; -1: none */
 } exchange;
 
@@ -186,31 +189,29 @@ static void on_event(void *user, int what)
     lines.is_on = 1;
 }
 
-static int pty_read(void *user, uint8_t *octets, int room)
+/* The octets of another process: how many it has written isn't known here. */
+static int master_read(void *user, uint8_t *octets, int room)
 {
-    ssize_t got = read(*(int *)user, octets, (size_t)room);
+    ssize_t got = read(((pty *)user)->master, octets, (size_t)room);
     return got < 0 ? 0 : (int)got;
 }
 
-static int pty_write(void *user, const uint8_t *octets, int count)
+static int master_write(void *user, const uint8_t *octets, int count)
 {
-    ssize_t put = write(*(int *)user, octets, (size_t)count);
+    ssize_t put = write(((pty *)user)->master, octets, (size_t)count);
     return put < 0 ? 0 : (int)put;
 }
 
-/* Makes a pty with a link to it; the slave stays open, so that it stays when a program closes it. */
-static int make_pty(const char *link)
+/* Makes a pty with a link to it; returns whether it could. */
+static int make_pty(pty *out, const char *link)
 {
-    int master, slave;
-    char name[256];
     struct termios raw;
-    if (openpty(&master, &slave, name, NULL, NULL) != 0) return -1;
-    tcgetattr(slave, &raw);
-    cfmakeraw(&raw);
-    tcsetattr(slave, TCSANOW, &raw);
-    fcntl(master, F_SETFL, O_NONBLOCK);
+    if (!pty_new(out)) return 0;
+    tcgetattr(out->slave, &raw);
+    cfmakeraw(&raw); /* or what is said before a program opens it would be echoed */
+    tcsetattr(out->slave, TCSANOW, &raw);
     unlink(link);
-    return symlink(name, link) == 0 ? master : -1;
+    return symlink(out->name, link) == 0;
 }
 
 static void sleep_until(struct timespec *next)
@@ -231,10 +232,9 @@ static int run_ptys(char **links)
     line line;
     line_new(&line, &LINES[0], 1);
     for (int i = 0; i < 2; i++) {
-        port host = {&lines.fd[i], pty_read, pty_write, NULL, NULL};
-        lines.fd[i] = make_pty(links[i]);
-        if (lines.fd[i] >= 0) lines.ends[i] = soft_of_spandsp.make(&host, &WAYS, on_event, &lines.ends[i]);
-        if (lines.ends[i] == NULL) return perror(links[i]), 0;
+        port host = {&lines.ptys[i], master_read, master_write, NULL, NULL};
+        if (make_pty(&lines.ptys[i], links[i])) lines.ends[i] = soft_of_spandsp.make(&host, &WAYS, on_event, &lines.ends[i]);
+        if (lines.ends[i] == NULL) return perror(links[i]), 0; /* what is left is the process's */
     }
     clock_gettime(CLOCK_MONOTONIC, &next);
     for (int millis = 0; millis < LONGEST && !is_interrupted; millis += SLICE_MILLIS) {
@@ -243,7 +243,7 @@ static int run_ptys(char **links)
         line_carry(&line, said[0], said[1], to[0], to[1]);
         sleep_until(&next);
     }
-    for (int i = 0; i < 2; i++) soft_of_spandsp.free(lines.ends[i]), unlink(links[i]);
+    for (int i = 0; i < 2; i++) soft_of_spandsp.free(lines.ends[i]), pty_free(&lines.ptys[i]), unlink(links[i]);
     return 1;
 }
 

@@ -29,9 +29,11 @@ typedef struct tally { uint32_t calls, well, broken, endless; } tally;
 static void try_call(const trial *kind, tally *out)
 {
     party caller, answerer;
-    outcome came;
-    if (!trial_ours(&caller, kind, 1) || !trial_ours(&answerer, kind, 0)) {
-        out->broken++; /* no memory: what is left of it is the process's */
+    outcome came = {0};
+    int begins = trial_ours(&caller, kind, 1);
+    if (!begins || !trial_ours(&answerer, kind, 0)) {
+        if (begins) caller.leave(caller.it, &came);
+        out->broken++; /* no memory */
         return;
     }
     trial_run(&caller, &answerer, kind, &came);
@@ -105,9 +107,10 @@ static int try_babbler(const char *tells)
     g3_octets handle = G3_EMPTY;
     uint64_t length = 0;
     outcome came;
-    if (it.modem == NULL || g3_frame_write(CONTENT, sizeof CONTENT, &handle, &it.bits) != G3_OK) return 0;
-    if (g3_octets_copy(&handle, it.octets, sizeof it.octets, &length) != G3_OK || !trial_ours(&answerer, &kind, 0)) return 0;
+    int begins = it.modem != NULL && g3_frame_write(CONTENT, sizeof CONTENT, &handle, &it.bits) == G3_OK
+        && g3_octets_copy(&handle, it.octets, sizeof it.octets, &length) == G3_OK && trial_ours(&answerer, &kind, 0);
     g3_octets_free(&handle);
+    if (!begins) return modem_of_sound.free(it.modem), 0;
     trial_run(&caller, &answerer, &kind, &came);
     printf("a caller that never stops: %s after %u s\n", came.answerer, came.seconds);
     return strcmp(came.answerer, "refused") == 0 && came.seconds < SOON;

@@ -16,6 +16,7 @@ typedef struct call {
     int stop;                   /* how it has been stopped */
     uint64_t confirmed;         /* pages of a caller that were told of */
     const char *why;            /* why there was no call, or why it was lost; NULL: nothing is known */
+    char fault[200];            /* the text of that, if the modem says why */
 } call;
 
 /* Reads the pages, or looks at the folder; returns whether all is there. Every fault is told. */

@@ -1,8 +1,8 @@
-/* class1-test [--tell]: calls of the terminal behind two Class 1 modems of t31.c, over bits.c's line, so that class1.c is tested without
- * libspandsp. Each kind of call is tried on each line, also with modems that have other ways. Then modems that fail: each has to be named
- * in words. Status 1: a call fails, a page is stored that isn't the document's, a confirmed one is missing, or an end doesn't hang up.
- * --tell: what happens in each call, on standard error. */
-#include "behind.h"
+/* class1-test FOLDER [--tell]: calls of softfax on two ptys, over two Class 1 modems of t31.c and bits.c's line, so that class1.c and tty.c
+ * are tested without libspandsp. Each kind of call is tried on each line, also with modems that have other ways. Then modems that fail:
+ * each has to be named in words. Status 1: a call fails, a page is on disk that isn't the document's, a confirmed one is missing, or an end
+ * doesn't hang up. --tell: what happens in each call, on standard error. FOLDER is for the pages, and empty. */
+#include "on_pty.h"
 #include "stopped.h"
 #include <stdio.h>
 #include <string.h>
@@ -24,14 +24,17 @@ enum { LINES_COUNT = sizeof LINES / sizeof LINES[0] };
 static const soft_ways WAYS[] = {{0}, {.echoes = 1, .fixed = 1}, {.silent = 1, .fixed = 1}};
 enum { WAYS_COUNT = sizeof WAYS / sizeof WAYS[0] };
 
+static const char *folder;
+static int calls, complete; /* on all lines */
+
 /* Runs a call; returns whether nothing is broken, both ends hang up, and they end as is said. NULL: in any way. */
 static int try_call(
     const trial *kind, const behind_way *caller_way, const behind_way *answerer_way, const char *caller_why, const char *answerer_why)
 {
     party caller, answerer;
-    outcome came;
-    if (!trial_behind(&caller, kind, 1, caller_way)) return 0;
-    if (!trial_behind(&answerer, kind, 0, answerer_way)) {
+    outcome came = {0};
+    if (!trial_on_pty(&caller, kind, 1, caller_way, folder)) return 0;
+    if (!trial_on_pty(&answerer, kind, 0, answerer_way, folder)) {
         caller.leave(caller.it, &came);
         return 0;
     }
@@ -60,14 +63,15 @@ static int try_line(const line_kind *line, int ways, const paper *papers, const 
             well += try_call(&kind, &through, &through, "normal", "normal");
         }
     }
-    printf("%s: %d of %d calls by Class 1 complete\n", line->name, well, count);
+    printf("%s: %d of %d calls complete\n", line->name, well, count);
+    calls += count, complete += well;
     return well == count;
 }
 
-static int begin_behind(party *out, const trial *kind, int calls)
+static int begin_on_pty(party *out, const trial *kind, int calls)
 {
     static const behind_way WAY = {&soft_of_bits, {0}};
-    return trial_behind(out, kind, calls, &WAY);
+    return trial_on_pty(out, kind, calls, &WAY, folder);
 }
 
 /* Modems that fail, and how their end has to name that. */
@@ -94,14 +98,17 @@ static int try_faults(const paper *papers, const char *tells)
 int main(int argc, char **argv)
 {
     static const uint32_t WIDTHS[MOST_PAGES] = {1728, 2432, 1728};
-    const char *tells = argc > 1 && strcmp(argv[1], "--tell") == 0 ? "told" : NULL;
+    const char *tells = argc > 2 && strcmp(argv[2], "--tell") == 0 ? "told" : NULL;
     paper papers[MOST_PAGES];
     int is_right = 1;
+    if (argc < 2) return fprintf(stderr, "usage: class1-test FOLDER [--tell]\n"), 2;
+    folder = argv[1];
     for (uint32_t i = 0; i < MOST_PAGES; i++) {
         if (!paper_new(&papers[i], WIDTHS[i], ROWS, i + 1)) return fprintf(stderr, "class1-test: no memory\n"), 1;
     }
     for (uint32_t i = 0; i < LINES_COUNT; i++) is_right &= try_line(&LINES[i], i == 0 ? WAYS_COUNT : 1, papers, tells);
-    is_right &= stopped_try(begin_behind, tells) & try_faults(papers, tells);
+    printf("softfax: %d of %d calls on ptys over Class 1 modems of plain bits complete\n", complete, calls);
+    is_right &= stopped_try(begin_on_pty, tells) & try_faults(papers, tells);
     for (uint32_t i = 0; i < MOST_PAGES; i++) paper_free(&papers[i]);
     return !is_right;
 }

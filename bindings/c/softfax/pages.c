@@ -37,7 +37,7 @@ int pages_add(g3_document *document, const char *name, int fine, g3_size *size)
     uint64_t images = 0;
     errno = 0;
     uint8_t *octets = read_file(name, &length);
-    if (octets == NULL) return fails(name, errno != 0 ? strerror(errno) : "it can't be read");
+    if (octets == NULL) return fails(name, errno != 0 ? strerror(errno) : "it is too long for a page");
     g3_status status = add(document, octets, length, fine, size, &images);
     free(octets);
     if (status != G3_OK) return fails(name, g3_status_text(status));
@@ -102,11 +102,11 @@ static int sync_folder(const char *name)
 static int write_all(int file, const uint8_t *octets, size_t length)
 {
     size_t done = 0;
-    ssize_t put = 0;
-    while (done < length && put >= 0) {
-        put = write(file, octets + done, length - done);
+    while (done < length) {
+        ssize_t put = write(file, octets + done, length - done);
         if (put > 0) done += (size_t)put;
-        else if (put < 0 && errno == EINTR) put = 0;
+        else if (put == 0) errno = EIO;
+        if (put == 0 || (put < 0 && errno != EINTR)) break;
     }
     int is_whole = done == length && sync_file(file);
     return close(file) == 0 && is_whole;

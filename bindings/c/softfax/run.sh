@@ -60,7 +60,8 @@ fi
 if [ "$1" != --audio ]; then
     make -s -C "$here" LIB="$LIB" OUT="$OUT" bits-test class1-test memory-test
     "$OUT/bits-test"
-    "$OUT/class1-test"
+    mkdir "$work/papers"
+    "$OUT/class1-test" "$work/papers"
     "$OUT/memory-test"
 fi
 
@@ -116,6 +117,7 @@ refuses 2 usage --call --rx /dev/null --tx /dev/null
 refuses 2 usage --call "$work/1.pbm" --answer "$work" --rx /dev/null --tx /dev/null
 refuses 2 usage --call "$work/1.pbm" --rx /dev/null --tx /dev/null --modems v8
 refuses 1 "no.pbm: No such file" --call "$work/no.pbm" --rx /dev/null --tx /dev/null
+refuses 1 "/dev/zero: it is too long" --call /dev/zero --rx /dev/null --tx /dev/null
 refuses 1 "call.wav: the header is no raw PBM header" --call "$work/call.wav" --rx /dev/null --tx /dev/null
 printf 'P4\n8 1\n.' > "$work/narrow.pbm"
 refuses 1 "1728, 2048 or 2432" --call "$work/narrow.pbm" --rx /dev/null --tx /dev/null

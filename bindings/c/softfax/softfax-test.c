@@ -52,8 +52,10 @@ static int begin(int is_ours, const trial *kind, int calls, const char *folder, 
 static int try_call(const pair *who, const trial *kind, const char *folder, tally *out)
 {
     party caller, answerer;
-    outcome came;
-    if (!begin(who->caller_is_ours, kind, 1, folder, &caller) || !begin(who->answerer_is_ours, kind, 0, folder, &answerer)) {
+    outcome came = {0};
+    int begins = begin(who->caller_is_ours, kind, 1, folder, &caller);
+    if (!begins || !begin(who->answerer_is_ours, kind, 0, folder, &answerer)) {
+        if (begins) caller.leave(caller.it, &came);
         fprintf(stderr, "softfax-test: %s can't begin\n", who->name);
         return 0;
     }
@@ -146,9 +148,10 @@ static int try_without_correction(const paper *papers, const char *folder)
 {
     enum { SOON = 35 };
     party caller, answerer;
-    outcome came;
+    outcome came = {0};
     trial kind = {.line = LINES[0], .modems = G3_V17, .coding = G3_MMR, .pages = 1, .limit = 2, .papers = papers, .has_no_correction = 1};
-    if (!begin(0, &kind, 1, folder, &caller) || !begin(1, &kind, 0, folder, &answerer)) return 0;
+    if (!begin(0, &kind, 1, folder, &caller)) return 0;
+    if (!begin(1, &kind, 0, folder, &answerer)) return caller.leave(caller.it, &came), 0;
     trial_run(&caller, &answerer, &kind, &came);
     int is_right = strcmp(came.answerer, "refused") == 0 && came.equal + came.wrong == 0 && came.seconds <= SOON;
     printf("softfax: a caller without error correction: %s after %u s\n", came.answerer, came.seconds);

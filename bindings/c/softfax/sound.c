@@ -84,7 +84,7 @@ int sound_write(sound *it, const int16_t *samples, int count)
         ssize_t put = write(it->stream, (const char *)samples + it->done, length - it->done);
         if (put > 0) it->done += (size_t)put;
         else if (put < 0 && errno == EPIPE) return SOUND_ENDS;
-        else if (put < 0) return is_for_now() ? SOUND_STALLS : fails(it->name);
+        else return put == 0 || is_for_now() ? SOUND_STALLS : fails(it->name);
     }
     it->done = 0;
     return SOUND_IS_THERE;

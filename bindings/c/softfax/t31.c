@@ -3,6 +3,7 @@
 #include "soft.h"
 #include "bits.h"
 #include "carriers.h"
+#include <stdio.h>
 #include <stdlib.h>
 #include <string.h>
 
@@ -42,16 +43,20 @@ static void put(soft *it, const uint8_t *octets, int count)
 
 static void result(soft *it, const char *text, int doing)
 {
-    put(it, (const uint8_t *)"\r\n", 2);
-    put(it, (const uint8_t *)text, (int)strlen(text));
-    put(it, (const uint8_t *)"\r\n", 2);
+    char line[sizeof it->line + 4];
+    put(it, (const uint8_t *)line, snprintf(line, sizeof line, "\r\n%s\r\n", text));
     it->doing = doing;
 }
 
 static void put_data(soft *it, const uint8_t *octets, uint64_t count)
 {
-    static const uint8_t TWO[] = {DLE, DLE};
-    for (uint64_t i = 0; i < count; i++) put(it, octets[i] == DLE ? TWO : octets + i, octets[i] == DLE ? 2 : 1);
+    uint8_t doubled[2 * MOST_HEARD];
+    int filled = 0;
+    for (uint64_t i = 0; i < count; i++) {
+        if (octets[i] == DLE) doubled[filled++] = DLE;
+        doubled[filled++] = octets[i];
+    }
+    if (filled > 0) put(it, doubled, filled);
 }
 
 static void put_end(soft *it, const char *text)
@@ -221,10 +226,13 @@ static void go_on(soft *it, int16_t *out)
 
 static void t31_step(soft *it, const int16_t *in, int16_t *out)
 {
-    uint8_t octet;
+    uint8_t octets[256];
+    int count = 0;
     it->now += SLICE_MILLIS;
     memset(out, 0, SLICE * sizeof *out);
-    while (it->host.read(it->host.user, &octet, 1) > 0) take_host_octet(it, octet);
+    while ((count = it->host.read(it->host.user, octets, sizeof octets)) > 0) {
+        for (int i = 0; i < count; i++) take_host_octet(it, octets[i]);
+    }
     if (it->doing != SENDS && it->doing != FTM && it->doing != IN_CED) hear(it, in);
     go_on(it, out);
 }

@@ -38,7 +38,7 @@ static size_t put(const char *octets, size_t count)
     while (done < count && is_ready()) {
         ssize_t written = write(STDERR_FILENO, octets + done, count - done < PIECE ? count - done : PIECE);
         if (written > 0) done += (size_t)written;
-        else if (errno != EINTR && errno != EAGAIN) return done;
+        else if (written == 0 || (errno != EINTR && errno != EAGAIN)) return done;
     }
     return done;
 }

@@ -81,16 +81,21 @@ static int ours_is_over(void *user)
     return terminal_is_over(it->terminal);
 }
 
-static const char *ours_ending(void *user)
+const char *trial_ending(const g3_terminal *station, const terminal *it)
 {
     static const char *const ENDS[] = {
         "no end", "normal", "no answer", "not compatible", "training", "no reply", "unreadable", "still busy", "peer left", "bad page",
         "page too long", "stopped", "line lost"};
-    ours *it = user;
     g3_state state = G3_INIT(g3_state);
-    if (g3_terminal_state(&it->station, &state) != G3_OK) return "no state";
-    if (terminal_why(it->terminal) != NULL) return "refused";
+    if (g3_terminal_state(station, &state) != G3_OK) return "no state";
+    if (terminal_why(it) != NULL) return "refused";
     return state.end < sizeof ENDS / sizeof ENDS[0] ? ENDS[state.end] : "another end";
+}
+
+static const char *ours_ending(void *user)
+{
+    ours *it = user;
+    return trial_ending(&it->station, it->terminal);
 }
 
 static void ours_leave(void *user, outcome *out)

@@ -4,6 +4,7 @@
 #include "g3fax.h"
 #include "line.h"
 #include "paper.h"
+#include "terminal.h"
 
 enum { MOST_PAGES = 3 };
 
@@ -32,6 +33,7 @@ typedef struct outcome {
     uint64_t confirmed;            /* pages, as the caller counts */
     uint32_t equal, wrong;         /* stored pages that are those of the document, in order, and others */
     uint32_t seconds;              /* how long the call was */
+    uint32_t stops;                /* how often a tty was stopped by XOFF */
 } outcome;
 
 /* An end of a call, ours or another. */
@@ -51,6 +53,8 @@ int trial_ours_by(party *out, const trial *kind, int calls, const modem_kind *wi
 void trial_run(party *caller, party *answerer, const trial *kind, outcome *out);
 /* Counts a stored page: it should be the next paper. */
 void trial_judge(const trial *kind, outcome *out, uint32_t width, uint32_t rows, const uint8_t *pixels);
+/* How a call of ours has ended. */
+const char *trial_ending(const g3_terminal *station, const terminal *it);
 /* Whether both ends ended normally and all pages are there. */
 int trial_went_well(const trial *kind, const outcome *it);
 /* Whether what must never be is: a wrong page, or one that is confirmed and missing. */

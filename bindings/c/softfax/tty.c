@@ -25,6 +25,7 @@ typedef struct tty {
     int is_locked;
     char lock[80];          /* the lock file; "": none */
     struct termios found;   /* how the tty was */
+    uint64_t written;       /* octets that it has taken */
 } tty;
 
 static int fails(const char *name, const char *why)
@@ -134,8 +135,9 @@ static int port_read(void *user, uint8_t *octets, int room)
 
 static int port_write(void *user, const uint8_t *octets, int count)
 {
-    ssize_t put = write(((tty *)user)->fd, octets, (size_t)count);
-    if (put >= 0) return (int)put;
+    tty *it = user;
+    ssize_t put = write(it->fd, octets, (size_t)count);
+    if (put >= 0) return it->written += (uint64_t)put, (int)put;
     return errno == EAGAIN || errno == EINTR ? 0 : -1;
 }
 
@@ -158,17 +160,21 @@ static void port_mind_xoff(void *user, int is)
 
 /* The call */
 
-typedef struct run {
+struct tty_call {
+    tty on;
     call *call;
+    tty_clock clock;
     modem *modem;
+    const char *inits[MOST_INITS];
+    char found[MOST_INITS][INITS_ROOM]; /* those that were given by name */
     int64_t now, next, skipped;
     int stage, stopped, has_failed; /* has_failed: the terminal couldn't be made */
-} run;
+};
 
-/* The time of the call: the machine's, less its pauses. */
-static void read_clock(run *it)
+/* The time of the call: the clock's, less its pauses. */
+static void read_clock(tty_call *it)
 {
-    int64_t now = stop_clock() - it->skipped;
+    int64_t now = it->clock.now(it->clock.user) - it->skipped;
     if (now - it->now > MOST_LATE) {
         it->skipped += now - it->now - MOST_LATE;
         now = it->now + MOST_LATE;
@@ -177,7 +183,7 @@ static void read_clock(run *it)
 }
 
 /* Stops a call that hasn't begun, or that isn't to end in order. */
-static void heed(run *it)
+static void heed(tty_call *it)
 {
     int level = call_heed(it->call);
     if (level == it->stopped) return;
@@ -186,7 +192,7 @@ static void heed(run *it)
 }
 
 /* A slice of the call, if there is one. A modem that lists nothing is taken to have all. */
-static void slice(run *it)
+static void slice(tty_call *it)
 {
     int16_t unused[SLICE] = {0};
     uint32_t speeds = class1_speeds(it->modem);
@@ -201,11 +207,10 @@ static void slice(run *it)
     else call_step(it->call, unused, unused);
 }
 
-static int go_on(run *it, const tty *on)
+int tty_go_on(tty_call *it)
 {
-    struct pollfd ready = {on->fd, POLLIN, 0};
     int64_t wait = it->next - it->now;
-    poll(&ready, 1, wait > 0 ? (int)wait : 0); /* a signal ends it early */
+    it->clock.wait(it->clock.user, it->on.fd, wait > 0 ? (int)wait : 0);
     read_clock(it);
     heed(it);
     it->stage = class1_step(it->modem, it->now);
@@ -213,36 +218,78 @@ static int go_on(run *it, const tty *on)
     return it->stage != CLASS1_IS_OVER;
 }
 
-/* Runs the call over an open tty. */
-static int run_on(tty *on, call *call, const char *const *inits, FILE *trace)
+uint64_t tty_written(const tty_call *it)
 {
-    static char why[200];
-    const options *given = call->given;
-    class1_setup setup = {inits, given->init_count, given->number, given->rings, trace};
-    port port = {on, port_read, port_write, port_waiting, port_mind_xoff};
-    run it = {.call = call, .now = stop_clock(), .modem = class1_new(&port, &setup)};
-    if (it.modem == NULL) return fails(on->name, "no memory");
-    it.next = it.now;
-    while (go_on(&it, on)) { }
-    if (call->terminal != NULL && !call_is_over(call)) terminal_lose(call->terminal);
-    if (class1_why(it.modem) != NULL) {
-        snprintf(why, sizeof why, "%.30s: %s", on->name, class1_why(it.modem));
-        call->why = why;
-    }
-    modem_of_class1.free(it.modem);
-    return !it.has_failed;
+    return it->on.written;
 }
 
 /* Finds the commands of the set-up that are given by name. */
-static int find_inits(const options *given, const char **inits)
+static int find_inits(tty_call *it)
 {
-    static char found[MOST_INITS][INITS_ROOM];
+    const options *given = it->call->given;
     for (int i = 0; i < given->init_count; i++) {
         int is_command = strncasecmp(given->inits[i], "AT", 2) == 0;
-        if (!is_command && !inits_find(given->inits[i], given->xon, found[i])) return 0;
-        inits[i] = is_command ? given->inits[i] : found[i];
+        if (!is_command && !inits_find(given->inits[i], given->xon, it->found[i])) return 0;
+        it->inits[i] = is_command ? given->inits[i] : it->found[i];
     }
     return 1;
+}
+
+/* Opens the tty, and makes the modem on it. */
+static int begin(tty_call *it, FILE *trace)
+{
+    const options *given = it->call->given;
+    class1_setup setup = {it->inits, given->init_count, given->number, given->rings, trace};
+    port port = {&it->on, port_read, port_write, port_waiting, port_mind_xoff};
+    if (!find_inits(it) || !lock(&it->on) || !open_tty(&it->on, !given->xon)) return 0;
+    it->modem = class1_new(&port, &setup);
+    it->now = it->next = it->clock.now(it->clock.user);
+    return it->modem != NULL || fails(it->on.name, "no memory");
+}
+
+tty_call *tty_begin(call *call, const tty_clock *clock, FILE *trace)
+{
+    static const tty_call fresh;
+    tty_call *it = malloc(sizeof *it);
+    if (it == NULL) return fails(call->given->tty, "no memory"), NULL;
+    *it = fresh;
+    it->call = call;
+    it->clock = *clock;
+    it->on.name = call->given->tty;
+    it->on.fd = -1;
+    if (begin(it, trace)) return it;
+    tty_end(it);
+    return NULL;
+}
+
+int tty_end(tty_call *it)
+{
+    call *call = it->call;
+    int is_well = !it->has_failed;
+    if (call->terminal != NULL && !call_is_over(call)) terminal_lose(call->terminal);
+    if (it->modem != NULL && class1_why(it->modem) != NULL) {
+        snprintf(call->fault, sizeof call->fault, "%.30s: %s", it->on.name, class1_why(it->modem));
+        call->why = call->fault;
+    }
+    modem_of_class1.free(it->modem);
+    close_tty(&it->on);
+    free(it);
+    return is_well;
+}
+
+/* By the machine's clock */
+
+static int64_t machine_now(void *user)
+{
+    (void)user;
+    return stop_clock();
+}
+
+static void machine_wait(void *user, int fd, int millis)
+{
+    struct pollfd ready = {fd, POLLIN, 0};
+    (void)user;
+    poll(&ready, 1, millis); /* a signal ends it early */
 }
 
 /* Opens the file of the trace. A pipe that nobody reads is none, and one that stalls loses lines: the call doesn't wait for it. */
@@ -257,14 +304,16 @@ static FILE *open_trace(const char *name)
 
 int tty_run(call *it)
 {
+    static const tty_clock MACHINE = {NULL, machine_now, machine_wait};
     const options *given = it->given;
-    tty on = {.name = given->tty, .fd = -1};
-    const char *inits[MOST_INITS];
     FILE *trace = NULL;
-    if (!find_inits(given, inits)) return 0;
     if (given->trace != NULL && (trace = open_trace(given->trace)) == NULL) return 0;
-    int is_well = lock(&on) && open_tty(&on, !given->xon) && run_on(&on, it, inits, trace);
-    close_tty(&on);
+    tty_call *on = tty_begin(it, &MACHINE, trace);
+    int is_well = on != NULL;
+    if (on != NULL) {
+        while (tty_go_on(on)) { }
+        is_well = tty_end(on);
+    }
     if (trace != NULL && fclose(trace) != 0) is_well = fails(given->trace, "it can't be written whole");
     return is_well;
 }

@@ -15,7 +15,7 @@ memory of its own. What goes wrong raises Fault, with its number and its bit; a 
 The library is the file that G3FAX_LIBRARY names, else libg3fax.so.0 beside this module, else that of the system; it must be of the version
 of this module. It needs Python 3.8 or later, and Python's standard library alone."""
 
-from typing import cast
+from typing import cast as _cast
 
 from ._calls import Answerer, Burst, Caller, Document, Terminal
 from ._frames import Deframer, agree, frames, read_signal, write_frame, write_signal
@@ -35,7 +35,7 @@ __all__ += ["FrameLost", "NotCompatible", "Modems", "Carrier", "Wait", "Listens"
 
 def version() -> str:
     """The version of the library."""
-    return cast(bytes, _library.g3_version()).decode()
+    return _cast(bytes, _library.g3_version()).decode()
 
 
 # each is of the package, and not of the module that it is written in: so it is shown, and so it is pickled

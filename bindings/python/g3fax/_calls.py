@@ -9,7 +9,7 @@ from typing import Any, Iterable, Iterator, List, NamedTuple, Optional, Union
 from ._frames import _dis, _params, _wish, frames
 from ._native import _NOTHING, _Burst, _Caps, _Handle, _library, _Params, _Progress, _Signal, _State, _u64
 from ._names import Carrier, Coding, Dis, End, Kind, Listens, Modems, Params, Progress, State, Wait
-from ._owning import _done, _number, _octets, _Owner, _taken
+from ._owning import _done, _flag, _number, _octets, _Owner, _taken
 from ._pages import Page
 
 if sys.version_info >= (3, 12):
@@ -96,7 +96,7 @@ class Terminal(_Owner):
     def set_busy(self, is_busy: bool) -> None:
         """Whether an answerer can't take pages for now."""
         with self._lock:
-            _done(_library.g3_terminal_set_busy(self._at, bool(is_busy)))
+            _done(_library.g3_terminal_set_busy(self._at, _flag(is_busy, "is_busy")))
 
     def stop(self) -> None:
         """Ends the call in order: DCN is to be sent in place of what was."""
@@ -201,5 +201,5 @@ class Answerer(Terminal):
     def __init__(self, modems: Modems = Modems.V17, t6: bool = True, fine: bool = True, widest: int = 2432, limit: int = 1) -> None:
         """Its first burst is DIS. `limit`: how many pages it stores before it is busy."""
         super().__init__()
-        caps = _Caps(_number(modems, "modems"), bool(t6), bool(fine), _number(widest, "widest"), _number(limit, "limit"))
+        caps = _Caps(_number(modems, "modems"), _flag(t6, "t6"), _flag(fine, "fine"), _number(widest, "widest"), _number(limit, "limit"))
         _done(_library.g3_answerer_new(self._at, ctypes.byref(caps)))

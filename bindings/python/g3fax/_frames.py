@@ -8,7 +8,7 @@ from typing import Any, Iterable, Iterator, List, Optional, Tuple
 
 from ._native import _NOT_COMPATIBLE, _NOTHING, _Counts, _Dcs, _Dis, _Handle, _library, _Params, _Pps, _Signal, _u32, _u64, _Wish
 from ._names import Carrier, Coding, Counts, Dis, Frame, Kind, Modems, PageEnd, Params, Pps, Side, Signal
-from ._owning import NotCompatible, _done, _number, _octets, _Owner, _room, _taken
+from ._owning import NotCompatible, _done, _flag, _number, _octets, _Owner, _room, _taken
 
 if sys.version_info >= (3, 12):
     from collections.abc import Buffer
@@ -105,7 +105,9 @@ def write_signal(signal: Signal, side: Side, last: bool = True) -> bytes:
         given.pps = _Pps(*_numbers(signal.pps))
     given.octets[:min(len(octets), 296)] = octets[:296]
     buffer, address = _room(300)
-    _done(_library.g3_signal_write(ctypes.byref(given), _number(side, "side"), bool(last), address, len(buffer), ctypes.byref(count)))
+    status = _library.g3_signal_write(ctypes.byref(given), _number(side, "side"), _flag(last, "last"), address, len(buffer),
+                                      ctypes.byref(count))
+    _done(status)
     return bytes(memoryview(buffer)[:count.value])
 
 
@@ -118,7 +120,7 @@ def agree(dis: Dis, width: int = 1728, fine: bool = False, modems: Modems = Mode
     """What a caller with these modems, this code and these frames agrees on with a station of a DIS, for pages of a width, fine or not.
     Raises NotCompatible with the reason."""
     theirs, wish, told, reason = _Dis(*_numbers(dis)), _wish(modems, coding, frame), _Params(), _u32()
-    status = _library.g3_agree(ctypes.byref(theirs), ctypes.byref(wish), _number(width, "width"), bool(fine), ctypes.byref(told),
+    status = _library.g3_agree(ctypes.byref(theirs), ctypes.byref(wish), _number(width, "width"), _flag(fine, "fine"), ctypes.byref(told),
                                ctypes.byref(reason))
     if status == _NOT_COMPATIBLE:
         raise NotCompatible(status, reason.value)

@@ -88,6 +88,13 @@ def _number(number: int, name: str, bits: int = 32) -> int:
     return whole
 
 
+def _flag(flag: Any, name: str) -> bool:
+    """Yes or no, as C takes it. A float raises TypeError: it is a number in the wrong place."""
+    if hasattr(type(flag), "__float__") and not hasattr(type(flag), "__index__"):
+        raise TypeError(f"{name} is {flag}, and neither True nor False")
+    return bool(flag)
+
+
 def _octets(buffer: Buffer) -> Tuple[Any, int]:
     """An address of octets for a call, which keeps them, and how many there are."""
     if isinstance(buffer, bytes):
@@ -104,7 +111,7 @@ def _octets(buffer: Buffer) -> Tuple[Any, int]:
 def _packed(buffer: Buffer, width: int, stride: Optional[int] = None) -> Buffer:
     """Packed rows as they are given. ValueError if they can't be that: octets of one dimension, or of two, rows and the octets of each."""
     view = memoryview(buffer)
-    if view.format not in ("B", "b", "c"):
+    if view.format not in ("B", "b", "c") or (view.ndim == 2 and view.format != "B"):
         raise ValueError(f"rows are octets, of format B, and not of format {view.format}; pixels are for encode_pixels and Page.of_pixels")
     row = (width + 7) // 8
     if view.ndim == 2 and view.shape is not None and view.shape[1] != (row if stride is None else stride):
@@ -113,6 +120,14 @@ def _packed(buffer: Buffer, width: int, stride: Optional[int] = None) -> Buffer:
     if view.ndim > 2 or view.ndim == 0:
         raise ValueError(f"rows have one dimension or two, and not {view.ndim}")
     return buffer
+
+
+def _row(buffer: Buffer) -> Tuple[Any, int]:
+    """A packed row for a call, as _octets gives it. ValueError if it can't be that: octets of one dimension."""
+    view = memoryview(buffer)
+    if view.format not in ("B", "b", "c") or view.ndim != 1:
+        raise ValueError(f"a row is octets of one dimension, and not {view.ndim} of format {view.format}; pixels are for Page.of_pixels")
+    return _octets(buffer)
 
 
 #: a pixel as a digit and back, and the pixels of each octet

@@ -10,7 +10,7 @@ from typing import Any, Iterator, Optional, Tuple, Union, overload
 
 from ._native import _NOTHING, _Code, _Handle, _Raster, _Size, _library, _u64
 from ._names import Coding, Order
-from ._owning import CodeFault, _done, _number, _octets, _Owner, _pack, _packed, _room, _taken, _unpack
+from ._owning import CodeFault, _done, _flag, _number, _octets, _Owner, _pack, _packed, _room, _row, _taken, _unpack
 
 if sys.version_info >= (3, 12):
     from collections.abc import Buffer
@@ -33,7 +33,7 @@ class Page(_Owner):
         self.repaired: Optional[int] = None
         #: the images of the file, where it was read from one
         self.images: Optional[int] = None
-        _done(_library.g3_page_new(self._at, _number(width, "width"), bool(fine)))
+        _done(_library.g3_page_new(self._at, _number(width, "width"), _flag(fine, "fine")))
 
     @classmethod
     def _empty(cls) -> Page:
@@ -46,8 +46,8 @@ class Page(_Owner):
     def of_rows(cls, octets: Buffer, width: int = 1728, *, rows: Optional[int] = None, stride: Optional[int] = None,
                 fine: bool = False) -> Page:
         """The page of packed rows that begin `stride` octets apart; without a stride, one directly after the other. `rows` is how many;
-        without it, as many as there are. A buffer of two dimensions has a row's (width + 7) // 8 octets, or `stride`, as its second one:
-        else ValueError."""
+        without it, as many as there are. A buffer of two dimensions has a row's (width + 7) // 8 octets, or `stride`, as its second one, of
+        format B: else ValueError."""
         width = _number(width, "width")
         address, length = _octets(_packed(octets, width, stride))
         row = (width + 7) // 8
@@ -57,7 +57,7 @@ class Page(_Owner):
                 raise ValueError(f"{length} octets are no whole number of rows of {row}")
         if rows is None:
             rows = 0 if length < row or stride <= 0 else (length - row) // stride + 1
-        raster = _Raster(_number(stride, "stride", 64), width, _number(rows, "rows"), bool(fine))
+        raster = _Raster(_number(stride, "stride", 64), width, _number(rows, "rows"), _flag(fine, "fine"))
         page = cls._empty()
         _done(_library.g3_page_read_raster(address, length, ctypes.byref(raster), page._at))
         return page
@@ -108,7 +108,7 @@ class Page(_Owner):
     def read_pbm(cls, octets: Buffer, fine: bool = False) -> Page:
         """The first image of a raw PBM file; `images` of the page is how many images there are."""
         page, count, (address, length) = cls._empty(), _u64(), _octets(octets)
-        _done(_library.g3_page_read_pbm(address, length, bool(fine), page._at, ctypes.byref(count)))
+        _done(_library.g3_page_read_pbm(address, length, _flag(fine, "fine"), page._at, ctypes.byref(count)))
         page.images = count.value
         return page
 
@@ -146,8 +146,8 @@ class Page(_Owner):
         return int(self._size().rows)
 
     def append(self, octets: Buffer) -> None:
-        """Appends a packed row: the first bits of (width + 7) // 8 octets or more."""
-        address, length = _octets(octets)
+        """Appends a packed row: the first bits of (width + 7) // 8 octets or more, of one dimension: else ValueError."""
+        address, length = _row(octets)
         with self._lock:
             _done(_library.g3_page_push_row(self._at, address, length))
 
@@ -241,8 +241,8 @@ class RowCoder(_Owner):
         _done(_library.g3_row_coder_new(self._at, ctypes.byref(code)))
 
     def append(self, octets: Buffer) -> None:
-        """Codes a packed row: the first bits of (width + 7) // 8 octets or more."""
-        address, length = _octets(octets)
+        """Codes a packed row: the first bits of (width + 7) // 8 octets or more, of one dimension: else ValueError."""
+        address, length = _row(octets)
         with self._lock:
             _done(_library.g3_row_coder_push_row(self._at, address, length))
 
@@ -311,7 +311,7 @@ class RowReader(_Owner):
 
 
 def _code(coding: int, order: int, width: int, fine: bool) -> _Code:
-    return _Code(_number(coding, "coding"), _number(order, "order"), _number(width, "width"), bool(fine))
+    return _Code(_number(coding, "coding"), _number(order, "order"), _number(width, "width"), _flag(fine, "fine"))
 
 
 def decode(octets: Buffer, width: int = 1728, coding: Coding = Coding.MMR, order: Order = Order.MSB_FIRST) -> memoryview:
