@@ -56,6 +56,18 @@ try_unwritten() {
     count=$((count + 1))
 }
 
+# A folder that can't be written, as root can't write /proc, is found before a line is read; and nothing is left of looking.
+try_unwritable_folder() {
+    status=0
+    echo "no line" | "$program" station --answer --out /proc > "$work/output" 2> "$work/error" || status=$?
+    [ "$status $(head -1 "$work/error")" = "1 fault 8" ] || fails "a folder that can't be written: status $status"
+    rm -rf "$work/stored"
+    mkdir "$work/stored"
+    echo "end 1" | "$program" station --answer --out "$work/stored" > "$work/output" 2> "$work/error" || :
+    [ "$(cat "$work/error")" = "end line-lost pages 0" ] && [ -z "$(ls "$work/stored")" ] || fails "a station left a file where it looked"
+    count=$((count + 2))
+}
+
 # A station, or `frames --pages`, that is killed while it writes a page leaves no file of the page's name: only a part file, as it was.
 try_killed() {
     for words in "station --answer --out $work/stored" "frames --pages $work/stored -"; do
@@ -281,3 +293,4 @@ CASES
     [ "$(cut -d " " -f 1 "$work/output" | head -1)" -ge 100 ] || fails "only $(head -1 "$work/output")"
     count=$((count + 100))
 }
+    try_unwritable_folder

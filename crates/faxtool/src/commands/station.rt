@@ -316,7 +316,7 @@ impl Runs for AnswerCommand {
 
     fn run(&self, context: &mut Context<'_>) -> Result<Completeness, ToolFault> {
         // before a line is read
-        output::check_folder(context, self.out.as_str(), Part::Output)?;
+        output::check_makes(context, self.out.as_str(), Part::Output)?;
         let talked = self.talk(context)?;
         end_station(context, &talked, false)
     }

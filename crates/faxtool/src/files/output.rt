@@ -80,6 +80,18 @@ pub fn check_folder(context: &mut Context<'_>, name: &str, part: Part) -> Result
     context.checked(checked, part)
 }
 
+/// Checks that a name is that of a folder in which a new file can be made: one is, and is removed. Errors: `Io` (8), and that is noted;
+/// `NoMemory` (9).
+pub fn check_makes(context: &mut Context<'_>, name: &str, part: Part) -> Result<(), ToolFault>
+    ensures { IfErr result IsOutside }
+{
+    check_folder(context, name, part)?;
+    let rt = context.rt();
+    let made = context.checked(make_in(rt, name, true), part)?;
+    made.remove(rt);
+    Ok(())
+}
+
 /// Writes octets as the whole content of a file, or on standard output. Errors: `Io` (8) if it can't be written, and that is noted;
 /// `NoMemory` (9).
 pub fn save(
