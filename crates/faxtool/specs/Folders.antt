@@ -1,5 +1,5 @@
--- What is noted while the pages in a capture are written into a folder.
-use Rattle.std.specs.Prelude.{◌≡◌, Bool, false, max}
+-- What is noted while the pages of a call, or those in a capture, are written into a folder.
+use Rattle.std.specs.Prelude.{◌≡◌, ◌≤◌, ◌+◌, ℕ, Bool, false, max}
 use Rattle.captures.specs.PageNumbers.{after, page_missing}
 use Rattle.captures.specs.declared.captured.Captured.{Captured}
 use Rattle.captures.specs.declared.captured.Captured.TheVariants.{Page}
@@ -14,3 +14,8 @@ NotesFound old whole found new still = (new.page ≡ max old.page (page_missing 
 -- The same for the rows of a page before a gap: they are a page with the next number, and not all is whole.
 abbrev pub NotesFront : PageNumbers → PageNumbers → Bool → Type 0
 NotesFront old new still = (new.page ≡ after old.page) × (still ≡ false)
+
+-- The number of pages stored so far in a call and the first number that the next one's file may have, before and after a page is stored: its
+-- file has that number or a later one, and the next page's file a number after it. So of the names that were taken none is tried twice.
+abbrev pub StoresNext : ℕ → ℕ → ℕ → ℕ → Type 0
+StoresNext stored next stored_then next_then = (stored_then ≡ stored + 1) × ((file : ℕ) × (next ≤ file) × (next_then ≡ after file))

@@ -137,11 +137,12 @@ struct Folder<'a> {
 }
 
 impl PageStore for Folder<'_> {
-    ghost use Rattle.std.specs.Prelude.{◌≡◌, ◌+◌};
+    ghost use Rattle.faxtool.specs.Folders.{StoresNext};
+    ghost use Rattle.std.specs.Prelude.{◌≡◌};
 
-    ghost stores = { λ old page new. new.stored ≡ old.stored + 1 };
+    ghost stores = { λ old page new. StoresNext old.stored old.next new.stored new.next };
 
-    ghost refuses = { λ old page new. new.stored ≡ old.stored };
+    ghost refuses = { λ old page new. (new.stored ≡ old.stored) × (new.next ≡ old.next) };
 
     type Refused = ToolFault;
 
@@ -184,11 +185,12 @@ impl Folder<'_> {
 
 impl Keeper<LimitedAnswerer> for Folder<'_> {
     ghost use Rattle.conversations.specs.Answering.{StoresAll};
-    ghost use Rattle.std.specs.Prelude.{◌≡◌, ◌+◌};
+    ghost use Rattle.faxtool.specs.Folders.{StoresNext};
+    ghost use Rattle.std.specs.Prelude.{◌≡◌};
 
     ghost keeps = { λ old c new after kept.
-        StoresAll (λ first page then. then.stored ≡ first.stored + 1) (λ first page then. then.stored ≡ first.stored)
-        c after old new kept };
+        StoresAll (λ first page then. StoresNext first.stored first.next then.stored then.next)
+        (λ first page then. (then.stored ≡ first.stored) × (then.next ≡ first.next)) c after old new kept };
 
     type Refused = ToolFault;
 
