@@ -205,6 +205,26 @@ try_station_records() {
     count=$((count + runs))
 }
 
+# `--from N`: what a caller sends of a document of more pages is what it sends of those from the Nth on; and why there are none.
+try_from() {
+    kept=$top/.ci/conversations/worked_caller
+    narrow=$(octets "50 34 0A 38 20 31 0A 30")
+    cat "$narrow" "$kept.pbm" "$kept.pbm" > "$work/three.pbm"
+    cat "$narrow" "$kept.pbm" > "$work/two.pbm"
+    for words in "--from 2 $work/two.pbm" "--from 3 $work/three.pbm" "--from 1 $kept.pbm"; do
+        "$program" station --call $words < "$kept.lines" > "$work/output" 2> "$work/error" || fails "station --call $words: status $?"
+        is_same "$work/output" "$kept.expected" "the answers of station --call $words"
+        is_same "$work/error" "$kept.error" "the last line of station --call $words"
+        count=$((count + 1))
+    done
+    explains "fault 28" "$work/three.pbm: it has pages up to 3, and --from is 4" station --call --from 4 "$work/three.pbm"
+    cat "$kept.pbm" "$narrow" "$narrow" > "$work/three.pbm"
+    explains "fault 26" "$work/three.pbm: page 2 is 8 pixels wide, and a call carries 1728, 2048 or 2432" station --call "$work/three.pbm"
+    explains "fault 26" "$work/three.pbm: page 3 is 8 pixels wide, and a call carries 1728, 2048 or 2432" station --call --from 3 \
+        "$work/three.pbm"
+    rm "$work/two.pbm" "$work/three.pbm"
+}
+
 # Two processes that are joined: each line is answered at once, and the pages arrive.
 try_joined() {
     for words in "--lose 0 --seed 1" "--lose 0.1 --seed 4" "--lose 0.1 --seed 5"; do
@@ -263,9 +283,11 @@ IN|a station answers or calls: either --answer or --call is needed
 --call|--call needs IN, the file of the document
 --answer --call --out DIR|--answer and --call can't be used together
 --answer --call IN|--answer and --call can't be used together
---answer --out DIR IN|--frame, --fine and IN are for a station with --call
---answer --out DIR --fine|--frame, --fine and IN are for a station with --call
---answer --frame 64|--frame, --fine and IN are for a station with --call
+--answer --out DIR IN|--frame, --fine, --from and IN are for a station with --call
+--answer --out DIR --fine|--frame, --fine, --from and IN are for a station with --call
+--answer --out DIR --from 1|--frame, --fine, --from and IN are for a station with --call
+--answer --frame 64|--frame, --fine, --from and IN are for a station with --call
+--call --from 0 IN|
 --answer --out DIR --limit 0|
 --answer --out DIR --t1 0|
 --call -|IN can't be standard input, where the lines come
@@ -279,11 +301,13 @@ CASES
     faults "fault 26" station --call "$(octets "50 34 0A 38 20 31 0A 30")"
     try_taken_numbers
     try_unwritten
+    try_unwritable_folder
     try_killed
     try_no_lines
     try_no_line_words
     try_trace
     try_station_records
+    try_from
     try_joined
     try_disk
     try_pool
@@ -293,4 +317,3 @@ CASES
     [ "$(cut -d " " -f 1 "$work/output" | head -1)" -ge 100 ] || fails "only $(head -1 "$work/output")"
     count=$((count + 100))
 }
-    try_unwritable_folder

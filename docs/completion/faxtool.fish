@@ -74,6 +74,7 @@ complete -c faxtool -n '__fish_seen_subcommand_from station' -l widest -x -a '17
 complete -c faxtool -n '__fish_seen_subcommand_from station' -l limit -x -a '2 10' -d 'How many pages wait in memory at most, 1 to 1000, 2 if not said (with --answer)'
 complete -c faxtool -n '__fish_seen_subcommand_from station' -l frame -x -a '256 64' -d 'The octets of data in a frame, 256 or 64, 256 if not said (with --call)'
 complete -c faxtool -n '__fish_seen_subcommand_from station' -l fine -d 'Sends 7.7 lines a millimetre in place of 3.85 (with --call)'
+complete -c faxtool -n '__fish_seen_subcommand_from station' -l from -x -a '2' -d 'Sends the pages of IN from the Nth on, and not from the first (with --call)'
 complete -c faxtool -n '__fish_seen_subcommand_from station' -l t1 -x -a '35000' -d 'How long T1 runs in milliseconds, 35000 if not said'
 complete -c faxtool -n '__fish_seen_subcommand_from station' -l t2 -x -a '7000' -d 'How long T2 runs in milliseconds, 7000 if not said'
 complete -c faxtool -n '__fish_seen_subcommand_from station' -l t4 -x -a '3000' -d 'How long T4 runs in milliseconds, 3000 if not said'

@@ -182,9 +182,9 @@ with_station app codings modems = with_rule (with_rule (with_rule (with_rule (wi
 
 -- the command with the options for an answerer only, and those for a caller only
 abbrev pub with_station_choices : App → ValueParser → ValueParser → App
-with_station_choices app sizes widths = with_rule (with_rule (with_rule (with_rule (with_rule app (flag_rule (codes "standard")))
-    (named_rule (codes "widest") widths)) (number_rule (codes "limit") 1 1000)) (named_rule (codes "frame") sizes))
-    (flag_rule (codes "fine"))
+with_station_choices app sizes widths = with_rule (with_rule (with_rule (with_rule (with_rule (with_rule app
+    (flag_rule (codes "standard"))) (named_rule (codes "widest") widths)) (number_rule (codes "limit") 1 1000))
+    (named_rule (codes "frame") sizes)) (flag_rule (codes "fine"))) (number_rule (codes "from") 1 4294967295)
 
 -- the command with how long the four waits run, and whether what is heard, and until when, is said
 abbrev pub with_waits : App → App
@@ -337,7 +337,7 @@ pub record AreDecodeOptionsIn (rows : List Row) (options : DecodeOptions) : Type
   pub verbose_is : options.verbose ≡ is_named (codes "true") (first_of (codes "verbose") rows)
   pub records_is : options.records ≡ is_named (codes "true") (first_of (codes "json") rows)
 
--- the number of the page that is decoded: 1 if no number is given
+-- the number of the page that is decoded, or sent first: 1 if no number is given
 abbrev pub page_of : Option ℕ → ℕ
 page_of None = 1
 page_of (Some page) = page
@@ -512,7 +512,7 @@ has_answerer rows = is_some (first_of (codes "out") rows) || (is_named (codes "t
 -- an option for a caller only was given
 abbrev pub has_caller : List Row → Bool
 has_caller rows = is_some (first_of (codes "frame") rows) || (is_named (codes "true") (first_of (codes "fine") rows) ||
-    is_some (first_of (codes "in") rows))
+    (is_some (first_of (codes "from") rows) || is_some (first_of (codes "in") rows)))
 
 -- the lengths of the waits, if given, and whether what is heard, and until when, is said
 pub record AreWaitsIn (rows : List Row) (waits : GivenWaits) : Type 0 where
@@ -549,11 +549,15 @@ pub record IsAnswerOf (rows : List Row) (caps : Caps) (limit : ℕ) (waits : Giv
   pub trace_is : first_of (codes "trace") rows ≡ trace
 
 -- The values of `station` are those of a caller. Its document isn't standard input, from which its lines come.
-pub record IsDialOf (rows : List Row) (options : CallOptions) (waits : GivenWaits) (trace : Option Text) (input : Text) : Type 0 where
+pub record IsDialOf (rows : List Row) (options : CallOptions) (from : ℕ) (waits : GivenWaits) (trace : Option Text) (input : Text)
+    : Type 0 where
   pub calls : is_named (codes "true") (first_of (codes "call") rows) ≡ true
   pub answers : is_named (codes "true") (first_of (codes "answer") rows) ≡ false
   pub alone : has_answerer rows ≡ false
   pub options_are : AreOptionsIn rows options
+  pub number : Option ℕ
+  pub number_given : ReadsNumber (codes "from") rows number
+  pub from_is : from ≡ page_of number
   pub waits_are : AreWaitsIn rows waits
   pub trace_is : first_of (codes "trace") rows ≡ trace
   pub input_is : first_of (codes "in") rows ≡ Some input
@@ -592,7 +596,7 @@ IsCommandOf met (Answer command) = (rows : List Row)
     × IsAnswerOf rows command.caps command.limit command.waits (string_bytes command.out) (option_map string_bytes command.trace)
 IsCommandOf met (Dial command) = (rows : List Row)
     × (met ≡ Some (codes "station", rows))
-    × IsDialOf rows command.options command.waits (option_map string_bytes command.trace) (string_bytes command.input)
+    × IsDialOf rows command.options command.from command.waits (option_map string_bytes command.trace) (string_bytes command.input)
 IsCommandOf met (Version command) = (rows : List Row)
     × (met ≡ Some (codes "version", rows))
     × (command.proof ≡ is_named (codes "true") (first_of (codes "proof") rows))

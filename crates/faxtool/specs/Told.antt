@@ -4,7 +4,7 @@ use Rattle.std.specs.Fmt.{decimal}
 use Rattle.faults.specs.Explanations.{explained, name_text}
 use Rattle.faults.specs.declared.explain.Explained.{Explained}
 use Rattle.faxtool.specs.declared.context.Cause.{Cause}
-use Rattle.faxtool.specs.declared.context.Cause.TheVariants.{Terminal, TooLong, NotCallable, RowsOf}
+use Rattle.faxtool.specs.declared.context.Cause.TheVariants.{FewerPages, Terminal, TooLong, NotCallable, RowsOf}
 use Rattle.faxtool.specs.declared.commands.station.no_line.Wrong.{Wrong}
 use Rattle.faxtool.specs.declared.commands.station.no_line.Wrong.TheVariants as wrong
 
@@ -30,3 +30,5 @@ line_words wrong.Kind = codes "hdlc or raw is expected here"
 line_words wrong.Bits = codes "the number of bits is expected here, 1 to 7 digits"
 line_words wrong.Hex = codes "two hexadecimal digits are expected for each octet of the bits"
 line_words wrong.OutOfTime = codes "the time is before that of the line before, or too long after it"
+told words (Some (FewerPages count from)) = name_text words.known.file.now ++ (codes ": it has pages up to " ++ (decimal count
+    ++ (codes ", and --from is " ++ decimal from)))

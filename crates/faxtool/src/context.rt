@@ -47,6 +47,13 @@ pub enum Cause {
         width: u32,
     },
     /// Each row of a page ends after this number of pixels, and not after those that were given.
+    /// A document has so many pages, and is to be sent from a later one on.
+    FewerPages {
+        /// Its pages.
+        count: usize,
+        /// The number of the first page that is to be sent, from 1.
+        from: u32,
+    },
     RowsOf(u32),
 }
 

@@ -7,7 +7,7 @@ ghost use Rattle.faxtool.specs.Jobs.{widest_named};
 
 use crate::args::unfit::Unfit;
 use crate::args::words::{
-    coding_in, copy_of, is_named, modems_named, number_in, options_in, text_in,
+    coding_in, copy_of, is_named, modems_named, number_in, options_in, page_of, text_in,
 };
 use crate::commands::Command;
 use crate::commands::station::{AnswerCommand, DialCommand};
@@ -106,6 +106,7 @@ fn dial_command(
     }
     Ok(Ok(Command::Dial(DialCommand {
         options,
+        from: page_of(number_in(matches, "from")),
         waits: waits_in(matches),
         trace: copy_of(alloc, text_in(matches, "trace"))?,
         input: String::from_str(alloc, input)?,
@@ -135,6 +136,7 @@ fn has_caller(matches: &ArgMatches<'_>) -> bool
 {
     text_in(matches, "frame").is_some()
         || is_named(text_in(matches, "fine"), "true")
+        || text_in(matches, "from").is_some()
         || text_in(matches, "in").is_some()
 }
 

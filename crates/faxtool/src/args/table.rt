@@ -426,6 +426,13 @@ const STATION_ARGUMENTS: &[Argument<'static>] = &[
         ..FLAG
     },
     Argument {
+        id: "from",
+        shown: &["N"],
+        parser: Some(ValueParser::Signed(1, 4_294_967_295)),
+        help: "Sends the pages of IN from the Nth on, and not from the first (with --call)",
+        ..FILE_OPTION
+    },
+    Argument {
         id: "t1",
         help: "How long T1 runs in milliseconds, 35000 if not said",
         ..MILLIS

@@ -90,7 +90,8 @@ impl Unfit {
             Unfit::TimesAndJson => "--times prints a table, and can't be used with --json",
             Unfit::NoStation => "a station answers or calls: either --answer or --call is needed",
             Unfit::BothStations => "--answer and --call can't be used together",
-            Unfit::AnswererAsCaller => "--frame, --fine and IN are for a station with --call",
+            Unfit::AnswererAsCaller =>
+                "--frame, --fine, --from and IN are for a station with --call",
             Unfit::NoFolder => "--answer needs --out, the folder of the pages",
             Unfit::CallerAsAnswerer =>
                 "--out, --standard, --widest and --limit are for a station with --answer",

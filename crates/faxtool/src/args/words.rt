@@ -262,8 +262,8 @@ fn decode_command(
     })))
 }
 
-// The number of the page that is decoded.
-fn page_of(given: Option<u32>) -> u32
+// The number of the page that is decoded, or sent first.
+pub(crate) fn page_of(given: Option<u32>) -> u32
     ensures { result ≡ page_of given }
 {
     given.unwrap_or(1)

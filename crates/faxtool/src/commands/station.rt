@@ -5,16 +5,16 @@ pub(crate) mod no_line;
 pub(crate) mod trace;
 
 ghost use Rattle.faults.specs.Faults.{IsOutside};
-ghost use Rattle.faxtool.specs.Runs.{IsHalt, IsNoDocument};
-ghost use Rattle.std.specs.Prelude.{◌≡◌, IfErr, IfOk, IfSome};
+ghost use Rattle.faxtool.specs.Runs.{IsHalt, IsNoDocument, SendsFrom};
+ghost use Rattle.std.specs.Prelude.{◌≡◌, ◌<◌, ◌-◌, All, IfErr, IfOk, IfSome, drop, length};
 
 use crate::args::station_words::GivenWaits;
 use crate::commands::station::ending::end_station;
 use crate::commands::station::no_line::{LastLine, NoLine, no_line};
 use crate::commands::station::trace::Trace;
 use crate::commands::{Completeness, NO_NAMES, Names, Runs};
-use crate::context::{Context, Part};
-use crate::explain::notice_as;
+use crate::context::{Cause, Context, Part};
+use crate::explain::{first_not_callable, notice_as};
 use crate::files::apart::CommandFiles;
 use crate::files::images::store_page;
 use crate::files::input::read_images;
@@ -27,10 +27,11 @@ use conversations::{
 };
 use faults::{FAILED, NO_MEMORY, ToolFault};
 use page_files::PageForm;
-use raster::{Page, read_pbm};
+use raster::laws::pbm_round_trip;
+use raster::{Document, Page, read_pbm, write_pbm};
 use signals::{Caps, Wish};
 use stations::{CallEnd, Caller, CallerFault, LimitedAnswerer, Limits, StoppableCaller, Turn};
-use std::alloc::AllocError;
+use std::alloc::{AllocError, Global};
 use std::io;
 use std::io::{BufReader, BufWriter, ErrorKind};
 use terminals::{Stoppable, Terminal};
@@ -364,11 +365,38 @@ impl AnswerCommand {
     }
 }
 
+/// The pages of a document after so many, with the same lines. Errors: `NoMemory` (9).
+fn pages_after(
+    alloc: Global,
+    document: Document,
+    before: usize,
+    fine: bool,
+) -> Result<Document, ToolFault>
+    requires some { before < length document }
+    requires lines { All (λ page. page.fine ≡ fine) document }
+    ensures rest { IfOk result (λ rest. rest ≡ drop before document) }
+    ensures fault { IfErr result IsOutside }
+{
+    if before == 0 {
+        return Ok(document);
+    }
+    let mut octets = Vec::new(alloc);
+    // as images: they read as these pages
+    pbm_round_trip();
+    let pages = document.pages().get(before..).unwrap_or(&[]);
+    write_pbm(pages, &mut octets)?;
+    drop(document);
+    let mut images = octets.as_slice();
+    Ok(read_pbm(alloc, &mut images, fine)?)
+}
+
 /// Runs a caller by lines of text.
 #[derive(Debug, PartialEq, Eq, Drop)]
 pub struct DialCommand {
     /// What it is run with.
     pub options: CallOptions,
+    /// The number of the first page that it sends, from 1.
+    pub from: u32,
     /// How long its waits run.
     pub waits: GivenWaits,
     /// The name of the file that the trace goes to, if one is given.
@@ -412,14 +440,39 @@ impl Runs for DialCommand {
 }
 
 impl DialCommand {
-    /// Returns the caller, with the document of its file. Errors: the first fault of the file, `WidthNotCallable` (26), `Io` (8) if the
-    /// file can't be read, and that is noted; `NoMemory` (9).
-    fn caller(&self, context: &mut Context<'_>) -> Result<Caller, ToolFault>
-        ensures { IfErr result (IsNoDocument self.now.options.fine) }
+    /// Returns the pages that are sent: those of its file from a number on. Errors: the first fault of the file, `FewerPages` (28), `Io` (8)
+    /// if the file can't be read, and that is noted; `NoMemory` (9).
+    fn document(&self, context: &mut Context<'_>) -> Result<Document, ToolFault>
+        ensures { SendsFrom self.now.options.fine self.now.from result }
     {
         read_images(context, self.input.as_str(), Watch::Silent)?;
         let mut images = context.octets();
         let document = read_pbm(context.alloc(), &mut images, self.options.fine)?;
+        let count = document.pages().len();
+        let before = self.pages_before();
+        if before < count {
+            return pages_after(context.alloc(), document, before, self.options.fine);
+        }
+        let from = self.from;
+        context.note_cause(Cause::FewerPages { count, from });
+        Err(ToolFault::No(28))
+    }
+
+    /// How many pages of its file come before those that it sends.
+    fn pages_before(&self) -> usize
+        ensures { result ≡ self.now.from - 1 }
+    {
+        self.from.saturating_sub(1) as usize
+    }
+
+    /// Returns the caller, with the pages that are sent. Errors: those of `document`, and `WidthNotCallable` (26).
+    fn caller(&self, context: &mut Context<'_>) -> Result<Caller, ToolFault>
+        ensures { IfErr result (IsNoDocument self.now.options.fine self.now.from) }
+    {
+        let document = self.document(context)?;
+        if let Some(cause) = first_not_callable(document.pages(), self.pages_before()) {
+            context.note_cause(cause);
+        }
         let wish = Wish {
             modems: self.options.modems,
             coding: self.options.coding,
