@@ -2,12 +2,13 @@
 --
 -- No clause says what a file holds. So the octets that a command has read, and what a writer had before and after, are some octets of which
 -- the engine's definition holds.
-use Rattle.std.specs.Prelude.{◌≡◌, ◌⊎◌, ◌<◌, ◌||◌, ◌∷◌, ◌-◌, ℕ, Bool, List, Option, Some, None, Result, Ok, Err, not, true, false, is_some, drop, length}
+use Rattle.std.specs.Prelude.{◌≡◌, ◌⊎◌, ◌<◌, ◌||◌, ◌∷◌, ◌-◌, ℕ, Bool, List, Option, Some, None, Result, Ok, Err, not, true, false, is_some, codes, drop, length}
 use Rattle.std.specs.Prelude.{IfErr, IfOk, if◌then◌else◌}
 use Rattle.call_tallies.specs.ManyCalls.{TellsMany}
 use Rattle.calls.specs.BadLines.{LeavesDriven, RefusesDriven}
 use Rattle.calls.specs.Ends.{ended_normally}
 use Rattle.calls.specs.SentBits.{Written}
+use Rattle.calls.specs.Transcripts.{end_text}
 use Rattle.line_sim.specs.declared.live.Ending.{Ending}
 use Rattle.clap.specs.Words.{kind_of}
 use Rattle.clap.specs.declared.error.kind.ErrorKind.TheVariants.{ArgumentConflict}
@@ -25,8 +26,11 @@ use Rattle.raster.specs.Pbm.{AreImages, read_images}
 use Rattle.raster.specs.declared.fault.RasterFault.{RasterFault}
 use Rattle.stations.specs.CallerFields.{AreCallable}
 use Rattle.stations.specs.declared.stopping.CallEnd.{CallEnd}
-use Rattle.stations.specs.declared.stopping.CallEnd.TheVariants.{By}
+use Rattle.stations.specs.declared.stopping.CallEnd.TheVariants.{By, LineLost, Stopped}
 use Rattle.stations.specs.declared.turn.End.TheVariants.{Normal}
+use Rattle.stations.specs.declared.waiting.Wait.{Wait}
+use Rattle.stations.specs.declared.waiting.Wait.TheVariants.{T1, T2, T4, T5}
+use Rattle.faxtool.specs.declared.args.station_words.GivenWaits.{GivenWaits}
 use Rattle.faxtool.specs.declared.args.words.Outcome.{Outcome}
 use Rattle.faxtool.specs.declared.args.words.Outcome.TheVariants.{Done, Fault, Incomplete, Words}
 use Rattle.faxtool.specs.declared.commands.Command.{Command}
@@ -130,6 +134,20 @@ DriveGives command (Ok completeness) = ((command.times ≡ None)
 DriveGives command (Err fault) = IsUndriven command fault
 
 -- ---- stations
+
+-- the word of why the call of a station ended, or that it goes on
+abbrev pub end_word : Option CallEnd → List ℕ
+end_word (Some (By end)) = end_text (Some end)
+end_word (Some Stopped) = codes "stopped"
+end_word (Some LineLost) = codes "line-lost"
+end_word None = end_text None
+
+-- how long a wait is to run, if that is given
+abbrev pub given_wait : GivenWaits → Wait → Option ℕ
+given_wait given T1 = given.t1
+given_wait given T2 = given.t2
+given_wait given T4 = given.t4
+given_wait given T5 = given.t5
 
 -- the lines went no further at a line, or by a file or by memory
 abbrev pub IsHalt : Halted → Type 0
